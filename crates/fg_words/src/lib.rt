@@ -6,7 +6,10 @@ ghost use Rattle.std.specs.Simd.Lanes.{zip2};
 ghost use Rattle.fg_words.specs.Word.{zero_word, word_xor, IsMedia};
 
 mod lanes;
+pub mod laws;
 mod shared;
+#[cfg(test)]
+mod tests;
 
 pub use shared::Shared;
 use std::alloc::{AllocError, Global};
