@@ -20,14 +20,18 @@ fn datagram(first: u8, second: u8) -> [u8; 1328] {
     bytes
 }
 
+/// What the first `length` bytes of a datagram are read as.
+fn read_front(bytes: &[u8; 1328], length: usize) -> Result<(u16, u32, Word), MediaFault>
+    requires { length ≤ 1328 }
+{
+    media_word(&bytes[..length])
+}
+
 /// The fault of the first `length` bytes of a datagram, or none.
 fn fault(bytes: &[u8; 1328], length: usize) -> Option<MediaFault>
     requires { length ≤ 1328 }
 {
-    match media_word(&bytes[..length]) {
-        Ok(_) => None,
-        Err(fault) => Some(fault),
-    }
+    read_front(bytes, length).err()
 }
 
 #[test]
@@ -51,7 +55,7 @@ fn a_header_has_its_fields(rt: HostRuntime) {
 #[test]
 fn a_media_datagram_has_its_word(rt: HostRuntime) {
     let bytes = datagram(0x80, 0xa1);
-    match media_word(&bytes[..388]) {
+    match read_front(&bytes, 388) {
         Ok((seq, ssrc, word)) => {
             let mut wanted = Word::zero();
             wanted.pt = 33;
