@@ -1,0 +1,6 @@
+-- Lemmas on the definitions of this crate, which proofs of other crates cite too.
+pub mod FaultLemmas
+pub mod OutletLemmas
+pub mod PrefixLemmas
+pub mod SinkLemmas
+pub mod SourceLemmas

@@ -1,0 +1,17 @@
+//! The outside of the program: where bytes come from and where they go.
+//!
+//! [`Source`] gives bytes, [`Sink`] takes them, and [`Outlet`] keeps one lane of bytes for each port.
+//! Each counts the faults of the outside: a call answers [`Failed`] only where that count rose in the call.
+#![tactic(auto)]
+
+mod outlet;
+mod sink;
+mod source;
+
+pub use outlet::Outlet;
+pub use sink::{Sink, write_all};
+pub use source::Source;
+
+/// A fault of the outside. The count of faults of the object that was called rose in the call.
+#[derive(Clone, Copy, Debug, PartialEq, Eq)]
+pub struct Failed;
