@@ -3,4 +3,5 @@ pub mod FaultLemmas
 pub mod OutletLemmas
 pub mod PrefixLemmas
 pub mod SinkLemmas
+mod SlotLemmas
 pub mod SourceLemmas

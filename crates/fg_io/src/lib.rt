@@ -4,10 +4,18 @@
 //! Each counts the faults of the outside: a call answers [`Failed`] only where that count rose in the call.
 #![tactic(auto)]
 
+mod calls;
+mod mem_outlet;
+mod mem_sink;
+mod mem_source;
 mod outlet;
 mod sink;
+mod slot;
 mod source;
 
+pub use mem_outlet::MemOutlet;
+pub use mem_sink::MemSink;
+pub use mem_source::MemSource;
 pub use outlet::Outlet;
 pub use sink::{Sink, write_all};
 pub use source::Source;
