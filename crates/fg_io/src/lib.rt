@@ -5,6 +5,8 @@
 #![tactic(auto)]
 
 mod calls;
+mod folder;
+mod lane_name;
 mod mem_outlet;
 mod mem_sink;
 mod mem_source;
@@ -12,13 +14,16 @@ mod outlet;
 mod sink;
 mod slot;
 mod source;
+mod standard;
 
+pub use folder::FolderOutlet;
 pub use mem_outlet::MemOutlet;
 pub use mem_sink::MemSink;
 pub use mem_source::MemSource;
 pub use outlet::Outlet;
 pub use sink::{Sink, write_all};
 pub use source::Source;
+pub use standard::{StderrSink, StdinSource, StdoutSink};
 
 /// A fault of the outside. The count of faults of the object that was called rose in the call.
 #[derive(Clone, Copy, Debug, PartialEq, Eq)]
