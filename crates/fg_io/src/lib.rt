@@ -28,3 +28,6 @@ pub use standard::{StderrSink, StdinSource, StdoutSink};
 /// A fault of the outside. The count of faults of the object that was called rose in the call.
 #[derive(Clone, Copy, Debug, PartialEq, Eq)]
 pub struct Failed;
+
+#[cfg(test)]
+mod tests;

@@ -1,6 +1,6 @@
 //! The standard streams of the process. They tell nothing of content: what they really give and take is trusted.
 ghost use Rattle.std.specs.Prelude.{◌≡◌, ◌<◌, ◌≤◌, length, take, IfOk, OnOk, OnErr, None};
-ghost use Rattle.std.specs.Io.KnownBytes.{IsAtEnd};
+ghost use Rattle.std.specs.Io.KnownBytes.{IsAtEnd, ReadConsumes, WriteAppends};
 ghost use Rattle.fg_io.specs.Calls.{next_count};
 ghost use Rattle.fg_io.specs.Faults.{CountsFault};
 ghost use Rattle.fg_io.specs.Sink.{Gains};
@@ -162,7 +162,8 @@ impl Sink for StderrSink {
 
 /// One read, again where a signal interrupts it.
 fn read_some<R: Read>(reader: &mut R, into: &mut [u8]) -> Result<usize, Failed>
-    ensures { IfOk result (λ count. count ≤ length into.new) }
+    ensures bound { IfOk result (λ count. count ≤ length into.new) }
+    ensures bytes { ReadConsumes (R.remaining reader.old) (R.remaining reader.new) result into.new }
 {
     for _ in 0..u64::MAX {
         match reader.read(into) {
@@ -178,14 +179,73 @@ fn read_some<R: Read>(reader: &mut R, into: &mut [u8]) -> Result<usize, Failed>
 fn write_some<W: Write>(writer: &mut W, piece: &[u8]) -> Result<usize, Failed>
     ensures bound { IfOk result (λ count. count ≤ length piece.now) }
     ensures some { IfOk result (λ count. 0 < length piece.now → 0 < count) }
+    ensures bytes { WriteAppends (W.contents writer.old) (W.contents writer.new) result piece.now }
 {
     for _ in 0..u64::MAX {
         match writer.write(piece) {
-            Ok(0) if !piece.is_empty() => return Err(Failed),
-            Ok(count) => return Ok(count),
+            Ok(count) if count > 0 || piece.is_empty() => return Ok(count),
             Err(fault) if fault.kind() == ErrorKind::Interrupted => {}
-            Err(_) => return Err(Failed),
+            _ => return Err(Failed),
         }
     }
     Err(Failed)
+}
+
+#[cfg(test)]
+mod tests {
+    use super::*;
+    use std::io;
+    use std::test::Fail;
+
+    // Is interrupted, has a byte, fails, and is at its end.
+    #[derive(Drop)]
+    struct Flaky(u8);
+
+    impl Flaky {
+        fn turn(&mut self) -> io::Result<usize> {
+            self.0 = self.0.saturating_add(1);
+            match self.0 {
+                1 => Err(io::Error::from(ErrorKind::Interrupted)),
+                2 => Ok(1),
+                3 => Err(io::Error::from(ErrorKind::BrokenPipe)),
+                _ => Ok(0),
+            }
+        }
+    }
+
+    impl Read for Flaky {
+        fn read(&mut self, into: &mut [u8]) -> io::Result<usize> {
+            Ok(self.turn()?.min(into.len()))
+        }
+    }
+
+    impl Write for Flaky {
+        fn write(&mut self, piece: &[u8]) -> io::Result<usize> {
+            Ok(self.turn()?.min(piece.len()))
+        }
+
+        fn flush(&mut self) -> io::Result<()> {
+            Ok(())
+        }
+    }
+
+    #[test]
+    fn reads_again_after_an_interruption(rt: HostRuntime) -> Result<(), Fail> {
+        let mut reader = Flaky(0);
+        let mut into = [0; 2];
+        assert_eq!(rt; read_some(&mut reader, &mut into), Ok(1));
+        assert_eq!(rt; read_some(&mut reader, &mut into), Err(Failed));
+        assert_eq!(rt; read_some(&mut reader, &mut into), Ok(0));
+        Ok(())
+    }
+
+    #[test]
+    fn writes_again_after_an_interruption(rt: HostRuntime) -> Result<(), Fail> {
+        let mut writer = Flaky(0);
+        assert_eq!(rt; write_some(&mut writer, b"ab"), Ok(1));
+        assert_eq!(rt; write_some(&mut writer, b"b"), Err(Failed));
+        assert_eq!(rt; write_some(&mut writer, b"b"), Err(Failed));
+        assert_eq!(rt; write_some(&mut writer, b""), Ok(0));
+        Ok(())
+    }
 }
