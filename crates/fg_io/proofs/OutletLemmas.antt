@@ -1,7 +1,8 @@
 -- Lemmas on what the lanes of an outlet gain.
-use Rattle.std.proofs.Common.{◌≡◌, ℕ, Option, None, Some, IsSome, unwrap_or, List, [], ◌++◌, refl, sym, ap, ◌∙◌, subst, append_assoc, append-nil}
+use Rattle.std.proofs.Common.{◌≡◌, ℕ, Option, None, Some, IsSome, unwrap_or, List, [], ◌++◌, refl, sym, ap, ◌∙◌, subst, append_assoc, append-nil, inl, inr}
+use Rattle.std.proofs.lemmas.Bool.Decides.{eqb_tells}
 use Rattle.fg_io.specs.Prefix.{IsPrefix}
-use Rattle.fg_io.specs.Outlet.{Lanes, lane_bytes, LaneGains, LaneGainsPart, Puts, PutsPart}
+use Rattle.fg_io.specs.Outlet.{Lanes, lane_of, lane_bytes, LaneGains, LaneGainsPart, Puts, PutsPart}
 use Rattle.fg_io.proofs.PrefixLemmas.{IsPrefix-nil, IsPrefix-refl, IsPrefix-append, IsPrefix-trans}
 
 -- the bytes of a lane that gained a piece
@@ -95,3 +96,11 @@ PutsPart-trans None (Some b) third port piece more once again = absurd once
 PutsPart-trans (Some a) None third port piece more once again = absurd once
 PutsPart-trans (Some a) (Some b) None port piece more once again = absurd again
 PutsPart-trans (Some a) (Some b) (Some c) port piece more once again = LaneGainsPart-trans a b c port piece more once again
+
+-- what each lane is follows from what it was
+pub LaneGains-once : (before after other : Lanes) (port : ℕ) (piece : List ℕ) → LaneGains before port piece after → LaneGains before port piece other
+    → (any : ℕ) → lane_of other any ≡ lane_of after any
+LaneGains-once before after other port piece gains again any = elim (eqb_tells any port) [
+  | inl same ↦ ap (lane_of other) same.1 ∙ again.lane ∙ sym gains.lane ∙ ap (lane_of after) (sym same.1)
+  | inr apart ↦ again.others any apart.1 ∙ sym (gains.others any apart.1)
+]

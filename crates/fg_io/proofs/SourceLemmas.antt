@@ -1,5 +1,6 @@
 -- Lemmas on what a source gives.
 use Rattle.std.proofs.Common.{◌≡◌, ℕ, Option, None, Some, List, [], ◌++◌, refl, sym, ap, ◌∙◌, append_assoc, append-nil, IfSome}
+use Rattle.std.proofs.lemmas.List.{append_cancel_left}
 use Rattle.std.specs.Io.KnownBytes.{IsAtEnd, prepend_known}
 use Rattle.fg_io.specs.Source.{Gives}
 
@@ -26,3 +27,11 @@ pub Gives-told : (before after : Option (List ℕ)) (given bytes : List ℕ) →
     → (rest : List ℕ) × (after ≡ Some rest) × (bytes ≡ given ++ rest)
 Gives-told before None given bytes gives told = cc
 Gives-told before (Some rest) given bytes gives told = (rest, refl, (cc))
+
+-- what is left follows from what was left and what was given
+pub Gives-once : (before after other : Option (List ℕ)) (given : List ℕ) → Gives before given after → Gives before given other → other ≡ after
+Gives-once before None None given gives again = refl
+Gives-once before None (Some bytes) given gives again = cc
+Gives-once before (Some rest) None given gives again = cc
+Gives-once before (Some rest) (Some bytes) given gives again =
+    let same : given ++ bytes ≡ given ++ rest = cc in ap (λ left. Some left) (append_cancel_left given bytes rest same)

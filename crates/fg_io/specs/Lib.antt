@@ -2,6 +2,7 @@
 pub mod Calls
 pub mod Faults
 pub mod LaneName
+pub mod Laws
 pub mod MemOutlet
 pub mod MemSink
 pub mod MemSource

@@ -7,6 +7,7 @@
 mod calls;
 mod folder;
 mod lane_name;
+pub mod laws;
 mod mem_outlet;
 mod mem_sink;
 mod mem_source;
