@@ -1,0 +1,36 @@
+-- What was taken so far is the front of the piece.
+use Rattle.std.proofs.Common.{◌≡◌, ℕ, ◌+◌, ◌-◌, List, ◌++◌, length, take, drop, sym, ◌∙◌, arith, rules}
+use Rattle.std.proofs.lemmas.Grind.{common_steps}
+use Rattle.std.proofs.lemmas.List.{take_rest}
+use Rattle.std.proofs.Math.Seq.{take-add}
+use Rattle.fg_io.specs.Sink.{GainsPart}
+use Rattle.fg_io.proofs.PrefixLemmas.{IsPrefix-take}
+use Rattle.fg_io.proofs.SinkLemmas.{Gains-trans}
+use Rattle.fg_io.proofs.sink.write_all.Goals as goal
+
+-- the first n bytes, and then the first m of those that are left, are the first n + m
+take_then : (n m : ℕ) (bytes : List ℕ) → take n bytes ++ take m (take (length bytes - n) (drop n bytes)) ≡ take (n + m) bytes
+take_then n m bytes = rw take_rest (sym (take-add n m bytes))
+
+pub returns-in_err-count-clause-part : goal.returns-in_err-count-clause-part
+returns-in_err-count-clause-part g c =
+    let gained : GainsPart (g.K.Sink.written c.args.sink.now) c.args.piece.now (g.K.Sink.written c.write.new.self) =
+    (take c.loop-taken.taken c.args.piece.now, IsPrefix-take c.loop-taken.taken c.args.piece.now, c.in_err-count.ensures.failed ∙ c.loop-taken.invariant.1) in
+    search rules
+
+pub returns-then-count-eq0-clause-part : goal.returns-then-count-eq0-clause-part
+returns-then-count-eq0-clause-part g c =
+    let n = c.loop-taken.taken + c.in_ok-count.count in (
+      take n c.args.piece.now,
+      IsPrefix-take n c.args.piece.now,
+      rw (← take_then c.loop-taken.taken c.in_ok-count.count c.args.piece.now)
+          (Gains-trans _ _ _ _ _ c.loop-taken.invariant.1 c.in_ok-count.ensures.gains),
+    )
+
+pub loop-taken-preserved : goal.loop-taken-preserved
+loop-taken-preserved g c = (
+  grind (arith, common_steps, c.in_ok-count.ensures.bound, c.loop-taken.invariant.0),
+  rw (← take_then c.loop-taken.taken c.in_ok-count.count c.args.piece.now)
+      (Gains-trans _ _ _ _ _ c.loop-taken.invariant.1 c.in_ok-count.ensures.gains),
+  omega arith,
+)

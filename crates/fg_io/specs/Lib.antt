@@ -1,0 +1,12 @@
+-- The definitions that the contracts of this crate cite.
+pub mod Calls
+pub mod Faults
+pub mod LaneName
+pub mod Laws
+pub mod MemOutlet
+pub mod MemSink
+pub mod MemSource
+pub mod Outlet
+pub mod Prefix
+pub mod Sink
+pub mod Source

@@ -1,0 +1,34 @@
+//! The outside of the program: where bytes come from and where they go.
+//!
+//! [`Source`] gives bytes, [`Sink`] takes them, and [`Outlet`] keeps one lane of bytes for each port.
+//! Each counts the faults of the outside: a call answers [`Failed`] only where that count rose in the call.
+#![tactic(auto)]
+
+mod calls;
+mod folder;
+mod lane_name;
+pub mod laws;
+mod mem_outlet;
+mod mem_sink;
+mod mem_source;
+mod outlet;
+mod sink;
+mod slot;
+mod source;
+mod standard;
+
+pub use folder::FolderOutlet;
+pub use mem_outlet::MemOutlet;
+pub use mem_sink::MemSink;
+pub use mem_source::MemSource;
+pub use outlet::Outlet;
+pub use sink::{Sink, write_all};
+pub use source::Source;
+pub use standard::{StderrSink, StdinSource, StdoutSink};
+
+/// A fault of the outside. The count of faults of the object that was called rose in the call.
+#[derive(Clone, Copy, Debug, PartialEq, Eq)]
+pub struct Failed;
+
+#[cfg(test)]
+mod tests;

@@ -1,0 +1,47 @@
+//! Where bytes go.
+ghost use Rattle.std.specs.Prelude.{◌≡◌, ℕ, ◌<◌, ◌≤◌, Option, List, length, take, IfOk, OnOk, OnErr};
+ghost use Rattle.fg_io.specs.Faults.{CountsFault};
+ghost use Rattle.fg_io.specs.Sink.{Gains, GainsPart};
+
+use crate::Failed;
+
+/// Takes bytes, a piece at a time.
+pub trait Sink {
+    // The bytes that have been written, where the sink tells them.
+    ghost written: { Self → Option (List ℕ) };
+
+    // How many faults there have been.
+    ghost faults: { Self → ℕ };
+
+    /// Takes some bytes of the front of `piece`, and answers how many.
+    ///
+    /// A sink that takes none of a nonempty piece has counted a fault in this call.
+    fn write(&mut self, piece: &[u8]) -> Result<usize, Failed>
+        ensures bound { IfOk result (λ count. count ≤ length piece.now) }
+        ensures gains { IfOk result (λ count. Gains (written self.old) (take count piece.now) (written self.new)) }
+        ensures full { IfOk result (λ count. count ≡ 0 → 0 < length piece.now
+            → CountsFault (faults self.old) (faults self.new)) }
+        ensures failed { OnErr result (written self.new ≡ written self.old) }
+        ensures counted { OnErr result (CountsFault (faults self.old) (faults self.new)) }
+        ensures never_falls { faults self.old ≤ faults self.new };
+}
+
+/// Writes the whole piece.
+///
+/// After [`Failed`] the sink has gained a prefix of it. A sink that takes none of what is left counts as failed.
+pub fn write_all<K: Sink>(sink: &mut K, piece: &[u8]) -> Result<(), Failed>
+    ensures whole { OnOk result (Gains (K.written sink.old) piece.now (K.written sink.new)) }
+    ensures part { OnErr result (GainsPart (K.written sink.old) piece.now (K.written sink.new)) }
+    ensures counted { OnErr result (CountsFault (K.faults sink.old) (K.faults sink.new)) }
+    ensures never_falls { K.faults sink.old ≤ K.faults sink.new }
+{
+    let mut taken = 0;
+    while taken < piece.len() {
+        let count = sink.write(&piece[taken..])?;
+        if count == 0 {
+            return Err(Failed);
+        }
+        taken += count;
+    }
+    Ok(())
+}

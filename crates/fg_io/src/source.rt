@@ -1,0 +1,28 @@
+//! Where bytes come from.
+ghost use Rattle.std.specs.Prelude.{◌≡◌, ℕ, ◌<◌, ◌≤◌, Option, List, length, take, IfOk, OnErr};
+ghost use Rattle.std.specs.Io.KnownBytes.{IsAtEnd};
+ghost use Rattle.fg_io.specs.Faults.{CountsFault};
+ghost use Rattle.fg_io.specs.Source.{Gives};
+
+use crate::Failed;
+
+/// Gives bytes, a piece at a time.
+pub trait Source {
+    // The bytes that are left to read, where the source tells them.
+    ghost left: { Self → Option (List ℕ) };
+
+    // How many faults there have been.
+    ghost faults: { Self → ℕ };
+
+    /// Reads some of the bytes left to the front of `into`, and answers how many.
+    ///
+    /// 0 for a nonempty `into` means that nothing is left. What `into` holds beyond that many bytes, and after
+    /// [`Failed`], is not told.
+    fn read(&mut self, into: &mut [u8]) -> Result<usize, Failed>
+        ensures bound { IfOk result (λ count. count ≤ length into.new) }
+        ensures gives { IfOk result (λ count. Gives (left self.old) (take count into.new) (left self.new)) }
+        ensures end { IfOk result (λ count. count ≡ 0 → 0 < length into.new → IsAtEnd (left self.new)) }
+        ensures failed { OnErr result (left self.new ≡ left self.old) }
+        ensures counted { OnErr result (CountsFault (faults self.old) (faults self.new)) }
+        ensures never_falls { faults self.old ≤ faults self.new };
+}
