@@ -3,11 +3,40 @@ use Rattle.std.proofs.Common.{◌≡◌, ℕ, zero, suc, ◌+◌, ◌-◌, ◌*�
 use Rattle.std.specs.Int.{to_be_bytes, w16, w32}
 use Rattle.std.proofs.lemmas.Bool.{cases_lt, eqb-false}
 use Rattle.std.proofs.lemmas.Nat.{be_bytes_2, be_bytes_4}
-use Rattle.std.proofs.lemmas.List.{get_or_append_left, get_or-append_right, get_or-take, get_or-replicate, get_or_past, length-take, length-replicate, take_at}
+use Rattle.std.proofs.lemmas.List.{get_or_append_left, get_or-append_right, get_or-take, get_or-replicate, get_or_past, length-take, length-replicate, take_at, drop_at, ext_get_or}
 use Rattle.fg_words.specs.declared.Word.{Word}
 use Rattle.fg_words.specs.Word.{IsMedia}
+use Rattle.fg_words.proofs.WordLemmas.{word-ext}
 use Rattle.fg_rtp.specs.Header.{header}
 use Rattle.fg_rtp.specs.MediaDatagram.{IsMediaDatagram, transport_word, HasHeader, IsVersionTwo, IsPlain, IsTransport, HasPackets, IsSynced}
+
+-- The payload of a media datagram is what follows its header.
+pub datagram_payload : (bytes : List ℕ) (seq ssrc : ℕ) (word : Word) → IsMediaDatagram bytes seq ssrc word → (take word.len word.bytes ≡ drop 12 bytes) × (length bytes ≡ 12 + word.len)
+datagram_payload bytes seq ssrc word d =
+    let payload : List ℕ = take word.len word.bytes in
+    let front : List ℕ = 0x80 ∷ (128 * d.marker + 33) ∷ (to_be_bytes w16 seq ++ to_be_bytes w32 word.ts ++ to_be_bytes w32 ssrc) in
+    let whole : bytes ≡ front ++ payload = d.spelled in
+    let count = d.media.packets in
+    let room = d.media.room in (
+      sym (ap (λ (l : List ℕ). drop 12 l) whole ∙ drop_at front payload 12 refl),
+      ap length whole ∙ length-append front payload ∙ omega (arith, length-take word.len word.bytes, count.2, count.3),
+    )
+
+-- Bytes are a media datagram in at most one way.
+pub datagram_one_way : (bytes : List ℕ) (seq ssrc seq' ssrc' : ℕ) (word word' : Word) → IsMediaDatagram bytes seq ssrc word → IsMediaDatagram bytes seq' ssrc' word' → (seq ≡ seq') × (ssrc ≡ ssrc') × (word ≡ word')
+datagram_one_way bytes seq ssrc seq' ssrc' word word' d e =
+    let same = sym d.spelled ∙ e.spelled in
+    let at = λ (i : ℕ). ap (λ (l : List ℕ). get_or l i 0) same in
+    let seqs : seq ≡ seq' = omega (arith, at 2, at 3) in
+    let tss : word.ts ≡ word'.ts = omega (arith, at 4, at 5, at 6, at 7) in
+    let ssrcs : ssrc ≡ ssrc' = omega (arith, at 8, at 9, at 10, at 11) in
+    let lens : word.len ≡ word'.len = omega (arith, (datagram_payload bytes seq ssrc word d).1, (datagram_payload bytes seq' ssrc' word' e).1) in
+    let payloads : take word.len word.bytes ≡ take word'.len word'.bytes = (datagram_payload bytes seq ssrc word d).0 ∙ sym (datagram_payload bytes seq' ssrc' word' e).0 in
+    let contents : word.bytes ≡ word'.bytes = ext_get_or 0 word.bytes word'.bytes (d.media.room ∙ sym e.media.room) (λ i _. ⊎_elim
+    (λ (inside : i < word.len). sym (get_or-take word.len word.bytes i 0 inside) ∙ ap (λ (l : List ℕ). get_or l i 0) payloads ∙ get_or-take word'.len word'.bytes i 0 (omega arith))
+    (λ (past : word.len ≤ i). d.media.padded i past ∙ sym (e.media.padded i (omega arith)))
+    (cases_lt i word.len)) in
+    (seqs, ssrcs, word-ext word word' (d.media.transport ∙ sym e.media.transport) tss lens contents)
 
 -- A media datagram's packets begin with the sync byte.
 pub datagram_is_synced : (bytes : List ℕ) (seq ssrc : ℕ) (word : Word) → IsMediaDatagram bytes seq ssrc word → IsSynced bytes

@@ -1,6 +1,6 @@
 //! Media datagrams.
 
-ghost use Rattle.std.specs.Prelude.{◌≡◌, ℕ, ◌-◌, ◌+◌, ◌*◌, ◌≤◌, ◌<◌, ◌↔◌, ◌++◌, IfErr, IfOk, IsErrOf, IsTrue, drop, length, replicate, slice_index};
+ghost use Rattle.std.specs.Prelude.{◌≡◌, ℕ, ◌≤◌, ◌↔◌, ◌++◌, IfErr, IfOk, IsErrOf, IsTrue, drop, length};
 ghost use Rattle.fg_words.specs.declared.Word.{Word};
 ghost use Rattle.fg_rtp.specs.MediaDatagram.{FirstFault, HasHeader, HasPackets, IsMediaDatagram, IsSynced, header_fault, transport_word};
 
