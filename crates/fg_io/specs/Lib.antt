@@ -10,3 +10,4 @@ pub mod Outlet
 pub mod Prefix
 pub mod Sink
 pub mod Source
+pub mod Standard

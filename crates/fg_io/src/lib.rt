@@ -24,7 +24,7 @@ pub use mem_source::MemSource;
 pub use outlet::Outlet;
 pub use sink::{Sink, write_all};
 pub use source::Source;
-pub use standard::{StderrSink, StdinSource, StdoutSink};
+pub use standard::{ReaderSource, StderrSink, StdinSource, StdoutSink, WriterSink};
 
 /// A fault of the outside. The count of faults of the object that was called rose in the call.
 #[derive(Clone, Copy, Debug, PartialEq, Eq)]

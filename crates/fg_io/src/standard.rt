@@ -5,104 +5,77 @@ ghost use Rattle.fg_io.specs.Calls.{next_count};
 ghost use Rattle.fg_io.specs.Faults.{CountsFault};
 ghost use Rattle.fg_io.specs.Sink.{Gains};
 ghost use Rattle.fg_io.specs.Source.{Gives};
+ghost use Rattle.fg_io.specs.Standard.{source_reader, source_faults, sink_writer, sink_faults};
 
 use crate::Failed;
 use crate::sink::Sink;
 use crate::source::Source;
 use std::io::{ErrorKind, Read, Write};
-use std::marker::Model;
 use std::rt::{Stderr, Stdin, Stdout};
 
-/// Standard input. Contracts see its count of faults, which stands still at its last value.
+/// Standard input, as `StdinSource::new(rt.stdin())`.
+pub type StdinSource = ReaderSource<Stdin>;
+
+/// Standard output, as `StdoutSink::new(rt.stdout())`.
+pub type StdoutSink = WriterSink<Stdout>;
+
+/// Standard error, as `StderrSink::new(rt.stderr())`.
+pub type StderrSink = WriterSink<Stderr>;
+
+/// Gives what a reader gives, and counts its faults. The count stands still at its last value.
 #[derive(Drop)]
-pub struct StdinSource {
-    stdin: Stdin,
+pub struct ReaderSource<R> {
+    reader: R,
     faults: u64,
 }
 
-/// Standard output. Contracts see its count of faults, which stands still at its last value.
+/// Hands what it takes to a writer, and counts its faults. The count stands still at its last value.
 #[derive(Drop)]
-pub struct StdoutSink {
-    stdout: Stdout,
+pub struct WriterSink<W> {
+    writer: W,
     faults: u64,
 }
 
-/// Standard error. Contracts see its count of faults, which stands still at its last value.
-#[derive(Drop)]
-pub struct StderrSink {
-    stderr: Stderr,
-    faults: u64,
-}
-
-impl Model for StdinSource {
-    ghost use Rattle.std.specs.Prelude.{ℕ};
-
-    ghost Value = { ℕ };
-
-    ghost view = { λ a. a.faults };
-}
-
-impl Model for StdoutSink {
-    ghost use Rattle.std.specs.Prelude.{ℕ};
-
-    ghost Value = { ℕ };
-
-    ghost view = { λ a. a.faults };
-}
-
-impl Model for StderrSink {
-    ghost use Rattle.std.specs.Prelude.{ℕ};
-
-    ghost Value = { ℕ };
-
-    ghost view = { λ a. a.faults };
-}
-
-impl StdinSource {
-    /// Standard input, before any fault.
-    pub fn new(stdin: Stdin) -> StdinSource
-        ensures { result ≡ 0 }
+impl<R: Read> ReaderSource<R> {
+    /// The reader, before any fault.
+    pub fn new(reader: R) -> ReaderSource<R>
+        ensures reader { source_reader result ≡ reader }
+        ensures faults { source_faults result ≡ 0 }
     {
-        StdinSource { stdin, faults: 0 }
+        ReaderSource { reader, faults: 0 }
     }
 }
 
-impl StdoutSink {
-    /// Standard output, before any fault.
-    pub fn new(stdout: Stdout) -> StdoutSink
-        ensures { result ≡ 0 }
+impl<W: Write> WriterSink<W> {
+    /// The writer, before any fault.
+    pub fn new(writer: W) -> WriterSink<W>
+        ensures writer { sink_writer result ≡ writer }
+        ensures faults { sink_faults result ≡ 0 }
     {
-        StdoutSink { stdout, faults: 0 }
+        WriterSink { writer, faults: 0 }
     }
 }
 
-impl StderrSink {
-    /// Standard error, before any fault.
-    pub fn new(stderr: Stderr) -> StderrSink
-        ensures { result ≡ 0 }
-    {
-        StderrSink { stderr, faults: 0 }
-    }
-}
-
-impl Source for StdinSource {
+impl<R: Read> Source for ReaderSource<R> {
     ghost left = { λ _. None };
 
-    ghost faults = { λ source. source };
+    ghost faults = { source_faults };
 
     fn read(&mut self, into: &mut [u8]) -> Result<usize, Failed>
         // What each source ensures.
         ensures bound { IfOk result (λ count. count ≤ length into.new) }
         ensures gives { IfOk result (λ count. Gives None (take count into.new) None) }
         ensures end { IfOk result (λ count. count ≡ 0 → 0 < length into.new → IsAtEnd None) }
-        ensures counted { OnErr result (CountsFault self.old self.new) }
-        ensures never_falls { self.old ≤ self.new }
+        ensures counted { OnErr result (CountsFault (source_faults self.old) (source_faults self.new)) }
+        ensures never_falls { source_faults self.old ≤ source_faults self.new }
 
-        // Exactly when the count rises.
-        ensures ok { OnOk result (self.new ≡ self.old) }
-        ensures err { OnErr result (self.new ≡ next_count self.old) }
+        // Where the reader's bytes are known it gives them, and exactly when the count rises.
+        ensures bytes { ReadConsumes (R.remaining (source_reader self.old)) (R.remaining (source_reader self.new))
+            result into.new }
+        ensures ok { OnOk result (source_faults self.new ≡ source_faults self.old) }
+        ensures err { OnErr result (source_faults self.new ≡ next_count (source_faults self.old)) }
     {
-        let outcome = read_some(&mut self.stdin, into);
+        let outcome = read_some(&mut self.reader, into);
         if outcome.is_err() {
             self.faults = self.faults.saturating_add(1);
         }
@@ -110,49 +83,28 @@ impl Source for StdinSource {
     }
 }
 
-impl Sink for StdoutSink {
+impl<W: Write> Sink for WriterSink<W> {
     ghost written = { λ _. None };
 
-    ghost faults = { λ sink. sink };
+    ghost faults = { sink_faults };
 
     fn write(&mut self, piece: &[u8]) -> Result<usize, Failed>
         // What each sink ensures.
         ensures bound { IfOk result (λ count. count ≤ length piece.now) }
         ensures gains { IfOk result (λ count. Gains None (take count piece.now) None) }
-        ensures full { IfOk result (λ count. count ≡ 0 → 0 < length piece.now → CountsFault self.old self.new) }
-        ensures counted { OnErr result (CountsFault self.old self.new) }
-        ensures never_falls { self.old ≤ self.new }
+        ensures full { IfOk result (λ count. count ≡ 0 → 0 < length piece.now
+            → CountsFault (sink_faults self.old) (sink_faults self.new)) }
+        ensures counted { OnErr result (CountsFault (sink_faults self.old) (sink_faults self.new)) }
+        ensures never_falls { sink_faults self.old ≤ sink_faults self.new }
 
-        // Exactly when the count rises.
-        ensures ok { OnOk result (self.new ≡ self.old) }
-        ensures err { OnErr result (self.new ≡ next_count self.old) }
+        // Where the writer's bytes are known it has taken them, and exactly when the count rises.
+        ensures bytes { WriteAppends (W.contents (sink_writer self.old)) (W.contents (sink_writer self.new))
+            result piece.now }
+        ensures some { IfOk result (λ count. 0 < length piece.now → 0 < count) }
+        ensures ok { OnOk result (sink_faults self.new ≡ sink_faults self.old) }
+        ensures err { OnErr result (sink_faults self.new ≡ next_count (sink_faults self.old)) }
     {
-        let outcome = write_some(&mut self.stdout, piece);
-        if outcome.is_err() {
-            self.faults = self.faults.saturating_add(1);
-        }
-        outcome
-    }
-}
-
-impl Sink for StderrSink {
-    ghost written = { λ _. None };
-
-    ghost faults = { λ sink. sink };
-
-    fn write(&mut self, piece: &[u8]) -> Result<usize, Failed>
-        // What each sink ensures.
-        ensures bound { IfOk result (λ count. count ≤ length piece.now) }
-        ensures gains { IfOk result (λ count. Gains None (take count piece.now) None) }
-        ensures full { IfOk result (λ count. count ≡ 0 → 0 < length piece.now → CountsFault self.old self.new) }
-        ensures counted { OnErr result (CountsFault self.old self.new) }
-        ensures never_falls { self.old ≤ self.new }
-
-        // Exactly when the count rises.
-        ensures ok { OnOk result (self.new ≡ self.old) }
-        ensures err { OnErr result (self.new ≡ next_count self.old) }
-    {
-        let outcome = write_some(&mut self.stderr, piece);
+        let outcome = write_some(&mut self.writer, piece);
         if outcome.is_err() {
             self.faults = self.faults.saturating_add(1);
         }
@@ -231,21 +183,23 @@ mod tests {
 
     #[test]
     fn reads_again_after_an_interruption(rt: HostRuntime) -> Result<(), Fail> {
-        let mut reader = Flaky(0);
+        let mut source = ReaderSource::new(Flaky(0));
         let mut into = [0; 2];
-        assert_eq!(rt; read_some(&mut reader, &mut into), Ok(1));
-        assert_eq!(rt; read_some(&mut reader, &mut into), Err(Failed));
-        assert_eq!(rt; read_some(&mut reader, &mut into), Ok(0));
+        assert_eq!(rt; source.read(&mut into), Ok(1));
+        assert_eq!(rt; source.read(&mut into), Err(Failed));
+        assert_eq!(rt; source.faults, 1);
+        assert_eq!(rt; source.read(&mut into), Ok(0));
         Ok(())
     }
 
     #[test]
     fn writes_again_after_an_interruption(rt: HostRuntime) -> Result<(), Fail> {
-        let mut writer = Flaky(0);
-        assert_eq!(rt; write_some(&mut writer, b"ab"), Ok(1));
-        assert_eq!(rt; write_some(&mut writer, b"b"), Err(Failed));
-        assert_eq!(rt; write_some(&mut writer, b"b"), Err(Failed));
-        assert_eq!(rt; write_some(&mut writer, b""), Ok(0));
+        let mut sink = WriterSink::new(Flaky(0));
+        assert_eq!(rt; sink.write(b"ab"), Ok(1));
+        assert_eq!(rt; sink.write(b"b"), Err(Failed));
+        assert_eq!(rt; sink.write(b"b"), Err(Failed));
+        assert_eq!(rt; sink.faults, 2);
+        assert_eq!(rt; sink.write(b""), Ok(0));
         Ok(())
     }
 }
