@@ -1,0 +1,5 @@
+pub mod Closure
+pub mod Equation
+pub mod Laws
+pub mod Peeling
+pub mod Solution

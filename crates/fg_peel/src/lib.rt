@@ -1,0 +1,4 @@
+//! Peeling: what follows from known words and parity equations.
+#![tactic(auto)]
+
+pub mod laws;
