@@ -1,5 +1,5 @@
 -- Elements of a list, one after another.
-use Rattle.std.proofs.Common.{◌≡◌, ◌≢◌, ◌⊎◌, ◌<◌, ◌==◌, ℕ, zero, suc, Bool, true, false, not, cond, List, [], ◌∷◌, length, get_or, inl, inr, refl, sym, ap, ◌∙◌, ⊎_elim, arith}
+use Rattle.std.proofs.Common.{◌≡◌, ◌≢◌, ◌⊎◌, ◌<◌, ◌==◌, ℕ, zero, suc, Bool, true, false, not, cond, List, [], ◌∷◌, length, get_or, inl, inr, refl, sym, ap, subst, ◌∙◌, ⊎_elim, arith}
 use Rattle.std.specs.List.{Contains, filter}
 use Rattle.std.proofs.lemmas.Bool.Decides.{Decides-eqb}
 use Rattle.fg_peel.specs.Equation.{others}
@@ -46,8 +46,12 @@ others-absent p (x ∷ xs) n = go (x == p) refl (others-absent p xs (λ c. n (Co
     go false e r = rw e (ap (λ (l : List ℕ). x ∷ l) r)
 
 -- The head of a list is left out if it is p, and stays otherwise.
-pub others-head : (x : ℕ) (xs : List ℕ) → others x (x ∷ xs) ≡ others x xs
+others-head : (x : ℕ) (xs : List ℕ) → others x (x ∷ xs) ≡ others x xs
 others-head x xs = let t : (x == x) ≡ true = (Decides-eqb x x).1 refl in rw t
+
+pub others-dropped : (p x : ℕ) (xs : List ℕ) → x ≡ p → (Contains xs x → ⊥) → others p (x ∷ xs) ≡ xs
+others-dropped p x xs same absent =
+  subst (λ q. others q (x ∷ xs) ≡ xs) same (others-head x xs ∙ others-absent x xs absent)
 
 pub others-kept : (p x : ℕ) (xs : List ℕ) → x ≢ p → others p (x ∷ xs) ≡ x ∷ others p xs
 others-kept p x xs n = go (x == p) refl

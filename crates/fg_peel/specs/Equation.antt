@@ -1,14 +1,10 @@
 -- Parity equations (SMPTE ST 2022-1, from Pro-MPEG Code of Practice 3): the words at an equation's slots sum to its parity
 -- word.
-use Rattle.std.specs.Prelude.{◌≡◌, ◌+◌, ◌*◌, ◌≤◌, ◌==◌, ℕ, List, map, not, Option, Some}
-use Rattle.std.specs.List.{Contains, filter, range_with_len}
+use Rattle.std.specs.Prelude.{◌≡◌, ◌≤◌, ◌==◌, ℕ, List, not, Option, Some}
+use Rattle.std.specs.List.{Contains, filter}
 use Rattle.fg_words.specs.declared.Word.{Word}
 use Rattle.fg_words.specs.Word.{IsMedia}
-
--- The protected positions, as a whole list: base, base + offset, base + 2 * offset and so on, `na` of them
--- (SMPTE ST 2022-1: SNBase, Offset and NA).
-abbrev pub slots_of : ℕ → ℕ → ℕ → List ℕ
-slots_of base offset na = map (λ j. base + j * offset) (range_with_len 0 na)
+use Rattle.fg_shape.specs.Shape.{slots_of}
 
 -- What a parity datagram says: its base position, its shape, and the sum of the words at its slots.
 pub record Equation : Type 0 where
