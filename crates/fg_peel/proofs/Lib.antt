@@ -1,3 +1,5 @@
+pub mod Closures
 pub mod Lists
+pub mod Peelings
 pub mod Slots
 pub mod Sums
