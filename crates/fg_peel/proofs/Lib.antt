@@ -2,4 +2,5 @@ pub mod Closures
 pub mod Lists
 pub mod Peelings
 pub mod Slots
+pub mod Solutions
 pub mod Sums
