@@ -1,5 +1,6 @@
 pub mod Closures
 pub mod Lists
+pub mod Maximal
 pub mod Peelings
 pub mod Slots
 pub mod Solutions
