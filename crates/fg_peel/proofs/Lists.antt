@@ -1,6 +1,6 @@
 -- Elements of a list, one after another.
-use Rattle.std.proofs.Common.{◌≡◌, ◌≢◌, ◌⊎◌, ◌<◌, ◌==◌, ℕ, zero, suc, Bool, true, false, not, cond, List, [], ◌∷◌, length, get_or, inl, inr, refl, sym, ap, subst, ◌∙◌, ⊎_elim, arith}
-use Rattle.std.specs.List.{Contains, filter}
+use Rattle.std.proofs.Common.{◌≡◌, ◌≢◌, ◌⊎◌, ◌<◌, ◌==◌, ℕ, zero, suc, Bool, true, false, List, [], ◌∷◌, length, get_or, inl, inr, refl, sym, ap, subst, ◌∙◌, ⊎_elim, arith}
+use Rattle.std.specs.List.{Contains}
 use Rattle.std.proofs.lemmas.Bool.Decides.{Decides-eqb}
 use Rattle.fg_peel.specs.Equation.{others}
 
@@ -33,8 +33,8 @@ others-element p (x ∷ xs) q h = go (x == p) refl (others-element p xs q) h
     go : (b : Bool) → (x == p) ≡ b → (Contains (others p xs) q → Contains xs q × (q ≢ p)) → Contains (others p (x ∷ xs)) q → Contains (x ∷ xs) q × (q ≢ p)
     go true e rest h = let c : Contains (others p xs) q = (rw e at h) in (Contains-there x xs q (rest c).0, (rest c).1)
     go false e rest h =
-      let c : Contains (x ∷ others p xs) q = (rw e at h) in
-      ⊎_elim (λ s. (rw s (Contains-here x xs), λ n. (let t : (x == p) ≡ true = (Decides-eqb x p).1 (sym s ∙ n) in cc))) (λ r. (Contains-there x xs q (rest r).0, (rest r).1)) (Contains-cases x (others p xs) q c)
+        let c : Contains (x ∷ others p xs) q = (rw e at h) in
+        ⊎_elim (λ s. (rw s (Contains-here x xs), λ n. (let t : (x == p) ≡ true = (Decides-eqb x p).1 (sym s ∙ n) in cc))) (λ r. (Contains-there x xs q (rest r).0, (rest r).1)) (Contains-cases x (others p xs) q c)
 
 -- Without p, a list that doesn't have it is the same.
 pub others-absent : (p : ℕ) (xs : List ℕ) → (Contains xs p → ⊥) → others p xs ≡ xs
@@ -51,7 +51,7 @@ others-head x xs = let t : (x == x) ≡ true = (Decides-eqb x x).1 refl in rw t
 
 pub others-dropped : (p x : ℕ) (xs : List ℕ) → x ≡ p → (Contains xs x → ⊥) → others p (x ∷ xs) ≡ xs
 others-dropped p x xs same absent =
-  subst (λ q. others q (x ∷ xs) ≡ xs) same (others-head x xs ∙ others-absent x xs absent)
+    subst (λ q. others q (x ∷ xs) ≡ xs) same (others-head x xs ∙ others-absent x xs absent)
 
 pub others-kept : (p x : ℕ) (xs : List ℕ) → x ≢ p → others p (x ∷ xs) ≡ x ∷ others p xs
 others-kept p x xs n = go (x == p) refl
@@ -70,14 +70,14 @@ same_or_not x p = go (x == p) refl
 
 -- A list either has an element with P, or each of its elements has Q.
 pub some_or_all :
-  {X : Type 0} (P Q : X → Type 0) → ((x : X) → P x ⊎ Q x) → (xs : List X)
-  → ((x : X) × Contains xs x × P x) ⊎ ((x : X) → Contains xs x → Q x)
+    {X : Type 0} (P Q : X → Type 0) → ((x : X) → P x ⊎ Q x) → (xs : List X)
+    → ((x : X) × Contains xs x × P x) ⊎ ((x : X) → Contains xs x → Q x)
 some_or_all P Q test [] = inr (λ x c. absurd (Contains-nil x c))
 some_or_all {X} P Q test (x ∷ xs) =
-  ⊎_elim
-  (λ p. inl (x, Contains-here x xs, p))
-  (λ q. ⊎_elim
+    ⊎_elim
+    (λ p. inl (x, Contains-here x xs, p))
+    (λ q. ⊎_elim
     (λ r. inl (r.0, Contains-there x xs r.0 r.1, r.2))
     (λ a. inr (λ y c. ⊎_elim (λ s. rw s q) (a y) (Contains-cases x xs y c)))
     (some_or_all P Q test xs))
-  (test x)
+    (test x)

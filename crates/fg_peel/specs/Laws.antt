@@ -1,5 +1,6 @@
--- The laws of closure, solutions and peelings: what makes the words "the repaired stream" mean one thing.
+-- The laws of closure, solutions and peelings: by them "the repaired stream" means one thing.
 use Rattle.std.specs.Prelude.{◌≡◌, ◌↔◌, ℕ, List, Bool, Option, IsSome, IsTrue}
+use Rattle.std.specs.List.{Contains}
 use Rattle.fg_words.specs.declared.Word.{Word}
 use Rattle.fg_peel.specs.Equation.{Equation, AreAdmissible}
 use Rattle.fg_peel.specs.Closure.{InClosure, IsClosed}
@@ -18,11 +19,26 @@ ClosureIsLeast =
     → IsClosed known equations (λ position. IsTrue (test position))
     → (position : ℕ) → InClosure known equations position → IsTrue (test position)
 
--- The closure itself has a test: so it is the least closed set of those that have one.
+-- The closure itself has a test. So it is the least of the closed sets that have one.
 abbrev pub ClosureHasTest : Type 0
 ClosureHasTest =
     (known : ℕ → Option Word) (equations : List Equation)
     → (test : ℕ → Bool) × ((position : ℕ) → IsTrue (test position) ↔ InClosure known equations position)
+
+-- With more known positions and more equations the closure loses nothing. The order of the equations is of no account.
+abbrev pub ClosureGrows : Type 0
+ClosureGrows =
+    (less more : ℕ → Option Word) (few many : List Equation)
+    → ((position : ℕ) → IsSome (less position) → IsSome (more position))
+    → ((equation : Equation) → Contains few equation → Contains many equation)
+    → (position : ℕ) → InClosure less few position → InClosure more many position
+
+-- Once the closure's positions are known, no more follow.
+abbrev pub ClosureIsFinal : Type 0
+ClosureIsFinal =
+    (known more : ℕ → Option Word) (equations : List Equation)
+    → ((position : ℕ) → IsSome (more position) → InClosure known equations position)
+    → (position : ℕ) → InClosure more equations position → InClosure known equations position
 
 -- A peeling never leaves the closure.
 abbrev pub PeelingsStayInClosure : Type 0
@@ -48,7 +64,7 @@ Uniqueness =
     → (one other : ℕ → Option Word) → IsSolution known equations one → IsSolution known equations other
     → one ≡ other
 
--- Confluence, first half: if one maximal peeling is sound, then all are, and all have the same end.
+-- Confluence: if one maximal peeling is sound, then all are, and all have the same end.
 abbrev pub SoundPeelingsAgree : Type 0
 SoundPeelingsAgree =
     (known : ℕ → Option Word) (equations : List Equation) → AreAdmissible known equations
@@ -56,9 +72,16 @@ SoundPeelingsAgree =
     → IsMaximal known equations other
     → IsSound known equations other × (end_of known one ≡ end_of known other)
 
--- Confluence, second half: if a solution exists, then some maximal peeling is sound.
-abbrev pub SolutionsArePeeled : Type 0
-SolutionsArePeeled =
+-- Confluence: if a solution exists, then some maximal peeling is sound.
+abbrev pub SolutionsAreReached : Type 0
+SolutionsAreReached =
     (known : ℕ → Option Word) (equations : List Equation) → AreAdmissible known equations
     → (words : ℕ → Option Word) → IsSolution known equations words
     → (steps : List Step) × IsMaximal known equations steps × IsSound known equations steps
+
+-- So every maximal peeling ends at the solution, where there is one.
+abbrev pub MaximalPeelingsEndAtSolution : Type 0
+MaximalPeelingsEndAtSolution =
+    (known : ℕ → Option Word) (equations : List Equation) → AreAdmissible known equations
+    → (words : ℕ → Option Word) → IsSolution known equations words
+    → (steps : List Step) → IsMaximal known equations steps → end_of known steps ≡ words

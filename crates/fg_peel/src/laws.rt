@@ -1,8 +1,40 @@
-//! Laws of the definitions: each is the contract of a function that does nothing.
+//! The laws by which the repaired stream means one thing, whatever the order of the work. Each is
+//! the contract of a function that does nothing.
 
-ghost use Rattle.fg_peel.specs.Laws.{ClosureIsClosed};
+ghost use Rattle.fg_peel.specs.Laws.{ClosureIsClosed, ClosureIsLeast, ClosureHasTest, ClosureGrows, ClosureIsFinal};
+ghost use Rattle.fg_peel.specs.Laws.{PeelingsStayInClosure, MaximalPeelingsEndAtClosure, MaximalPeelingExists};
+ghost use Rattle.fg_peel.specs.Laws.{Uniqueness, SoundPeelingsAgree, SolutionsAreReached, MaximalPeelingsEndAtSolution};
 
-/// The closure is closed.
-pub fn closure_is_closed()
-    ensures { ClosureIsClosed }
+/// The closure is the least closed set: it is closed, contained in every closed set that has a test,
+/// and has a test itself.
+pub fn closure_is_least()
+    ensures closed { ClosureIsClosed }
+    ensures least { ClosureIsLeast }
+    ensures tested { ClosureHasTest }
+{}
+
+/// The closure grows with what is known and with the equations, and is its own closure.
+pub fn closure_grows()
+    ensures grows { ClosureGrows }
+    ensures complete { ClosureIsFinal }
+{}
+
+/// Peelings stay in the closure, there is a maximal one, and each maximal one ends at the closure.
+pub fn peelings_fill_the_closure()
+    ensures within { PeelingsStayInClosure }
+    ensures filled { MaximalPeelingsEndAtClosure }
+    ensures exists { MaximalPeelingExists }
+{}
+
+/// Two solutions are equal.
+pub fn uniqueness()
+    ensures { Uniqueness }
+{}
+
+/// If one maximal peeling is sound, all are, with the same end. If a solution exists, some maximal
+/// peeling is sound, and each ends at the solution.
+pub fn confluence()
+    ensures agreed { SoundPeelingsAgree }
+    ensures reached { SolutionsAreReached }
+    ensures same_end { MaximalPeelingsEndAtSolution }
 {}
