@@ -1,4 +1,86 @@
-//! Peeling: what follows from known words and parity equations.
+//! Peeling: what follows from known words and parity equations (SMPTE ST 2022-1, where one parity
+//! datagram recovers one lost datagram).
 #![tactic(auto)]
 
+ghost use Rattle.std.specs.Prelude.{◌≡◌, ◌+◌, ◌^◌, ◌<◌, ◌≤◌, ◌≤ℤ◌, ◌+ℤ◌, ◌↔◌, ℕ, pos, negsuc, length, IsSome, IfSome, IsTrue, Option};
+ghost use Rattle.std.specs.Option.{option_copied};
+ghost use Rattle.fg_peel.specs.Closure.{InClosure};
+ghost use Rattle.fg_peel.specs.Equation.{AreAdmissible};
+ghost use Rattle.fg_peel.specs.Slots.{word_in, told_from, words_at, known_at, recovered_at, equations_of, AllFit, OnlyFills, EndsPeeling, ArePeeled};
+ghost use Rattle.fg_peel.specs.Verdict.{IsVerdict, TellsSolution};
+
+use fg_shape::Shape;
+use fg_words::{Shared, Word};
+use slab::Slab;
+
+mod checks;
 pub mod laws;
+mod recovery;
+mod stub;
+
+/// What is known of the datagram at one position.
+#[derive(Drop)]
+pub enum Slot {
+    /// Nothing.
+    Empty,
+    /// A datagram that was received.
+    Media(Shared),
+    /// A word that an equation gave, for others to see.
+    Solved(Shared),
+    /// A word that stands here alone: one that was shown before, or one that `peel` put here.
+    Filled(Word),
+}
+
+impl Slot {
+    /// The word, if there is one.
+    fn word(&self) -> Option<&Word>
+        ensures { option_copied result ≡ word_in self.now }
+    {
+        match self {
+            Slot::Empty => None,
+            Slot::Media(shared) | Slot::Solved(shared) => Some(shared.word()),
+            Slot::Filled(word) => Some(word),
+        }
+    }
+}
+
+/// The word at a position, where the first entry stands for `start`.
+fn word_at(start: u64, slots: &[Slot], position: u64) -> Option<&Word>
+    requires first { start ≤ position }
+    requires last { position < start + length slots.now }
+    ensures { option_copied result ≡ told_from word_in start slots.now position }
+{
+    slots[(position - start) as usize].word()
+}
+
+/// A live equation: the words at its slots sum to its parity word.
+#[derive(Drop)]
+pub struct Line {
+    /// The position of the first slot.
+    pub base: u64,
+    /// Which slots it has.
+    pub shape: Shape,
+    /// The parity word.
+    pub parity: Shared,
+    /// The number of equations that were admitted before it.
+    pub serial: u64,
+    /// Its place among the live equations.
+    pub place: u32,
+}
+
+/// What the words at the end of a peeling are worth.
+#[derive(Clone, Copy)]
+pub enum Verdict {
+    /// Each recovered word is a media word, and each equation comes out.
+    Sound,
+    /// The equation at this place doesn't come out. It is the least such place.
+    Unsound {
+        /// The equation's place.
+        place: u32,
+    },
+    /// The word recovered for this position is no media word. It is the least such position.
+    NotMedia {
+        /// The position.
+        slot: u64,
+    },
+}

@@ -1,0 +1,54 @@
+-- The verdict on the words that peeling leaves.
+use Rattle.std.specs.Prelude.{◌≡◌, ◌≤◌, ℕ, List, Option, Some, IsSome}
+use Rattle.std.specs.List.{Contains}
+use Rattle.slab.specs.Slab.{Slab}
+use Rattle.fg_words.specs.declared.Word.{Word}
+use Rattle.fg_words.specs.Word.{IsMedia}
+use Rattle.fg_peel.specs.declared.Slot.{Slot}
+use Rattle.fg_peel.specs.declared.Line.{Line}
+use Rattle.fg_peel.specs.declared.Verdict.{Verdict}
+use Rattle.fg_peel.specs.declared.Verdict.TheVariants.{Sound, Unsound, NotMedia}
+use Rattle.fg_peel.specs.Equation.{Equation, slots}
+use Rattle.fg_peel.specs.Solution.{IsSolution, sum_at}
+use Rattle.fg_peel.specs.Slots.{equation_of, lines_of, recovered_in}
+
+-- The least number with a property.
+abbrev pub IsLeast : (ℕ → Type 0) → ℕ → Type 0
+IsLeast P n = P n × ((m : ℕ) → P m → n ≤ m)
+
+-- The entry's word, if it was recovered, is a media word.
+abbrev pub RecoversMedia : Slot → Type 0
+RecoversMedia entry = (word : Word) → recovered_in entry ≡ Some word → IsMedia word
+
+-- The position's word was recovered, and is no media word.
+abbrev pub IsNoMedia : (ℕ → Option Word) → ℕ → Type 0
+IsNoMedia recovered position = (word : Word) × (recovered position ≡ Some word) × ¬ IsMedia word
+
+-- The words at the equation's slots sum to its parity word.
+abbrev pub ComesOut : (ℕ → Option Word) → Equation → Type 0
+ComesOut words equation = equation.parity ≡ sum_at words (slots equation)
+
+-- All slots of the equation have words, and their sum isn't its parity word.
+pub record IsBroken (words : ℕ → Option Word) (equation : Equation) : Type 0 where
+  pub complete : (position : ℕ) → Contains (slots equation) position → IsSome (words position)
+  pub differs : ¬ ComesOut words equation
+
+-- A line of that place is broken.
+abbrev pub BreaksAt : (ℕ → Option Word) → Slab Line → ℕ → Type 0
+BreaksAt words lines place =
+    (line : Line) × Contains (lines_of lines) line × (line.place ≡ place) × IsBroken words (equation_of line)
+
+-- Which verdict the words get: a recovered word that is no media word counts before a line that is broken, and the
+-- least position or place is told.
+abbrev pub IsVerdict : (ℕ → Option Word) → (ℕ → Option Word) → Slab Line → Verdict → Type 0
+IsVerdict recovered words lines (NotMedia slot) = IsLeast (IsNoMedia recovered) slot
+IsVerdict recovered words lines (Unsound place) =
+    ((position : ℕ) → ¬ IsNoMedia recovered position) × IsLeast (BreaksAt words lines) place
+IsVerdict recovered words lines Sound =
+    ((position : ℕ) → ¬ IsNoMedia recovered position) × ((place : ℕ) → ¬ BreaksAt words lines place)
+
+-- The verdict says whether there is a solution, and the words then are it.
+pub record TellsSolution (equations : List Equation) (known words : ℕ → Option Word) (verdict : Verdict) : Type 0 where
+  pub sound : verdict ≡ Sound → IsSolution known equations words
+  pub complete :
+      (solution : ℕ → Option Word) → IsSolution known equations solution → (verdict ≡ Sound) × (words ≡ solution)

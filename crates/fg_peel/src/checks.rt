@@ -1,0 +1,96 @@
+//! The verdict on finished words.
+
+ghost use Rattle.std.specs.Prelude.{◌≡◌, ◌+◌, ◌^◌, ◌≤◌, ◌↔◌, ℕ, length, IsTrue, IfSome, IfNone};
+ghost use Rattle.fg_peel.specs.Slots.{word_in, recovered_in, told_from, equation_of, FitsFrom, AllFitFrom};
+ghost use Rattle.fg_peel.specs.Verdict.{IsLeast, RecoversMedia, IsNoMedia, ComesOut, IsBroken, BreaksAt, IsVerdict};
+
+use crate::recovery::{Missing, missing_of};
+use crate::stub;
+use crate::{Line, Slot, Verdict, word_at};
+use fg_shape::slot;
+use slab::Slab;
+
+/// Whether an entry's word, if it was recovered, is a media word.
+fn recovers_media(slot: &Slot) -> bool
+    ensures { IsTrue result ↔ RecoversMedia slot.now }
+{
+    match slot {
+        Slot::Empty | Slot::Media(_) => true,
+        Slot::Solved(shared) => stub::is_media(shared.word()),
+        Slot::Filled(word) => stub::is_media(word),
+    }
+}
+
+/// The least position whose recovered word is no media word.
+fn first_not_media(start: u64, slots: &[Slot]) -> Option<u64>
+    requires limit { start + length slots.now ≤ 2 ^ 62 }
+    ensures least { IfSome result (IsLeast (IsNoMedia (told_from recovered_in start slots.now))) }
+    ensures none { IfNone result ((position : ℕ) → ¬ IsNoMedia (told_from recovered_in start slots.now) position) }
+{
+    for (i, slot) in slots.iter().enumerate() {
+        if !recovers_media(slot) {
+            return Some(start + i as u64);
+        }
+    }
+    None
+}
+
+/// Whether the words at a line's slots sum to its parity word. It adds each word once, to a copy of
+/// the parity word.
+fn comes_out(start: u64, slots: &[Slot], line: &Line) -> bool
+    requires line { FitsFrom start (length slots.now) line.now }
+    requires limit { start + length slots.now ≤ 2 ^ 62 }
+    ensures { IsTrue result ↔ ComesOut (told_from word_in start slots.now) (equation_of line.now) }
+{
+    let mut sum = *line.parity.word();
+    for j in 0..line.shape.na {
+        let position = slot(line.base, line.shape, j);
+        if let Some(word) = word_at(start, slots, position) {
+            stub::xor_in(&mut sum, word);
+        }
+    }
+    stub::is_zero(&sum)
+}
+
+/// Whether all slots of a line have words that don't sum to its parity word.
+fn is_broken(start: u64, slots: &[Slot], line: &Line) -> bool
+    requires line { FitsFrom start (length slots.now) line.now }
+    requires limit { start + length slots.now ≤ 2 ^ 62 }
+    ensures { IsTrue result ↔ IsBroken (told_from word_in start slots.now) (equation_of line.now) }
+{
+    match missing_of(start, slots, line) {
+        Missing::Nothing => !comes_out(start, slots, line),
+        Missing::One(_) | Missing::Several => false,
+    }
+}
+
+/// The least place of a line that is broken.
+fn first_broken(start: u64, slots: &[Slot], lines: &Slab<Line>) -> Option<u32>
+    requires lines { AllFitFrom start slots.now lines.now }
+    requires limit { start + length slots.now ≤ 2 ^ 62 }
+    ensures least { IfSome result (IsLeast (BreaksAt (told_from word_in start slots.now) lines.now)) }
+    ensures none { IfNone result ((place : ℕ) → ¬ BreaksAt (told_from word_in start slots.now) lines.now place) }
+{
+    let mut least: Option<u32> = None;
+    for (_, line) in lines.iter() {
+        if is_broken(start, slots, line) {
+            least = Some(least.unwrap_or(line.place).min(line.place));
+        }
+    }
+    least
+}
+
+/// The verdict on the words of a row of entries.
+pub(crate) fn verdict_on(start: u64, slots: &[Slot], lines: &Slab<Line>) -> Verdict
+    requires lines { AllFitFrom start slots.now lines.now }
+    requires limit { start + length slots.now ≤ 2 ^ 62 }
+    ensures { IsVerdict (told_from recovered_in start slots.now) (told_from word_in start slots.now) lines.now result }
+{
+    if let Some(slot) = first_not_media(start, slots) {
+        return Verdict::NotMedia { slot };
+    }
+    match first_broken(start, slots, lines) {
+        Some(place) => Verdict::Unsound { place },
+        None => Verdict::Sound,
+    }
+}
