@@ -1,11 +1,33 @@
 //! Words, the units that forward error correction recovers.
 #![tactic(auto)]
 
-ghost use Rattle.std.specs.Prelude.{◌≡◌, ◌↔◌, IsTrue};
-ghost use Rattle.fg_words.specs.Word.{zero_word, IsMedia};
+ghost use Rattle.std.specs.Prelude.{◌≡◌, ℕ, ◌*◌, ◌<◌, ◌≤◌, ◌↔◌, ◌++◌, IfOk, IsTrue, bit_xor, drop, slice_index, take};
+ghost use Rattle.std.specs.Simd.Lanes.{zip2};
+ghost use Rattle.fg_words.specs.Word.{zero_word, word_xor, IsMedia};
 
-/// The most payload bytes that a media datagram carries: seven transport packets of 188 bytes.
+mod lanes;
+pub mod laws;
+mod shared;
+#[cfg(test)]
+mod tests;
+
+pub use shared::Shared;
+use std::alloc::{AllocError, Global};
+
+/// The payload bytes that a word has room for: seven transport packets of 188 bytes.
 pub const PAYLOAD_LIMIT: usize = 1316;
+
+/// The RTP payload type of MPEG transport packets (RFC 3551).
+const TRANSPORT_TYPE: u8 = 33;
+
+/// The length of a transport packet in bytes (ISO/IEC 13818-1).
+const PACKET_LENGTH: u16 = 188;
+
+/// The most transport packets that a media datagram carries.
+const PACKETS_LIMIT: u16 = 7;
+
+/// The first byte of each transport packet (ISO/IEC 13818-1).
+const SYNC_BYTE: u8 = 0x47;
 
 /// What forward error correction can recover of a media datagram (SMPTE ST 2022-1, the recovery
 /// fields).
@@ -18,7 +40,7 @@ pub struct Word {
     /// The payload's length in bytes.
     pub len: u16,
     /// The payload, padded with zeros.
-    pub bytes: [u8; 1316],
+    pub bytes: [u8; PAYLOAD_LIMIT],
 }
 
 impl Word {
@@ -30,7 +52,70 @@ impl Word {
             pt: 0,
             ts: 0,
             len: 0,
-            bytes: [0; 1316],
+            bytes: [0; PAYLOAD_LIMIT],
         }
     }
+
+    /// XORs the other word into this one, field by field and byte by byte.
+    pub fn xor_in(&mut self, other: &Word)
+        ensures { self.new ≡ word_xor self.old other.now }
+    {
+        self.pt ^= other.pt;
+        self.ts ^= other.ts;
+        self.len ^= other.len;
+        lanes::xor_bytes(&mut self.bytes, &other.bytes);
+    }
+
+    /// Whether all four fields are zero.
+    pub fn is_zero(&self) -> bool
+        ensures { IsTrue result ↔ (self.now ≡ zero_word) }
+    {
+        self.pt == 0 && self.ts == 0 && self.len == 0 && lanes::is_zero(&self.bytes)
+    }
+
+    /// Whether all four fields of the two words are equal.
+    pub fn same(&self, other: &Word) -> bool
+        ensures { IsTrue result ↔ (self.now ≡ other.now) }
+    {
+        self.pt == other.pt
+            && self.ts == other.ts
+            && self.len == other.len
+            && self.bytes == other.bytes
+    }
+
+    /// Whether the word can be a media datagram's: payload type 33, 1 to 7 transport packets that
+    /// each begin with the sync byte, and zeros after them.
+    pub fn is_media(&self) -> bool
+        ensures { IsTrue result ↔ IsMedia self.now }
+    {
+        let packets = self.len / PACKET_LENGTH;
+        if self.pt != TRANSPORT_TYPE || packets == 0 || packets > PACKETS_LIMIT {
+            return false;
+        }
+        if self.len != packets * PACKET_LENGTH {
+            return false;
+        }
+        begins_with_sync(&self.bytes, usize::from(packets))
+            && lanes::is_zero_from(&self.bytes, usize::from(self.len))
+    }
+
+    /// Puts the word where several owners share it. Answers want of memory alone.
+    pub fn share(self, alloc: Global) -> Result<Shared, AllocError>
+        ensures { IfOk result (λ shared. shared ≡ self) }
+    {
+        Shared::new(alloc, self)
+    }
+}
+
+/// Whether each of the first `packets` transport packets begins with the sync byte.
+fn begins_with_sync(bytes: &[u8; PAYLOAD_LIMIT], packets: usize) -> bool
+    requires { packets ≤ 7 }
+    ensures { IsTrue result ↔ ((i : ℕ) → i < packets → slice_index bytes.now (188 * i) ≡ 0x47) }
+{
+    for packet in 0..packets {
+        if bytes[usize::from(PACKET_LENGTH) * packet] != SYNC_BYTE {
+            return false;
+        }
+    }
+    true
 }

@@ -1,0 +1,76 @@
+//! The payload's bytes, a vector at a time.
+
+ghost use Rattle.std.specs.Prelude.{◌≡◌, ℕ, ◌+◌, ◌*◌, ◌<◌, ◌≤◌, ◌↔◌, ◌++◌, IsTrue, bit_xor, drop, slice_index, take, replicate};
+ghost use Rattle.std.specs.Simd.Lanes.{zip2};
+
+use crate::PAYLOAD_LIMIT;
+use std::simd::prelude::*;
+
+/// The bytes of a vector.
+const LANES: usize = 32;
+
+/// The whole vectors in a payload's bytes.
+const VECTORS: usize = PAYLOAD_LIMIT / LANES;
+
+/// The bytes that the whole vectors have.
+const WHOLE: usize = VECTORS * LANES;
+
+/// XORs the other bytes into these.
+pub fn xor_bytes(bytes: &mut [u8; PAYLOAD_LIMIT], other: &[u8; 1316])
+    ensures { bytes.new ≡ zip2 bit_xor bytes.old other.now }
+{
+    xor_whole(bytes, other);
+    xor_rest(bytes, other);
+}
+
+/// XORs those of the other bytes that lie in whole vectors into these.
+fn xor_whole(bytes: &mut [u8; PAYLOAD_LIMIT], other: &[u8; 1316])
+    ensures below { (i : ℕ) → i < WHOLE → slice_index bytes.new i ≡ bit_xor (slice_index bytes.old i) (slice_index other.now i) }
+    ensures rest { (i : ℕ) → WHOLE ≤ i → slice_index bytes.new i ≡ slice_index bytes.old i }
+{
+    for vector in 0..VECTORS {
+        let at = LANES * vector;
+        let sum = u8x32::from_slice(&bytes[at..]) ^ u8x32::from_slice(&other[at..]);
+        sum.copy_to_slice(&mut bytes[at..]);
+    }
+}
+
+/// XORs those of the other bytes that follow the last whole vector into these.
+fn xor_rest(bytes: &mut [u8; PAYLOAD_LIMIT], other: &[u8; 1316])
+    ensures below { (i : ℕ) → i < WHOLE → slice_index bytes.new i ≡ slice_index bytes.old i }
+    ensures rest { (i : ℕ) → WHOLE ≤ i → slice_index bytes.new i ≡ bit_xor (slice_index bytes.old i) (slice_index other.now i) }
+{
+    for at in WHOLE..PAYLOAD_LIMIT {
+        bytes[at] ^= other[at];
+    }
+}
+
+/// Whether all bytes are zero.
+pub fn is_zero(bytes: &[u8; PAYLOAD_LIMIT]) -> bool
+    ensures { IsTrue result ↔ (bytes.now ≡ replicate 1316 0) }
+{
+    union_of_whole(bytes) == 0 && is_zero_from(bytes, WHOLE)
+}
+
+/// The bits that are set in some byte of the whole vectors.
+fn union_of_whole(bytes: &[u8; PAYLOAD_LIMIT]) -> u8
+    ensures { (result ≡ 0) ↔ ((i : ℕ) → i < WHOLE → slice_index bytes.now i ≡ 0) }
+{
+    let mut union = u8x32::splat(0);
+    for vector in 0..VECTORS {
+        union |= u8x32::from_slice(&bytes[LANES * vector..]);
+    }
+    union.reduce_or()
+}
+
+/// Whether each byte from `start` on is zero.
+pub fn is_zero_from(bytes: &[u8; PAYLOAD_LIMIT], start: usize) -> bool
+    ensures { IsTrue result ↔ ((i : ℕ) → start ≤ i → slice_index bytes.now i ≡ 0) }
+{
+    for at in start..PAYLOAD_LIMIT {
+        if bytes[at] != 0 {
+            return false;
+        }
+    }
+    true
+}

@@ -1,0 +1,87 @@
+//! Words by example.
+
+use crate::{PAYLOAD_LIMIT, Shared, Word};
+
+/// A media word of these packets, whose other bytes differ from place to place.
+fn media(packets: u16) -> Word
+    requires { packets ≤ 7 }
+{
+    let mut word = Word::zero();
+    word.pt = 33;
+    word.ts = 0x1234_5678;
+    word.len = 188 * packets;
+    for at in 0..usize::from(word.len) {
+        word.bytes[at] = if at % 188 == 0 {
+            0x47
+        } else {
+            (at % 251) as u8
+        };
+    }
+    word
+}
+
+/// XORs a byte at a time.
+fn plain_xor(bytes: &mut [u8; PAYLOAD_LIMIT], other: &[u8; PAYLOAD_LIMIT]) {
+    for at in 0..PAYLOAD_LIMIT {
+        bytes[at] ^= other[at];
+    }
+}
+
+#[test]
+fn media_words_have_whole_packets_and_a_zero_tail(rt: HostRuntime) {
+    assert!(rt; !media(0).is_media());
+    assert!(rt; media(1).is_media());
+    assert!(rt; media(7).is_media());
+    let mut word = media(2);
+    word.bytes[188] = 0x46;
+    assert!(rt; !word.is_media());
+    let mut word = media(2);
+    word.bytes[376] = 1;
+    assert!(rt; !word.is_media());
+    let mut word = media(2);
+    word.len = 375;
+    assert!(rt; !word.is_media());
+    let mut word = media(2);
+    word.pt = 34;
+    assert!(rt; !word.is_media());
+}
+
+#[test]
+fn xor_agrees_with_a_plain_loop(rt: HostRuntime) {
+    let mut sum = media(7);
+    let mut plain = sum.bytes;
+    let other = media(3);
+    sum.xor_in(&other);
+    plain_xor(&mut plain, &other.bytes);
+    assert!(rt; sum.bytes == plain);
+    assert_eq!(rt; sum.len, 1316 ^ 564);
+    sum.xor_in(&other);
+    assert!(rt; sum.same(&media(7)));
+}
+
+#[test]
+fn zero_words_are_zero_in_every_byte(rt: HostRuntime) {
+    assert!(rt; Word::zero().is_zero());
+    for at in [0, 31, 32, 1311, 1312, 1315] {
+        let mut word = Word::zero();
+        word.bytes[at] = 0x80;
+        assert!(rt; !word.is_zero(), "at {at}");
+        assert!(rt; !word.same(&Word::zero()), "at {at}");
+    }
+    assert!(rt; !media(1).is_zero());
+}
+
+/// Takes what several threads may hold.
+fn hold<T: Send + Sync + Drop>(_value: T) {}
+
+#[test]
+fn a_share_has_the_word_given(rt: HostRuntime) {
+    let shared = media(5).share(rt.alloc());
+    match shared {
+        Ok(shared) => {
+            assert!(rt; shared.word().same(&media(5)));
+            hold::<Shared>(shared);
+        }
+        Err(_) => assert!(rt; false),
+    }
+}
