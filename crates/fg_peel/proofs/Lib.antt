@@ -1,7 +1,14 @@
+pub mod Adding
+pub mod Closed
 pub mod Closures
+pub mod Entries
+pub mod Filling
+pub mod Lines
 pub mod Lists
 pub mod Maximal
+pub mod Missing
 pub mod Peelings
 pub mod Slots
 pub mod Solutions
+pub mod Steps
 pub mod Sums

@@ -81,3 +81,7 @@ some_or_all {X} P Q test (x ∷ xs) =
     (λ a. inr (λ y c. ⊎_elim (λ s. rw s q) (a y) (Contains-cases x xs y c)))
     (some_or_all P Q test xs))
     (test x)
+
+-- What is left out of a list is left out of its rest.
+pub others-head_dropped : (p x : ℕ) (xs : List ℕ) → x ≡ p → others p (x ∷ xs) ≡ others p xs
+others-head_dropped p x xs same = subst (λ q. others q (x ∷ xs) ≡ others q xs) same (others-head x xs)

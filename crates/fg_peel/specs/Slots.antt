@@ -1,5 +1,5 @@
 -- A row of entries with the words of successive positions, and the live lines: which words and equations they stand for.
-use Rattle.std.specs.Prelude.{◌≡◌, ◌≢◌, ◌+◌, ◌-◌, ◌<◌, ◌≤◌, ℕ, ℤ, pos, negsuc, List, map, length, drop, nat_lt, slice_index_or, Option, Some, None, IsSome, if◌then◌else◌}
+use Rattle.std.specs.Prelude.{◌≡◌, ◌≢◌, ◌⊎◌, ◌+◌, ◌-◌, ◌<◌, ◌≤◌, ℕ, ℤ, pos, negsuc, List, map, length, drop, nat_lt, slice_index_or, Option, Some, None, IsSome, if◌then◌else◌}
 use Rattle.std.specs.List.{Contains}
 use Rattle.slab.specs.Slab.{Slab, entries}
 use Rattle.fg_words.specs.declared.Word.{Word}
@@ -91,8 +91,8 @@ pub record OnlyFills (old new : List Slot) : Type 0 where
   pub count : length new ≡ length old
   pub kept : (k : ℕ) → slice_index_or old k Empty ≢ Empty → slice_index_or new k Empty ≡ slice_index_or old k Empty
   pub filled :
-      (k : ℕ) → slice_index_or new k Empty ≢ slice_index_or old k Empty
-      → (word : Word) × (slice_index_or new k Empty ≡ Filled word)
+      (k : ℕ) → slice_index_or old k Empty ≡ Empty
+      → (slice_index_or new k Empty ≡ Empty) ⊎ ((word : Word) × (slice_index_or new k Empty ≡ Filled word))
 
 -- The words at the end are the end of a maximal peeling of those at the start.
 abbrev pub EndsPeeling : List Equation → (ℕ → Option Word) → (ℕ → Option Word) → Type 0

@@ -3,7 +3,7 @@ use Rattle.std.specs.Prelude.{◌≡◌, ◌≤◌, ℕ, List, Option, Some, IsS
 use Rattle.std.specs.List.{Contains}
 use Rattle.slab.specs.Slab.{Slab}
 use Rattle.fg_words.specs.declared.Word.{Word}
-use Rattle.fg_words.specs.Word.{IsMedia}
+use Rattle.fg_words.specs.Word.{IsMedia, word_xor}
 use Rattle.fg_peel.specs.declared.Slot.{Slot}
 use Rattle.fg_peel.specs.declared.Line.{Line}
 use Rattle.fg_peel.specs.declared.Verdict.{Verdict}
@@ -27,6 +27,10 @@ IsNoMedia recovered position = (word : Word) × (recovered position ≡ Some wor
 -- The words at the equation's slots sum to its parity word.
 abbrev pub ComesOut : (ℕ → Option Word) → Equation → Type 0
 ComesOut words equation = equation.parity ≡ sum_at words (slots equation)
+
+-- A sum has gained the words at the equation's slots.
+abbrev pub AddsWords : (ℕ → Option Word) → Equation → Word → Word → Type 0
+AddsWords words equation old new = new ≡ word_xor old (sum_at words (slots equation))
 
 -- All slots of the equation have words, and their sum isn't its parity word.
 pub record IsBroken (words : ℕ → Option Word) (equation : Equation) : Type 0 where

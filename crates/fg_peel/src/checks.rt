@@ -1,13 +1,14 @@
 //! The verdict on finished words.
 
 ghost use Rattle.std.specs.Prelude.{◌≡◌, ◌+◌, ◌^◌, ◌≤◌, ◌↔◌, ℕ, length, IsTrue, IfSome, IfNone};
+ghost use Rattle.fg_words.specs.Word.{HasRoom};
 ghost use Rattle.fg_peel.specs.Slots.{word_in, recovered_in, told_from, equation_of, FitsFrom, AllFitFrom};
-ghost use Rattle.fg_peel.specs.Verdict.{IsLeast, RecoversMedia, IsNoMedia, ComesOut, IsBroken, BreaksAt, IsVerdict};
+ghost use Rattle.fg_peel.specs.Verdict.{IsLeast, RecoversMedia, IsNoMedia, ComesOut, AddsWords, IsBroken, BreaksAt, IsVerdict};
 
 use crate::recovery::{Missing, missing_of};
-use crate::stub;
 use crate::{Line, Slot, Verdict, word_at};
 use fg_shape::slot;
+use fg_words::Word;
 use slab::Slab;
 
 /// Whether an entry's word, if it was recovered, is a media word.
@@ -16,8 +17,8 @@ fn recovers_media(slot: &Slot) -> bool
 {
     match slot {
         Slot::Empty | Slot::Media(_) => true,
-        Slot::Solved(shared) => stub::is_media(shared.word()),
-        Slot::Filled(word) => stub::is_media(word),
+        Slot::Solved(shared) => shared.word().is_media(),
+        Slot::Filled(word) => word.is_media(),
     }
 }
 
@@ -43,13 +44,25 @@ fn comes_out(start: u64, slots: &[Slot], line: &Line) -> bool
     ensures { IsTrue result ↔ ComesOut (told_from word_in start slots.now) (equation_of line.now) }
 {
     let mut sum = *line.parity.word();
+    add_words(&mut sum, start, slots, line);
+    sum.is_zero()
+}
+
+/// Adds the words at a line's slots to a word.
+fn add_words(sum: &mut Word, start: u64, slots: &[Slot], line: &Line)
+    requires line { FitsFrom start (length slots.now) line.now }
+    requires limit { start + length slots.now ≤ 2 ^ 62 }
+    ensures added { AddsWords (told_from word_in start slots.now) (equation_of line.now) sum.old sum.new }
+    ensures room { HasRoom sum.old }
+{
+    // The proof reads the payload's length off its type here.
+    let _payload = &sum.bytes;
     for j in 0..line.shape.na {
         let position = slot(line.base, line.shape, j);
         if let Some(word) = word_at(start, slots, position) {
-            stub::xor_in(&mut sum, word);
+            sum.xor_in(word);
         }
     }
-    stub::is_zero(&sum)
 }
 
 /// Whether all slots of a line have words that don't sum to its parity word.

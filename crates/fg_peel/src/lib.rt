@@ -16,7 +16,6 @@ use slab::Slab;
 mod checks;
 pub mod laws;
 mod recovery;
-mod stub;
 
 /// What is known of the datagram at one position.
 #[derive(Drop)]

@@ -1,12 +1,13 @@
 //! Filling empty entries from the equations that miss one word.
 
-ghost use Rattle.std.specs.Prelude.{◌≡◌, ◌≢◌, ◌+◌, ◌^◌, ◌<◌, ◌≤◌, length, IsTrue, OnSome, IfNone, false};
+ghost use Rattle.std.specs.Prelude.{◌≡◌, ◌≢◌, ◌+◌, ◌^◌, ◌<◌, ◌≤◌, length, slice_set, IsTrue, OnSome, IfNone, false};
+ghost use Rattle.fg_words.specs.Word.{HasRoom};
 ghost use Rattle.fg_peel.specs.Slots.{word_in, told_from, equation_of, equations_of, FitsFrom, AllFitFrom};
 ghost use Rattle.fg_peel.specs.Recovery.{IsMissing, Fills, AllClosed, empty_count, IsPeeled, with_word, AddsWord};
 
-use crate::stub;
 use crate::{Line, Slot, word_at};
 use fg_shape::{contains, slot};
+use fg_words::Word;
 use slab::Slab;
 
 /// Which slots of an equation have no word.
@@ -51,13 +52,24 @@ fn fill(start: u64, slots: &mut [Slot], line: &Line, position: u64)
     ensures { Fills start (equation_of line.now) position slots.old slots.new }
 {
     let target = (position - start) as usize;
-    slots[target] = Slot::Filled(*line.parity.word());
+    hold(slots, target, line.parity.word());
     for j in 0..line.shape.na {
         let other = slot(line.base, line.shape, j);
         if other != position {
             add_word(slots, target, (other - start) as usize);
         }
     }
+}
+
+/// Puts a copy of a word into an entry.
+fn hold(slots: &mut [Slot], target: usize, word: &Word)
+    requires { target < length slots.old }
+    ensures entry { slots.new ≡ slice_set slots.old target (Slot.Filled word.now) }
+    ensures room { HasRoom word.now }
+{
+    // The proof reads the payload's length off its type here.
+    let _payload = &word.bytes;
+    slots[target] = Slot::Filled(*word);
 }
 
 /// Adds the word of another entry to the word that stands at `target`, in place.
@@ -81,7 +93,7 @@ fn add_entry(target: &mut Slot, other: &Slot)
     ensures { target.new ≡ with_word target.old (word_in other.now) }
 {
     if let (Slot::Filled(word), Some(added)) = (target, other.word()) {
-        stub::xor_in(word, added);
+        word.xor_in(added);
     }
 }
 
