@@ -3,7 +3,7 @@ use Rattle.std.proofs.Common.{◌≡◌, ◌≢◌, ℕ, zero, suc, ◌+◌, ◌
 use Rattle.std.specs.Int.Bits.{xor_zero_r}
 use Rattle.std.specs.Simd.Lanes.{zip2}
 use Rattle.std.specs.List.{filter_map, cons_option}
-use Rattle.std.proofs.lemmas.List.{drop_more}
+use Rattle.std.proofs.lemmas.List.{drop_more, drop_all}
 use Rattle.fg_words.specs.declared.Word.{Word}
 use Rattle.fg_words.specs.Word.{zero_word, word_xor, word_sum, HasRoom}
 use Rattle.fg_words.proofs.WordLemmas.{word-ext, word_xor_assoc, word_xor-self, word_xor-zero_same, HasRoom-zero}
@@ -59,6 +59,27 @@ pub sum_more :
     → word_xor (word_xor acc w) (sum_at words rest) ≡ word_xor acc (sum_at words (x ∷ rest))
 sum_more words x rest w acc is = rw is (word_xor_assoc acc w (sum_at words rest))
 
-pub sum_none :
-    (words : ℕ → Option Word) (x : ℕ) (rest : List ℕ) → words x ≡ None → sum_at words rest ≡ sum_at words (x ∷ rest)
-sum_none words x rest is = rw is refl
+module _ (words : ℕ → Option Word) (xs : List ℕ) (j : ℕ) (acc total : Word) where
+  -- one more slot that has a word
+  pub adding_more :
+      (w : Word) → j < length xs → words (get_or xs j 0) ≡ Some w → word_xor acc (sum_at words (drop j xs)) ≡ total
+      → word_xor (word_xor acc w) (sum_at words (drop (j + 1) xs)) ≡ total
+  adding_more w within is so_far =
+      let cut = drop_more xs j 0 within in
+      sum_more words (get_or xs j 0) (drop (j + 1) xs) w acc is ∙ (rw cut at so_far)
+
+  -- one that has none
+  pub adding_none :
+      j < length xs → words (get_or xs j 0) ≡ None → word_xor acc (sum_at words (drop j xs)) ≡ total
+      → word_xor acc (sum_at words (drop (j + 1) xs)) ≡ total
+  adding_none within is so_far =
+      let cut = drop_more xs j 0 within in
+      let same : sum_at words (drop (j + 1) xs) ≡ sum_at words (get_or xs j 0 ∷ drop (j + 1) xs) =
+          sym (ap (λ (o : Option Word). word_sum (cons_option o (filter_map words (drop (j + 1) xs)))) is) in
+      ap (word_xor acc) same ∙ (rw cut at so_far)
+
+  -- all slots are done
+  pub adding_done : length xs ≤ j → IsShort acc → word_xor acc (sum_at words (drop j xs)) ≡ total → acc ≡ total
+  adding_done past short so_far =
+      let none = drop_all j xs past in
+      sym (xor_zero_short acc short) ∙ (rw none at so_far)

@@ -1,6 +1,8 @@
 pub mod Adding
+pub mod Broken
 pub mod Closed
 pub mod Closures
+pub mod Ends
 pub mod Entries
 pub mod Filling
 pub mod Lines
@@ -12,3 +14,4 @@ pub mod Slots
 pub mod Solutions
 pub mod Steps
 pub mod Sums
+pub mod Wrong

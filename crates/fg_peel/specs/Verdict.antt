@@ -10,7 +10,7 @@ use Rattle.fg_peel.specs.declared.Verdict.{Verdict}
 use Rattle.fg_peel.specs.declared.Verdict.TheVariants.{Sound, Unsound, NotMedia}
 use Rattle.fg_peel.specs.Equation.{Equation, slots}
 use Rattle.fg_peel.specs.Solution.{IsSolution, sum_at}
-use Rattle.fg_peel.specs.Slots.{equation_of, lines_of, recovered_in}
+use Rattle.fg_peel.specs.Slots.{equation_of, equations_of, lines_of, recovered_in, word_in, told_from, OnlyFills, EndsPeeling}
 
 -- The least number with a property.
 abbrev pub IsLeast : (ℕ → Type 0) → ℕ → Type 0
@@ -56,3 +56,10 @@ pub record TellsSolution (equations : List Equation) (known words : ℕ → Opti
   pub sound : verdict ≡ Sound → IsSolution known equations words
   pub complete :
       (solution : ℕ → Option Word) → IsSolution known equations solution → (verdict ≡ Sound) × (words ≡ solution)
+
+-- What peeling leaves of a row of entries, and its verdict: only empty entries have changed, the words are the end of a
+-- maximal peeling, and the verdict is theirs.
+pub record IsPeel (start : ℕ) (lines : Slab Line) (old new : List Slot) (answer : Verdict) : Type 0 where
+  pub fills : OnlyFills old new
+  pub peeling : EndsPeeling (equations_of lines) (told_from word_in start old) (told_from word_in start new)
+  pub verdict : IsVerdict (told_from recovered_in start new) (told_from word_in start new) lines answer

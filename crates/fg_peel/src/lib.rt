@@ -6,11 +6,13 @@ ghost use Rattle.std.specs.Prelude.{◌≡◌, ◌+◌, ◌^◌, ◌<◌, ◌≤
 ghost use Rattle.std.specs.Option.{option_copied};
 ghost use Rattle.fg_peel.specs.Closure.{InClosure};
 ghost use Rattle.fg_peel.specs.Equation.{AreAdmissible};
-ghost use Rattle.fg_peel.specs.Slots.{word_in, told_from, words_at, known_at, recovered_at, equations_of, AllFit, OnlyFills, EndsPeeling, ArePeeled};
-ghost use Rattle.fg_peel.specs.Verdict.{IsVerdict, TellsSolution};
+ghost use Rattle.fg_peel.specs.Slots.{word_in, told_from, words_at, known_at, recovered_at, equations_of, AllFit, AllFitFrom, OnlyFills, EndsPeeling, ArePeeled};
+ghost use Rattle.fg_peel.specs.Verdict.{IsVerdict, IsPeel, TellsSolution};
 
+use checks::verdict_on;
 use fg_shape::Shape;
 use fg_words::{Shared, Word};
+use recovery::fill_all;
 use slab::Slab;
 
 mod checks;
@@ -82,4 +84,45 @@ pub enum Verdict {
         /// The position.
         slot: u64,
     },
+}
+
+/// Recovers each word that follows from the known words and the equations, and says what they are
+/// worth.
+///
+/// Entry `i` of `slots` stands for position `low + i`; entries for positions below 0 are left alone.
+/// Known are the words of the `Media` and `Filled` entries. Only `Empty` entries change, and only into
+/// `Filled`. It takes no memory.
+pub fn peel(low: i64, slots: &mut [Slot], lines: &Slab<Line>) -> Verdict
+    requires first { negsuc 99 ≤ℤ low }
+    requires last { low +ℤ pos (length slots.old) ≤ℤ pos (2 ^ 62) }
+    requires lines { AllFit low slots.old lines.now }
+
+    // Only empty entries change, and the words are then those of exactly the closure.
+    ensures fills { OnlyFills slots.old slots.new }
+    ensures closure { (position : ℕ) → IsSome (words_at low slots.new position) ↔ InClosure (words_at low slots.old) (equations_of lines.now) position }
+    ensures peeling { EndsPeeling (equations_of lines.now) (words_at low slots.old) (words_at low slots.new) }
+
+    // A recovered word that is no media word counts before an equation that doesn't come out.
+    ensures verdict { IsVerdict (recovered_at low slots.new) (words_at low slots.new) lines.now result }
+
+    // Where the recovered words at the start come from a peeling, the verdict tells whether there is a
+    // solution, and the words are then it.
+    ensures solution { AreAdmissible (known_at low slots.old) (equations_of lines.now) → ArePeeled (equations_of lines.now) (known_at low slots.old) (words_at low slots.old) → TellsSolution (equations_of lines.now) (known_at low slots.old) (words_at low slots.new) result }
+{
+    if low < 0 {
+        let below = slots.len().min((-low) as usize);
+        peel_from(0, &mut slots[below..], lines)
+    } else {
+        peel_from(low as u64, slots, lines)
+    }
+}
+
+/// `peel` where the first entry stands for the position `start`.
+fn peel_from(start: u64, slots: &mut [Slot], lines: &Slab<Line>) -> Verdict
+    requires lines { AllFitFrom start slots.old lines.now }
+    requires limit { start + length slots.old ≤ 2 ^ 62 }
+    ensures { IsPeel start lines.now slots.old slots.new result }
+{
+    fill_all(start, slots, lines);
+    verdict_on(start, slots, lines)
 }
