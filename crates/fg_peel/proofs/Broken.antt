@@ -6,7 +6,7 @@ use Rattle.slab.specs.Slab.{Slab, entries}
 use Rattle.fg_words.specs.declared.Word.{Word}
 use Rattle.fg_peel.specs.declared.Line.{Line}
 use Rattle.fg_peel.specs.Slots.{equation_of, lines_of}
-use Rattle.fg_peel.specs.Verdict.{IsLeast, IsBroken, BreaksAt}
+use Rattle.fg_peel.specs.Verdict.{IsLeast, IsComplete, ComesOut, BreaksAt, AllComeOut}
 use Rattle.fg_peel.proofs.Lists.{Contains-cases, Contains-nil}
 use Rattle.fg_peel.proofs.Lines.{lines_in}
 
@@ -30,21 +30,21 @@ lesser-cases (Some m) place = ⊎_elim
     (cases_lt m place)
 
 module _ (words : ℕ → Option Word) (lines : Slab Line) where
-  -- Each live line is left, or it isn't broken, or its place isn't below the least so far.
+  -- Each live line is left, or it comes out if it is complete, or its place isn't below the least so far.
   abbrev pub BrokenBut : Option ℕ → List (ℕ × Line) → Type 0
   BrokenBut least rest =
       (line : Line) → Contains (lines_of lines) line
-      → Contains (lines_in rest) line ⊎ (IsBroken words (equation_of line) → IsAtMost least line.place)
+      → Contains (lines_in rest) line ⊎ ((IsComplete words (equation_of line) → ComesOut words (equation_of line)) ⊎ IsAtMost least line.place)
 
   pub broken_none : (rest : List (ℕ × Line)) → rest ≡ entries lines → BrokenBut None rest
   broken_none rest whole line c = inl (rw whole c)
 
   module _ (all rest : List (ℕ × Line)) (entry : ℕ × Line) (cut : all ≡ entry ∷ rest) where
     -- the next line isn't broken
-    pub broken_same : (least : Option ℕ) → (IsBroken words (equation_of entry.1) → ⊥) → BrokenBut least all → BrokenBut least rest
+    pub broken_same : (least : Option ℕ) → (IsComplete words (equation_of entry.1) → ComesOut words (equation_of entry.1)) → BrokenBut least all → BrokenBut least rest
     broken_same least fine but line c = ⊎_elim
         (λ left. ⊎_elim
-            (λ here. inr (rw here (λ broken. absurd (fine broken))))
+            (λ here. inr (rw here (inl fine)))
             (λ there. inl there)
             (Contains-cases entry.1 (lines_in rest) line (rw cut at left)))
         (λ done. inr done)
@@ -54,17 +54,17 @@ module _ (words : ℕ → Option Word) (lines : Slab Line) where
     pub broken_more : (least : Option ℕ) → BrokenBut least all → BrokenBut (Some (min (unwrap_or least entry.1.place) entry.1.place)) rest
     broken_more least but line c = ⊎_elim
         (λ left. ⊎_elim
-            (λ here. inr (rw here (λ broken. lesser-last least entry.1.place)))
+            (λ here. inr (rw here (inr (lesser-last least entry.1.place))))
             (λ there. inl there)
             (Contains-cases entry.1 (lines_in rest) line (rw cut at left)))
-        (λ done. inr (λ broken. lesser-first least entry.1.place line.place (done broken)))
+        (λ done. inr (⊎_elim (λ fine. inl fine) (λ below. inr (lesser-first least entry.1.place line.place below)) done))
         (but line c)
 
   pub breaks_more :
-      (least : Option ℕ) (line : Line) → Contains (lines_of lines) line → IsBroken words (equation_of line) → IfSome least (BreaksAt words lines)
+      (least : Option ℕ) (line : Line) → Contains (lines_of lines) line → IsComplete words (equation_of line) → (ComesOut words (equation_of line) → ⊥) → IfSome least (BreaksAt words lines)
       → BreaksAt words lines (min (unwrap_or least line.place) line.place)
-  breaks_more least line live broken before = ⊎_elim
-      (λ this. (line, live, sym this, broken))
+  breaks_more least line live complete broken before = ⊎_elim
+      (λ this. (line, live, sym this, complete, broken))
       (λ that. rw that at before)
       (lesser-cases least line.place)
 
@@ -73,12 +73,11 @@ module _ (words : ℕ → Option Word) (lines : Slab Line) where
       (place : ℕ) (rest : List (ℕ × Line)) → rest ≡ [] → BrokenBut (Some place) rest → BreaksAt words lines place → IsLeast (BreaksAt words lines) place
   broken_least place rest none but breaks = (breaks, λ m other. ⊎_elim
       (λ left. absurd (Contains-nil other.0 (rw none at left)))
-      (λ done. omega (arith, done other.3, other.2))
+      (λ done. ⊎_elim (λ fine. absurd (other.4 (fine other.3))) (λ below. omega (arith, below, other.2)) done)
       (but other.0 other.1))
 
-  pub broken_nowhere :
-      (rest : List (ℕ × Line)) → rest ≡ [] → BrokenBut None rest → (place : ℕ) → BreaksAt words lines place → ⊥
-  broken_nowhere rest none but place other = ⊎_elim
-      (λ left. absurd (Contains-nil other.0 (rw none at left)))
-      (λ done. done other.3)
-      (but other.0 other.1)
+  pub broken_nowhere : (rest : List (ℕ × Line)) → rest ≡ [] → BrokenBut None rest → AllComeOut words lines
+  broken_nowhere rest none but line c complete = ⊎_elim
+      (λ left. absurd (Contains-nil line (rw none at left)))
+      (λ done. ⊎_elim (λ fine. fine complete) (λ below. absurd below) done)
+      (but line c)

@@ -6,6 +6,7 @@ pub mod Ends
 pub mod Entries
 pub mod Filling
 pub mod Lines
+pub mod Low
 pub mod Lists
 pub mod Maximal
 pub mod Missing
@@ -14,4 +15,5 @@ pub mod Slots
 pub mod Solutions
 pub mod Steps
 pub mod Sums
+pub mod Whole
 pub mod Wrong

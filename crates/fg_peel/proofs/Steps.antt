@@ -18,7 +18,7 @@ use Rattle.fg_peel.proofs.Entries.{told_from-entry, told_from-below}
 use Rattle.fg_peel.proofs.Peelings.{after_step-at, after_step-other}
 
 -- one list of steps after another
-end_of-append : (known : ℕ → Option Word) (one other : List Step) → end_of known (one ++ other) ≡ end_of (end_of known one) other
+pub end_of-append : (known : ℕ → Option Word) (one other : List Step) → end_of known (one ++ other) ≡ end_of (end_of known one) other
 end_of-append known [] other = refl
 end_of-append known (step ∷ one) other = end_of-append (after_step known step) one other
 

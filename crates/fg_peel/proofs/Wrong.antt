@@ -7,7 +7,7 @@ use Rattle.fg_words.specs.Word.{IsMedia}
 use Rattle.fg_peel.specs.declared.Slot.{Slot}
 use Rattle.fg_peel.specs.declared.Slot.TheVariants.{Empty, Media, Solved, Filled}
 use Rattle.fg_peel.specs.Slots.{told_from, recovered_in}
-use Rattle.fg_peel.specs.Verdict.{IsLeast, IsNoMedia, RecoversMedia}
+use Rattle.fg_peel.specs.Verdict.{IsLeast, IsNoMedia, AreMedia, RecoversMedia}
 use Rattle.fg_peel.proofs.Entries.{told_from-entry, told_from-below}
 
 -- the word of an entry that recovers no media word
@@ -51,13 +51,11 @@ module _ (start : ℕ) (entries : List Slot) where
       )
 
   -- no entry has a wrong word
-  pub wrong_none :
-      ((k : ℕ) → k < length entries → RecoversMedia (get_or entries k Empty))
-      → (position : ℕ) → IsNoMedia (told_from recovered_in start entries) position → ⊥
-  wrong_none right position wrong = ⊎_elim
-      (λ below. right_below position below wrong)
-      (λ above. ⊎_elim
-          (λ within. right_at position above (right (position - start) within) wrong)
-          (λ past. right_at position above (rw (get_or_past entries (position - start) Empty past) (λ word e. absurd (cc))) wrong)
+  pub wrong_none : ((k : ℕ) → k < length entries → RecoversMedia (get_or entries k Empty)) → AreMedia (told_from recovered_in start entries)
+  wrong_none right position word told = ⊎_elim
+      (λ below. let e : None ≡ Some word = sym (told_from-below recovered_in start entries position below) ∙ told in absurd (cc))
+      (λ above. let here = sym (told_from-entry recovered_in start entries position above) ∙ told in ⊎_elim
+          (λ within. right (position - start) within word here)
+          (λ past. let e : None ≡ Some word = sym (ap recovered_in (get_or_past entries (position - start) Empty past)) ∙ here in absurd (cc))
           (cases_lt (position - start) (length entries)))
       (cases_lt position start)

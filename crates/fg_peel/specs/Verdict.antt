@@ -1,5 +1,5 @@
 -- The verdict on the words that peeling leaves.
-use Rattle.std.specs.Prelude.{◌≡◌, ◌≤◌, ℕ, List, Option, Some, IsSome}
+use Rattle.std.specs.Prelude.{◌++◌, take, drop, ◌≡◌, ◌≤◌, ℕ, List, Option, Some, IsSome}
 use Rattle.std.specs.List.{Contains}
 use Rattle.slab.specs.Slab.{Slab}
 use Rattle.fg_words.specs.declared.Word.{Word}
@@ -24,6 +24,14 @@ RecoversMedia entry = (word : Word) → recovered_in entry ≡ Some word → IsM
 abbrev pub IsNoMedia : (ℕ → Option Word) → ℕ → Type 0
 IsNoMedia recovered position = (word : Word) × (recovered position ≡ Some word) × ¬ IsMedia word
 
+-- All recovered words are media words.
+abbrev pub AreMedia : (ℕ → Option Word) → Type 0
+AreMedia recovered = (position : ℕ) (word : Word) → recovered position ≡ Some word → IsMedia word
+
+-- All slots of the equation have words.
+abbrev pub IsComplete : (ℕ → Option Word) → Equation → Type 0
+IsComplete words equation = (position : ℕ) → Contains (slots equation) position → IsSome (words position)
+
 -- The words at the equation's slots sum to its parity word.
 abbrev pub ComesOut : (ℕ → Option Word) → Equation → Type 0
 ComesOut words equation = equation.parity ≡ sum_at words (slots equation)
@@ -32,24 +40,23 @@ ComesOut words equation = equation.parity ≡ sum_at words (slots equation)
 abbrev pub AddsWords : (ℕ → Option Word) → Equation → Word → Word → Type 0
 AddsWords words equation old new = new ≡ word_xor old (sum_at words (slots equation))
 
--- All slots of the equation have words, and their sum isn't its parity word.
-pub record IsBroken (words : ℕ → Option Word) (equation : Equation) : Type 0 where
-  pub complete : (position : ℕ) → Contains (slots equation) position → IsSome (words position)
-  pub differs : ¬ ComesOut words equation
-
--- A line of that place is broken.
+-- A line of that place is complete and doesn't come out.
 abbrev pub BreaksAt : (ℕ → Option Word) → Slab Line → ℕ → Type 0
 BreaksAt words lines place =
-    (line : Line) × Contains (lines_of lines) line × (line.place ≡ place) × IsBroken words (equation_of line)
+    (line : Line) × Contains (lines_of lines) line × (line.place ≡ place) × IsComplete words (equation_of line)
+    × ¬ ComesOut words (equation_of line)
 
--- Which verdict the words get: a recovered word that is no media word counts before a line that is broken, and the
--- least position or place is told.
+-- Each line that is complete comes out.
+abbrev pub AllComeOut : (ℕ → Option Word) → Slab Line → Type 0
+AllComeOut words lines =
+    (line : Line) → Contains (lines_of lines) line → IsComplete words (equation_of line) → ComesOut words (equation_of line)
+
+-- Which verdict the words get: a recovered word that is no media word counts before a line that doesn't come out, and
+-- the least position or place is told.
 abbrev pub IsVerdict : (ℕ → Option Word) → (ℕ → Option Word) → Slab Line → Verdict → Type 0
 IsVerdict recovered words lines (NotMedia slot) = IsLeast (IsNoMedia recovered) slot
-IsVerdict recovered words lines (Unsound place) =
-    ((position : ℕ) → ¬ IsNoMedia recovered position) × IsLeast (BreaksAt words lines) place
-IsVerdict recovered words lines Sound =
-    ((position : ℕ) → ¬ IsNoMedia recovered position) × ((place : ℕ) → ¬ BreaksAt words lines place)
+IsVerdict recovered words lines (Unsound place) = AreMedia recovered × IsLeast (BreaksAt words lines) place
+IsVerdict recovered words lines Sound = AreMedia recovered × AllComeOut words lines
 
 -- The verdict says whether there is a solution, and the words then are it.
 pub record TellsSolution (equations : List Equation) (known words : ℕ → Option Word) (verdict : Verdict) : Type 0 where
@@ -63,3 +70,8 @@ pub record IsPeel (start : ℕ) (lines : Slab Line) (old new : List Slot) (answe
   pub fills : OnlyFills old new
   pub peeling : EndsPeeling (equations_of lines) (told_from word_in start old) (told_from word_in start new)
   pub verdict : IsVerdict (told_from recovered_in start new) (told_from word_in start new) lines answer
+
+-- The same past entries that stand for no position.
+abbrev pub IsPeelAfter : ℕ → Slab Line → List Slot → List Slot → Verdict → Type 0
+IsPeelAfter below lines old new answer =
+    (rest : List Slot) × (new ≡ take below old ++ rest) × IsPeel 0 lines (drop below old) rest answer

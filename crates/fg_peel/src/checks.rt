@@ -1,9 +1,9 @@
 //! The verdict on finished words.
 
-ghost use Rattle.std.specs.Prelude.{◌≡◌, ◌+◌, ◌^◌, ◌≤◌, ◌↔◌, ℕ, length, IsTrue, IfSome, IfNone};
+ghost use Rattle.std.specs.Prelude.{◌≡◌, ◌+◌, ◌^◌, ◌≤◌, ◌↔◌, length, false, IsTrue, IfSome, IfNone};
 ghost use Rattle.fg_words.specs.Word.{HasRoom};
 ghost use Rattle.fg_peel.specs.Slots.{word_in, recovered_in, told_from, equation_of, FitsFrom, AllFitFrom};
-ghost use Rattle.fg_peel.specs.Verdict.{IsLeast, RecoversMedia, IsNoMedia, ComesOut, AddsWords, IsBroken, BreaksAt, IsVerdict};
+ghost use Rattle.fg_peel.specs.Verdict.{IsLeast, RecoversMedia, IsNoMedia, AreMedia, IsComplete, ComesOut, AddsWords, BreaksAt, AllComeOut, IsVerdict};
 
 use crate::recovery::{Missing, missing_of};
 use crate::{Line, Slot, Verdict, word_at};
@@ -26,7 +26,7 @@ fn recovers_media(slot: &Slot) -> bool
 fn first_not_media(start: u64, slots: &[Slot]) -> Option<u64>
     requires limit { start + length slots.now ≤ 2 ^ 62 }
     ensures least { IfSome result (IsLeast (IsNoMedia (told_from recovered_in start slots.now))) }
-    ensures none { IfNone result ((position : ℕ) → ¬ IsNoMedia (told_from recovered_in start slots.now) position) }
+    ensures none { IfNone result (AreMedia (told_from recovered_in start slots.now)) }
 {
     for (i, slot) in slots.iter().enumerate() {
         if !recovers_media(slot) {
@@ -69,7 +69,9 @@ fn add_words(sum: &mut Word, start: u64, slots: &[Slot], line: &Line)
 fn is_broken(start: u64, slots: &[Slot], line: &Line) -> bool
     requires line { FitsFrom start (length slots.now) line.now }
     requires limit { start + length slots.now ≤ 2 ^ 62 }
-    ensures { IsTrue result ↔ IsBroken (told_from word_in start slots.now) (equation_of line.now) }
+    ensures complete { IsTrue result → IsComplete (told_from word_in start slots.now) (equation_of line.now) }
+    ensures broken { IsTrue result → ¬ ComesOut (told_from word_in start slots.now) (equation_of line.now) }
+    ensures whole { result ≡ false → IsComplete (told_from word_in start slots.now) (equation_of line.now) → ComesOut (told_from word_in start slots.now) (equation_of line.now) }
 {
     match missing_of(start, slots, line) {
         Missing::Nothing => !comes_out(start, slots, line),
@@ -82,7 +84,7 @@ fn first_broken(start: u64, slots: &[Slot], lines: &Slab<Line>) -> Option<u32>
     requires lines { AllFitFrom start slots.now lines.now }
     requires limit { start + length slots.now ≤ 2 ^ 62 }
     ensures least { IfSome result (IsLeast (BreaksAt (told_from word_in start slots.now) lines.now)) }
-    ensures none { IfNone result ((place : ℕ) → ¬ BreaksAt (told_from word_in start slots.now) lines.now place) }
+    ensures none { IfNone result (AllComeOut (told_from word_in start slots.now) lines.now) }
 {
     let mut least: Option<u32> = None;
     for (_, line) in lines.iter() {

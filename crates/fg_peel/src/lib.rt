@@ -2,12 +2,12 @@
 //! datagram recovers one lost datagram).
 #![tactic(auto)]
 
-ghost use Rattle.std.specs.Prelude.{◌≡◌, ◌+◌, ◌^◌, ◌<◌, ◌≤◌, ◌≤ℤ◌, ◌+ℤ◌, ◌↔◌, ℕ, pos, negsuc, length, IsSome, IfSome, IsTrue, Option};
+ghost use Rattle.std.specs.Prelude.{◌≡◌, ◌+◌, ◌^◌, ◌<◌, ◌≤◌, ◌≤ℤ◌, ◌+ℤ◌, ◌↔◌, ℕ, pos, negsuc, length, drop, IsSome, IfSome, IsTrue, Option};
 ghost use Rattle.std.specs.Option.{option_copied};
 ghost use Rattle.fg_peel.specs.Closure.{InClosure};
 ghost use Rattle.fg_peel.specs.Equation.{AreAdmissible};
 ghost use Rattle.fg_peel.specs.Slots.{word_in, told_from, words_at, known_at, recovered_at, equations_of, AllFit, AllFitFrom, OnlyFills, EndsPeeling, ArePeeled};
-ghost use Rattle.fg_peel.specs.Verdict.{IsVerdict, IsPeel, TellsSolution};
+ghost use Rattle.fg_peel.specs.Verdict.{IsVerdict, IsPeel, IsPeelAfter, TellsSolution};
 
 use checks::verdict_on;
 use fg_shape::Shape;
@@ -94,7 +94,7 @@ pub enum Verdict {
 /// `Filled`. It takes no memory.
 pub fn peel(low: i64, slots: &mut [Slot], lines: &Slab<Line>) -> Verdict
     requires first { negsuc 99 ≤ℤ low }
-    requires last { low +ℤ pos (length slots.old) ≤ℤ pos (2 ^ 62) }
+    requires last { (low +ℤ pos (length slots.old)) ≤ℤ pos (2 ^ 62) }
     requires lines { AllFit low slots.old lines.now }
 
     // Only empty entries change, and the words are then those of exactly the closure.
@@ -110,11 +110,22 @@ pub fn peel(low: i64, slots: &mut [Slot], lines: &Slab<Line>) -> Verdict
     ensures solution { AreAdmissible (known_at low slots.old) (equations_of lines.now) → ArePeeled (equations_of lines.now) (known_at low slots.old) (words_at low slots.old) → TellsSolution (equations_of lines.now) (known_at low slots.old) (words_at low slots.new) result }
 {
     if low < 0 {
-        let below = slots.len().min((-low) as usize);
-        peel_from(0, &mut slots[below..], lines)
+        let below = slots.len().min(low.unsigned_abs() as usize);
+        peel_after(below, slots, lines)
     } else {
         peel_from(low as u64, slots, lines)
     }
+}
+
+/// `peel` past so many entries that stand for no position.
+fn peel_after(below: usize, slots: &mut [Slot], lines: &Slab<Line>) -> Verdict
+    requires within { below ≤ length slots.old }
+    requires lines { AllFitFrom 0 (drop below slots.old) lines.now }
+    requires limit { length slots.old ≤ 2 ^ 62 }
+    ensures { IsPeelAfter below lines.now slots.old slots.new result }
+{
+    let (_, rest) = slots.split_at_mut(below);
+    peel_from(0, rest, lines)
 }
 
 /// `peel` where the first entry stands for the position `start`.

@@ -1,5 +1,4 @@
 use Rattle.std.proofs.Common.{◌≡◌, ℕ, length, min, unwrap_or, true, false, sym, ap, ◌∙◌}
-use Rattle.std.proofs.lemmas.Bool.{false≢true}
 use Rattle.std.specs.List.{Contains}
 use Rattle.fg_peel.specs.declared.Line.{Line}
 use Rattle.fg_peel.specs.Slots.{lines_of, FitsFrom, told_from, word_in}
@@ -27,7 +26,7 @@ loop-line-preserved-then-is_broken c =
       tt,
       tt,
       rest i,
-      rw least (breaks_more words c.args.lines.now c.loop-line.least c.in-Some.line.now (live i) (c.is_broken.ensures.0 c.if-is_broken.true) c.loop-line.invariant.3),
+      rw least (breaks_more words c.args.lines.now c.loop-line.least c.in-Some.line.now (live i) (c.is_broken.ensures.complete c.if-is_broken.true) (c.is_broken.ensures.broken c.if-is_broken.true) c.loop-line.invariant.3),
       rw least (broken_more words c.args.lines.now c.loop-line.line-iterator c.next.new.self entry c.in-Some.ensures.steps c.loop-line.least c.loop-line.invariant.4),
     )
 
@@ -41,5 +40,5 @@ loop-line-preserved c =
       rest i,
       c.loop-line.invariant.3,
       broken_same words c.args.lines.now c.loop-line.line-iterator c.next.new.self entry c.in-Some.ensures.steps c.loop-line.least
-      (λ broken. false≢true (sym c.if-is_broken.false ∙ c.is_broken.ensures.1 broken)) c.loop-line.invariant.4,
+      (c.is_broken.ensures.whole c.if-is_broken.false) c.loop-line.invariant.4,
     )

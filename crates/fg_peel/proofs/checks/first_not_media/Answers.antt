@@ -22,3 +22,6 @@ returns-then-not-recovers_media-clause-least c =
     wrong_first c.args.start c.args.slots.now c.loop-i.i
     (λ right. false≢true (sym c.if-not-recovers_media.true ∙ c.recovers_media.ensures.1 (subst RecoversMedia (sym item) right)))
     c.loop-i.invariant
+
+pub returns-clause-none : goal.returns-clause-none
+returns-clause-none c = wrong_none c.args.start c.args.slots.now (λ k less. c.loop-i.invariant k (omega (arith, less)))
