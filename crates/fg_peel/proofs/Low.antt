@@ -3,7 +3,7 @@ use Rattle.std.proofs.Common.{◌≡◌, ◌≢◌, ◌⊎◌, ◌↔◌, ◌+�
 use Rattle.std.proofs.Math.IntN.{nat_abs}
 use Rattle.std.proofs.Math.Seq.{drop-append_seam}
 use Rattle.std.proofs.lemmas.Bool.{cases_lt, ltb-true}
-use Rattle.std.proofs.lemmas.List.{length-take, length-drop, length-append, drop_all, get_or-drop, get_or-take, get_or_append_left, get_or-append_right, get_or_past, take-append-drop}
+use Rattle.std.proofs.lemmas.List.{length-take, length-drop, length-append, drop_all, get_or-drop, get_or-take, get_or_append_left, get_or-append_right, take_all, take-append-le, append-nil}
 use Rattle.std.specs.Int.Signed.{lt_z}
 use Rattle.slab.specs.Slab.{Slab}
 use Rattle.fg_words.specs.declared.Word.{Word}
@@ -12,7 +12,7 @@ use Rattle.fg_peel.specs.declared.Slot.{Slot}
 use Rattle.fg_peel.specs.declared.Slot.TheVariants.{Empty, Media, Solved, Filled}
 use Rattle.fg_peel.specs.declared.Verdict.{Verdict}
 use Rattle.fg_peel.specs.Equation.{AreAdmissible}
-use Rattle.fg_peel.specs.Slots.{first_position, from_first, words_at, known_at, recovered_at, equations_of, AllFit, AllFitFrom, OnlyFills, ArePeeled}
+use Rattle.fg_peel.specs.Slots.{first_position, from_first, before_first, words_at, known_at, recovered_at, equations_of, AllFit, AllFitFrom, OnlyFills, ArePeeled}
 use Rattle.fg_peel.specs.Verdict.{IsPeel, IsPeelAfter, TellsSolution}
 use Rattle.fg_peel.proofs.Whole.{ends_from_known, recovered_told, recovered_since, tells_solution}
 
@@ -37,6 +37,10 @@ same_rest n below old least = ⊎_elim
         drop_all below old all ∙ sym (drop_all (n + 1) old past))
     (λ long. let e : below ≡ n + 1 = omega (arith, least, long) in ap (λ k. drop k old) e)
     (cases_lt (length old) (n + 1))
+
+length-zero : (es : List Slot) → length es ≡ 0 → es ≡ []
+length-zero [] e = refl
+length-zero (x ∷ es) e = absurd (omega (arith, e))
 
 -- entries that stand for no position are left alone
 pub fills_after :
@@ -67,6 +71,34 @@ fills_after below lines old new answer within after =
               (fills.filled (k - below) (was k above ∙ none)))
           (cases_lt k below);
     }
+
+pub same_before :
+    (low : ℤ) (below : ℕ) (lines : Slab Line) (old new : List Slot) (answer : Verdict) → below ≡ min (length old) (nat_abs low)
+    → IsPeelAfter below lines old new answer → before_first low new ≡ before_first low old
+same_before (pos n) below lines old new answer least after = refl
+same_before (negsuc n) below lines old new answer least after =
+    let rest = after.0 in
+    let front = length-take below old in
+    let size = length-drop below old in
+    ⊎_elim
+    (λ short.
+        let gone : length rest ≡ 0 = omega (arith, after.2.fills.count, size, least, short) in
+        let all : length new ≡ length (take below old) + length rest = ap length after.1 ∙ length-append (take below old) rest in
+        let few : length new ≤ n + 1 = omega (arith, all, gone, front, short) in
+        let past : length old ≤ n + 1 = omega (arith, short) in
+        let whole : length old ≤ below = omega (arith, least, short) in
+        take_all (n + 1) new few ∙ after.1 ∙ ap (λ (es : List Slot). take below old ++ es) (length-zero rest gone) ∙ append-nil (take below old)
+        ∙ take_all below old whole ∙ sym (take_all (n + 1) old past))
+    (λ long.
+        let e : below ≡ n + 1 = omega (arith, least, long) in
+        let size_front : n + 1 ≤ length (take below old) = omega (arith, front, e, long) in
+        ap (take (n + 1)) after.1 ∙ take-append-le (n + 1) (take below old) rest size_front ∙ ap (λ k. take (n + 1) (take k old)) e
+        ∙ take_all (n + 1) (take (n + 1) old) (omega (arith, length-take (n + 1) old)))
+    (cases_lt (length old) (n + 1))
+
+pub same_before_up : (low : ℤ) (old new : List Slot) → lt_z low (pos 0) ≡ false → before_first low new ≡ before_first low old
+same_before_up (pos n) old new above = refl
+same_before_up (negsuc n) old new above = absurd (cc)
 
 -- Peeling the entries of positions.
 abbrev pub PeelsAt : ℤ → Slab Line → List Slot → List Slot → Verdict → Type 0

@@ -1,5 +1,5 @@
 -- A row of entries with the words of successive positions, and the live lines: which words and equations they stand for.
-use Rattle.std.specs.Prelude.{◌≡◌, ◌≢◌, ◌⊎◌, ◌+◌, ◌-◌, ◌<◌, ◌≤◌, ℕ, ℤ, pos, negsuc, List, map, length, drop, nat_lt, slice_index_or, Option, Some, None, IsSome, if◌then◌else◌}
+use Rattle.std.specs.Prelude.{◌≡◌, ◌≢◌, ◌⊎◌, ◌+◌, ◌-◌, ◌<◌, ◌≤◌, ℕ, ℤ, pos, negsuc, List, [], map, length, take, drop, nat_lt, slice_index_or, Option, Some, None, IsSome, if◌then◌else◌}
 use Rattle.std.specs.List.{Contains}
 use Rattle.slab.specs.Slab.{Slab, entries}
 use Rattle.fg_words.specs.declared.Word.{Word}
@@ -40,10 +40,15 @@ abbrev pub first_position : ℤ → ℕ
 first_position (pos low) = low
 first_position (negsuc n) = 0
 
--- The entries of positions: those below 0 stand for none.
+-- The entries from that one on.
 abbrev pub from_first : ℤ → List Slot → List Slot
 from_first (pos low) entries = entries
 from_first (negsuc n) entries = drop (n + 1) entries
+
+-- The entries below those: they stand for no position.
+abbrev pub before_first : ℤ → List Slot → List Slot
+before_first (pos low) entries = []
+before_first (negsuc n) entries = take (n + 1) entries
 
 -- What the entries have at each position, where the first one stands for the position `start`.
 abbrev pub told_from : (Slot → Option Word) → ℕ → List Slot → ℕ → Option Word

@@ -6,7 +6,7 @@ ghost use Rattle.std.specs.Prelude.{◌≡◌, ◌+◌, ◌^◌, ◌<◌, ◌≤
 ghost use Rattle.std.specs.Option.{option_copied};
 ghost use Rattle.fg_peel.specs.Closure.{InClosure};
 ghost use Rattle.fg_peel.specs.Equation.{AreAdmissible};
-ghost use Rattle.fg_peel.specs.Slots.{word_in, told_from, words_at, known_at, recovered_at, equations_of, AllFit, AllFitFrom, OnlyFills, EndsPeeling, ArePeeled};
+ghost use Rattle.fg_peel.specs.Slots.{word_in, told_from, before_first, words_at, known_at, recovered_at, equations_of, AllFit, AllFitFrom, OnlyFills, EndsPeeling, ArePeeled};
 ghost use Rattle.fg_peel.specs.Verdict.{IsVerdict, IsPeel, IsPeelAfter, TellsSolution};
 
 use checks::verdict_on;
@@ -99,6 +99,7 @@ pub fn peel(low: i64, slots: &mut [Slot], lines: &Slab<Line>) -> Verdict
 
     // Only empty entries change, and the words are then those of exactly the closure.
     ensures fills { OnlyFills slots.old slots.new }
+    ensures below { before_first low slots.new ≡ before_first low slots.old }
     ensures closure { (position : ℕ) → IsSome (words_at low slots.new position) ↔ InClosure (words_at low slots.old) (equations_of lines.now) position }
     ensures peeling { EndsPeeling (equations_of lines.now) (words_at low slots.old) (words_at low slots.new) }
 

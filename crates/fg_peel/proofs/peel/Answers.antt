@@ -4,7 +4,7 @@ use Rattle.std.specs.Int.Signed.{lt_z}
 use Rattle.std.proofs.lemmas.Int.{to_z-of_z}
 use Rattle.fg_peel.specs.Slots.{words_at, equations_of}
 use Rattle.fg_peel.specs.Verdict.{IsPeel, IsPeelAfter}
-use Rattle.fg_peel.proofs.Low.{PeelsAt, peels_up, fits_up, peels_below, fits_below, fills_after, tells_at}
+use Rattle.fg_peel.proofs.Low.{PeelsAt, peels_up, fits_up, peels_below, fits_below, fills_after, same_before, same_before_up, tells_at}
 use Rattle.fg_peel.proofs.Whole.{ends_at_closure}
 use Rattle.fg_peel.proofs.peel.Goals as goal
 use Rattle.fg_peel.proofs.peel.Goals.{After-min-below, After-peel_after, After-peel_from}
@@ -38,6 +38,15 @@ peel_from-requires-clause-lines c =
 pub returns-then-low-lt0-clause-fills : goal.returns-then-low-lt0-clause-fills
 returns-then-low-lt0-clause-fills c =
     fills_after c.min-below.result c.args.lines.now c.args.slots.now c.peel_after.new.slots c.peel_after.result (omega (arith, c.min-below.ensures)) c.peel_after.ensures
+
+pub returns-then-low-lt0-clause-below : goal.returns-then-low-lt0-clause-below
+returns-then-low-lt0-clause-below c =
+    same_before c.args.low c.min-below.result c.args.lines.now c.args.slots.now c.peel_after.new.slots c.peel_after.result
+    (least (goal.at.returns-then-low-lt0-clause-below c).After-min-below) c.peel_after.ensures
+
+pub returns-else-low-lt0-clause-below : goal.returns-else-low-lt0-clause-below
+returns-else-low-lt0-clause-below c =
+    same_before_up c.args.low c.args.slots.now c.peel_from.new.slots (rw (to_z-of_z w64 c.args.low c.ranges.low) at c.if-low-lt0.false)
 
 pub returns-then-low-lt0-clause-closure : goal.returns-then-low-lt0-clause-closure
 returns-then-low-lt0-clause-closure c =
