@@ -5,3 +5,4 @@ pub mod Peelings
 pub mod Slots
 pub mod Solutions
 pub mod Sums
+pub mod Verdicts

@@ -1,10 +1,11 @@
 -- The laws of closure, solutions and peelings: by them "the repaired stream" means one thing.
-use Rattle.std.specs.Prelude.{◌≡◌, ◌↔◌, ℕ, List, Bool, Option, IsSome, IsTrue}
+use Rattle.std.specs.Prelude.{◌≡◌, ◌↔◌, ◌++◌, ℕ, List, Bool, Option, Some, None, IsSome, IsTrue}
 use Rattle.std.specs.List.{Contains}
 use Rattle.fg_words.specs.declared.Word.{Word}
-use Rattle.fg_peel.specs.Equation.{Equation, AreAdmissible}
+use Rattle.fg_words.specs.Word.{IsMedia}
+use Rattle.fg_peel.specs.Equation.{Equation, AreAdmissible, slots}
 use Rattle.fg_peel.specs.Closure.{InClosure, IsClosed}
-use Rattle.fg_peel.specs.Solution.{IsSolution}
+use Rattle.fg_peel.specs.Solution.{IsSolution, sum_at}
 use Rattle.fg_peel.specs.Peeling.{Step, IsPeeling, IsMaximal, IsSound, end_of}
 
 -- The closure is closed.
@@ -56,6 +57,23 @@ MaximalPeelingsEndAtClosure =
 abbrev pub MaximalPeelingExists : Type 0
 MaximalPeelingExists =
     (known : ℕ → Option Word) (equations : List Equation) → (steps : List Step) × IsMaximal known equations steps
+
+-- Every peeling can be continued to a maximal one.
+abbrev pub PeelingsContinue : Type 0
+PeelingsContinue =
+    (known : ℕ → Option Word) (equations : List Equation) (steps : List Step) → IsPeeling known equations steps
+    → (more : List Step) × IsMaximal known equations (steps ++ more)
+
+-- A maximal peeling is sound exactly where every word that it found is a media word, and every equation comes out whose
+-- slots are all known at its end.
+abbrev pub MaximalPeelingsAreTested : Type 0
+MaximalPeelingsAreTested =
+    (known : ℕ → Option Word) (equations : List Equation) (steps : List Step) → IsMaximal known equations steps
+    → IsSound known equations steps
+    ↔ ((position : ℕ) (word : Word) → known position ≡ None → end_of known steps position ≡ Some word → IsMedia word)
+    × ((equation : Equation) → Contains equations equation
+    → ((position : ℕ) → Contains (slots equation) position → IsSome (end_of known steps position))
+    → equation.parity ≡ sum_at (end_of known steps) (slots equation))
 
 -- Uniqueness: two solutions are equal.
 abbrev pub Uniqueness : Type 0

@@ -2,7 +2,7 @@
 //! the contract of a function that does nothing.
 
 ghost use Rattle.fg_peel.specs.Laws.{ClosureIsClosed, ClosureIsLeast, ClosureHasTest, ClosureGrows, ClosureIsFinal};
-ghost use Rattle.fg_peel.specs.Laws.{PeelingsStayInClosure, MaximalPeelingsEndAtClosure, MaximalPeelingExists};
+ghost use Rattle.fg_peel.specs.Laws.{PeelingsStayInClosure, MaximalPeelingsEndAtClosure, MaximalPeelingExists, PeelingsContinue, MaximalPeelingsAreTested};
 ghost use Rattle.fg_peel.specs.Laws.{Uniqueness, SoundPeelingsAgree, SolutionsAreReached, MaximalPeelingsEndAtSolution};
 
 /// The closure is the least closed set: it is closed, contained in every closed set that has a test,
@@ -19,11 +19,19 @@ pub fn closure_grows()
     ensures complete { ClosureIsFinal }
 {}
 
-/// Peelings stay in the closure, there is a maximal one, and each maximal one ends at the closure.
+/// Peelings stay in the closure, and each maximal one ends at the closure. There is a maximal one, and
+/// every peeling can be continued to one.
 pub fn peelings_fill_the_closure()
     ensures within { PeelingsStayInClosure }
     ensures filled { MaximalPeelingsEndAtClosure }
     ensures exists { MaximalPeelingExists }
+    ensures continued { PeelingsContinue }
+{}
+
+/// Whether a maximal peeling is sound shows in its words: each found word is a media word, and each
+/// equation comes out whose slots are all known.
+pub fn maximal_peelings_are_tested()
+    ensures { MaximalPeelingsAreTested }
 {}
 
 /// Two solutions are equal.
