@@ -6,3 +6,4 @@ pub mod Slots
 pub mod Solutions
 pub mod Sums
 pub mod Verdicts
+pub mod Blocks

@@ -1,6 +1,7 @@
 //! The laws by which the repaired stream means one thing, whatever the order of the work. Each is
 //! the contract of a function that does nothing.
 
+ghost use Rattle.fg_peel.specs.Block.{ThreeLostFollow, TwoPassesFollow, FourInSquareStay, WrongParityIsUnsolvable};
 ghost use Rattle.fg_peel.specs.Laws.{ClosureIsClosed, ClosureIsLeast, ClosureHasTest, ClosureGrows, ClosureIsFinal};
 ghost use Rattle.fg_peel.specs.Laws.{PeelingsStayInClosure, MaximalPeelingsEndAtClosure, MaximalPeelingExists, PeelingsContinue, MaximalPeelingsAreTested};
 ghost use Rattle.fg_peel.specs.Laws.{Uniqueness, SoundPeelingsAgree, SolutionsAreReached, MaximalPeelingsEndAtSolution};
@@ -45,4 +46,13 @@ pub fn confluence()
     ensures agreed { SoundPeelingsAgree }
     ensures reached { SolutionsAreReached }
     ensures same_end { MaximalPeelingsEndAtSolution }
+{}
+
+/// The definitions on a block of 4 columns and 4 rows: three lost words follow, and so do four in a
+/// chain of two passes. Four in a square do not. With a wrong parity there is no solution.
+pub fn worked_blocks()
+    ensures three { ThreeLostFollow }
+    ensures chain { TwoPassesFollow }
+    ensures square { FourInSquareStay }
+    ensures parity { WrongParityIsUnsolvable }
 {}
