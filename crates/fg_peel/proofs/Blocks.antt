@@ -1,5 +1,5 @@
 -- The worked blocks.
-use Rattle.std.proofs.Common.{◌≡◌, ◌≢◌, ◌⊎◌, ◌<◌, ℕ, zero, suc, List, [], ◌∷◌, Option, IsSome, inl, inr, refl, sym, subst, ◌∙◌, ⊎_elim, arith}
+use Rattle.std.proofs.Common.{◌≡◌, ◌≢◌, ◌⊎◌, ◌<◌, ℕ, zero, suc, true, List, [], ◌∷◌, Option, IsSome, inl, inr, refl, sym, subst, ◌∙◌, ⊎_elim, arith}
 use Rattle.std.proofs.lemmas.Bool.{cases_lt}
 use Rattle.std.specs.List.{Contains, AllByRecursion}
 use Rattle.fg_words.specs.declared.Word.{Word}
@@ -139,7 +139,8 @@ pub four_in_square_stay : FourInSquareStay
 four_in_square_stay words across down q = (
   closure_least known all (λ p. IsSome (known p)) (record {
     given = λ p h. h;
-    derived = λ equation p listed slot others. element _ (slots equation) (element (GivesNothing known) all nothing equation listed) p slot others;
+    derived = λ equation p listed slot others.
+        element _ (slots equation) (element (GivesNothing known) all nothing equation listed) p slot others;
   }) q,
   λ h. given h,
 )
@@ -150,29 +151,38 @@ four_in_square_stay words across down q = (
     all : List Equation
     all = block across down (0 ∷ 1 ∷ 2 ∷ 3 ∷ []) (0 ∷ 1 ∷ 2 ∷ 3 ∷ [])
 
-    nothing : AllByRecursion (GivesNothing known) all
-    nothing = (
-      (λ o. refl, (λ o. refl, (λ o. refl, (λ o. refl, tt)))),
-      (
-        (λ o. refl, (λ o. o 6 (2, omega arith, refl) (omega arith), (λ o. o 5 (1, omega arith, refl) (omega arith), (λ o. refl, tt)))),
-        (
-          (λ o. refl, (λ o. o 10 (2, omega arith, refl) (omega arith), (λ o. o 9 (1, omega arith, refl) (omega arith), (λ o. refl, tt)))),
-          (
-            (λ o. refl, (λ o. refl, (λ o. refl, (λ o. refl, tt)))),
-            (
-              (λ o. refl, (λ o. refl, (λ o. refl, (λ o. refl, tt)))),
-              (
-                (λ o. refl, (λ o. o 9 (2, omega arith, refl) (omega arith), (λ o. o 5 (1, omega arith, refl) (omega arith), (λ o. refl, tt)))),
-                (
-                  (λ o. refl, (λ o. o 10 (2, omega arith, refl) (omega arith), (λ o. o 6 (1, omega arith, refl) (omega arith), (λ o. refl, tt)))),
-                  ((λ o. refl, (λ o. refl, (λ o. refl, (λ o. refl, tt)))), tt),
-                ),
-              ),
-            ),
-          ),
-        ),
-      ),
+    row_1 : GivesNothing known (row (across 1) 1)
+    row_1 = (
+      λ o. refl,
+      (λ o. o 6 (2, omega arith, refl) (omega arith), (λ o. o 5 (1, omega arith, refl) (omega arith), (λ o. refl, tt))),
     )
+
+    row_2 : GivesNothing known (row (across 2) 2)
+    row_2 = (
+      λ o. refl,
+      (λ o. o 10 (2, omega arith, refl) (omega arith), (λ o. o 9 (1, omega arith, refl) (omega arith), (λ o. refl, tt))),
+    )
+
+    column_1 : GivesNothing known (column (down 1) 1)
+    column_1 = (
+      λ o. refl,
+      (λ o. o 9 (2, omega arith, refl) (omega arith), (λ o. o 5 (1, omega arith, refl) (omega arith), (λ o. refl, tt))),
+    )
+
+    column_2 : GivesNothing known (column (down 2) 2)
+    column_2 = (
+      λ o. refl,
+      (λ o. o 10 (2, omega arith, refl) (omega arith), (λ o. o 6 (1, omega arith, refl) (omega arith), (λ o. refl, tt))),
+    )
+
+    nothing : AllByRecursion (GivesNothing known) all
+    nothing =
+        let r : true ≡ true = refl in
+        let row_0 : GivesNothing known (row (across 0) 0) = (λ o. r, (λ o. r, (λ o. r, (λ o. r, tt)))) in
+        let row_3 : GivesNothing known (row (across 3) 3) = (λ o. r, (λ o. r, (λ o. r, (λ o. r, tt)))) in
+        let column_0 : GivesNothing known (column (down 0) 0) = (λ o. r, (λ o. r, (λ o. r, (λ o. r, tt)))) in
+        let column_3 : GivesNothing known (column (down 3) 3) = (λ o. r, (λ o. r, (λ o. r, (λ o. r, tt)))) in
+        (row_0, (row_1, (row_2, (row_3, (column_0, (column_1, (column_2, (column_3, tt))))))))
 
 pub wrong_parity_unsolvable : WrongParityIsUnsolvable
 wrong_parity_unsolvable words across down differs assigned solution =

@@ -11,7 +11,8 @@ use Rattle.fg_peel.proofs.Maximal.{maximal_exists}
 use Rattle.fg_peel.proofs.Solutions.{maximal_sound}
 
 -- The end of two peelings, one after the other.
-pub end_of-append : (known : ℕ → Option Word) (one other : List Step) → end_of known (one ++ other) ≡ end_of (end_of known one) other
+pub end_of-append :
+    (known : ℕ → Option Word) (one other : List Step) → end_of known (one ++ other) ≡ end_of (end_of known one) other
 end_of-append known [] other = refl
 end_of-append known (step ∷ steps) other = end_of-append (after_step known step) steps other
 
@@ -31,7 +32,9 @@ IsMaximal-append known equations one other first second = record {
 }
 
 -- One step more.
-pub end_of-push : (known : ℕ → Option Word) (steps : List Step) (step : Step) → end_of known (steps ++ step ∷ []) ≡ after_step (end_of known steps) step
+pub end_of-push :
+    (known : ℕ → Option Word) (steps : List Step) (step : Step)
+    → end_of known (steps ++ step ∷ []) ≡ after_step (end_of known steps) step
 end_of-push known steps step = end_of-append known steps (step ∷ [])
 
 pub IsPeeling-push :
