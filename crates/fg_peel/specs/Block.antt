@@ -23,7 +23,7 @@ abbrev pub received : (ℕ → Word) → List ℕ → ℕ → Option Word
 received words lost position =
     (if nat_lt position 16 && not (list_any (λ other. other == position) lost) then Some (words position) else None)
 
--- Three lost: 9 follows from its row, then 5 from its column, and 6 from either. The closure is the whole block.
+-- Three lost: 9 follows from its row, 6 from its column, and then 5 from either. The closure is the whole block.
 abbrev pub ThreeLostFollow : Type 0
 ThreeLostFollow =
     (words across down : ℕ → Word)

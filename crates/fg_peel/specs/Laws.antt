@@ -64,16 +64,23 @@ PeelingsContinue =
     (known : ℕ → Option Word) (equations : List Equation) (steps : List Step) → IsPeeling known equations steps
     → (more : List Step) × IsMaximal known equations (steps ++ more)
 
--- A maximal peeling is sound exactly where every word that it found is a media word, and every equation comes out whose
--- slots are all known at its end.
+-- Every word that a peeling found is a media word.
+abbrev pub FindsMedia : (ℕ → Option Word) → List Step → Type 0
+FindsMedia known steps =
+    (position : ℕ) (word : Word) → known position ≡ None → end_of known steps position ≡ Some word → IsMedia word
+
+-- Every equation comes out whose slots are all known.
+abbrev pub AllComeOut : (ℕ → Option Word) → List Equation → Type 0
+AllComeOut words equations =
+    (equation : Equation) → Contains equations equation
+    → ((position : ℕ) → Contains (slots equation) position → IsSome (words position))
+    → equation.parity ≡ sum_at words (slots equation)
+
+-- A maximal peeling is sound exactly where what it found is media and the equations come out.
 abbrev pub MaximalPeelingsAreTested : Type 0
 MaximalPeelingsAreTested =
     (known : ℕ → Option Word) (equations : List Equation) (steps : List Step) → IsMaximal known equations steps
-    → IsSound known equations steps
-    ↔ ((position : ℕ) (word : Word) → known position ≡ None → end_of known steps position ≡ Some word → IsMedia word)
-    × ((equation : Equation) → Contains equations equation
-    → ((position : ℕ) → Contains (slots equation) position → IsSome (end_of known steps position))
-    → equation.parity ≡ sum_at (end_of known steps) (slots equation))
+    → IsSound known equations steps ↔ (FindsMedia known steps × AllComeOut (end_of known steps) equations)
 
 -- Uniqueness: two solutions are equal.
 abbrev pub Uniqueness : Type 0
@@ -97,9 +104,16 @@ SolutionsAreReached =
     → (words : ℕ → Option Word) → IsSolution known equations words
     → (steps : List Step) × IsMaximal known equations steps × IsSound known equations steps
 
--- So every maximal peeling ends at the solution, where there is one.
+-- Every maximal peeling ends at the solution, where there is one.
 abbrev pub MaximalPeelingsEndAtSolution : Type 0
 MaximalPeelingsEndAtSolution =
     (known : ℕ → Option Word) (equations : List Equation) → AreAdmissible known equations
     → (words : ℕ → Option Word) → IsSolution known equations words
     → (steps : List Step) → IsMaximal known equations steps → end_of known steps ≡ words
+
+-- So a maximal peeling is sound exactly where a solution exists.
+abbrev pub SoundWhereSolvable : Type 0
+SoundWhereSolvable =
+    (known : ℕ → Option Word) (equations : List Equation) → AreAdmissible known equations
+    → (steps : List Step) → IsMaximal known equations steps
+    → IsSound known equations steps ↔ ((words : ℕ → Option Word) × IsSolution known equations words)

@@ -4,7 +4,7 @@
 ghost use Rattle.fg_peel.specs.Block.{ThreeLostFollow, TwoPassesFollow, FourInSquareStay, WrongParityIsUnsolvable};
 ghost use Rattle.fg_peel.specs.Laws.{ClosureIsClosed, ClosureIsLeast, ClosureHasTest, ClosureGrows, ClosureIsFinal};
 ghost use Rattle.fg_peel.specs.Laws.{PeelingsStayInClosure, MaximalPeelingsEndAtClosure, MaximalPeelingExists, PeelingsContinue, MaximalPeelingsAreTested};
-ghost use Rattle.fg_peel.specs.Laws.{Uniqueness, SoundPeelingsAgree, SolutionsAreReached, MaximalPeelingsEndAtSolution};
+ghost use Rattle.fg_peel.specs.Laws.{Uniqueness, SoundPeelingsAgree, SolutionsAreReached, MaximalPeelingsEndAtSolution, SoundWhereSolvable};
 
 /// The closure is the least closed set: it is closed, contained in every closed set that has a test,
 /// and has a test itself.
@@ -41,11 +41,13 @@ pub fn uniqueness()
 {}
 
 /// If one maximal peeling is sound, all are, with the same end. If a solution exists, some maximal
-/// peeling is sound, and each ends at the solution.
+/// peeling is sound, and each ends at the solution. So a maximal peeling is sound exactly where a
+/// solution exists.
 pub fn confluence()
     ensures agreed { SoundPeelingsAgree }
     ensures reached { SolutionsAreReached }
     ensures same_end { MaximalPeelingsEndAtSolution }
+    ensures solvable { SoundWhereSolvable }
 {}
 
 /// The definitions on a block of 4 columns and 4 rows: three lost words follow, and so do four in a
