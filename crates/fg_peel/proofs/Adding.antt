@@ -75,7 +75,7 @@ module _ (words : ℕ → Option Word) (xs : List ℕ) (j : ℕ) (acc total : Wo
   adding_none within is so_far =
       let cut = drop_more xs j 0 within in
       let same : sum_at words (drop (j + 1) xs) ≡ sum_at words (get_or xs j 0 ∷ drop (j + 1) xs) =
-          sym (ap (λ (o : Option Word). word_sum (cons_option o (filter_map words (drop (j + 1) xs)))) is) in
+      sym (ap (λ (o : Option Word). word_sum (cons_option o (filter_map words (drop (j + 1) xs)))) is) in
       ap (word_xor acc) same ∙ (rw cut at so_far)
 
   -- all slots are done

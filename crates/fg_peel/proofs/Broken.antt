@@ -44,9 +44,9 @@ module _ (words : ℕ → Option Word) (lines : Slab Line) where
     pub broken_same : (least : Option ℕ) → (IsComplete words (equation_of entry.1) → ComesOut words (equation_of entry.1)) → BrokenBut least all → BrokenBut least rest
     broken_same least fine but line c = ⊎_elim
         (λ left. ⊎_elim
-            (λ here. inr (rw here (inl fine)))
-            (λ there. inl there)
-            (Contains-cases entry.1 (lines_in rest) line (rw cut at left)))
+        (λ here. inr (rw here (inl fine)))
+        (λ there. inl there)
+        (Contains-cases entry.1 (lines_in rest) line (rw cut at left)))
         (λ done. inr done)
         (but line c)
 
@@ -54,9 +54,9 @@ module _ (words : ℕ → Option Word) (lines : Slab Line) where
     pub broken_more : (least : Option ℕ) → BrokenBut least all → BrokenBut (Some (min (unwrap_or least entry.1.place) entry.1.place)) rest
     broken_more least but line c = ⊎_elim
         (λ left. ⊎_elim
-            (λ here. inr (rw here (inr (lesser-last least entry.1.place))))
-            (λ there. inl there)
-            (Contains-cases entry.1 (lines_in rest) line (rw cut at left)))
+        (λ here. inr (rw here (inr (lesser-last least entry.1.place))))
+        (λ there. inl there)
+        (Contains-cases entry.1 (lines_in rest) line (rw cut at left)))
         (λ done. inr (⊎_elim (λ fine. inl fine) (λ below. inr (lesser-first least entry.1.place line.place below)) done))
         (but line c)
 
@@ -71,10 +71,13 @@ module _ (words : ℕ → Option Word) (lines : Slab Line) where
   -- all lines were looked at
   pub broken_least :
       (place : ℕ) (rest : List (ℕ × Line)) → rest ≡ [] → BrokenBut (Some place) rest → BreaksAt words lines place → IsLeast (BreaksAt words lines) place
-  broken_least place rest none but breaks = (breaks, λ m other. ⊎_elim
-      (λ left. absurd (Contains-nil other.0 (rw none at left)))
-      (λ done. ⊎_elim (λ fine. absurd (other.4 (fine other.3))) (λ below. omega (arith, below, other.2)) done)
-      (but other.0 other.1))
+  broken_least place rest none but breaks = (
+    breaks,
+    λ m other. ⊎_elim
+        (λ left. absurd (Contains-nil other.0 (rw none at left)))
+        (λ done. ⊎_elim (λ fine. absurd (other.4 (fine other.3))) (λ below. omega (arith, below, other.2)) done)
+        (but other.0 other.1),
+  )
 
   pub broken_nowhere : (rest : List (ℕ × Line)) → rest ≡ [] → BrokenBut None rest → AllComeOut words lines
   broken_nowhere rest none but line c complete = ⊎_elim

@@ -27,11 +27,10 @@ pub ends_peeling :
     → EndsPeeling (equations_of lines) (told_from word_in start old) (told_from word_in start new)
 ends_peeling start lines old new peeled closed =
     let still : AllClosed (end_of (told_from word_in start old) peeled.0) lines =
-        (let P : (ℕ → Option Word) → Type 0 = λ words. AllClosed words lines in subst P peeled.1.end closed) in
-    (
-        peeled.0,
-        record { peeling = peeled.1.peeling; no_more = no_step (end_of (told_from word_in start old) peeled.0) lines still },
-        peeled.1.end,
+    (let P : (ℕ → Option Word) → Type 0 = λ words. AllClosed words lines in subst P peeled.1.end closed) in (
+      peeled.0,
+      record { peeling = peeled.1.peeling; no_more = no_step (end_of (told_from word_in start old) peeled.0) lines still },
+      peeled.1.end,
     )
 
 pub peeled_fills : (start : ℕ) (lines : Slab Line) (old new : List Slot) → IsPeeled start (equations_of lines) old new → OnlyFills old new

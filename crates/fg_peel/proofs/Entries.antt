@@ -24,9 +24,9 @@ changes_by_later {X} f old front back target other new t o d cut size below with
     let up : other ≤ other = omega arith in
     let none : other - other ≡ 0 = omega arith in
     let one : get_or front target t ≡ get_or old target d =
-        get_or_default front target t d inside ∙ sym (get_or_append_left front back d target inside) ∙ ap (λ (xs : List X). get_or xs target d) (sym cut) in
+    get_or_default front target t d inside ∙ sym (get_or_append_left front back d target inside) ∙ ap (λ (xs : List X). get_or xs target d) (sym cut) in
     let two : get_or back 0 o ≡ get_or old other d =
-        get_or_default back 0 o d some ∙ ap (λ k. get_or back k d) (sym none) ∙ sym (get_or-append_right front back other other d size up) ∙ ap (λ (xs : List X). get_or xs other d) (sym cut) in
+    get_or_default back 0 o d some ∙ ap (λ k. get_or back k d) (sym none) ∙ sym (get_or-append_right front back other other d size up) ∙ ap (λ (xs : List X). get_or xs other d) (sym cut) in
     let value : new ≡ f (get_or old target d) (get_or old other d) = is ∙ ap (λ (x : X). f x (get_or back 0 o)) one ∙ ap (f (get_or old target d)) two in
     sym (set-append_left front back target new inside) ∙ ap (λ (xs : List X). set xs target new) (sym cut) ∙ ap (set old target) value
 
@@ -42,9 +42,9 @@ changes_by_earlier {X} f old front back target other new t o d cut size below wi
     let up : target ≤ target = omega arith in
     let none : target - target ≡ 0 = omega arith in
     let one : get_or back 0 t ≡ get_or old target d =
-        get_or_default back 0 t d some ∙ ap (λ k. get_or back k d) (sym none) ∙ sym (get_or-append_right front back target target d size up) ∙ ap (λ (xs : List X). get_or xs target d) (sym cut) in
+    get_or_default back 0 t d some ∙ ap (λ k. get_or back k d) (sym none) ∙ sym (get_or-append_right front back target target d size up) ∙ ap (λ (xs : List X). get_or xs target d) (sym cut) in
     let two : get_or front other o ≡ get_or old other d =
-        get_or_default front other o d inside ∙ sym (get_or_append_left front back d other inside) ∙ ap (λ (xs : List X). get_or xs other d) (sym cut) in
+    get_or_default front other o d inside ∙ sym (get_or_append_left front back d other inside) ∙ ap (λ (xs : List X). get_or xs other d) (sym cut) in
     let value : new ≡ f (get_or old target d) (get_or old other d) = is ∙ ap (λ (x : X). f x (get_or front other o)) one ∙ ap (f (get_or old target d)) two in
     ap (λ k. front ++ set back k new) (sym none) ∙ sym (set-append_right front back target target new size up) ∙ ap (λ (xs : List X). set xs target new) (sym cut) ∙ ap (set old target) value
 

@@ -46,13 +46,13 @@ module _ (start : ℕ) (old : List Slot) (position : ℕ) (xs : List ℕ) (parit
       let cut = drop_more xs j 0 within in
       let kept = others-kept position other (drop (j + 1) xs) differs in
       let here : get_or now target Empty ≡ Filled f.sum =
-          ap (λ (es : List Slot). get_or es target Empty) f.entry ∙ get_or-set_same old target (Filled f.sum) Empty inside in
+      ap (λ (es : List Slot). get_or es target Empty) f.entry ∙ get_or-set_same old target (Filled f.sum) Empty inside in
       let there : word_in (get_or now (other - start) Empty) ≡ Some word =
-          ap (λ (es : List Slot). word_in (get_or es (other - start) Empty)) f.entry
-          ∙ ap word_in (get_or-set_other old target (other - start) (Filled f.sum) Empty apart)
-          ∙ sym (told_from-entry word_in start old other from_other) ∙ known in
+      ap (λ (es : List Slot). word_in (get_or es (other - start) Empty)) f.entry
+      ∙ ap word_in (get_or-set_other old target (other - start) (Filled f.sum) Empty apart)
+      ∙ sym (told_from-entry word_in start old other from_other) ∙ known in
       let value : with_word (get_or now target Empty) (word_in (get_or now (other - start) Empty)) ≡ Filled (word_xor f.sum word) =
-          ap (λ (e : Slot). with_word e (word_in (get_or now (other - start) Empty))) here ∙ ap (with_word (Filled f.sum)) there in
+      ap (λ (e : Slot). with_word e (word_in (get_or now (other - start) Empty))) here ∙ ap (with_word (Filled f.sum)) there in
       record {
         sum = word_xor f.sum word;
         entry = adds ∙ ap (set now target) value ∙ ap (λ (es : List Slot). set es target (Filled (word_xor f.sum word))) f.entry
@@ -68,6 +68,5 @@ module _ (start : ℕ) (old : List Slot) (position : ℕ) (xs : List ℕ) (parit
   filling_done j now past f =
       let none = drop_all j xs past in
       let whole : f.sum ≡ word_xor parity (sum_at (told_from word_in start old) (others position xs)) =
-          sym (xor_zero_short f.sum f.short) ∙ (rw none at f.rest) in
+      sym (xor_zero_short f.sum f.short) ∙ (rw none at f.rest) in
       f.entry ∙ ap (λ (w : Word). set old (position - start) (Filled w)) whole
-

@@ -1,4 +1,5 @@
 pub mod Adding
+pub mod Blocks
 pub mod Broken
 pub mod Closed
 pub mod Closures
@@ -6,8 +7,8 @@ pub mod Ends
 pub mod Entries
 pub mod Filling
 pub mod Lines
-pub mod Low
 pub mod Lists
+pub mod Low
 pub mod Maximal
 pub mod Missing
 pub mod Peelings
@@ -15,5 +16,6 @@ pub mod Slots
 pub mod Solutions
 pub mod Steps
 pub mod Sums
+pub mod Verdicts
 pub mod Whole
 pub mod Wrong

@@ -30,11 +30,19 @@ pub others-element : (p : ℕ) (xs : List ℕ) (q : ℕ) → Contains (others p 
 others-element p [] q h = absurd (Contains-nil q h)
 others-element p (x ∷ xs) q h = go (x == p) refl (others-element p xs q) h
   where
-    go : (b : Bool) → (x == p) ≡ b → (Contains (others p xs) q → Contains xs q × (q ≢ p)) → Contains (others p (x ∷ xs)) q → Contains (x ∷ xs) q × (q ≢ p)
+    go :
+        (b : Bool) → (x == p) ≡ b → (Contains (others p xs) q → Contains xs q × (q ≢ p))
+        → Contains (others p (x ∷ xs)) q → Contains (x ∷ xs) q × (q ≢ p)
     go true e rest h = let c : Contains (others p xs) q = (rw e at h) in (Contains-there x xs q (rest c).0, (rest c).1)
     go false e rest h =
         let c : Contains (x ∷ others p xs) q = (rw e at h) in
-        ⊎_elim (λ s. (rw s (Contains-here x xs), λ n. (let t : (x == p) ≡ true = (Decides-eqb x p).1 (sym s ∙ n) in cc))) (λ r. (Contains-there x xs q (rest r).0, (rest r).1)) (Contains-cases x (others p xs) q c)
+        ⊎_elim
+        (λ s. (
+          rw s (Contains-here x xs),
+          λ n. (let t : (x == p) ≡ true = (Decides-eqb x p).1 (sym s ∙ n) in cc),
+        ))
+        (λ r. (Contains-there x xs q (rest r).0, (rest r).1))
+        (Contains-cases x (others p xs) q c)
 
 -- Without p, a list that doesn't have it is the same.
 pub others-absent : (p : ℕ) (xs : List ℕ) → (Contains xs p → ⊥) → others p xs ≡ xs

@@ -20,21 +20,21 @@ use Rattle.fg_peel.proofs.Whole.{ends_from_known, recovered_told, recovered_sinc
 rest_is : (n below : ℕ) (old new rest : List Slot) → below ≡ min (length old) (n + 1) → new ≡ take below old ++ rest → length rest ≡ length (drop below old) → drop (n + 1) new ≡ rest
 rest_is n below old new rest least joined size = ⊎_elim
     (λ short.
-        let gone : length rest ≡ 0 = omega (arith, size, length-drop below old, least, short) in
-        let all : length new ≡ length (take below old) + length rest = ap length joined ∙ length-append (take below old) rest in
-        let few : length new ≤ n + 1 = omega (arith, all, gone, length-take below old, short) in
-        drop_all (n + 1) new few ∙ sym (drop_all 0 rest (omega (arith, gone))))
+    let gone : length rest ≡ 0 = omega (arith, size, length-drop below old, least, short) in
+    let all : length new ≡ length (take below old) + length rest = ap length joined ∙ length-append (take below old) rest in
+    let few : length new ≤ n + 1 = omega (arith, all, gone, length-take below old, short) in
+    drop_all (n + 1) new few ∙ sym (drop_all 0 rest (omega (arith, gone))))
     (λ long.
-        let size_front : length (take below old) ≡ n + 1 = omega (arith, length-take below old, least, long) in
-        ap (λ k. drop k new) (sym size_front) ∙ ap (drop (length (take below old))) joined ∙ drop-append_seam (take below old) rest)
+    let size_front : length (take below old) ≡ n + 1 = omega (arith, length-take below old, least, long) in
+    ap (λ k. drop k new) (sym size_front) ∙ ap (drop (length (take below old))) joined ∙ drop-append_seam (take below old) rest)
     (cases_lt (length old) (n + 1))
 
 same_rest : (n below : ℕ) (old : List Slot) → below ≡ min (length old) (n + 1) → drop below old ≡ drop (n + 1) old
 same_rest n below old least = ⊎_elim
     (λ short.
-        let all : length old ≤ below = omega (arith, least, short) in
-        let past : length old ≤ n + 1 = omega (arith, short) in
-        drop_all below old all ∙ sym (drop_all (n + 1) old past))
+    let all : length old ≤ below = omega (arith, least, short) in
+    let past : length old ≤ n + 1 = omega (arith, short) in
+    drop_all below old all ∙ sym (drop_all (n + 1) old past))
     (λ long. let e : below ≡ n + 1 = omega (arith, least, long) in ap (λ k. drop k old) e)
     (cases_lt (length old) (n + 1))
 
@@ -50,13 +50,13 @@ fills_after below lines old new answer within after =
     let fills = after.2.fills in
     let front : length (take below old) ≡ below = omega (arith, length-take below old, within) in
     let read : (k : ℕ) → below ≤ k → get_or new k Empty ≡ get_or rest (k - below) Empty =
-        λ k above. ap (λ (es : List Slot). get_or es k Empty) after.1 ∙ get_or-append_right (take below old) rest below k Empty front above in
+    λ k above. ap (λ (es : List Slot). get_or es k Empty) after.1 ∙ get_or-append_right (take below old) rest below k Empty front above in
     let was : (k : ℕ) → below ≤ k → get_or (drop below old) (k - below) Empty ≡ get_or old k Empty =
-        λ k above. get_or-drop below old (k - below) Empty ∙ ap (λ i. get_or old i Empty) (omega (arith, above)) in
+    λ k above. get_or-drop below old (k - below) Empty ∙ ap (λ i. get_or old i Empty) (omega (arith, above)) in
     let same : (k : ℕ) → k < below → get_or new k Empty ≡ get_or old k Empty =
-        λ k less. ap (λ (es : List Slot). get_or es k Empty) after.1
-            ∙ get_or_append_left (take below old) rest Empty k (omega (arith, front, less))
-            ∙ ap (λ (es : List Slot). get_or es k Empty) refl ∙ get_or-take below old k Empty less in
+    λ k less. ap (λ (es : List Slot). get_or es k Empty) after.1
+    ∙ get_or_append_left (take below old) rest Empty k (omega (arith, front, less))
+    ∙ ap (λ (es : List Slot). get_or es k Empty) refl ∙ get_or-take below old k Empty less in
     record {
       count = ap length after.1 ∙ length-append (take below old) rest ∙ omega (arith, front, fills.count, length-drop below old, within);
       kept = λ k some. ⊎_elim
@@ -66,9 +66,9 @@ fills_after below lines old new answer within after =
       filled = λ k none. ⊎_elim
           (λ less. inl (same k less ∙ none))
           (λ above. ⊎_elim
-              (λ still. inl (read k above ∙ still))
-              (λ now. inr (now.0, read k above ∙ now.1))
-              (fills.filled (k - below) (was k above ∙ none)))
+          (λ still. inl (read k above ∙ still))
+          (λ now. inr (now.0, read k above ∙ now.1))
+          (fills.filled (k - below) (was k above ∙ none)))
           (cases_lt k below);
     }
 
@@ -82,18 +82,18 @@ same_before (negsuc n) below lines old new answer least after =
     let size = length-drop below old in
     ⊎_elim
     (λ short.
-        let gone : length rest ≡ 0 = omega (arith, after.2.fills.count, size, least, short) in
-        let all : length new ≡ length (take below old) + length rest = ap length after.1 ∙ length-append (take below old) rest in
-        let few : length new ≤ n + 1 = omega (arith, all, gone, front, short) in
-        let past : length old ≤ n + 1 = omega (arith, short) in
-        let whole : length old ≤ below = omega (arith, least, short) in
-        take_all (n + 1) new few ∙ after.1 ∙ ap (λ (es : List Slot). take below old ++ es) (length-zero rest gone) ∙ append-nil (take below old)
-        ∙ take_all below old whole ∙ sym (take_all (n + 1) old past))
+    let gone : length rest ≡ 0 = omega (arith, after.2.fills.count, size, least, short) in
+    let all : length new ≡ length (take below old) + length rest = ap length after.1 ∙ length-append (take below old) rest in
+    let few : length new ≤ n + 1 = omega (arith, all, gone, front, short) in
+    let past : length old ≤ n + 1 = omega (arith, short) in
+    let whole : length old ≤ below = omega (arith, least, short) in
+    take_all (n + 1) new few ∙ after.1 ∙ ap (λ (es : List Slot). take below old ++ es) (length-zero rest gone) ∙ append-nil (take below old)
+    ∙ take_all below old whole ∙ sym (take_all (n + 1) old past))
     (λ long.
-        let e : below ≡ n + 1 = omega (arith, least, long) in
-        let size_front : n + 1 ≤ length (take below old) = omega (arith, front, e, long) in
-        ap (take (n + 1)) after.1 ∙ take-append-le (n + 1) (take below old) rest size_front ∙ ap (λ k. take (n + 1) (take k old)) e
-        ∙ take_all (n + 1) (take (n + 1) old) (omega (arith, length-take (n + 1) old)))
+    let e : below ≡ n + 1 = omega (arith, least, long) in
+    let size_front : n + 1 ≤ length (take below old) = omega (arith, front, e, long) in
+    ap (take (n + 1)) after.1 ∙ take-append-le (n + 1) (take below old) rest size_front ∙ ap (λ k. take (n + 1) (take k old)) e
+    ∙ take_all (n + 1) (take (n + 1) old) (omega (arith, length-take (n + 1) old)))
     (cases_lt (length old) (n + 1))
 
 pub same_before_up : (low : ℤ) (old new : List Slot) → lt_z low (pos 0) ≡ false → before_first low new ≡ before_first low old

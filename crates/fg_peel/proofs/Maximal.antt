@@ -42,7 +42,8 @@ unfolding count_unknown
 count_some None h = absurd (cc)
 count_some (Some w) h = refl
 
-unknown_in-falls : (less more : ℕ → Option Word) → Extends less more → (xs : List ℕ) → unknown_in more xs ≤ unknown_in less xs
+unknown_in-falls :
+    (less more : ℕ → Option Word) → Extends less more → (xs : List ℕ) → unknown_in more xs ≤ unknown_in less xs
 unfolding unknown_in
 unknown_in-falls less more ext [] = omega arith
 unknown_in-falls less more ext (x ∷ xs) =
@@ -56,7 +57,9 @@ unknown_in-drops less more ext p unknown known [] c = absurd (Contains-nil p c)
 unknown_in-drops less more ext p unknown known (x ∷ xs) c = ⊎_elim
     (λ same. (let a : less x ≡ None = (rw (← same) unknown) in let b : IsSome (more x) = (rw (← same) known) in
     omega (arith, count_none (less x) a, count_some (more x) b, unknown_in-falls less more ext xs)))
-    (λ there. omega (arith, count_falls (less x) (more x) (ext x), unknown_in-drops less more ext p unknown known xs there))
+    (λ there.
+    let rest = unknown_in-drops less more ext p unknown known xs there in
+    omega (arith, count_falls (less x) (more x) (ext x), rest))
     (Contains-cases x xs p c)
 
 unknown_slots-falls :
@@ -70,13 +73,16 @@ unknown_slots-falls less more ext (equation ∷ equations) =
 unknown_slots-drops :
     (less more : ℕ → Option Word) → Extends less more → (p : ℕ) → less p ≡ None → IsSome (more p)
     → (equation : Equation) → Contains (slots equation) p
-    → (equations : List Equation) → Contains equations equation → unknown_slots more equations < unknown_slots less equations
+    → (equations : List Equation) → Contains equations equation
+    → unknown_slots more equations < unknown_slots less equations
 unfolding unknown_slots
 unknown_slots-drops less more ext p unknown known equation slot [] listed = absurd (Contains-nil equation listed)
 unknown_slots-drops less more ext p unknown known equation slot (first ∷ equations) listed = ⊎_elim
     (λ same. (let here : Contains (slots first) p = (rw (← same) slot) in
     omega (arith, unknown_in-drops less more ext p unknown known (slots first) here, unknown_slots-falls less more ext equations)))
-    (λ there. omega (arith, unknown_in-falls less more ext (slots first), unknown_slots-drops less more ext p unknown known equation slot equations there))
+    (λ there.
+    let rest = unknown_slots-drops less more ext p unknown known equation slot equations there in
+    omega (arith, unknown_in-falls less more ext (slots first), rest))
     (Contains-cases first equations equation listed)
 
 -- After a step fewer slots are unknown.
@@ -97,7 +103,9 @@ after_step-drops known equations step can =
 abbrev IsLast : (ℕ → Option Word) → List ℕ → ℕ → Type 0
 IsLast known positions p = (known p ≡ None) × ((q : ℕ) → Contains positions q → q ≢ p → IsSome (known q))
 
-last_or_not : (known : ℕ → Option Word) (positions : List ℕ) (p : ℕ) → IsLast known positions p ⊎ (IsLast known positions p → ⊥)
+last_or_not :
+    (known : ℕ → Option Word) (positions : List ℕ) (p : ℕ)
+    → IsLast known positions p ⊎ (IsLast known positions p → ⊥)
 last_or_not known positions p = ⊎_elim
     (λ k. inr (λ h. (let e = h.0 in cc)))
     (λ unknown. ⊎_elim
@@ -140,10 +148,12 @@ peel_all equations zero known few = (
 )
 peel_all equations (suc fuel) known few = ⊎_elim
     (λ r. let step = r.0 in
-    let rest = peel_all equations fuel (after_step known step) (omega (arith, few, after_step-drops known equations step r.1)) in
+    let fewer = after_step-drops known equations step r.1 in
+    let rest = peel_all equations fuel (after_step known step) (omega (arith, few, fewer)) in
     (step ∷ rest.0, record { peeling = (r.1, rest.1.peeling); no_more = rest.1.no_more }))
     (λ none. ([], record { peeling = tt; no_more = none }))
     (step_or_none known equations)
 
-pub maximal_exists : (known : ℕ → Option Word) (equations : List Equation) → (steps : List Step) × IsMaximal known equations steps
+pub maximal_exists :
+    (known : ℕ → Option Word) (equations : List Equation) → (steps : List Step) × IsMaximal known equations steps
 maximal_exists known equations = peel_all equations (unknown_slots known equations) known (omega arith)

@@ -31,14 +31,14 @@ misses_same words xs j None has below = λ k less. ⊎_elim
     (λ other. below k (omega (arith, other)))
     (cases_eq k j)
 misses_same words xs j (Some position) has below = (
-    below.0,
-    omega (arith, below.1),
-    below.2,
-    below.3,
-    λ k less other. ⊎_elim
-        (λ same. rw same has)
-        (λ before. below.4 k (omega (arith, before)) other)
-        (cases_eq k j),
+  below.0,
+  omega (arith, below.1),
+  below.2,
+  below.3,
+  λ k less other. ⊎_elim
+      (λ same. rw same has)
+      (λ before. below.4 k (omega (arith, before)) other)
+      (cases_eq k j),
 )
 
 -- the first slot that has none
@@ -96,11 +96,11 @@ module _ (words : ℕ → Option Word) (equation : Equation) where
 
   pub misses_one : (position : ℕ) → MissesBelow words (slots equation) equation.count (Some position) → IsMissing words equation (One position)
   misses_one position below = (
-      rw below.2 at (Contains-get_or (slots equation) below.0 0 (omega (arith, below.1, length-slots_of equation.base equation.offset equation.count))),
-      below.3,
-      λ other c differs. (
+    rw below.2 at (Contains-get_or (slots equation) below.0 0 (omega (arith, below.1, length-slots_of equation.base equation.offset equation.count))),
+    below.3,
+    λ other c differs. (
         let p = place_of (slots equation) other c in
         rw p.2 at (below.4 p.0 (omega (arith, p.1, length-slots_of equation.base equation.offset equation.count))
-            (λ same. differs (sym p.2 ∙ ap (λ k. get_or (slots equation) k 0) same ∙ below.2)))
-      ),
+        (λ same. differs (sym p.2 ∙ ap (λ k. get_or (slots equation) k 0) same ∙ below.2)))
+        ),
   )

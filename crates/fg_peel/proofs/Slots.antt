@@ -5,7 +5,9 @@ use Rattle.fg_peel.specs.Equation.{Equation, slots}
 use Rattle.fg_peel.proofs.Lists.{Contains-nil, Contains-cases, Distinct}
 
 -- Each slot from number `from` on is some offsets past the base.
-numbered : (base offset from n s : ℕ) → Contains (map (λ j. base + j * offset) (range_with_len from n)) s → (d : ℕ) × (s ≡ base + (from + d) * offset)
+numbered :
+    (base offset from n s : ℕ) → Contains (map (λ j. base + j * offset) (range_with_len from n)) s
+    → (d : ℕ) × (s ≡ base + (from + d) * offset)
 numbered base offset from zero s c = absurd (Contains-nil s c)
 numbered base offset from (suc n) s c =
     ⊎_elim

@@ -16,7 +16,9 @@ use Rattle.fg_peel.proofs.Peelings.{some_word, known_or_not, after_step-at, afte
 
 module _ (known : ℕ → Option Word) (equations : List Equation) (admissible : AreAdmissible known equations) where
   -- Every word of a solution is a media word, and so has room.
-  pub solution_media : (words : ℕ → Option Word) → IsSolution known equations words → (q : ℕ) (w : Word) → words q ≡ Some w → IsMedia w
+  pub solution_media :
+      (words : ℕ → Option Word) → IsSolution known equations words
+      → (q : ℕ) (w : Word) → words q ≡ Some w → IsMedia w
   solution_media words solution q w is = ⊎_elim
       (λ k. let v = some_word (known q) k in
       let e : words q ≡ Some v.0 = solution.keeps q v.0 v.1 in
@@ -84,7 +86,8 @@ module _ (known : ℕ → Option Word) (equations : List Equation) (admissible :
       let inside : (q : ℕ) → Contains (slots step.equation) q → q ≢ step.position → InClosure known equations q =
       (λ q c n. (let v = some_word (now q) (can.others_known q c n) in
       (solution.domain q).0 (rw (agree q v.0 v.1)))) in
-      let a = some_word (words step.position) ((solution.domain step.position).1 (derived step.equation can.listed can.slot inside)) in
+      let closed : InClosure known equations step.position = derived step.equation can.listed can.slot inside in
+      let a = some_word (words step.position) ((solution.domain step.position).1 closed) in
       let same : sum_at now rest ≡ sum_at words rest = sum_at-agree now words rest
       (λ q c. let e = others-element step.position (slots step.equation) q c in
       let v = some_word (now q) (can.others_known q e.0 e.1) in
@@ -95,7 +98,9 @@ module _ (known : ℕ → Option Word) (equations : List Equation) (admissible :
       word_xor-solve (sum_at words rest) a.0 step.equation.parity
       (HasRoom-sum_at words (room_at words solution) rest) (room_at words solution step.position a.0 a.1)
       (word_xor_comm (sum_at words rest) a.0 ∙ sym p) in
-      a.1 ∙ ap Some (e ∙ word_xor_comm (sum_at words rest) step.equation.parity ∙ ap (λ (x : Word). word_xor step.equation.parity x) (sym same))
+      let turned : a.0 ≡ word_xor step.equation.parity (sum_at words rest) =
+      e ∙ word_xor_comm (sum_at words rest) step.equation.parity in
+      a.1 ∙ ap Some (turned ∙ ap (λ (x : Word). word_xor step.equation.parity x) (sym same))
 
   -- So every peeling's words are those of the solution.
   end_agrees :

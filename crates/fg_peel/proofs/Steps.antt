@@ -78,25 +78,28 @@ fill-told :
     ≡ after_step (told_from word_in start old) step
 fill-told start old step from within = fun_ext (λ q. ⊎_elim
     (λ same. rw same (
-      told_from-entry word_in start new step.position from
-      ∙ ap word_in (get_or-set_same old at (Filled word) Empty within)
-      ∙ sym (after_step-at words step)))
+    told_from-entry word_in start new step.position from
+    ∙ ap word_in (get_or-set_same old at (Filled word) Empty within)
+    ∙ sym (after_step-at words step)))
     (λ differs. ⊎_elim
-      (λ below. told_from-below word_in start new q below ∙ sym (told_from-below word_in start old q below) ∙ sym (after_step-other words step q differs))
-      (λ above.
-        told_from-entry word_in start new q above
-        ∙ ap word_in (get_or-set_other old at (q - start) (Filled word) Empty (λ same. differs (omega (arith, same, above, from))))
-        ∙ sym (told_from-entry word_in start old q above)
-        ∙ sym (after_step-other words step q differs))
-      (cases_lt q start))
+    (λ below. told_from-below word_in start new q below ∙ sym (told_from-below word_in start old q below) ∙ sym (after_step-other words step q differs))
+    (λ above.
+    told_from-entry word_in start new q above
+    ∙ ap word_in (get_or-set_other old at (q - start) (Filled word) Empty (λ same. differs (omega (arith, same, above, from))))
+    ∙ sym (told_from-entry word_in start old q above)
+    ∙ sym (after_step-other words step q differs))
+    (cases_lt q start))
     (cases_eq q step.position))
   where
     at : ℕ
     at = step.position - start
+
     words : ℕ → Option Word
     words = told_from word_in start old
+
     word : Word
     word = given_word words step
+
     new : List Slot
     new = set old at (Filled word)
 
@@ -112,9 +115,9 @@ filled_by start equations line position old new fits listed missing fills =
     let room = fits.within position missing.0 in
     let within : position - start < length old = omega (arith, room) in
     let none : get_or old (position - start) Empty ≡ Empty =
-        empty_entry (get_or old (position - start) Empty) (sym (told_from-entry word_in start old position room.0) ∙ missing.1) in
+    empty_entry (get_or old (position - start) Empty) (sym (told_from-entry word_in start old position room.0) ∙ missing.1) in
     let can : CanFollow words equations step =
-        record { listed = listed; slot = missing.0; unknown = missing.1; others_known = missing.2 } in
+    record { listed = listed; slot = missing.0; unknown = missing.1; others_known = missing.2 } in
     record {
       peeling = (can, tt);
       end = ap (told_from word_in start) fills ∙ fill-told start old step room.0 within;

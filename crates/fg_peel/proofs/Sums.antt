@@ -15,7 +15,9 @@ pub filter_map-agree :
 filter_map-agree one other [] same = refl
 filter_map-agree one other (x ∷ xs) same =
     ap (λ (o : Option Word). cons_option o (filter_map one xs)) (same x (Contains-here x xs))
-    ∙ ap (λ (ws : List Word). cons_option (other x) ws) (filter_map-agree one other xs (λ q c. same q (Contains-there x xs q c)))
+    ∙ ap
+    (λ (ws : List Word). cons_option (other x) ws)
+    (filter_map-agree one other xs (λ q c. same q (Contains-there x xs q c)))
 
 pub sum_at-agree :
     (one other : ℕ → Option Word) (xs : List ℕ) → ((q : ℕ) → Contains xs q → one q ≡ other q)
@@ -24,11 +26,14 @@ sum_at-agree one other xs same = ap word_sum (filter_map-agree one other xs same
 
 -- The sum has room where the words have.
 pub HasRoom-sum_at :
-    (words : ℕ → Option Word) → ((q : ℕ) (w : Word) → words q ≡ Some w → HasRoom w) → (xs : List ℕ) → HasRoom (sum_at words xs)
+    (words : ℕ → Option Word) → ((q : ℕ) (w : Word) → words q ≡ Some w → HasRoom w)
+    → (xs : List ℕ) → HasRoom (sum_at words xs)
 HasRoom-sum_at words room [] = HasRoom-zero
 HasRoom-sum_at words room (x ∷ xs) = go (words x) refl (HasRoom-sum_at words room xs)
   where
-    go : (o : Option Word) → words x ≡ o → HasRoom (sum_at words xs) → HasRoom (word_sum (cons_option o (filter_map words xs)))
+    go :
+        (o : Option Word) → words x ≡ o → HasRoom (sum_at words xs)
+        → HasRoom (word_sum (cons_option o (filter_map words xs)))
     go None e r = r
     go (Some w) e r = HasRoom-xor w (sum_at words xs) (room x w e) r
 
@@ -40,7 +45,9 @@ sum_at-split words p w is [] d c = absurd (Contains-nil p c)
 sum_at-split words p w is (x ∷ xs) d c =
     ⊎_elim
     (λ same. at_head same)
-    (λ n. in_tail n (sum_at-split words p w is xs d.1 (⊎_elim (λ s. absurd (n (sym s))) (λ t. t) (Contains-cases x xs p c))))
+    (λ n.
+    let there : Contains xs p = ⊎_elim (λ s. absurd (n (sym s))) (λ t. t) (Contains-cases x xs p c) in
+    in_tail n (sum_at-split words p w is xs d.1 there))
     (same_or_not x p)
   where
     at_head : x ≡ p → sum_at words (x ∷ xs) ≡ word_xor w (sum_at words (others p (x ∷ xs)))
@@ -54,6 +61,9 @@ sum_at-split words p w is (x ∷ xs) d c =
         → sum_at words (x ∷ xs) ≡ word_xor w (sum_at words (others p (x ∷ xs)))
     in_tail n r = rw (others-kept p x xs n) (go (words x))
       where
-        go : (o : Option Word) → word_sum (cons_option o (filter_map words xs)) ≡ word_xor w (word_sum (cons_option o (filter_map words (others p xs))))
+        go :
+            (o : Option Word)
+            → word_sum (cons_option o (filter_map words xs))
+            ≡ word_xor w (word_sum (cons_option o (filter_map words (others p xs))))
         go None = r
         go (Some v) = ap (λ (u : Word). word_xor v u) r ∙ word_xor-swap v w (sum_at words (others p xs))

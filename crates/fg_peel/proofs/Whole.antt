@@ -41,14 +41,13 @@ ends_from_known equations known old new peeled ends =
     let M : (ℕ → Option Word) → Type 0 = λ words. IsMaximal words equations filled in
     let maximal : IsMaximal (end_of known solved) equations filled = subst M middle ends.1 in
     let joined : end_of known (solved ++ filled) ≡ end_of (end_of known solved) filled = end_of-append known solved filled in
-    let N : (ℕ → Option Word) → Type 0 = λ words. (step : Step) → CanFollow words equations step → ⊥ in
-    (
-        solved ++ filled,
-        record {
-          peeling = IsPeeling-append known equations solved filled peeled.1 maximal.peeling;
-          no_more = subst N (sym joined) maximal.no_more;
-        },
-        ends.2 ∙ ap (λ (words : ℕ → Option Word). end_of words filled) middle ∙ sym joined,
+    let N : (ℕ → Option Word) → Type 0 = λ words. (step : Step) → CanFollow words equations step → ⊥ in (
+      solved ++ filled,
+      record {
+        peeling = IsPeeling-append known equations solved filled peeled.1 maximal.peeling;
+        no_more = subst N (sym joined) maximal.no_more;
+      },
+      ends.2 ∙ ap (λ (words : ℕ → Option Word). end_of words filled) middle ∙ sym joined,
     )
 
 -- An entry that was unknown, or was recovered, is recovered at the end if it has a word.
@@ -58,8 +57,8 @@ recovered_entry :
 recovered_entry Empty new word unknown kept filled has = ⊎_elim
     (λ still. let e : word_in new ≡ None = ap word_in still in absurd (cc))
     (λ now. let e : word_in new ≡ Some now.0 = ap word_in now.1 in
-        let r : recovered_in new ≡ Some now.0 = ap recovered_in now.1 in
-        r ∙ sym e ∙ has)
+    let r : recovered_in new ≡ Some now.0 = ap recovered_in now.1 in
+    r ∙ sym e ∙ has)
     (filled refl)
 recovered_entry (Media w) new word unknown kept filled has = absurd (cc)
 recovered_entry (Solved w) new word unknown kept filled has =
@@ -80,7 +79,7 @@ pub recovered_told :
 recovered_told start entries position word told = ⊎_elim
     (λ below. let e : None ≡ Some word = sym (told_from-below recovered_in start entries position below) ∙ told in absurd (cc))
     (λ above. told_from-entry word_in start entries position above
-        ∙ recovered_word (get_or entries (position - start) Empty) word (sym (told_from-entry recovered_in start entries position above) ∙ told))
+    ∙ recovered_word (get_or entries (position - start) Empty) word (sym (told_from-entry recovered_in start entries position above) ∙ told))
     (cases_lt position start)
 
 pub recovered_since :
@@ -89,10 +88,10 @@ pub recovered_since :
 recovered_since start old new fills position word unknown told = ⊎_elim
     (λ below. let e : None ≡ Some word = sym (told_from-below word_in start new position below) ∙ told in absurd (cc))
     (λ above. let k = position - start in
-        told_from-entry recovered_in start new position above
-        ∙ recovered_entry (get_or old k Empty) (get_or new k Empty) word
-            (sym (told_from-entry known_in start old position above) ∙ unknown) (fills.kept k) (fills.filled k)
-            (sym (told_from-entry word_in start new position above) ∙ told))
+    told_from-entry recovered_in start new position above
+    ∙ recovered_entry (get_or old k Empty) (get_or new k Empty) word
+    (sym (told_from-entry known_in start old position above) ∙ unknown) (fills.kept k) (fills.filled k)
+    (sym (told_from-entry word_in start new position above) ∙ told))
     (cases_lt position start)
 
 module _ (lines : Slab Line) (known words recovered : ℕ → Option Word) where
@@ -130,7 +129,7 @@ module _ (lines : Slab Line) (known words recovered : ℕ → Option Word) where
       told (Unsound place) verdict =
           let b = verdict.1.0 in
           let complete : (q : ℕ) → Contains (slots (equation_of b.0)) q → InClosure known (equations_of lines) q =
-              λ q c. (ends_at_closure (equations_of lines) known words ends q).0 (b.3 q c) in
+          λ q c. (ends_at_closure (equations_of lines) known words ends q).0 (b.3 q c) in
           let sum = solves.sums (equation_of b.0) (live_equation lines b.0 b.1) complete in
           let P : (ℕ → Option Word) → Type 0 = λ ws. ComesOut ws (equation_of b.0) in
           absurd (b.4 (subst P (sym same) sum))

@@ -39,13 +39,13 @@ module _ (start : ℕ) (entries : List Slot) where
       let from : start ≤ start + i = omega arith in
       let here : start + i - start ≡ i = omega arith in
       let told : told_from recovered_in start entries (start + i) ≡ Some w.0 =
-          told_from-entry recovered_in start entries (start + i) from ∙ ap (λ k. recovered_in (get_or entries k Empty)) here ∙ w.1 in (
+      told_from-entry recovered_in start entries (start + i) from ∙ ap (λ k. recovered_in (get_or entries k Empty)) here ∙ w.1 in (
         (w.0, told, w.2),
         λ m other. ⊎_elim
             (λ before. absurd (⊎_elim
-                (λ below. right_below m below other)
-                (λ above. right_at m above (right (m - start) (omega (arith, before, above))) other)
-                (cases_lt m start)))
+            (λ below. right_below m below other)
+            (λ above. right_at m above (right (m - start) (omega (arith, before, above))) other)
+            (cases_lt m start)))
             (λ after. after)
             (cases_lt m (start + i)),
       )
@@ -55,7 +55,7 @@ module _ (start : ℕ) (entries : List Slot) where
   wrong_none right position word told = ⊎_elim
       (λ below. let e : None ≡ Some word = sym (told_from-below recovered_in start entries position below) ∙ told in absurd (cc))
       (λ above. let here = sym (told_from-entry recovered_in start entries position above) ∙ told in ⊎_elim
-          (λ within. right (position - start) within word here)
-          (λ past. let e : None ≡ Some word = sym (ap recovered_in (get_or_past entries (position - start) Empty past)) ∙ here in absurd (cc))
-          (cases_lt (position - start) (length entries)))
+      (λ within. right (position - start) within word here)
+      (λ past. let e : None ≡ Some word = sym (ap recovered_in (get_or_past entries (position - start) Empty past)) ∙ here in absurd (cc))
+      (cases_lt (position - start) (length entries)))
       (cases_lt position start)

@@ -5,8 +5,8 @@ use Rattle.std.specs.List.{Contains}
 use Rattle.fg_words.specs.declared.Word.{Word}
 use Rattle.fg_peel.specs.Equation.{Equation, slots}
 
--- A set of positions is closed if each known position is in it, and, where all other slots of an equation are in it, so
--- is the last one.
+-- A set of positions is closed if each known position is in it, and, where all slots of an equation but one are in it,
+-- so is that one.
 pub record IsClosed (known : ℕ → Option Word) (equations : List Equation) (inside : ℕ → Type 0) : Type 0 where
   pub given : (position : ℕ) → IsSome (known position) → inside position
   pub derived :

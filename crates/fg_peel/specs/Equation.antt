@@ -1,5 +1,5 @@
--- Parity equations (SMPTE ST 2022-1, from Pro-MPEG Code of Practice 3): the words at an equation's slots sum to its parity
--- word.
+-- Parity equations (SMPTE ST 2022-1, from Pro-MPEG Code of Practice 3): the words at an equation's slots sum to its
+-- parity word.
 use Rattle.std.specs.Prelude.{◌≡◌, ◌≤◌, ◌==◌, ℕ, List, not, Option, Some}
 use Rattle.std.specs.List.{Contains, filter}
 use Rattle.fg_words.specs.declared.Word.{Word}

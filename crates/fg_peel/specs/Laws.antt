@@ -1,10 +1,11 @@
 -- The laws of closure, solutions and peelings: by them "the repaired stream" means one thing.
-use Rattle.std.specs.Prelude.{◌≡◌, ◌↔◌, ℕ, List, Bool, Option, IsSome, IsTrue}
+use Rattle.std.specs.Prelude.{◌≡◌, ◌↔◌, ◌++◌, ℕ, List, Bool, Option, Some, None, IsSome, IsTrue}
 use Rattle.std.specs.List.{Contains}
 use Rattle.fg_words.specs.declared.Word.{Word}
-use Rattle.fg_peel.specs.Equation.{Equation, AreAdmissible}
+use Rattle.fg_words.specs.Word.{IsMedia}
+use Rattle.fg_peel.specs.Equation.{Equation, AreAdmissible, slots}
 use Rattle.fg_peel.specs.Closure.{InClosure, IsClosed}
-use Rattle.fg_peel.specs.Solution.{IsSolution}
+use Rattle.fg_peel.specs.Solution.{IsSolution, sum_at}
 use Rattle.fg_peel.specs.Peeling.{Step, IsPeeling, IsMaximal, IsSound, end_of}
 
 -- The closure is closed.
@@ -57,6 +58,30 @@ abbrev pub MaximalPeelingExists : Type 0
 MaximalPeelingExists =
     (known : ℕ → Option Word) (equations : List Equation) → (steps : List Step) × IsMaximal known equations steps
 
+-- Every peeling can be continued to a maximal one.
+abbrev pub PeelingsContinue : Type 0
+PeelingsContinue =
+    (known : ℕ → Option Word) (equations : List Equation) (steps : List Step) → IsPeeling known equations steps
+    → (more : List Step) × IsMaximal known equations (steps ++ more)
+
+-- Every word that a peeling found is a media word.
+abbrev pub FindsMedia : (ℕ → Option Word) → List Step → Type 0
+FindsMedia known steps =
+    (position : ℕ) (word : Word) → known position ≡ None → end_of known steps position ≡ Some word → IsMedia word
+
+-- Every equation comes out whose slots are all known.
+abbrev pub AllComeOut : (ℕ → Option Word) → List Equation → Type 0
+AllComeOut words equations =
+    (equation : Equation) → Contains equations equation
+    → ((position : ℕ) → Contains (slots equation) position → IsSome (words position))
+    → equation.parity ≡ sum_at words (slots equation)
+
+-- A maximal peeling is sound exactly where what it found is media and the equations come out.
+abbrev pub MaximalPeelingsAreTested : Type 0
+MaximalPeelingsAreTested =
+    (known : ℕ → Option Word) (equations : List Equation) (steps : List Step) → IsMaximal known equations steps
+    → IsSound known equations steps ↔ (FindsMedia known steps × AllComeOut (end_of known steps) equations)
+
 -- Uniqueness: two solutions are equal.
 abbrev pub Uniqueness : Type 0
 Uniqueness =
@@ -79,9 +104,16 @@ SolutionsAreReached =
     → (words : ℕ → Option Word) → IsSolution known equations words
     → (steps : List Step) × IsMaximal known equations steps × IsSound known equations steps
 
--- So every maximal peeling ends at the solution, where there is one.
+-- Every maximal peeling ends at the solution, where there is one.
 abbrev pub MaximalPeelingsEndAtSolution : Type 0
 MaximalPeelingsEndAtSolution =
     (known : ℕ → Option Word) (equations : List Equation) → AreAdmissible known equations
     → (words : ℕ → Option Word) → IsSolution known equations words
     → (steps : List Step) → IsMaximal known equations steps → end_of known steps ≡ words
+
+-- So a maximal peeling is sound exactly where a solution exists.
+abbrev pub SoundWhereSolvable : Type 0
+SoundWhereSolvable =
+    (known : ℕ → Option Word) (equations : List Equation) → AreAdmissible known equations
+    → (steps : List Step) → IsMaximal known equations steps
+    → IsSound known equations steps ↔ ((words : ℕ → Option Word) × IsSolution known equations words)

@@ -1,3 +1,4 @@
+pub mod Block
 pub mod Closure
 pub mod Equation
 pub mod Laws

@@ -35,14 +35,14 @@ loop-j-preserved c =
     elim c.match-word_at.branch [
       | in-Some w ↦
           let known : words (get_or xs c.loop-j.j 0) ≡ Some w.in-Some.word.now =
-              ap words (sym c.slot-position.ensures) ∙ sym c.word_at.ensures ∙ ap option_copied w.in-Some.is in
+          ap words (sym c.slot-position.ensures) ∙ sym c.word_at.ensures ∙ ap option_copied w.in-Some.is in
           rw (w.sum-is, w.xor_in.ensures) (
             adding_more words xs c.loop-j.j c.loop-j.sum total w.in-Some.word.now within known c.loop-j.invariant.0,
             short_xor c.loop-j.sum w.in-Some.word.now c.loop-j.invariant.1,
           )
       | in_default w ↦
           let none : words (get_or xs c.loop-j.j 0) ≡ None =
-              ap words (sym c.slot-position.ensures) ∙ sym c.word_at.ensures ∙ no_copy c.word_at.result w.in_default.not-Some in
+          ap words (sym c.slot-position.ensures) ∙ sym c.word_at.ensures ∙ no_copy c.word_at.result w.in_default.not-Some in
           rw w.sum-is (adding_none words xs c.loop-j.j c.loop-j.sum total within none c.loop-j.invariant.0, c.loop-j.invariant.1)
     ]
 

@@ -22,7 +22,7 @@ loop-line-preserved-then-is_broken c =
     let words = told_from word_in c.args.start c.args.slots.now in
     let entry : ℕ × Line = (c.in-Some.field-0-0, c.in-Some.line.now) in
     let least : c.min.result ≡ min (unwrap_or c.loop-line.least c.in-Some.line.now.place) c.in-Some.line.now.place =
-        c.min.ensures ∙ ap (λ n. min n c.in-Some.line.now.place) c.unwrap_or.ensures in (
+    c.min.ensures ∙ ap (λ n. min n c.in-Some.line.now.place) c.unwrap_or.ensures in (
       tt,
       tt,
       rest i,
@@ -40,5 +40,5 @@ loop-line-preserved c =
       rest i,
       c.loop-line.invariant.3,
       broken_same words c.args.lines.now c.loop-line.line-iterator c.next.new.self entry c.in-Some.ensures.steps c.loop-line.least
-      (c.is_broken.ensures.whole c.if-is_broken.false) c.loop-line.invariant.4,
+          (c.is_broken.ensures.whole c.if-is_broken.false) c.loop-line.invariant.4,
     )

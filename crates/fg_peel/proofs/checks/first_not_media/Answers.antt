@@ -12,9 +12,9 @@ loop-i-preserved c =
     let right : RecoversMedia c.index-slots-i.result = c.recovers_media.ensures.0 c.if-not-recovers_media.false in
     let here : RecoversMedia (get_or c.args.slots.now c.loop-i.i Empty) = subst RecoversMedia item right in
     λ k less. ⊎_elim
-        (λ same. let P : ℕ → Type 0 = λ n. RecoversMedia (get_or c.args.slots.now n Empty) in subst P (sym same) here)
-        (λ other. c.loop-i.invariant k (omega (arith, other)))
-        (cases_eq k c.loop-i.i)
+    (λ same. let P : ℕ → Type 0 = λ n. RecoversMedia (get_or c.args.slots.now n Empty) in subst P (sym same) here)
+    (λ other. c.loop-i.invariant k (omega (arith, other)))
+    (cases_eq k c.loop-i.i)
 
 pub returns-then-not-recovers_media-clause-least : goal.returns-then-not-recovers_media-clause-least
 returns-then-not-recovers_media-clause-least c =

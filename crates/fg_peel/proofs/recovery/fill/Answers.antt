@@ -31,8 +31,13 @@ add_word-requires-clause-other c =
 
 pub add_word-requires-clause-apart : goal.add_word-requires-clause-apart
 add_word-requires-clause-apart c = λ same.
-    c.if-other-position.true (omega (arith, same, c.slot-other.ensures, c.requires.line.within c.args.position c.requires.missing.0,
-    fits_slot c.args.start (length c.args.slots.now) c.args.line.now c.loop-j.j c.requires.line c.loop-j-test.true))
+    c.if-other-position.true (omega (
+      arith,
+      same,
+      c.slot-other.ensures,
+      c.requires.line.within c.args.position c.requires.missing.0,
+      fits_slot c.args.start (length c.args.slots.now) c.args.line.now c.loop-j.j c.requires.line c.loop-j-test.true,
+    ))
 
 pub loop-j-init : goal.loop-j-init
 loop-j-init c =

@@ -18,10 +18,10 @@ fits c = rw c.loop-line.auto.slots (c.requires.lines c.in-Some.line.now (live c)
 
 pub loop-line-init : goal.loop-line-init
 loop-line-init c = (
-    tt,
-    tt,
-    all_live c.args.lines.now c.into_iter-line-iterator.result (c.into_iter-line-iterator.ensures.into_iter_gives ∙ c.iter-line-items.ensures.rest),
-    refl,
+  tt,
+  tt,
+  all_live c.args.lines.now c.into_iter-line-iterator.result (c.into_iter-line-iterator.ensures.into_iter_gives ∙ c.iter-line-items.ensures.rest),
+  refl,
 )
 
 pub contains-requires-clause-shape : goal.contains-requires-clause-shape
@@ -41,22 +41,22 @@ pub returns-in-loop-line-clause-peeled : goal.returns-in-loop-line-clause-peeled
 returns-in-loop-line-clause-peeled c =
     let i = (goal.at.returns-in-loop-line-clause-peeled c).In-Some in
     let by = filled_by c.args.start (equations_of c.args.lines.now) c.in-Some.line.now c.in-One.position c.loop-line.slots c.fill.new.slots (fits i)
-        (live_equation c.args.lines.now c.in-Some.line.now (live i)) c.in-One.ensures c.fill.ensures in
+    (live_equation c.args.lines.now c.in-Some.line.now (live i)) c.in-One.ensures c.fill.ensures in
     (_, rw c.loop-line.invariant.3 at by)
 
 pub returns-in-loop-line-clause-fewer : goal.returns-in-loop-line-clause-fewer
 returns-in-loop-line-clause-fewer c =
     let i = (goal.at.returns-in-loop-line-clause-fewer c).In-Some in
     let by = filled_by c.args.start (equations_of c.args.lines.now) c.in-Some.line.now c.in-One.position c.loop-line.slots c.fill.new.slots (fits i)
-        (live_equation c.args.lines.now c.in-Some.line.now (live i)) c.in-One.ensures c.fill.ensures in
+    (live_equation c.args.lines.now c.in-Some.line.now (live i)) c.in-One.ensures c.fill.ensures in
     omega (arith, by.counts, ap empty_count c.loop-line.invariant.3)
 
 pub loop-line-preserved : goal.loop-line-preserved
 loop-line-preserved c = (
-    tt,
-    tt,
-    live_rest c.args.lines.now c.loop-line.line-iterator (c.in-Some.field-0-0, c.in-Some.line.now) c.next.new.self c.in-Some.ensures.steps c.loop-line.invariant.2,
-    c.loop-line.invariant.3,
+  tt,
+  tt,
+  live_rest c.args.lines.now c.loop-line.line-iterator (c.in-Some.field-0-0, c.in-Some.line.now) c.next.new.self c.in-Some.ensures.steps c.loop-line.invariant.2,
+  c.loop-line.invariant.3,
 )
 
 pub returns-clause-peeled : goal.returns-clause-peeled

@@ -33,7 +33,7 @@ loop-line-preserved-in-One c =
     let i = (goal.at.loop-line-preserved-in-One c).In-Some in
     let equations = equations_of c.args.lines.now in
     let by = filled_by c.args.start equations c.in-Some.line.now c.in-One.position c.loop-line.slots c.fill.new.slots (fits i)
-        (live_equation c.args.lines.now c.in-Some.line.now (live i)) c.in-One.ensures c.fill.ensures in
+    (live_equation c.args.lines.now c.in-Some.line.now (live i)) c.in-One.ensures c.fill.ensures in
     let filled : IsPeeled c.args.start equations c.loop-line.slots c.fill.new.slots = (_, by) in
     let before = IsPeeled-count c.args.start equations c.args.slots.now c.loop-line.slots c.loop-line.invariant.3 in
     let after = IsPeeled-count c.args.start equations c.fill.new.slots c.follow.new.slots c.follow.ensures in (
