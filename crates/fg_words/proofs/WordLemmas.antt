@@ -111,6 +111,13 @@ pub word_sum-middle : (us : List Word) (w : Word) (ws : List Word) → word_sum 
 word_sum-middle [] w ws = refl
 word_sum-middle (u ∷ us) w ws = ap (λ (v : Word). word_xor u v) (word_sum-middle us w ws) ∙ word_xor-swap u w (word_sum (us ++ ws))
 
+-- The one word that a sum lacks is the XOR of the sum and the others.
+pub word_sum-missing : (us : List Word) (w : Word) (ws : List Word) (p : Word) → HasRoom w → All HasRoom (us ++ ws) → word_sum (us ++ w ∷ ws) ≡ p → w ≡ word_xor p (word_sum (us ++ ws))
+word_sum-missing us w ws p room rooms is =
+    let others : Word = word_sum (us ++ ws) in
+    let sums : word_xor others w ≡ p = word_xor_comm others w ∙ sym (word_sum-middle us w ws) ∙ is in
+    word_xor-solve others w p (HasRoom-sum (us ++ ws) rooms) room sums ∙ word_xor_comm others p
+
 -- The word at a place taken out.
 pub word_sum-take_drop : (ws : List Word) (i : ℕ) (d : Word) → i < length ws → word_sum ws ≡ word_xor (get_or ws i d) (word_sum (take i ws ++ drop (i + 1) ws))
 word_sum-take_drop ws i d lt = ap word_sum (sym (split_at ws i d lt)) ∙ word_sum-middle (take i ws) (get_or ws i d) (drop (i + 1) ws)

@@ -1,8 +1,7 @@
 //! Words, the units that forward error correction recovers.
 #![tactic(auto)]
 
-ghost use Rattle.std.specs.Prelude.{◌≡◌, ℕ, ◌*◌, ◌<◌, ◌≤◌, ◌↔◌, ◌++◌, IfOk, IsTrue, bit_xor, drop, slice_index, take};
-ghost use Rattle.std.specs.Simd.Lanes.{zip2};
+ghost use Rattle.std.specs.Prelude.{◌≡◌, ℕ, ◌*◌, ◌<◌, ◌≤◌, ◌↔◌, IfOk, IsTrue, slice_index};
 ghost use Rattle.fg_words.specs.Word.{zero_word, word_xor, IsMedia};
 
 mod lanes;

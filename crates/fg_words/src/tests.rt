@@ -1,5 +1,7 @@
 //! Words by example.
 
+ghost use Rattle.std.specs.Prelude.{◌≤◌};
+
 use crate::{PAYLOAD_LIMIT, Shared, Word};
 
 /// A media word of these packets, whose other bytes differ from place to place.
@@ -9,8 +11,9 @@ fn media(packets: u16) -> Word
     let mut word = Word::zero();
     word.pt = 33;
     word.ts = 0x1234_5678;
-    word.len = 188 * packets;
-    for at in 0..usize::from(word.len) {
+    let length = 188 * packets;
+    word.len = length;
+    for at in 0..usize::from(length) {
         word.bytes[at] = if at % 188 == 0 {
             0x47
         } else {

@@ -1,0 +1,81 @@
+//! RTP headers (RFC 3550) and the media datagrams that carry transport packets (RFC 2250, RFC 3551,
+//! SMPTE ST 2022-2).
+#![tactic(auto)]
+
+ghost use Rattle.std.specs.Prelude.{◌≡◌, ◌≤◌, ◌<◌, ◌≢◌, ◌↔◌, IfOk, IsErrOf, length};
+ghost use Rattle.fg_rtp.specs.Header.{header, version};
+
+pub mod laws;
+mod media;
+#[cfg(test)]
+mod tests;
+
+use byteorder::{BigEndian, ByteOrder};
+pub use media::{MediaFault, media_word};
+
+/// The bytes of the fixed header (RFC 3550).
+pub const HEADER_LENGTH: usize = 12;
+
+/// The fields of the fixed header of RTP (RFC 3550), but for the version.
+#[derive(Clone, Copy, Debug)]
+pub struct Rtp {
+    /// Whether padding follows the payload.
+    pub padding: bool,
+    /// Whether an extension follows the header.
+    pub extension: bool,
+    /// The number of contributing sources.
+    pub sources: u8,
+    /// The marker bit.
+    pub marker: bool,
+    /// The payload type.
+    pub pt: u8,
+    /// The sequence number.
+    pub seq: u16,
+    /// The timestamp, for transport packets in units of 1/90,000 of a second.
+    pub ts: u32,
+    /// The synchronization source.
+    pub ssrc: u32,
+}
+
+/// Why bytes have no RTP header.
+#[derive(Clone, Copy, Debug, PartialEq, Eq)]
+pub enum RtpFault {
+    /// There are fewer than 12 bytes.
+    Short,
+    /// The version isn't 2.
+    Version,
+}
+
+/// Reads the fixed header at the front of a datagram.
+///
+/// The fault is the first that applies, in the order of its variants.
+pub fn read(bytes: &[u8]) -> Result<Rtp, RtpFault>
+    ensures ok { IfOk result (λ rtp. rtp ≡ header bytes.now) }
+    ensures short { IsErrOf result RtpFault.Short ↔ length bytes.now < 12 }
+    ensures version { IsErrOf result RtpFault.Version ↔ ((12 ≤ length bytes.now) × (version bytes.now ≢ 2)) }
+{
+    if bytes.len() < HEADER_LENGTH {
+        return Err(RtpFault::Short);
+    }
+    if bytes[0] >> 6 != 2 {
+        return Err(RtpFault::Version);
+    }
+    Ok(fields(bytes))
+}
+
+/// The fields of the fixed header at the front of a datagram.
+fn fields(bytes: &[u8]) -> Rtp
+    requires { 12 ≤ length bytes.now }
+    ensures { result ≡ header bytes.now }
+{
+    Rtp {
+        padding: (bytes[0] >> 5) & 1 == 1,
+        extension: (bytes[0] >> 4) & 1 == 1,
+        sources: bytes[0] & 0x0f,
+        marker: bytes[1] >> 7 == 1,
+        pt: bytes[1] & 0x7f,
+        seq: BigEndian::read_u16(&bytes[2..4]),
+        ts: BigEndian::read_u32(&bytes[4..8]),
+        ssrc: BigEndian::read_u32(&bytes[8..12]),
+    }
+}

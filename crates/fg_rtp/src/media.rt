@@ -1,0 +1,114 @@
+//! Media datagrams.
+
+ghost use Rattle.std.specs.Prelude.{◌≡◌, ℕ, ◌≤◌, ◌↔◌, ◌++◌, IfErr, IfOk, IsErrOf, IsTrue, drop, length};
+ghost use Rattle.fg_words.specs.declared.Word.{Word};
+ghost use Rattle.fg_rtp.specs.MediaDatagram.{FirstFault, HasHeader, HasPackets, IsMediaDatagram, IsSynced, header_fault, transport_word};
+
+use crate::{HEADER_LENGTH, RtpFault, read};
+use fg_words::{PAYLOAD_LIMIT, Word};
+
+/// The payload type of transport packets (RFC 3551).
+const TRANSPORT_TYPE: u8 = 33;
+
+/// The bytes of a transport packet (ISO/IEC 13818-1).
+const PACKET_LENGTH: usize = 188;
+
+/// The first byte of a transport packet (ISO/IEC 13818-1).
+const SYNC_BYTE: u8 = 0x47;
+
+/// Why bytes are no media datagram.
+#[derive(Clone, Copy, Debug, PartialEq, Eq)]
+pub enum MediaFault {
+    /// There are fewer than 12 bytes.
+    Short,
+    /// The version isn't 2.
+    Version,
+    /// There is padding, an extension or a contributing source.
+    Flags,
+    /// The payload type isn't 33.
+    PayloadType,
+    /// The payload isn't 1 to 7 whole transport packets.
+    Size,
+    /// A transport packet doesn't begin with the sync byte.
+    NoSync,
+}
+
+impl From<RtpFault> for MediaFault {
+    ghost from_gives = { λ fault e. e ≡ header_fault fault };
+
+    fn from(fault: RtpFault) -> MediaFault {
+        match fault {
+            RtpFault::Short => MediaFault::Short,
+            RtpFault::Version => MediaFault::Version,
+        }
+    }
+}
+
+/// Reads a media datagram: its sequence number, its synchronization source and its word.
+///
+/// The fault is the first that applies, in the order of its variants.
+pub fn media_word(bytes: &[u8]) -> Result<(u16, u32, Word), MediaFault>
+    ensures ok { IfOk result (λ t. IsMediaDatagram bytes.now t.0 t.1 t.2) }
+    ensures faults { (fault : MediaFault) → IsErrOf result fault ↔ FirstFault fault bytes.now }
+    ensures refused { IfErr result (λ _. (seq ssrc : ℕ) (word : Word) → IsMediaDatagram bytes.now seq ssrc word → ⊥) }
+{
+    let header = read(bytes)?;
+    if header.padding || header.extension || header.sources != 0 {
+        return Err(MediaFault::Flags);
+    }
+    if header.pt != TRANSPORT_TYPE {
+        return Err(MediaFault::PayloadType);
+    }
+    if !has_whole_packets(bytes) {
+        return Err(MediaFault::Size);
+    }
+    if !is_synced(bytes) {
+        return Err(MediaFault::NoSync);
+    }
+    let word = word_of(header.ts, &bytes[HEADER_LENGTH..]);
+    Ok((header.seq, header.ssrc, word))
+}
+
+/// Whether the datagram's payload is 1 to 7 whole packets long.
+fn has_whole_packets(bytes: &[u8]) -> bool
+    requires { HasHeader bytes.now }
+    ensures { IsTrue result ↔ HasPackets bytes.now }
+{
+    let length = bytes.len() - HEADER_LENGTH;
+    length > 0 && length <= PAYLOAD_LIMIT && length % PACKET_LENGTH == 0
+}
+
+/// Whether each packet of the datagram's payload begins with the sync byte.
+fn is_synced(bytes: &[u8]) -> bool
+    requires { HasHeader bytes.now }
+    ensures { IsTrue result ↔ IsSynced bytes.now }
+{
+    let packets = (bytes.len() - HEADER_LENGTH).div_ceil(PACKET_LENGTH);
+    for packet in 0..packets {
+        if bytes[HEADER_LENGTH + PACKET_LENGTH * packet] != SYNC_BYTE {
+            return false;
+        }
+    }
+    true
+}
+
+/// The word of transport packets with this timestamp.
+fn word_of(ts: u32, payload: &[u8]) -> Word
+    requires { length payload.now ≤ 1316 }
+    ensures { result ≡ transport_word ts payload.now }
+{
+    let mut word = Word::zero();
+    word.pt = TRANSPORT_TYPE;
+    word.ts = ts;
+    word.len = payload.len() as u16;
+    put_front(&mut word.bytes, payload);
+    word
+}
+
+/// Puts the payload at the front of the bytes.
+fn put_front(bytes: &mut [u8; PAYLOAD_LIMIT], payload: &[u8])
+    requires { length payload.now ≤ 1316 }
+    ensures { bytes.new ≡ payload.now ++ drop (length payload.now) bytes.old }
+{
+    bytes[..payload.len()].copy_from_slice(payload);
+}
