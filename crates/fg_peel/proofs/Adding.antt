@@ -1,5 +1,5 @@
 -- Sums of words one word after another, where no word is longer than the room for it.
-use Rattle.std.proofs.Common.{◌≡◌, ◌≢◌, ℕ, zero, suc, ◌+◌, ◌<◌, ◌≤◌, List, [], ◌∷◌, length, replicate, drop, get_or, bit_xor, Option, Some, None, refl, sym, ap, ◌∙◌, arith, IsTrue, Bool, true, false, ◌↔◌}
+use Rattle.std.proofs.Common.{◌≡◌, ℕ, zero, suc, ◌+◌, ◌<◌, ◌≤◌, List, [], ◌∷◌, length, replicate, drop, get_or, bit_xor, Option, Some, None, refl, sym, ap, ◌∙◌, arith}
 use Rattle.std.specs.Int.Bits.{xor_zero_r}
 use Rattle.std.specs.Simd.Lanes.{zip2}
 use Rattle.std.specs.List.{filter_map, cons_option}
@@ -7,9 +7,7 @@ use Rattle.std.proofs.lemmas.List.{drop_more, drop_all}
 use Rattle.fg_words.specs.declared.Word.{Word}
 use Rattle.fg_words.specs.Word.{zero_word, word_xor, word_sum, HasRoom}
 use Rattle.fg_words.proofs.WordLemmas.{word-ext, word_xor_assoc, word_xor-self, word_xor-zero_same, HasRoom-zero}
-use Rattle.fg_peel.specs.Equation.{others}
 use Rattle.fg_peel.specs.Solution.{sum_at}
-use Rattle.fg_peel.proofs.Lists.{others-kept, others-head_dropped}
 
 -- The word has no more bytes than fit.
 abbrev pub IsShort : Word → Type 0

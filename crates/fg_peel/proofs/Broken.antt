@@ -1,14 +1,16 @@
 -- The least place of a line that is broken.
-use Rattle.std.proofs.Common.{◌≡◌, ◌⊎◌, ◌<◌, ◌≤◌, ℕ, List, [], ◌∷◌, Option, Some, None, IfSome, IfNone, min, unwrap_or, sym, ap, ◌∙◌, inl, inr, refl, ⊎_elim, arith}
+use Rattle.std.proofs.Common.{◌≡◌, ◌⊎◌, ◌≤◌, ℕ, List, [], ◌∷◌, Option, Some, None, IfSome, IfNone, min, unwrap_or, sym, ap, inl, inr, ⊎_elim, subst, arith}
 use Rattle.std.proofs.lemmas.Bool.{cases_lt}
 use Rattle.std.specs.List.{Contains}
 use Rattle.slab.specs.Slab.{Slab, entries}
 use Rattle.fg_words.specs.declared.Word.{Word}
 use Rattle.fg_peel.specs.declared.Line.{Line}
-use Rattle.fg_peel.specs.Slots.{equation_of, lines_of}
-use Rattle.fg_peel.specs.Verdict.{IsLeast, IsComplete, ComesOut, BreaksAt, AllComeOut}
+use Rattle.fg_peel.specs.Equation.{Equation}
+use Rattle.fg_peel.specs.Laws.{AllComeOut}
+use Rattle.fg_peel.specs.Slots.{equation_of, equations_of, lines_of}
+use Rattle.fg_peel.specs.Verdict.{IsLeast, IsComplete, ComesOut, BreaksAt}
 use Rattle.fg_peel.proofs.Lists.{Contains-cases, Contains-nil}
-use Rattle.fg_peel.proofs.Lines.{lines_in}
+use Rattle.fg_peel.proofs.Lines.{lines_in, line_of_equation}
 
 -- There is a number, and it isn't above this one.
 abbrev pub IsAtMost : Option ℕ → ℕ → Type 0
@@ -79,8 +81,16 @@ module _ (words : ℕ → Option Word) (lines : Slab Line) where
         (but other.0 other.1),
   )
 
-  pub broken_nowhere : (rest : List (ℕ × Line)) → rest ≡ [] → BrokenBut None rest → AllComeOut words lines
-  broken_nowhere rest none but line c complete = ⊎_elim
-      (λ left. absurd (Contains-nil line (rw none at left)))
-      (λ done. ⊎_elim (λ fine. fine complete) (λ below. absurd below) done)
-      (but line c)
+  pub broken_nowhere : (rest : List (ℕ × Line)) → rest ≡ [] → BrokenBut None rest → AllComeOut words (equations_of lines)
+  broken_nowhere rest none but equation listed =
+      let line = line_of_equation lines equation listed in
+      let P : Equation → Type 0 = λ e. IsComplete words e → ComesOut words e in
+      let fine : P (equation_of line.0) = ⊎_elim
+      (λ left. absurd (Contains-nil line.0 (rw none at left)))
+      (λ done. ⊎_elim (λ fine. fine) (λ below. absurd below) done)
+      (but line.0 line.1) in
+      subst P (sym line.2) fine
+
+  pub broken_done : (least : Option ℕ) (rest : List (ℕ × Line)) → rest ≡ [] → BrokenBut least rest → IfNone least (AllComeOut words (equations_of lines))
+  broken_done None rest none but = broken_nowhere rest none but
+  broken_done (Some place) rest none but = tt

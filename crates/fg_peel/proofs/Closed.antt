@@ -1,12 +1,12 @@
 -- Lines that miss no word, or several.
-use Rattle.std.proofs.Common.{◌≡◌, ◌≢◌, ◌⊎◌, ℕ, List, [], ◌∷◌, Option, Some, None, IsSome, sym, ap, ◌∙◌, inl, inr, refl, ⊎_elim}
+use Rattle.std.proofs.Common.{◌≡◌, ◌⊎◌, ℕ, List, [], ◌∷◌, Option, None, IsSome, sym, ◌∙◌, inl, inr, refl, ⊎_elim}
 use Rattle.std.specs.List.{Contains}
 use Rattle.slab.specs.Slab.{Slab, entries}
 use Rattle.fg_words.specs.declared.Word.{Word}
 use Rattle.fg_peel.specs.declared.Line.{Line}
 use Rattle.fg_peel.specs.declared.recovery.Missing.{Missing}
 use Rattle.fg_peel.specs.declared.recovery.Missing.TheVariants.{Nothing, One, Several}
-use Rattle.fg_peel.specs.Equation.{Equation, slots}
+use Rattle.fg_peel.specs.Equation.{Equation}
 use Rattle.fg_peel.specs.Slots.{equation_of, lines_of}
 use Rattle.fg_peel.specs.Recovery.{IsMissing, AllClosed}
 use Rattle.fg_peel.proofs.Lists.{Contains-cases, Contains-nil, same_or_not}

@@ -1,14 +1,13 @@
 -- Where no line misses just one word, a peeling is at its end.
-use Rattle.std.proofs.Common.{◌≡◌, ◌≢◌, ℕ, List, Option, Some, None, IsSome, sym, ap, ◌∙◌, subst}
-use Rattle.std.specs.List.{Contains}
+use Rattle.std.proofs.Common.{ℕ, List, Option, subst}
 use Rattle.slab.specs.Slab.{Slab}
 use Rattle.fg_words.specs.declared.Word.{Word}
 use Rattle.fg_peel.specs.declared.Line.{Line}
 use Rattle.fg_peel.specs.declared.Slot.{Slot}
 use Rattle.fg_peel.specs.declared.recovery.Missing.TheVariants.{One}
-use Rattle.fg_peel.specs.Equation.{Equation, slots}
-use Rattle.fg_peel.specs.Peeling.{Step, CanFollow, IsPeeling, IsMaximal, end_of}
-use Rattle.fg_peel.specs.Slots.{told_from, word_in, equation_of, equations_of, lines_of, OnlyFills, EndsPeeling}
+use Rattle.fg_peel.specs.Equation.{Equation}
+use Rattle.fg_peel.specs.Peeling.{Step, CanFollow, end_of}
+use Rattle.fg_peel.specs.Slots.{told_from, word_in, equations_of, OnlyFills, EndsPeeling}
 use Rattle.fg_peel.specs.Recovery.{IsMissing, AllClosed, IsPeeled}
 use Rattle.fg_peel.proofs.Lines.{line_of_equation}
 

@@ -1,11 +1,10 @@
 -- A walk through the live lines.
-use Rattle.std.proofs.Common.{◌≡◌, ◌⊎◌, ℕ, List, [], ◌∷◌, length, map, sym, ap, ◌∙◌, inl, inr, ⊎_elim}
+use Rattle.std.proofs.Common.{◌≡◌, ℕ, List, [], ◌∷◌, map, ⊎_elim}
 use Rattle.std.specs.List.{Contains}
 use Rattle.slab.specs.Slab.{Slab, entries}
 use Rattle.fg_peel.specs.declared.Line.{Line}
-use Rattle.fg_peel.specs.declared.Slot.{Slot}
 use Rattle.fg_peel.specs.Equation.{Equation}
-use Rattle.fg_peel.specs.Slots.{lines_of, equations_of, equation_of, FitsFrom, AllFitFrom}
+use Rattle.fg_peel.specs.Slots.{lines_of, equations_of, equation_of}
 use Rattle.fg_peel.proofs.Lists.{Contains-here, Contains-there, Contains-cases, Contains-nil}
 
 -- The lines of these entries.

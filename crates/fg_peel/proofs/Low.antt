@@ -1,15 +1,14 @@
 -- Rows of entries whose first one may stand for a position below 0.
-use Rattle.std.proofs.Common.{◌≡◌, ◌≢◌, ◌⊎◌, ◌↔◌, ◌+◌, ◌-◌, ◌<◌, ◌≤◌, ℕ, ℤ, pos, negsuc, Bool, true, false, List, [], ◌∷◌, ◌++◌, length, take, drop, get_or, min, Option, Some, None, IsSome, inl, inr, refl, sym, ap, ◌∙◌, ⊎_elim, subst, arith}
+use Rattle.std.proofs.Common.{◌≡◌, ◌+◌, ◌-◌, ◌<◌, ◌≤◌, ℕ, ℤ, pos, negsuc, true, false, List, [], ◌∷◌, ◌++◌, length, take, drop, get_or, min, inl, inr, refl, sym, ap, ◌∙◌, ⊎_elim, subst, arith}
 use Rattle.std.proofs.Math.IntN.{nat_abs}
 use Rattle.std.proofs.Math.Seq.{drop-append_seam}
 use Rattle.std.proofs.lemmas.Bool.{cases_lt, ltb-true}
 use Rattle.std.proofs.lemmas.List.{length-take, length-drop, length-append, drop_all, get_or-drop, get_or-take, get_or_append_left, get_or-append_right, take_all, take-append-le, append-nil}
 use Rattle.std.specs.Int.Signed.{lt_z}
 use Rattle.slab.specs.Slab.{Slab}
-use Rattle.fg_words.specs.declared.Word.{Word}
 use Rattle.fg_peel.specs.declared.Line.{Line}
 use Rattle.fg_peel.specs.declared.Slot.{Slot}
-use Rattle.fg_peel.specs.declared.Slot.TheVariants.{Empty, Media, Solved, Filled}
+use Rattle.fg_peel.specs.declared.Slot.TheVariants.{Empty}
 use Rattle.fg_peel.specs.declared.Verdict.{Verdict}
 use Rattle.fg_peel.specs.Equation.{AreAdmissible}
 use Rattle.fg_peel.specs.Slots.{first_position, from_first, before_first, words_at, known_at, recovered_at, equations_of, AllFit, AllFitFrom, OnlyFills, ArePeeled}

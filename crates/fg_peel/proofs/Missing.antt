@@ -1,13 +1,11 @@
 -- Looking through an equation's slots for those with no word.
-use Rattle.std.proofs.Common.{◌≡◌, ◌≢◌, ◌⊎◌, ◌+◌, ◌<◌, ◌≤◌, ℕ, List, length, get_or, Option, Some, None, IsSome, is_some, Bool, true, false, Bor, Contains, refl, sym, ap, ◌∙◌, ⊎_elim, arith}
+use Rattle.std.proofs.Common.{◌≡◌, ◌≢◌, ◌+◌, ◌<◌, ◌≤◌, ℕ, List, length, get_or, Option, Some, None, IsSome, is_some, true, false, Bor, Contains, refl, sym, ap, ◌∙◌, ⊎_elim, arith}
 use Rattle.std.specs.Option.{option_copied}
 use Rattle.std.proofs.lemmas.List.{get_or_default}
 use Rattle.std.proofs.lemmas.List.Elements.{Contains-get_or}
 use Rattle.std.proofs.lemmas.Bool.{cases_eq}
 use Rattle.fg_words.specs.declared.Word.{Word}
-use Rattle.fg_shape.specs.Shape.{slots_of}
 use Rattle.fg_shape.proofs.ShapeLemmas.{length-slots_of, get_or-slots_of, slots_apart}
-use Rattle.fg_peel.specs.declared.recovery.Missing.{Missing}
 use Rattle.fg_peel.specs.declared.recovery.Missing.TheVariants.{Nothing, One, Several}
 use Rattle.fg_peel.specs.Equation.{Equation, slots}
 use Rattle.fg_peel.specs.Recovery.{IsMissing}

@@ -1,5 +1,5 @@
 -- Rows of entries that steps of a peeling lead to.
-use Rattle.std.proofs.Common.{◌≡◌, ◌≢◌, ◌⊎◌, ◌==◌, ◌+◌, ◌-◌, ◌<◌, ◌≤◌, ℕ, Bool, true, false, cond, List, [], ◌∷◌, ◌++◌, length, get_or, set, count_by, Option, Some, None, inl, inr, refl, sym, ap, ◌∙◌, ⊎_elim, subst, arith}
+use Rattle.std.proofs.Common.{◌≡◌, ◌+◌, ◌-◌, ◌<◌, ◌≤◌, ℕ, cond, List, [], ◌∷◌, ◌++◌, length, get_or, set, Option, None, inl, inr, refl, sym, ap, ◌∙◌, ⊎_elim, subst, arith}
 use Rattle.std.proofs.Math.Path.{fun_ext}
 use Rattle.std.proofs.lemmas.List.{length-set, get_or-set_same, get_or-set_other, length-append}
 use Rattle.std.proofs.lemmas.List.Sums.{sum_by-set}
@@ -10,24 +10,13 @@ use Rattle.fg_peel.specs.declared.Line.{Line}
 use Rattle.fg_peel.specs.declared.Slot.{Slot}
 use Rattle.fg_peel.specs.declared.Slot.TheVariants.{Empty, Media, Solved, Filled}
 use Rattle.fg_peel.specs.declared.recovery.Missing.TheVariants.{One}
-use Rattle.fg_peel.specs.Equation.{Equation, slots}
+use Rattle.fg_peel.specs.Equation.{Equation}
 use Rattle.fg_peel.specs.Peeling.{Step, CanFollow, IsPeeling, after_step, end_of, given_word}
 use Rattle.fg_peel.specs.Slots.{OnlyFills, told_from, word_in, equation_of, FitsFrom}
 use Rattle.fg_peel.specs.Recovery.{IsMissing, Fills, IsPeeledBy, IsPeeled, is_empty, empty_count}
 use Rattle.fg_peel.proofs.Entries.{told_from-entry, told_from-below}
+use Rattle.fg_peel.proofs.Verdicts.{end_of-append, IsPeeling-append}
 use Rattle.fg_peel.proofs.Peelings.{after_step-at, after_step-other}
-
--- one list of steps after another
-pub end_of-append : (known : ℕ → Option Word) (one other : List Step) → end_of known (one ++ other) ≡ end_of (end_of known one) other
-end_of-append known [] other = refl
-end_of-append known (step ∷ one) other = end_of-append (after_step known step) one other
-
-pub IsPeeling-append :
-    (known : ℕ → Option Word) (equations : List Equation) (one other : List Step) → IsPeeling known equations one
-    → IsPeeling (end_of known one) equations other → IsPeeling known equations (one ++ other)
-IsPeeling-append known equations [] other first second = second
-IsPeeling-append known equations (step ∷ one) other first second =
-    (first.0, IsPeeling-append (after_step known step) equations one other first.1 second)
 
 -- an entry without a word is empty
 empty_entry : (entry : Slot) → word_in entry ≡ None → entry ≡ Empty

@@ -1,10 +1,9 @@
 -- What peeling a row of entries means for its closure and its solution.
-use Rattle.std.proofs.Common.{◌≡◌, ◌≢◌, ◌⊎◌, ◌↔◌, ◌+◌, ◌-◌, ◌<◌, ◌≤◌, ℕ, ℤ, pos, negsuc, List, [], ◌∷◌, ◌++◌, length, take, drop, get_or, min, Option, Some, None, IsSome, inl, inr, refl, sym, ap, ◌∙◌, ⊎_elim, subst, arith}
+use Rattle.std.proofs.Common.{◌≡◌, ◌≢◌, ◌⊎◌, ◌↔◌, ◌-◌, ℕ, List, ◌++◌, get_or, Option, Some, None, IsSome, refl, sym, ap, ◌∙◌, ⊎_elim, subst}
 use Rattle.std.proofs.lemmas.Bool.{cases_lt}
 use Rattle.std.specs.List.{Contains}
 use Rattle.slab.specs.Slab.{Slab}
 use Rattle.fg_words.specs.declared.Word.{Word}
-use Rattle.fg_words.specs.Word.{IsMedia}
 use Rattle.fg_peel.specs.declared.Line.{Line}
 use Rattle.fg_peel.specs.declared.Slot.{Slot}
 use Rattle.fg_peel.specs.declared.Slot.TheVariants.{Empty, Media, Solved, Filled}
@@ -12,15 +11,16 @@ use Rattle.fg_peel.specs.declared.Verdict.{Verdict}
 use Rattle.fg_peel.specs.declared.Verdict.TheVariants.{Sound, Unsound, NotMedia}
 use Rattle.fg_peel.specs.Equation.{Equation, AreAdmissible, slots}
 use Rattle.fg_peel.specs.Closure.{InClosure}
-use Rattle.fg_peel.specs.Peeling.{Step, CanFollow, IsPeeling, IsMaximal, end_of}
-use Rattle.fg_peel.specs.Solution.{IsSolution, sum_at}
-use Rattle.fg_peel.specs.Slots.{word_in, known_in, recovered_in, told_from, equation_of, equations_of, lines_of, OnlyFills, EndsPeeling, ArePeeled}
-use Rattle.fg_peel.specs.Verdict.{IsVerdict, IsNoMedia, AreMedia, IsComplete, ComesOut, BreaksAt, AllComeOut, TellsSolution, IsPeel}
+use Rattle.fg_peel.specs.Peeling.{IsMaximal, end_of}
+use Rattle.fg_peel.specs.Solution.{IsSolution}
+use Rattle.fg_peel.specs.Laws.{AllComeOut}
+use Rattle.fg_peel.specs.Slots.{word_in, known_in, recovered_in, told_from, equation_of, equations_of, OnlyFills, EndsPeeling, ArePeeled}
+use Rattle.fg_peel.specs.Verdict.{IsVerdict, AreMedia, ComesOut, TellsSolution}
 use Rattle.fg_peel.proofs.Entries.{told_from-entry, told_from-below}
-use Rattle.fg_peel.proofs.Lines.{line_of_equation, live_equation}
-use Rattle.fg_peel.proofs.Peelings.{some_word, maximal_end, end_of-keeps}
+use Rattle.fg_peel.proofs.Lines.{live_equation}
+use Rattle.fg_peel.proofs.Peelings.{maximal_end, end_of-keeps}
 use Rattle.fg_peel.proofs.Solutions.{solution_media, maximal_ends_at_solution}
-use Rattle.fg_peel.proofs.Steps.{end_of-append, IsPeeling-append}
+use Rattle.fg_peel.proofs.Verdicts.{end_of-append, IsMaximal-append}
 
 -- The words at the end are those of the closure.
 pub ends_at_closure :
@@ -40,13 +40,9 @@ ends_from_known equations known old new peeled ends =
     let middle : old ≡ end_of known solved = peeled.2 in
     let M : (ℕ → Option Word) → Type 0 = λ words. IsMaximal words equations filled in
     let maximal : IsMaximal (end_of known solved) equations filled = subst M middle ends.1 in
-    let joined : end_of known (solved ++ filled) ≡ end_of (end_of known solved) filled = end_of-append known solved filled in
-    let N : (ℕ → Option Word) → Type 0 = λ words. (step : Step) → CanFollow words equations step → ⊥ in (
+    let joined : end_of known (solved ++ filled) ≡ end_of (end_of known solved) filled = end_of-append known solved filled in (
       solved ++ filled,
-      record {
-        peeling = IsPeeling-append known equations solved filled peeled.1 maximal.peeling;
-        no_more = subst N (sym joined) maximal.no_more;
-      },
+      IsMaximal-append known equations solved filled peeled.1 maximal,
       ends.2 ∙ ap (λ (words : ℕ → Option Word). end_of words filled) middle ∙ sym joined,
     )
 
@@ -99,18 +95,13 @@ module _ (lines : Slab Line) (known words recovered : ℕ → Option Word) where
   pub sound_solves :
       EndsPeeling (equations_of lines) known words
       → ((position : ℕ) (word : Word) → known position ≡ None → words position ≡ Some word → recovered position ≡ Some word)
-      → AreMedia recovered → AllComeOut words lines → IsSolution known (equations_of lines) words
+      → AreMedia recovered → AllComeOut words (equations_of lines) → IsSolution known (equations_of lines) words
   sound_solves ends since media out = record {
     domain = ends_at_closure (equations_of lines) known words ends;
     keeps = λ position word is.
         ap (λ (ws : ℕ → Option Word). ws position) ends.2 ∙ end_of-keeps known (equations_of lines) ends.0 ends.1.peeling position word is;
     media = λ position word unknown has. media position word (since position word unknown has);
-    sums = λ equation listed inside. (
-        let line = line_of_equation lines equation listed in
-        let P : Equation → Type 0 = λ e. ((q : ℕ) → Contains (slots e) q → InClosure known (equations_of lines) q) → e.parity ≡ sum_at words (slots e) in
-        let here : P (equation_of line.0) = λ within. out line.0 line.1 (λ q c. (ends_at_closure (equations_of lines) known words ends q).1 (within q c)) in
-        let there : P equation = subst P (sym line.2) here in
-        there inside);
+    sums = λ equation listed inside. out equation listed (λ q c. (ends_at_closure (equations_of lines) known words ends q).1 (inside q c));
   }
 
   -- Where there is a solution, the words are it, and the verdict is Sound.

@@ -1,8 +1,8 @@
 -- What one pass over the lines does: it makes some steps of a peeling.
-use Rattle.std.specs.Prelude.{slice_set, ◌≡◌, ◌≢◌, ◌+◌, ◌-◌, ◌<◌, ℕ, List, length, count_by, Bool, true, false, Option, Some, None, IsSome, slice_index_or}
+use Rattle.std.specs.Prelude.{slice_set, ◌≡◌, ◌≢◌, ◌+◌, ◌-◌, ℕ, List, length, count_by, Bool, true, false, Option, Some, None, IsSome, slice_index_or}
 use Rattle.std.specs.List.{Contains}
 use Rattle.fg_words.specs.declared.Word.{Word}
-use Rattle.fg_words.specs.Word.{HasRoom, word_xor}
+use Rattle.fg_words.specs.Word.{word_xor}
 use Rattle.slab.specs.Slab.{Slab}
 use Rattle.fg_peel.specs.declared.Line.{Line}
 use Rattle.fg_peel.specs.declared.Slot.{Slot}

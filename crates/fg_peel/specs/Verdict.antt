@@ -10,6 +10,7 @@ use Rattle.fg_peel.specs.declared.Verdict.{Verdict}
 use Rattle.fg_peel.specs.declared.Verdict.TheVariants.{Sound, Unsound, NotMedia}
 use Rattle.fg_peel.specs.Equation.{Equation, slots}
 use Rattle.fg_peel.specs.Solution.{IsSolution, sum_at}
+use Rattle.fg_peel.specs.Laws.{AllComeOut}
 use Rattle.fg_peel.specs.Slots.{equation_of, equations_of, lines_of, recovered_in, word_in, told_from, OnlyFills, EndsPeeling}
 
 -- The least number with a property.
@@ -46,17 +47,12 @@ BreaksAt words lines place =
     (line : Line) × Contains (lines_of lines) line × (line.place ≡ place) × IsComplete words (equation_of line)
     × ¬ ComesOut words (equation_of line)
 
--- Each line that is complete comes out.
-abbrev pub AllComeOut : (ℕ → Option Word) → Slab Line → Type 0
-AllComeOut words lines =
-    (line : Line) → Contains (lines_of lines) line → IsComplete words (equation_of line) → ComesOut words (equation_of line)
-
 -- Which verdict the words get: a recovered word that is no media word counts before a line that doesn't come out, and
 -- the least position or place is told.
 abbrev pub IsVerdict : (ℕ → Option Word) → (ℕ → Option Word) → Slab Line → Verdict → Type 0
 IsVerdict recovered words lines (NotMedia slot) = IsLeast (IsNoMedia recovered) slot
 IsVerdict recovered words lines (Unsound place) = AreMedia recovered × IsLeast (BreaksAt words lines) place
-IsVerdict recovered words lines Sound = AreMedia recovered × AllComeOut words lines
+IsVerdict recovered words lines Sound = AreMedia recovered × AllComeOut words (equations_of lines)
 
 -- The verdict says whether there is a solution, and the words then are it.
 pub record TellsSolution (equations : List Equation) (known words : ℕ → Option Word) (verdict : Verdict) : Type 0 where

@@ -2,8 +2,9 @@
 
 ghost use Rattle.std.specs.Prelude.{◌≡◌, ◌+◌, ◌^◌, ◌≤◌, ◌↔◌, length, false, IsTrue, IfSome, IfNone};
 ghost use Rattle.fg_words.specs.Word.{HasRoom};
-ghost use Rattle.fg_peel.specs.Slots.{word_in, recovered_in, told_from, equation_of, FitsFrom, AllFitFrom};
-ghost use Rattle.fg_peel.specs.Verdict.{IsLeast, RecoversMedia, IsNoMedia, AreMedia, IsComplete, ComesOut, AddsWords, BreaksAt, AllComeOut, IsVerdict};
+ghost use Rattle.fg_peel.specs.Laws.{AllComeOut};
+ghost use Rattle.fg_peel.specs.Slots.{word_in, recovered_in, told_from, equation_of, equations_of, FitsFrom, AllFitFrom};
+ghost use Rattle.fg_peel.specs.Verdict.{IsLeast, RecoversMedia, IsNoMedia, AreMedia, IsComplete, ComesOut, AddsWords, BreaksAt, IsVerdict};
 
 use crate::recovery::{Missing, missing_of};
 use crate::{Line, Slot, Verdict, word_at};
@@ -84,7 +85,7 @@ fn first_broken(start: u64, slots: &[Slot], lines: &Slab<Line>) -> Option<u32>
     requires lines { AllFitFrom start slots.now lines.now }
     requires limit { start + length slots.now ≤ 2 ^ 62 }
     ensures least { IfSome result (IsLeast (BreaksAt (told_from word_in start slots.now) lines.now)) }
-    ensures none { IfNone result (AllComeOut (told_from word_in start slots.now) lines.now) }
+    ensures none { IfNone result (AllComeOut (told_from word_in start slots.now) (equations_of lines.now)) }
 {
     let mut least: Option<u32> = None;
     for (_, line) in lines.iter() {

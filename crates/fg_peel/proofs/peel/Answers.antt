@@ -1,9 +1,7 @@
-use Rattle.std.proofs.Common.{◌≡◌, ◌≤◌, length, min, pos, true, false, sym, ap, ◌∙◌, w64, arith}
+use Rattle.std.proofs.Common.{◌≡◌, length, min, ap, ◌∙◌, w64, arith}
 use Rattle.std.proofs.Math.IntN.{nat_abs}
-use Rattle.std.specs.Int.Signed.{lt_z}
 use Rattle.std.proofs.lemmas.Int.{to_z-of_z}
 use Rattle.fg_peel.specs.Slots.{words_at, equations_of}
-use Rattle.fg_peel.specs.Verdict.{IsPeel, IsPeelAfter}
 use Rattle.fg_peel.proofs.Low.{PeelsAt, peels_up, fits_up, peels_below, fits_below, fills_after, same_before, same_before_up, tells_at}
 use Rattle.fg_peel.proofs.Whole.{ends_at_closure}
 use Rattle.fg_peel.proofs.peel.Goals as goal

@@ -1,4 +1,3 @@
-use Rattle.fg_peel.proofs.Whole.{tells_solution}
 use Rattle.fg_peel.proofs.peel_after.Goals as goal
 
 pub peel_from-requires-clause-lines : goal.peel_from-requires-clause-lines

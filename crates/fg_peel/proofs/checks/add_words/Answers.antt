@@ -7,7 +7,7 @@ use Rattle.fg_shape.proofs.ShapeLemmas.{length-slots_of}
 use Rattle.fg_words.specs.declared.Word.{Word}
 use Rattle.fg_words.specs.Word.{word_xor}
 use Rattle.fg_peel.specs.Solution.{sum_at}
-use Rattle.fg_peel.proofs.Adding.{IsShort, short_xor, adding_more, adding_none, adding_done}
+use Rattle.fg_peel.proofs.Adding.{short_xor, adding_more, adding_none, adding_done}
 use Rattle.fg_peel.proofs.checks.add_words.Goals as goal
 use Rattle.fg_peel.proofs.checks.add_words.Goals.{in-Some, in_default}
 

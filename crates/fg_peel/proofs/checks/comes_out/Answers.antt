@@ -1,6 +1,6 @@
-use Rattle.std.proofs.Common.{◌≡◌, sym, ap, ◌∙◌}
+use Rattle.std.proofs.Common.{◌≡◌, sym, ◌∙◌}
 use Rattle.std.specs.List.{filter_map}
-use Rattle.fg_words.specs.Word.{word_xor, word_sum, HasRoom}
+use Rattle.fg_words.specs.Word.{word_xor, HasRoom}
 use Rattle.fg_peel.specs.Equation.{slots}
 use Rattle.fg_peel.specs.Solution.{sum_at}
 use Rattle.fg_peel.specs.Slots.{word_in, told_from, equation_of}

@@ -1,9 +1,9 @@
-use Rattle.std.proofs.Common.{◌≡◌, ℕ, length, min, unwrap_or, true, false, sym, ap, ◌∙◌}
+use Rattle.std.proofs.Common.{◌≡◌, ℕ, min, unwrap_or, ap, ◌∙◌}
 use Rattle.std.specs.List.{Contains}
 use Rattle.fg_peel.specs.declared.Line.{Line}
-use Rattle.fg_peel.specs.Slots.{lines_of, FitsFrom, told_from, word_in}
+use Rattle.fg_peel.specs.Slots.{lines_of, told_from, word_in}
 use Rattle.fg_peel.proofs.Lines.{AreLive, live_first, live_rest}
-use Rattle.fg_peel.proofs.Broken.{broken_same, broken_more, breaks_more}
+use Rattle.fg_peel.proofs.Broken.{broken_same, broken_more, breaks_more, broken_done}
 use Rattle.fg_peel.proofs.checks.first_broken.Goals as goal
 use Rattle.fg_peel.proofs.checks.first_broken.Goals.{In-Some}
 
@@ -42,3 +42,7 @@ loop-line-preserved c =
       broken_same words c.args.lines.now c.loop-line.line-iterator c.next.new.self entry c.in-Some.ensures.steps c.loop-line.least
           (c.is_broken.ensures.whole c.if-is_broken.false) c.loop-line.invariant.4,
     )
+
+pub returns-clause-none : goal.returns-clause-none
+returns-clause-none c =
+    broken_done (told_from word_in c.args.start c.args.slots.now) c.args.lines.now c.loop-line.least c.loop-line.line-iterator c.in-None.ensures.steps.0 c.loop-line.invariant.4

@@ -1,4 +1,4 @@
-use Rattle.std.proofs.Common.{◌≡◌, ◌<◌, ℕ, get_or, subst, sym, ◌∙◌, ⊎_elim, arith}
+use Rattle.std.proofs.Common.{ℕ, get_or, subst, sym, ◌∙◌, ⊎_elim, arith}
 use Rattle.std.proofs.lemmas.List.{get_or_read}
 use Rattle.std.proofs.lemmas.Bool.{cases_eq, false≢true}
 use Rattle.fg_peel.specs.declared.Slot.TheVariants.{Empty}

@@ -1,11 +1,11 @@
-use Rattle.std.proofs.Common.{◌≡◌, ◌≢◌, ◌-◌, ◌<◌, ◌≤◌, length, get_or, set, sym, ◌∙◌, arith}
+use Rattle.std.proofs.Common.{◌≢◌, ◌<◌, length, get_or, sym, ◌∙◌, arith}
 use Rattle.std.proofs.lemmas.List.Elements.{Contains-get_or}
 use Rattle.fg_shape.proofs.ShapeLemmas.{length-slots_of}
 use Rattle.fg_peel.proofs.Peelings.{some_word}
 use Rattle.fg_peel.specs.Equation.{slots}
 use Rattle.fg_peel.specs.Slots.{word_in, told_from, equation_of}
 use Rattle.fg_peel.proofs.Entries.{fits_base, fits_slot}
-use Rattle.fg_peel.proofs.Filling.{IsFilling, filling_first, filling_skips, filling_adds, filling_done}
+use Rattle.fg_peel.proofs.Filling.{filling_first, filling_skips, filling_adds, filling_done}
 use Rattle.fg_peel.proofs.recovery.fill.Goals as goal
 use Rattle.fg_peel.proofs.recovery.fill.Goals.{then-other-position, else-other-position}
 

@@ -1,11 +1,9 @@
-use Rattle.std.proofs.Common.{length, ◌∙◌, refl, sym, ap, subst, List, arith}
+use Rattle.std.proofs.Common.{length, ◌∙◌, refl, ap, arith}
 use Rattle.std.specs.List.{Contains}
-use Rattle.fg_peel.specs.declared.Slot.{Slot}
-use Rattle.fg_peel.specs.Peeling.{Step}
 use Rattle.fg_peel.specs.Slots.{lines_of, equations_of, FitsFrom}
-use Rattle.fg_peel.specs.Recovery.{IsPeeledBy, empty_count}
+use Rattle.fg_peel.specs.Recovery.{empty_count}
 use Rattle.fg_peel.proofs.Entries.{fits_base}
-use Rattle.fg_peel.proofs.Lines.{AreLive, all_live, live_first, live_rest, live_equation}
+use Rattle.fg_peel.proofs.Lines.{all_live, live_first, live_rest, live_equation}
 use Rattle.fg_peel.proofs.Steps.{filled_by, IsPeeled-refl}
 use Rattle.fg_peel.proofs.recovery.fill_next.Goals as goal
 use Rattle.fg_peel.proofs.recovery.fill_next.Goals.{In-Some, In-One}

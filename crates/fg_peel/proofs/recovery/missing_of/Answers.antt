@@ -1,8 +1,7 @@
-use Rattle.std.proofs.Common.{◌≡◌, ◌≤◌, length, get_or, None, sym, ◌∙◌, ap, not, arith}
-use Rattle.fg_peel.specs.Equation.{slots}
+use Rattle.std.proofs.Common.{◌≡◌, length, None, sym, ◌∙◌, ap, not, arith}
 use Rattle.fg_peel.specs.Slots.{word_in, told_from, equation_of}
 use Rattle.fg_peel.proofs.Entries.{fits_base, fits_slot}
-use Rattle.fg_peel.proofs.Missing.{MissesBelow, misses_several_found, misses_one, misses_nothing, none_of_copied}
+use Rattle.fg_peel.proofs.Missing.{misses_several_found, misses_one, misses_nothing, none_of_copied}
 use Rattle.fg_peel.proofs.recovery.missing_of.Goals as goal
 
 pub slot-position-requires-clause-base : goal.slot-position-requires-clause-base

@@ -1,9 +1,7 @@
-use Rattle.std.proofs.Common.{◌≡◌, ◌<◌, length, ◌∙◌, sym, ap, List, arith, true, false}
+use Rattle.std.proofs.Common.{length, arith}
 use Rattle.std.specs.List.{Contains}
-use Rattle.fg_peel.specs.declared.Slot.{Slot}
-use Rattle.fg_peel.specs.Peeling.{Step}
 use Rattle.fg_peel.specs.Slots.{lines_of, equations_of, equation_of, FitsFrom, told_from, word_in}
-use Rattle.fg_peel.specs.Recovery.{IsPeeledBy, IsPeeled, empty_count}
+use Rattle.fg_peel.specs.Recovery.{IsPeeled}
 use Rattle.fg_peel.proofs.Lines.{AreLive, live_first, live_rest, live_equation}
 use Rattle.fg_peel.proofs.Steps.{filled_by, IsPeeled-trans, IsPeeled-count}
 use Rattle.fg_peel.proofs.Closed.{closed_unless_one, closed_more, closed_all}
