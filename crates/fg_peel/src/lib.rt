@@ -18,6 +18,8 @@ use slab::Slab;
 mod checks;
 pub mod laws;
 mod recovery;
+#[cfg(test)]
+mod tests;
 
 /// What is known of the datagram at one position.
 #[derive(Drop)]
@@ -70,7 +72,7 @@ pub struct Line {
 }
 
 /// What the words at the end of a peeling are worth.
-#[derive(Clone, Copy)]
+#[derive(Clone, Copy, Debug, PartialEq, Eq)]
 pub enum Verdict {
     /// Each recovered word is a media word, and each equation comes out.
     Sound,
