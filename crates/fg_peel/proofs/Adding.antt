@@ -1,0 +1,83 @@
+-- Sums of words one word after another, where no word is longer than the room for it.
+use Rattle.std.proofs.Common.{◌≡◌, ℕ, zero, suc, ◌+◌, ◌<◌, ◌≤◌, List, [], ◌∷◌, length, replicate, drop, get_or, bit_xor, Option, Some, None, refl, sym, ap, ◌∙◌, arith}
+use Rattle.std.specs.Int.Bits.{xor_zero_r}
+use Rattle.std.specs.Simd.Lanes.{zip2}
+use Rattle.std.specs.List.{filter_map, cons_option}
+use Rattle.std.proofs.lemmas.List.{drop_more, drop_all}
+use Rattle.fg_words.specs.declared.Word.{Word}
+use Rattle.fg_words.specs.Word.{zero_word, word_xor, word_sum, HasRoom}
+use Rattle.fg_words.proofs.WordLemmas.{word-ext, word_xor_assoc, word_xor-self, word_xor-zero_same, HasRoom-zero}
+use Rattle.fg_peel.specs.Solution.{sum_at}
+
+-- The word has no more bytes than fit.
+abbrev pub IsShort : Word → Type 0
+IsShort w = length w.bytes ≤ 1316
+
+zip_left : (xs ys : List ℕ) → length (zip2 bit_xor xs ys) ≤ length xs
+zip_left [] ys = omega arith
+zip_left (x ∷ xs) [] = omega arith
+zip_left (x ∷ xs) (y ∷ ys) = let h = zip_left xs ys in omega arith
+
+zip_right : (xs ys : List ℕ) → length (zip2 bit_xor xs ys) ≤ length ys
+zip_right [] ys = omega arith
+zip_right (x ∷ xs) [] = omega arith
+zip_right (x ∷ xs) (y ∷ ys) = let h = zip_right xs ys in omega arith
+
+zip_zero : (n : ℕ) (xs : List ℕ) → length xs ≤ n → zip2 bit_xor xs (replicate n 0) ≡ xs
+zip_zero n [] h = refl
+zip_zero zero (x ∷ xs) h = absurd (omega arith)
+zip_zero (suc n) (x ∷ xs) h = let e = xor_zero_r x in let r = zip_zero n xs (omega arith) in cc
+
+pub xor_zero_short : (a : Word) → IsShort a → word_xor a zero_word ≡ a
+xor_zero_short a short = word-ext (word_xor a zero_word) a (xor_zero_r a.pt) (xor_zero_r a.ts) (xor_zero_r a.len) (zip_zero 1316 a.bytes short)
+
+pub short_xor : (a b : Word) → IsShort a → IsShort (word_xor a b)
+short_xor a b short = omega (arith, zip_left a.bytes b.bytes)
+
+pub short_room : (a : Word) → HasRoom a → IsShort a
+short_room a room = omega (arith, room)
+
+pub short_sum : (ws : List Word) → IsShort (word_sum ws)
+short_sum [] = short_room zero_word HasRoom-zero
+short_sum (w ∷ ws) = omega (arith, zip_right w.bytes (word_sum ws).bytes, short_sum ws)
+
+-- A word and a sum cancel exactly where they are equal.
+pub cancels : (a b : Word) → HasRoom a → IsShort b → word_xor a b ≡ zero_word → a ≡ b
+cancels a b room short zeros =
+    let size : length (zip2 bit_xor a.bytes b.bytes) ≡ 1316 = ap (λ (w : Word). length w.bytes) zeros ∙ HasRoom-zero in
+    let whole : HasRoom b = omega (arith, zip_right a.bytes b.bytes, size, short) in
+    word_xor-zero_same a b room whole zeros
+
+pub cancelled : (a b : Word) → HasRoom a → a ≡ b → word_xor a b ≡ zero_word
+cancelled a b room same = ap (word_xor a) (sym same) ∙ word_xor-self a room
+
+-- One more position of a list whose words are summed.
+pub sum_more :
+    (words : ℕ → Option Word) (x : ℕ) (rest : List ℕ) (w acc : Word) → words x ≡ Some w
+    → word_xor (word_xor acc w) (sum_at words rest) ≡ word_xor acc (sum_at words (x ∷ rest))
+sum_more words x rest w acc is = rw is (word_xor_assoc acc w (sum_at words rest))
+
+module _ (words : ℕ → Option Word) (xs : List ℕ) (j : ℕ) (acc total : Word) where
+  -- one more slot that has a word
+  pub adding_more :
+      (w : Word) → j < length xs → words (get_or xs j 0) ≡ Some w → word_xor acc (sum_at words (drop j xs)) ≡ total
+      → word_xor (word_xor acc w) (sum_at words (drop (j + 1) xs)) ≡ total
+  adding_more w within is so_far =
+      let cut = drop_more xs j 0 within in
+      sum_more words (get_or xs j 0) (drop (j + 1) xs) w acc is ∙ (rw cut at so_far)
+
+  -- one that has none
+  pub adding_none :
+      j < length xs → words (get_or xs j 0) ≡ None → word_xor acc (sum_at words (drop j xs)) ≡ total
+      → word_xor acc (sum_at words (drop (j + 1) xs)) ≡ total
+  adding_none within is so_far =
+      let cut = drop_more xs j 0 within in
+      let same : sum_at words (drop (j + 1) xs) ≡ sum_at words (get_or xs j 0 ∷ drop (j + 1) xs) =
+      sym (ap (λ (o : Option Word). word_sum (cons_option o (filter_map words (drop (j + 1) xs)))) is) in
+      ap (word_xor acc) same ∙ (rw cut at so_far)
+
+  -- all slots are done
+  pub adding_done : length xs ≤ j → IsShort acc → word_xor acc (sum_at words (drop j xs)) ≡ total → acc ≡ total
+  adding_done past short so_far =
+      let none = drop_all j xs past in
+      sym (xor_zero_short acc short) ∙ (rw none at so_far)

@@ -1,0 +1,96 @@
+-- The least place of a line that is broken.
+use Rattle.std.proofs.Common.{◌≡◌, ◌⊎◌, ◌≤◌, ℕ, List, [], ◌∷◌, Option, Some, None, IfSome, IfNone, min, unwrap_or, sym, ap, inl, inr, ⊎_elim, subst, arith}
+use Rattle.std.proofs.lemmas.Bool.{cases_lt}
+use Rattle.std.specs.List.{Contains}
+use Rattle.slab.specs.Slab.{Slab, entries}
+use Rattle.fg_words.specs.declared.Word.{Word}
+use Rattle.fg_peel.specs.declared.Line.{Line}
+use Rattle.fg_peel.specs.Equation.{Equation}
+use Rattle.fg_peel.specs.Laws.{AllComeOut}
+use Rattle.fg_peel.specs.Slots.{equation_of, equations_of, lines_of}
+use Rattle.fg_peel.specs.Verdict.{IsLeast, IsComplete, ComesOut, BreaksAt}
+use Rattle.fg_peel.proofs.Lists.{Contains-cases, Contains-nil}
+use Rattle.fg_peel.proofs.Lines.{lines_in, line_of_equation}
+
+-- There is a number, and it isn't above this one.
+abbrev pub IsAtMost : Option ℕ → ℕ → Type 0
+IsAtMost None n = ⊥
+IsAtMost (Some m) n = m ≤ n
+
+lesser-first : (least : Option ℕ) (place n : ℕ) → IsAtMost least n → min (unwrap_or least place) place ≤ n
+lesser-first None place n below = absurd below
+lesser-first (Some m) place n below = omega (arith, below)
+
+lesser-last : (least : Option ℕ) (place : ℕ) → min (unwrap_or least place) place ≤ place
+lesser-last least place = omega arith
+
+lesser-cases : (least : Option ℕ) (place : ℕ) → (min (unwrap_or least place) place ≡ place) ⊎ (least ≡ Some (min (unwrap_or least place) place))
+lesser-cases None place = inl (omega arith)
+lesser-cases (Some m) place = ⊎_elim
+    (λ less. let e : min m place ≡ m = omega (arith, less) in inr (ap Some (sym e)))
+    (λ more. inl (omega (arith, more)))
+    (cases_lt m place)
+
+module _ (words : ℕ → Option Word) (lines : Slab Line) where
+  -- Each live line is left, or it comes out if it is complete, or its place isn't below the least so far.
+  abbrev pub BrokenBut : Option ℕ → List (ℕ × Line) → Type 0
+  BrokenBut least rest =
+      (line : Line) → Contains (lines_of lines) line
+      → Contains (lines_in rest) line ⊎ ((IsComplete words (equation_of line) → ComesOut words (equation_of line)) ⊎ IsAtMost least line.place)
+
+  pub broken_none : (rest : List (ℕ × Line)) → rest ≡ entries lines → BrokenBut None rest
+  broken_none rest whole line c = inl (rw whole c)
+
+  module _ (all rest : List (ℕ × Line)) (entry : ℕ × Line) (cut : all ≡ entry ∷ rest) where
+    -- the next line isn't broken
+    pub broken_same : (least : Option ℕ) → (IsComplete words (equation_of entry.1) → ComesOut words (equation_of entry.1)) → BrokenBut least all → BrokenBut least rest
+    broken_same least fine but line c = ⊎_elim
+        (λ left. ⊎_elim
+        (λ here. inr (rw here (inl fine)))
+        (λ there. inl there)
+        (Contains-cases entry.1 (lines_in rest) line (rw cut at left)))
+        (λ done. inr done)
+        (but line c)
+
+    -- the next line is broken
+    pub broken_more : (least : Option ℕ) → BrokenBut least all → BrokenBut (Some (min (unwrap_or least entry.1.place) entry.1.place)) rest
+    broken_more least but line c = ⊎_elim
+        (λ left. ⊎_elim
+        (λ here. inr (rw here (inr (lesser-last least entry.1.place))))
+        (λ there. inl there)
+        (Contains-cases entry.1 (lines_in rest) line (rw cut at left)))
+        (λ done. inr (⊎_elim (λ fine. inl fine) (λ below. inr (lesser-first least entry.1.place line.place below)) done))
+        (but line c)
+
+  pub breaks_more :
+      (least : Option ℕ) (line : Line) → Contains (lines_of lines) line → IsComplete words (equation_of line) → (ComesOut words (equation_of line) → ⊥) → IfSome least (BreaksAt words lines)
+      → BreaksAt words lines (min (unwrap_or least line.place) line.place)
+  breaks_more least line live complete broken before = ⊎_elim
+      (λ this. (line, live, sym this, complete, broken))
+      (λ that. rw that at before)
+      (lesser-cases least line.place)
+
+  -- all lines were looked at
+  pub broken_least :
+      (place : ℕ) (rest : List (ℕ × Line)) → rest ≡ [] → BrokenBut (Some place) rest → BreaksAt words lines place → IsLeast (BreaksAt words lines) place
+  broken_least place rest none but breaks = (
+    breaks,
+    λ m other. ⊎_elim
+        (λ left. absurd (Contains-nil other.0 (rw none at left)))
+        (λ done. ⊎_elim (λ fine. absurd (other.4 (fine other.3))) (λ below. omega (arith, below, other.2)) done)
+        (but other.0 other.1),
+  )
+
+  pub broken_nowhere : (rest : List (ℕ × Line)) → rest ≡ [] → BrokenBut None rest → AllComeOut words (equations_of lines)
+  broken_nowhere rest none but equation listed =
+      let line = line_of_equation lines equation listed in
+      let P : Equation → Type 0 = λ e. IsComplete words e → ComesOut words e in
+      let fine : P (equation_of line.0) = ⊎_elim
+      (λ left. absurd (Contains-nil line.0 (rw none at left)))
+      (λ done. ⊎_elim (λ fine. fine) (λ below. absurd below) done)
+      (but line.0 line.1) in
+      subst P (sym line.2) fine
+
+  pub broken_done : (least : Option ℕ) (rest : List (ℕ × Line)) → rest ≡ [] → BrokenBut least rest → IfNone least (AllComeOut words (equations_of lines))
+  broken_done None rest none but = broken_nowhere rest none but
+  broken_done (Some place) rest none but = tt

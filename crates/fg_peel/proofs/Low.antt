@@ -1,0 +1,147 @@
+-- Rows of entries whose first one may stand for a position below 0.
+use Rattle.std.proofs.Common.{◌≡◌, ◌+◌, ◌-◌, ◌<◌, ◌≤◌, ℕ, ℤ, pos, negsuc, true, false, List, [], ◌∷◌, ◌++◌, length, take, drop, get_or, min, inl, inr, refl, sym, ap, ◌∙◌, ⊎_elim, subst, arith}
+use Rattle.std.proofs.Math.IntN.{nat_abs}
+use Rattle.std.proofs.Math.Seq.{drop-append_seam}
+use Rattle.std.proofs.lemmas.Bool.{cases_lt, ltb-true}
+use Rattle.std.proofs.lemmas.List.{length-take, length-drop, length-append, drop_all, get_or-drop, get_or-take, get_or_append_left, get_or-append_right, take_all, take-append-le, append-nil}
+use Rattle.std.specs.Int.Signed.{lt_z}
+use Rattle.slab.specs.Slab.{Slab}
+use Rattle.fg_peel.specs.declared.Line.{Line}
+use Rattle.fg_peel.specs.declared.Slot.{Slot}
+use Rattle.fg_peel.specs.declared.Slot.TheVariants.{Empty}
+use Rattle.fg_peel.specs.declared.Verdict.{Verdict}
+use Rattle.fg_peel.specs.Equation.{AreAdmissible}
+use Rattle.fg_peel.specs.Slots.{first_position, from_first, before_first, words_at, known_at, recovered_at, equations_of, AllFit, AllFitFrom, OnlyFills, ArePeeled}
+use Rattle.fg_peel.specs.Verdict.{IsPeel, IsPeelAfter, TellsSolution}
+use Rattle.fg_peel.proofs.Whole.{ends_from_known, recovered_told, recovered_since, tells_solution}
+
+-- the rest of a list is what follows the part before it
+rest_is : (n below : ℕ) (old new rest : List Slot) → below ≡ min (length old) (n + 1) → new ≡ take below old ++ rest → length rest ≡ length (drop below old) → drop (n + 1) new ≡ rest
+rest_is n below old new rest least joined size = ⊎_elim
+    (λ short.
+    let gone : length rest ≡ 0 = omega (arith, size, length-drop below old, least, short) in
+    let all : length new ≡ length (take below old) + length rest = ap length joined ∙ length-append (take below old) rest in
+    let few : length new ≤ n + 1 = omega (arith, all, gone, length-take below old, short) in
+    drop_all (n + 1) new few ∙ sym (drop_all 0 rest (omega (arith, gone))))
+    (λ long.
+    let size_front : length (take below old) ≡ n + 1 = omega (arith, length-take below old, least, long) in
+    ap (λ k. drop k new) (sym size_front) ∙ ap (drop (length (take below old))) joined ∙ drop-append_seam (take below old) rest)
+    (cases_lt (length old) (n + 1))
+
+same_rest : (n below : ℕ) (old : List Slot) → below ≡ min (length old) (n + 1) → drop below old ≡ drop (n + 1) old
+same_rest n below old least = ⊎_elim
+    (λ short.
+    let all : length old ≤ below = omega (arith, least, short) in
+    let past : length old ≤ n + 1 = omega (arith, short) in
+    drop_all below old all ∙ sym (drop_all (n + 1) old past))
+    (λ long. let e : below ≡ n + 1 = omega (arith, least, long) in ap (λ k. drop k old) e)
+    (cases_lt (length old) (n + 1))
+
+length-zero : (es : List Slot) → length es ≡ 0 → es ≡ []
+length-zero [] e = refl
+length-zero (x ∷ es) e = absurd (omega (arith, e))
+
+-- entries that stand for no position are left alone
+pub fills_after :
+    (below : ℕ) (lines : Slab Line) (old new : List Slot) (answer : Verdict) → below ≤ length old → IsPeelAfter below lines old new answer → OnlyFills old new
+fills_after below lines old new answer within after =
+    let rest = after.0 in
+    let fills = after.2.fills in
+    let front : length (take below old) ≡ below = omega (arith, length-take below old, within) in
+    let read : (k : ℕ) → below ≤ k → get_or new k Empty ≡ get_or rest (k - below) Empty =
+    λ k above. ap (λ (es : List Slot). get_or es k Empty) after.1 ∙ get_or-append_right (take below old) rest below k Empty front above in
+    let was : (k : ℕ) → below ≤ k → get_or (drop below old) (k - below) Empty ≡ get_or old k Empty =
+    λ k above. get_or-drop below old (k - below) Empty ∙ ap (λ i. get_or old i Empty) (omega (arith, above)) in
+    let same : (k : ℕ) → k < below → get_or new k Empty ≡ get_or old k Empty =
+    λ k less. ap (λ (es : List Slot). get_or es k Empty) after.1
+    ∙ get_or_append_left (take below old) rest Empty k (omega (arith, front, less))
+    ∙ ap (λ (es : List Slot). get_or es k Empty) refl ∙ get_or-take below old k Empty less in
+    record {
+      count = ap length after.1 ∙ length-append (take below old) rest ∙ omega (arith, front, fills.count, length-drop below old, within);
+      kept = λ k some. ⊎_elim
+          (λ less. same k less)
+          (λ above. read k above ∙ fills.kept (k - below) (λ gone. some (sym (was k above) ∙ gone)) ∙ was k above)
+          (cases_lt k below);
+      filled = λ k none. ⊎_elim
+          (λ less. inl (same k less ∙ none))
+          (λ above. ⊎_elim
+          (λ still. inl (read k above ∙ still))
+          (λ now. inr (now.0, read k above ∙ now.1))
+          (fills.filled (k - below) (was k above ∙ none)))
+          (cases_lt k below);
+    }
+
+pub same_before :
+    (low : ℤ) (below : ℕ) (lines : Slab Line) (old new : List Slot) (answer : Verdict) → below ≡ min (length old) (nat_abs low)
+    → IsPeelAfter below lines old new answer → before_first low new ≡ before_first low old
+same_before (pos n) below lines old new answer least after = refl
+same_before (negsuc n) below lines old new answer least after =
+    let rest = after.0 in
+    let front = length-take below old in
+    let size = length-drop below old in
+    ⊎_elim
+    (λ short.
+    let gone : length rest ≡ 0 = omega (arith, after.2.fills.count, size, least, short) in
+    let all : length new ≡ length (take below old) + length rest = ap length after.1 ∙ length-append (take below old) rest in
+    let few : length new ≤ n + 1 = omega (arith, all, gone, front, short) in
+    let past : length old ≤ n + 1 = omega (arith, short) in
+    let whole : length old ≤ below = omega (arith, least, short) in
+    take_all (n + 1) new few ∙ after.1 ∙ ap (λ (es : List Slot). take below old ++ es) (length-zero rest gone) ∙ append-nil (take below old)
+    ∙ take_all below old whole ∙ sym (take_all (n + 1) old past))
+    (λ long.
+    let e : below ≡ n + 1 = omega (arith, least, long) in
+    let size_front : n + 1 ≤ length (take below old) = omega (arith, front, e, long) in
+    ap (take (n + 1)) after.1 ∙ take-append-le (n + 1) (take below old) rest size_front ∙ ap (λ k. take (n + 1) (take k old)) e
+    ∙ take_all (n + 1) (take (n + 1) old) (omega (arith, length-take (n + 1) old)))
+    (cases_lt (length old) (n + 1))
+
+pub same_before_up : (low : ℤ) (old new : List Slot) → lt_z low (pos 0) ≡ false → before_first low new ≡ before_first low old
+same_before_up (pos n) old new above = refl
+same_before_up (negsuc n) old new above = absurd (cc)
+
+-- Peeling the entries of positions.
+abbrev pub PeelsAt : ℤ → Slab Line → List Slot → List Slot → Verdict → Type 0
+PeelsAt low lines old new answer = IsPeel (first_position low) lines (from_first low old) (from_first low new) answer
+
+pub peels_up :
+    (low : ℤ) (lines : Slab Line) (old new : List Slot) (answer : Verdict) → lt_z low (pos 0) ≡ false → IsPeel (nat_abs low) lines old new answer
+    → PeelsAt low lines old new answer
+peels_up (pos n) lines old new answer above peel = peel
+peels_up (negsuc n) lines old new answer above peel = absurd (cc)
+
+pub fits_up : (low : ℤ) (lines : Slab Line) (old : List Slot) → lt_z low (pos 0) ≡ false → AllFit low old lines → AllFitFrom (nat_abs low) old lines
+fits_up (pos n) lines old above fit = fit
+fits_up (negsuc n) lines old above fit = absurd (cc)
+
+pub peels_below :
+    (low : ℤ) (below : ℕ) (lines : Slab Line) (old new : List Slot) (answer : Verdict) → lt_z low (pos 0) ≡ true
+    → below ≡ min (length old) (nat_abs low) → IsPeelAfter below lines old new answer → PeelsAt low lines old new answer
+peels_below (pos n) below lines old new answer under least after = absurd (omega (arith, ltb-true n 0 under))
+peels_below (negsuc n) below lines old new answer under least after =
+    let least' : below ≡ min (length old) (n + 1) = omega (arith, least) in
+    let one = same_rest n below old least' in
+    let two = rest_is n below old new after.0 least' after.1 after.2.fills.count in
+    let P : List Slot → Type 0 = λ es. IsPeel 0 lines es (drop (n + 1) new) answer in
+    let Q : List Slot → Type 0 = λ es. IsPeel 0 lines (drop below old) es answer in
+    subst P one (subst Q (sym two) after.2)
+
+pub fits_below :
+    (low : ℤ) (below : ℕ) (lines : Slab Line) (old : List Slot) → lt_z low (pos 0) ≡ true → below ≡ min (length old) (nat_abs low)
+    → AllFit low old lines → AllFitFrom 0 (drop below old) lines
+fits_below (pos n) below lines old under least fit = absurd (omega (arith, ltb-true n 0 under))
+fits_below (negsuc n) below lines old under least fit =
+    let least' : below ≡ min (length old) (n + 1) = omega (arith, least) in
+    let P : List Slot → Type 0 = λ es. AllFitFrom 0 es lines in
+    subst P (sym (same_rest n below old least')) fit
+
+-- The verdict tells of a solution.
+pub tells_at :
+    (low : ℤ) (lines : Slab Line) (old new : List Slot) (answer : Verdict) → PeelsAt low lines old new answer
+    → AreAdmissible (known_at low old) (equations_of lines) → ArePeeled (equations_of lines) (known_at low old) (words_at low old)
+    → TellsSolution (equations_of lines) (known_at low old) (words_at low new) answer
+tells_at low lines old new answer peel admissible peeled =
+    tells_solution lines (known_at low old) (words_at low new) (recovered_at low new) admissible
+    (ends_from_known (equations_of lines) (known_at low old) (words_at low old) (words_at low new) peeled peel.peeling)
+    (recovered_told (first_position low) (from_first low new))
+    (recovered_since (first_position low) (from_first low old) (from_first low new) peel.fills)
+    answer peel.verdict

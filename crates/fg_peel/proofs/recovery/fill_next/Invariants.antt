@@ -1,0 +1,11 @@
+use Rattle.std.proofs.Common.{◌≡◌}
+use Rattle.fg_peel.proofs.Lines.{AreLive}
+use Rattle.fg_peel.proofs.recovery.fill_next.Given as goal
+
+-- the lines that are left are live, and nothing was filled
+abbrev pub invariant-loop-line : goal.invariant-loop-line
+invariant-loop-line l =
+    (goal.iterator-loop-line).can_next l.line-iterator ×
+    (goal.iterator-loop-line).is_finite l.line-iterator ×
+    AreLive l.lines l.line-iterator ×
+    (l.slots ≡ l.fn.slots)

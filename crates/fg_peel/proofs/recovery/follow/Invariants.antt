@@ -1,0 +1,11 @@
+use Rattle.std.proofs.Common.{◌+◌, is_some, cond}
+use Rattle.fg_peel.specs.Slots.{equations_of}
+use Rattle.fg_peel.specs.Recovery.{IsPeeled, empty_count}
+use Rattle.fg_peel.proofs.recovery.follow.Given as goal
+
+abbrev pub invariant-loop-next : goal.invariant-loop-next
+invariant-loop-next l = IsPeeled l.start (equations_of l.lines) l.fn.slots l.slots
+
+-- each turn fills an entry, or is the last
+abbrev pub decreases-loop-next : goal.decreases-loop-next
+decreases-loop-next l = empty_count l.slots + cond (is_some l.next) 1 0

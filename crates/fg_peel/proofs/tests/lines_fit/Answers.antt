@@ -1,0 +1,23 @@
+use Rattle.std.proofs.Common.{◌≡◌, ◌∙◌, length, ℕ, true, false}
+use Rattle.std.proofs.lemmas.Bool.{false≢true}
+use Rattle.fg_peel.specs.declared.Line.{Line}
+use Rattle.fg_peel.proofs.Lines.{FitsBut, fits_none, fits_more, fits_all}
+use Rattle.fg_peel.proofs.tests.lines_fit.Goals as goal
+
+pub loop-line-init : goal.loop-line-init
+loop-line-init c = (
+  tt,
+  tt,
+  fits_none 0 c.args.slots.now c.args.lines.now c.into_iter-line-iterator.result (c.into_iter-line-iterator.ensures.into_iter_gives ∙ c.iter-line-items.ensures.rest),
+)
+
+pub loop-line-preserved : goal.loop-line-preserved
+loop-line-preserved c =
+    let entry : ℕ × Line = (c.in-Some.field-0-0, c.in-Some.line.now) in (
+      tt,
+      tt,
+      fits_more 0 c.args.slots.now c.args.lines.now c.loop-line.line-iterator entry c.next.new.self c.in-Some.ensures.steps (c.line_fits.ensures c.if-not-line_fits.false) c.loop-line.invariant.2,
+    )
+
+pub returns : goal.returns
+returns c = λ _. fits_all 0 c.args.slots.now c.args.lines.now c.loop-line.line-iterator c.in-None.ensures.steps.0 c.loop-line.invariant.2

@@ -1,0 +1,60 @@
+//! The laws by which the repaired stream means one thing, whatever the order of the work. Each is
+//! the contract of a function that does nothing.
+
+ghost use Rattle.fg_peel.specs.Block.{ThreeLostFollow, TwoPassesFollow, FourInSquareStay, WrongParityIsUnsolvable};
+ghost use Rattle.fg_peel.specs.Laws.{ClosureIsClosed, ClosureIsLeast, ClosureHasTest, ClosureGrows, ClosureIsFinal};
+ghost use Rattle.fg_peel.specs.Laws.{PeelingsStayInClosure, MaximalPeelingsEndAtClosure, MaximalPeelingExists, PeelingsContinue, MaximalPeelingsAreTested};
+ghost use Rattle.fg_peel.specs.Laws.{Uniqueness, SoundPeelingsAgree, SolutionsAreReached, MaximalPeelingsEndAtSolution, SoundWhereSolvable};
+
+/// The closure is the least closed set: it is closed, contained in every closed set that has a test,
+/// and has a test itself.
+pub fn closure_is_least()
+    ensures closed { ClosureIsClosed }
+    ensures least { ClosureIsLeast }
+    ensures tested { ClosureHasTest }
+{}
+
+/// The closure grows with what is known and with the equations, and is its own closure.
+pub fn closure_grows()
+    ensures grows { ClosureGrows }
+    ensures complete { ClosureIsFinal }
+{}
+
+/// Peelings stay in the closure, and each maximal one ends at the closure. There is a maximal one, and
+/// every peeling can be continued to one.
+pub fn peelings_fill_the_closure()
+    ensures within { PeelingsStayInClosure }
+    ensures filled { MaximalPeelingsEndAtClosure }
+    ensures exists { MaximalPeelingExists }
+    ensures continued { PeelingsContinue }
+{}
+
+/// Whether a maximal peeling is sound shows in its words: each found word is a media word, and each
+/// equation comes out whose slots are all known.
+pub fn maximal_peelings_are_tested()
+    ensures { MaximalPeelingsAreTested }
+{}
+
+/// Two solutions are equal.
+pub fn uniqueness()
+    ensures { Uniqueness }
+{}
+
+/// If one maximal peeling is sound, all are, with the same end. If a solution exists, some maximal
+/// peeling is sound, and each ends at the solution. So a maximal peeling is sound exactly where a
+/// solution exists.
+pub fn confluence()
+    ensures agreed { SoundPeelingsAgree }
+    ensures reached { SolutionsAreReached }
+    ensures same_end { MaximalPeelingsEndAtSolution }
+    ensures solvable { SoundWhereSolvable }
+{}
+
+/// The definitions on a block of 4 columns and 4 rows: three lost words follow, and so do four in a
+/// chain of two passes. Four in a square do not. With a wrong parity there is no solution.
+pub fn worked_blocks()
+    ensures three { ThreeLostFollow }
+    ensures chain { TwoPassesFollow }
+    ensures square { FourInSquareStay }
+    ensures parity { WrongParityIsUnsolvable }
+{}

@@ -1,0 +1,142 @@
+//! Peeling: what follows from known words and parity equations (SMPTE ST 2022-1, where one parity
+//! datagram recovers one lost datagram).
+#![tactic(auto)]
+
+ghost use Rattle.std.specs.Prelude.{◌≡◌, ◌+◌, ◌^◌, ◌<◌, ◌≤◌, ◌≤ℤ◌, ◌+ℤ◌, ◌↔◌, ℕ, pos, negsuc, length, drop, IsSome, IfSome, IsTrue, Option};
+ghost use Rattle.std.specs.Option.{option_copied};
+ghost use Rattle.fg_peel.specs.Closure.{InClosure};
+ghost use Rattle.fg_peel.specs.Equation.{AreAdmissible};
+ghost use Rattle.fg_peel.specs.Slots.{word_in, told_from, before_first, words_at, known_at, recovered_at, equations_of, AllFit, AllFitFrom, OnlyFills, EndsPeeling, ArePeeled};
+ghost use Rattle.fg_peel.specs.Verdict.{IsVerdict, IsPeel, IsPeelAfter, TellsSolution};
+
+use checks::verdict_on;
+use fg_shape::Shape;
+use fg_words::{Shared, Word};
+use recovery::fill_all;
+use slab::Slab;
+
+mod checks;
+pub mod laws;
+mod recovery;
+#[cfg(test)]
+mod tests;
+
+/// What is known of the datagram at one position.
+#[derive(Drop)]
+pub enum Slot {
+    /// Nothing.
+    Empty,
+    /// A datagram that was received.
+    Media(Shared),
+    /// A word that an equation gave, for others to see.
+    Solved(Shared),
+    /// A word that stands here alone: one that was shown before, or one that `peel` put here.
+    Filled(Word),
+}
+
+impl Slot {
+    /// The word, if there is one.
+    fn word(&self) -> Option<&Word>
+        ensures { option_copied result ≡ word_in self.now }
+    {
+        match self {
+            Slot::Empty => None,
+            Slot::Media(shared) | Slot::Solved(shared) => Some(shared.word()),
+            Slot::Filled(word) => Some(word),
+        }
+    }
+}
+
+/// The word at a position, where the first entry stands for `start`.
+fn word_at(start: u64, slots: &[Slot], position: u64) -> Option<&Word>
+    requires first { start ≤ position }
+    requires last { position < start + length slots.now }
+    ensures { option_copied result ≡ told_from word_in start slots.now position }
+{
+    slots[(position - start) as usize].word()
+}
+
+/// A live equation: the words at its slots sum to its parity word.
+#[derive(Drop)]
+pub struct Line {
+    /// The position of the first slot.
+    pub base: u64,
+    /// Which slots it has.
+    pub shape: Shape,
+    /// The parity word.
+    pub parity: Shared,
+    /// The number of equations that were admitted before it.
+    pub serial: u64,
+    /// Its place among the live equations.
+    pub place: u32,
+}
+
+/// What the words at the end of a peeling are worth.
+#[derive(Clone, Copy, Debug, PartialEq, Eq)]
+pub enum Verdict {
+    /// Each recovered word is a media word, and each equation comes out.
+    Sound,
+    /// The equation at this place doesn't come out. It is the least such place.
+    Unsound {
+        /// The equation's place.
+        place: u32,
+    },
+    /// The word recovered for this position is no media word. It is the least such position.
+    NotMedia {
+        /// The position.
+        slot: u64,
+    },
+}
+
+/// Recovers each word that follows from the known words and the equations, and says what they are
+/// worth.
+///
+/// Entry `i` of `slots` stands for position `low + i`; entries for positions below 0 are left alone.
+/// Known are the words of the `Media` and `Filled` entries. Only `Empty` entries change, and only into
+/// `Filled`. It takes no memory.
+pub fn peel(low: i64, slots: &mut [Slot], lines: &Slab<Line>) -> Verdict
+    requires first { negsuc 99 ≤ℤ low }
+    requires last { (low +ℤ pos (length slots.old)) ≤ℤ pos (2 ^ 62) }
+    requires lines { AllFit low slots.old lines.now }
+
+    // Only empty entries change, and the words are then those of exactly the closure.
+    ensures fills { OnlyFills slots.old slots.new }
+    ensures below { before_first low slots.new ≡ before_first low slots.old }
+    ensures closure { (position : ℕ) → IsSome (words_at low slots.new position) ↔ InClosure (words_at low slots.old) (equations_of lines.now) position }
+    ensures peeling { EndsPeeling (equations_of lines.now) (words_at low slots.old) (words_at low slots.new) }
+
+    // A recovered word that is no media word counts before an equation that doesn't come out.
+    ensures verdict { IsVerdict (recovered_at low slots.new) (words_at low slots.new) lines.now result }
+
+    // Where the recovered words at the start come from a peeling, the verdict tells whether there is a
+    // solution, and the words are then it.
+    ensures solution { AreAdmissible (known_at low slots.old) (equations_of lines.now) → ArePeeled (equations_of lines.now) (known_at low slots.old) (words_at low slots.old) → TellsSolution (equations_of lines.now) (known_at low slots.old) (words_at low slots.new) result }
+{
+    if low < 0 {
+        let below = slots.len().min(low.unsigned_abs() as usize);
+        peel_after(below, slots, lines)
+    } else {
+        peel_from(low as u64, slots, lines)
+    }
+}
+
+/// `peel` past so many entries that stand for no position.
+fn peel_after(below: usize, slots: &mut [Slot], lines: &Slab<Line>) -> Verdict
+    requires within { below ≤ length slots.old }
+    requires lines { AllFitFrom 0 (drop below slots.old) lines.now }
+    requires limit { length slots.old ≤ 2 ^ 62 }
+    ensures { IsPeelAfter below lines.now slots.old slots.new result }
+{
+    let (_, rest) = slots.split_at_mut(below);
+    peel_from(0, rest, lines)
+}
+
+/// `peel` where the first entry stands for the position `start`.
+fn peel_from(start: u64, slots: &mut [Slot], lines: &Slab<Line>) -> Verdict
+    requires lines { AllFitFrom start slots.old lines.now }
+    requires limit { start + length slots.old ≤ 2 ^ 62 }
+    ensures { IsPeel start lines.now slots.old slots.new result }
+{
+    fill_all(start, slots, lines);
+    verdict_on(start, slots, lines)
+}

@@ -1,0 +1,164 @@
+//! Filling empty entries from the equations that miss one word.
+
+ghost use Rattle.std.specs.Prelude.{◌≡◌, ◌≢◌, ◌+◌, ◌^◌, ◌<◌, ◌≤◌, length, slice_set, IsTrue, OnSome, IfNone, false};
+ghost use Rattle.fg_words.specs.Word.{HasRoom};
+ghost use Rattle.fg_peel.specs.Slots.{word_in, told_from, equation_of, equations_of, FitsFrom, AllFitFrom};
+ghost use Rattle.fg_peel.specs.Recovery.{IsMissing, Fills, AllClosed, empty_count, IsPeeled, with_word, AddsWord};
+
+use crate::{Line, Slot, word_at};
+use fg_shape::{contains, slot};
+use fg_words::Word;
+use slab::Slab;
+
+/// Which slots of an equation have no word.
+#[derive(Clone, Copy)]
+pub(crate) enum Missing {
+    /// None.
+    Nothing,
+    /// Just the one at this position.
+    One(u64),
+    /// At least two.
+    Several,
+}
+
+/// Which slots of a line have no word. It reads no payload.
+pub(crate) fn missing_of(start: u64, slots: &[Slot], line: &Line) -> Missing
+    requires line { FitsFrom start (length slots.now) line.now }
+    requires limit { start + length slots.now ≤ 2 ^ 62 }
+    ensures { IsMissing (told_from word_in start slots.now) (equation_of line.now) result }
+{
+    let mut found = None;
+    for j in 0..line.shape.na {
+        let position = slot(line.base, line.shape, j);
+        if word_at(start, slots, position).is_none() {
+            if found.is_some() {
+                return Missing::Several;
+            }
+            found = Some(position);
+        }
+    }
+    match found {
+        Some(position) => Missing::One(position),
+        None => Missing::Nothing,
+    }
+}
+
+/// Gives the one slot of a line that has no word its word. The parity word is copied into the entry
+/// once, and the words at the other slots are added to it there.
+fn fill(start: u64, slots: &mut [Slot], line: &Line, position: u64)
+    requires line { FitsFrom start (length slots.old) line.now }
+    requires limit { start + length slots.old ≤ 2 ^ 62 }
+    requires missing { IsMissing (told_from word_in start slots.old) (equation_of line.now) (Missing.One position) }
+    ensures { Fills start (equation_of line.now) position slots.old slots.new }
+{
+    let target = (position - start) as usize;
+    hold(slots, target, line.parity.word());
+    for j in 0..line.shape.na {
+        let other = slot(line.base, line.shape, j);
+        if other != position {
+            add_word(slots, target, (other - start) as usize);
+        }
+    }
+}
+
+/// Puts a copy of a word into an entry.
+fn hold(slots: &mut [Slot], target: usize, word: &Word)
+    requires { target < length slots.old }
+    ensures entry { slots.new ≡ slice_set slots.old target (Slot.Filled word.now) }
+    ensures room { HasRoom word.now }
+{
+    // The proof reads the payload's length off its type here.
+    let _payload = &word.bytes;
+    slots[target] = Slot::Filled(*word);
+}
+
+/// Adds the word of another entry to the word that stands at `target`, in place.
+fn add_word(slots: &mut [Slot], target: usize, other: usize)
+    requires target { target < length slots.old }
+    requires other { other < length slots.old }
+    requires apart { target ≢ other }
+    ensures { AddsWord slots.old slots.new target other }
+{
+    if target < other {
+        let (front, back) = slots.split_at_mut(other);
+        add_entry(&mut front[target], &back[0]);
+    } else {
+        let (front, back) = slots.split_at_mut(target);
+        add_entry(&mut back[0], &front[other]);
+    }
+}
+
+/// Adds the word of another entry to the word that stands in this one.
+fn add_entry(target: &mut Slot, other: &Slot)
+    ensures { target.new ≡ with_word target.old (word_in other.now) }
+{
+    if let (Slot::Filled(word), Some(added)) = (target, other.word()) {
+        word.xor_in(added);
+    }
+}
+
+/// Fills the missing slot of the first line that has this slot and misses just one, and answers
+/// which. Lines without this slot are passed over by a test on numbers.
+fn fill_next(start: u64, slots: &mut [Slot], lines: &Slab<Line>, filled: u64) -> Option<u64>
+    requires lines { AllFitFrom start slots.old lines.now }
+    requires limit { start + length slots.old ≤ 2 ^ 62 }
+    ensures peeled { IsPeeled start (equations_of lines.now) slots.old slots.new }
+    ensures fewer { OnSome result (empty_count slots.new < empty_count slots.old) }
+    ensures same { IfNone result (slots.new ≡ slots.old) }
+{
+    for (_, line) in lines.iter() {
+        if contains(line.base, line.shape, filled)
+            && let Missing::One(position) = missing_of(start, slots, line)
+        {
+            fill(start, slots, line, position);
+            return Some(position);
+        }
+    }
+    None
+}
+
+/// Goes on from a slot that was just filled, along the lines that it opens.
+fn follow(start: u64, slots: &mut [Slot], lines: &Slab<Line>, filled: u64)
+    requires lines { AllFitFrom start slots.old lines.now }
+    requires limit { start + length slots.old ≤ 2 ^ 62 }
+    ensures { IsPeeled start (equations_of lines.now) slots.old slots.new }
+{
+    let mut next = Some(filled);
+    while let Some(position) = next {
+        next = fill_next(start, slots, lines, position);
+    }
+}
+
+/// Visits each line once, fills its missing slot where there is just one, and goes on from there.
+/// It answers whether it filled any.
+fn round(start: u64, slots: &mut [Slot], lines: &Slab<Line>) -> bool
+    requires lines { AllFitFrom start slots.old lines.now }
+    requires limit { start + length slots.old ≤ 2 ^ 62 }
+    ensures peeled { IsPeeled start (equations_of lines.now) slots.old slots.new }
+    ensures fewer { IsTrue result → empty_count slots.new < empty_count slots.old }
+    ensures closed { result ≡ false → AllClosed (told_from word_in start slots.new) lines.now }
+{
+    let mut opened = false;
+    for (_, line) in lines.iter() {
+        if let Missing::One(position) = missing_of(start, slots, line) {
+            fill(start, slots, line, position);
+            follow(start, slots, lines, position);
+            opened = true;
+        }
+    }
+    opened
+}
+
+/// Fills entries until no line misses just one word.
+///
+/// Each round but the last fills an entry. A round visits each line once, and in it each filled entry
+/// costs a visit of the lines that have its slot. In a layout of rows and columns that is all that a
+/// filled entry can open, so two rounds do: the second finds nothing.
+pub(crate) fn fill_all(start: u64, slots: &mut [Slot], lines: &Slab<Line>)
+    requires lines { AllFitFrom start slots.old lines.now }
+    requires limit { start + length slots.old ≤ 2 ^ 62 }
+    ensures peeled { IsPeeled start (equations_of lines.now) slots.old slots.new }
+    ensures closed { AllClosed (told_from word_in start slots.new) lines.now }
+{
+    while round(start, slots, lines) {}
+}

@@ -1,0 +1,364 @@
+//! A worked block of four rows and four columns, and random blocks against a peeler that plays every
+//! order of steps on timestamps alone.
+
+ghost use Rattle.std.specs.Prelude.{IsTrue};
+ghost use Rattle.fg_peel.specs.Slots.{FitsFrom, AllFitFrom};
+
+use super::*;
+use fg_shape::{last, shape_ok};
+use rand_core::utils::NextWord;
+use rand_pcg::Pcg32;
+use std::alloc::{AllocError, Global};
+use std::process::Abort;
+use std::test::Fail;
+
+const ROW: Shape = Shape { offset: 1, na: 4 };
+const COLUMN: Shape = Shape { offset: 4, na: 4 };
+
+/// The block's equations in the order in which an encoder sends them: row 3 comes last.
+const EQUATIONS: [(u8, Shape); 8] = [
+    (0, ROW),
+    (4, ROW),
+    (8, ROW),
+    (0, COLUMN),
+    (1, COLUMN),
+    (2, COLUMN),
+    (3, COLUMN),
+    (12, ROW),
+];
+const ALL: u8 = 0xff;
+const ALL_BUT_COLUMN_3: u8 = 0xbf;
+const ROW_0_ALONE: u8 = 0x01;
+
+/// A media word of seven packets.
+fn media(timestamp: u32) -> Word {
+    let mut word = Word::zero();
+    word.pt = 33;
+    word.ts = timestamp;
+    word.len = 1316;
+    for i in 0..1316 {
+        word.bytes[i] = if i % 188 == 0 {
+            0x47
+        } else {
+            ((timestamp as usize + i) % 251) as u8
+        };
+    }
+    word
+}
+
+/// The entries of a block with these timestamps, but for the lost ones.
+fn entries(alloc: Global, stamps: &[u32; 16], lost: u16) -> Result<Vec<Slot>, AllocError> {
+    let mut slots = Vec::new(alloc);
+    for (i, stamp) in stamps.iter().enumerate() {
+        if lost >> (i % 16) & 1 == 1 {
+            slots.push(Slot::Empty)?;
+        } else {
+            slots.push(Slot::Media(media(*stamp).share(alloc)?))?;
+        }
+    }
+    Ok(slots)
+}
+
+/// A parity word that is wrong in these bits.
+#[derive(Clone, Copy)]
+struct Flip {
+    equation: usize,
+    timestamp: u32,
+    length: u16,
+}
+
+const NO_FLIP: Flip = Flip {
+    equation: 0,
+    timestamp: 0,
+    length: 0,
+};
+
+/// The given equations of a block with these timestamps.
+fn given_lines(
+    alloc: Global,
+    stamps: &[u32; 16],
+    given: u8,
+    flip: Flip,
+) -> Result<Slab<Line>, AllocError> {
+    let mut lines = Slab::new(alloc);
+    let mut place = 0u32;
+    for i in 0..8usize {
+        if given >> i & 1 == 1 {
+            let (base, shape) = EQUATIONS[i];
+            let mut parity = Word::zero();
+            for j in 0..4usize {
+                let slot = usize::from(base) + j * usize::from(shape.offset);
+                parity.xor_in(&media(stamps[slot % 16]));
+            }
+            if i == flip.equation {
+                parity.ts ^= flip.timestamp;
+                parity.len ^= flip.length;
+            }
+            let line = Line {
+                base: u64::from(base),
+                shape,
+                parity: parity.share(alloc)?,
+                serial: u64::from(place),
+                place,
+            };
+            let _key = lines.insert(line)?;
+            place = place.saturating_add(1);
+        }
+    }
+    Ok(lines)
+}
+
+/// Whether a line's slots are among the first `count` positions.
+fn line_fits(count: usize, line: &Line) -> bool
+    ensures { IsTrue result → FitsFrom 0 count line.now }
+{
+    shape_ok(line.shape) && line.base <= 1000 && last(line.base, line.shape) < count as u64
+}
+
+fn lines_fit(slots: &[Slot], lines: &Slab<Line>) -> bool
+    ensures { IsTrue result → AllFitFrom 0 slots.now lines.now }
+{
+    for (_, line) in lines.iter() {
+        if !line_fits(slots.len(), line) {
+            return false;
+        }
+    }
+    true
+}
+
+fn peel_block(rt: &impl Abort, slots: &mut [Slot], lines: &Slab<Line>) -> Verdict {
+    assert!(rt; slots.len() <= 100);
+    assert!(rt; lines_fit(slots, lines));
+    peel(0, slots, lines)
+}
+
+/// Which entries were filled.
+fn filled(slots: &[Slot]) -> u16 {
+    let mut mask = 0u16;
+    for (i, slot) in slots.iter().enumerate() {
+        if i < 16 && matches!(slot, Slot::Filled(_)) {
+            mask |= 1 << i;
+        }
+    }
+    mask
+}
+
+/// The least place of an equation whose timestamps are all there and don't sum to the parity's.
+fn least_broken(slots: &[Slot], lines: &Slab<Line>) -> Option<u32> {
+    let mut least: Option<u32> = None;
+    for (_, line) in lines.iter() {
+        let mut sum = line.parity.word().ts;
+        let mut whole = true;
+        for j in 0..20u64 {
+            if j < u64::from(line.shape.na) {
+                let slot = line.base.saturating_add(j * u64::from(line.shape.offset));
+                match slots.get(slot as usize).and_then(|entry| entry.word()) {
+                    Some(word) => sum ^= word.ts,
+                    None => whole = false,
+                }
+            }
+        }
+        if whole && sum != 0 && least.is_none_or(|place| line.place < place) {
+            least = Some(line.place);
+        }
+    }
+    least
+}
+
+#[test]
+fn worked_block(rt: HostRuntime) -> Result<(), Fail> {
+    let mut stamps = [0u32; 16];
+    for (i, stamp) in stamps.iter_mut().enumerate() {
+        *stamp = 1000 * (i as u32 % 16 + 1);
+    }
+    let flipped = Flip {
+        equation: 1,
+        timestamp: 1 << 7,
+        length: 0,
+    };
+    let shortened = Flip {
+        equation: 0,
+        timestamp: 0,
+        length: 1316 ^ 100,
+    };
+    // Lost entries, given equations, the flip, filled entries, and the verdict.
+    let rows = [
+        (0x0260, ALL, NO_FLIP, 0x0260, Verdict::Sound),
+        (0x0660, ALL, NO_FLIP, 0x0000, Verdict::Sound),
+        (0x0c60, ALL_BUT_COLUMN_3, NO_FLIP, 0x0c60, Verdict::Sound),
+        (0x0000, ALL, flipped, 0x0000, Verdict::Unsound { place: 1 }),
+        // Row 1 gives the wrong word, with which column 1 fails.
+        (0x0020, ALL, flipped, 0x0020, Verdict::Unsound { place: 4 }),
+        (0x0008, ROW_0_ALONE, shortened, 0x0008, Verdict::NotMedia { slot: 3 }),
+    ];
+    for (lost, given, flip, want, verdict) in rows {
+        let mut slots = entries(rt.alloc(), &stamps, lost)?;
+        let lines = given_lines(rt.alloc(), &stamps, given, flip)?;
+        assert!(rt; peel_block(&rt, &mut slots, &lines) == verdict, "lost {lost}");
+        assert_eq!(rt; filled(&slots), want, "lost {lost}");
+        for (slot, stamp) in slots.iter().zip(stamps.iter()) {
+            if verdict == Verdict::Sound
+                && let Slot::Filled(word) = slot
+            {
+                assert!(rt; word.same(&media(*stamp)), "lost {lost}");
+            }
+        }
+        if let Verdict::Unsound { place } = verdict {
+            assert!(rt; least_broken(&slots, &lines) == Some(place), "lost {lost}");
+        }
+    }
+    Ok(())
+}
+
+/// An equation on timestamps alone: the slots as bits, and the sum.
+#[derive(Clone, Copy)]
+struct Plain {
+    mask: u16,
+    parity: u32,
+}
+
+/// What the ends of all orders of steps have in common.
+#[derive(Drop)]
+struct Ends {
+    count: u32,
+    sound: u32,
+    known: u16,
+    stamps: [u32; 16],
+    agree: bool,
+}
+
+fn plain_lines(alloc: Global, lines: &Slab<Line>) -> Result<Vec<Plain>, AllocError> {
+    let mut plain = Vec::new(alloc);
+    for (_, line) in lines.iter() {
+        let row = line.shape.offset == 1;
+        let mask: u16 = if row { 0x000f } else { 0x1111 };
+        plain.push(Plain {
+            mask: mask.wrapping_shl((line.base % 16) as u32),
+            parity: line.parity.word().ts,
+        })?;
+    }
+    Ok(plain)
+}
+
+fn sum_at(stamps: &[u32; 16], mask: u16) -> u32 {
+    let mut sum = 0;
+    for (i, stamp) in stamps.iter().enumerate() {
+        if mask >> (i % 16) & 1 == 1 {
+            sum ^= *stamp;
+        }
+    }
+    sum
+}
+
+/// Plays every order of at most `depth` steps from these timestamps, and notes where they end.
+fn play_all(lines: &[Plain], known: u16, stamps: &[u32; 16], depth: u8, ends: &mut Ends) {
+    let mut ended = true;
+    for line in lines {
+        let unknown = line.mask & !known;
+        if depth > 0 && unknown.count_ones() == 1 {
+            ended = false;
+            let mut next = *stamps;
+            for i in 0..16 {
+                if unknown >> i & 1 == 1 {
+                    next[i] = line.parity ^ sum_at(stamps, line.mask & known);
+                }
+            }
+            play_all(lines, known | unknown, &next, depth - 1, ends);
+        }
+    }
+    if ended {
+        note_end(lines, known, stamps, ends);
+    }
+}
+
+/// Notes an end. It is sound if each equation comes out whose timestamps are all there.
+fn note_end(lines: &[Plain], known: u16, stamps: &[u32; 16], ends: &mut Ends) {
+    ends.agree = ends.agree && (ends.count == 0 || ends.known == known);
+    ends.known = known;
+    ends.count = ends.count.saturating_add(1);
+    let mut sound = true;
+    for line in lines {
+        if line.mask & !known == 0 && sum_at(stamps, line.mask) != line.parity {
+            sound = false;
+        }
+    }
+    if sound {
+        ends.agree = ends.agree && (ends.sound == 0 || ends.stamps == *stamps);
+        ends.stamps = *stamps;
+        ends.sound = ends.sound.saturating_add(1);
+    }
+}
+
+/// Up to four lost positions. Half of the time they are among nine neighbours.
+fn some_lost(random: &mut Pcg32) -> u16 {
+    let mut lost = 0u16;
+    let near = random.next_word() % 2 == 0;
+    for _ in 0..random.next_word() % 5 {
+        let place = random.next_word() % 16;
+        let near_place = place % 3 + 4 * (place / 4 % 3);
+        lost |= 1u16.wrapping_shl(if near { near_place } else { place });
+    }
+    lost
+}
+
+fn some_flip(random: &mut Pcg32) -> Flip {
+    let wrong = random.next_word() % 3 == 0;
+    Flip {
+        equation: random.next_word() as usize % 8,
+        timestamp: if wrong { 1 + random.next_word() / 2 } else { 0 },
+        length: 0,
+    }
+}
+
+/// One random block: the peeler and all orders agree on the closure, the verdict and the words.
+fn try_block(rt: &impl Abort, alloc: Global, random: &mut Pcg32) -> Result<(), Fail> {
+    let mut stamps = [0u32; 16];
+    for stamp in stamps.iter_mut() {
+        *stamp = random.next_word();
+    }
+    let lost = some_lost(random);
+    let given = if random.next_word() % 2 == 0 {
+        ALL
+    } else {
+        (random.next_word() % 256) as u8
+    };
+    let lines = given_lines(alloc, &stamps, given, some_flip(random))?;
+    let mut slots = entries(alloc, &stamps, lost)?;
+    let verdict = peel_block(rt, &mut slots, &lines);
+
+    let mut ends = Ends {
+        count: 0,
+        sound: 0,
+        known: 0,
+        stamps: [0; 16],
+        agree: true,
+    };
+    play_all(&plain_lines(alloc, &lines)?, !lost, &stamps, 16, &mut ends);
+    assert!(rt; ends.agree && (ends.sound == 0 || ends.sound == ends.count));
+    assert_eq!(rt; filled(&slots), ends.known & lost);
+    match verdict {
+        Verdict::Sound => assert!(rt; ends.sound > 0),
+        Verdict::Unsound { place } => {
+            assert_eq!(rt; ends.sound, 0);
+            assert!(rt; least_broken(&slots, &lines) == Some(place));
+        }
+        Verdict::NotMedia { .. } => assert!(rt; false, "each recovered word is a media word"),
+    }
+    for (slot, stamp) in slots.iter().zip(ends.stamps.iter()) {
+        if verdict == Verdict::Sound
+            && let Slot::Filled(word) = slot
+        {
+            assert_eq!(rt; word.ts, *stamp);
+        }
+    }
+    Ok(())
+}
+
+#[test]
+fn random_blocks(rt: HostRuntime) -> Result<(), Fail> {
+    let mut random = Pcg32::new(2022, 1);
+    for _ in 0..150 {
+        try_block(&rt, rt.alloc(), &mut random)?;
+    }
+    Ok(())
+}

@@ -1,0 +1,92 @@
+//! Shapes of parity equations: which media datagrams one parity datagram protects.
+#![tactic(auto)]
+
+ghost use Rattle.std.specs.Prelude.{◌≡◌, ◌↔◌, ◌^◌, ◌<◌, ◌≤◌, All, Contains, IsTrue, slice_index};
+ghost use Rattle.fg_shape.specs.Shape.{slots_of, IsShape};
+
+pub mod laws;
+
+/// The shape of a parity equation (SMPTE ST 2022-1, the FEC header's Offset and NA fields).
+#[derive(Clone, Copy, PartialEq, Eq)]
+pub struct Shape {
+    /// How far each slot is from the one before, in positions.
+    pub offset: u8,
+    /// The number of slots.
+    pub na: u8,
+}
+
+/// Whether a shape is one that is read: an offset of 1 to 20, 1 to 20 slots, and at most 99 positions
+/// from the first slot to the last.
+pub fn shape_ok(shape: Shape) -> bool
+    ensures { IsTrue result ↔ IsShape shape.offset shape.na }
+{
+    if shape.offset < 1 || shape.offset > 20 || shape.na < 1 || shape.na > 20 {
+        return false;
+    }
+    u16::from(shape.na - 1) * u16::from(shape.offset) <= 99
+}
+
+/// The position of slot `j` of the equation with this base, counted from 0.
+pub fn slot(base: u64, shape: Shape, j: u8) -> u64
+    requires shape { IsShape shape.offset shape.na }
+    requires base { base ≤ 2 ^ 62 }
+    requires number { j < shape.na }
+    ensures { result ≡ slice_index (slots_of base shape.offset shape.na) j }
+{
+    base + u64::from(j) * u64::from(shape.offset)
+}
+
+/// Whether a position is one of the slots of the equation with this base.
+pub fn contains(base: u64, shape: Shape, slot: u64) -> bool
+    requires shape { IsShape shape.offset shape.na }
+    requires base { base ≤ 2 ^ 62 }
+    ensures { IsTrue result ↔ Contains (slots_of base shape.offset shape.na) slot }
+{
+    if slot < base {
+        return false;
+    }
+    let offset = u64::from(shape.offset);
+    let distance = slot - base;
+    distance % offset == 0 && distance / offset < u64::from(shape.na)
+}
+
+/// The greatest slot of the equation with this base.
+pub fn last(base: u64, shape: Shape) -> u64
+    requires shape { IsShape shape.offset shape.na }
+    requires base { base ≤ 2 ^ 62 }
+    ensures slot { Contains (slots_of base shape.offset shape.na) result }
+    ensures greatest { All (λ slot. slot ≤ result) (slots_of base shape.offset shape.na) }
+{
+    base + u64::from(shape.na - 1) * u64::from(shape.offset)
+}
+
+#[cfg(test)]
+mod tests {
+    use super::*;
+    use std::test::Fail;
+
+    // The columns of the staggered layout of five columns and five rows: 0 5 10 15 20, then
+    // 6 11 16 21 26, and so on.
+    #[test]
+    fn staggered_columns(rt: HostRuntime) -> Result<(), Fail> {
+        let column = Shape { offset: 5, na: 5 };
+        assert!(rt; shape_ok(column));
+        assert_eq!(rt; slot(6, column, 3), 21);
+        assert_eq!(rt; last(24, column), 44);
+        assert!(rt; contains(6, column, 26));
+        assert!(rt; !contains(6, column, 25));
+        assert!(rt; !contains(6, column, 31));
+        assert!(rt; !contains(6, column, 1));
+        Ok(())
+    }
+
+    // Twenty slots that lie 5 apart span 95 positions, and such that lie 6 apart too many.
+    #[test]
+    fn limits_of_shapes(rt: HostRuntime) -> Result<(), Fail> {
+        assert!(rt; shape_ok(Shape { offset: 5, na: 20 }));
+        assert!(rt; !shape_ok(Shape { offset: 6, na: 20 }));
+        assert!(rt; !shape_ok(Shape { offset: 0, na: 4 }));
+        assert!(rt; !shape_ok(Shape { offset: 1, na: 21 }));
+        Ok(())
+    }
+}
