@@ -1,20 +1,15 @@
 -- What stays of the rule's parts when one view is replaced, or one is added.
-use Rattle.std.proofs.Common.{◌≡◌, ℕ, zero, suc, ◌+◌, ◌<◌, ◌≤◌, ◌≢◌, ◌⊎◌, inl, inr, Bool, true, false, List, [], ◌∷◌, ◌++◌, set, sym, refl, ap, ◌∙◌, subst, ⊎_elim, le_trans, arith}
-use Rattle.std.specs.Prelude.{Option, Some, None}
-use Rattle.std.specs.List.{sum_by}
-use Rattle.std.proofs.lemmas.List.Sums.{sum_by-cons, sum_by-append}
+use Rattle.std.proofs.Common.{◌≡◌, ℕ, zero, suc, ◌+◌, ◌<◌, ◌≤◌, ◌≢◌, inl, inr, true, List, [], ◌∷◌, ◌++◌, set, sym, refl, ap, ◌∙◌, subst, ⊎_elim, arith}
+use Rattle.std.specs.Prelude.{Option}
 use mathlib.Core.List.{IsPrefix, append-nil, append_assoc}
 use mathlib.Core.Option.{none, some, some-injective, some-ne-none}
 use mathlib.Core.Option as maybe
-use mathlib.Core.Logic.{dite}
-use native.Mathlib.Decide.{ℕ_discrete}
 use lib.ListN.{get_elem?}
-use Rattle.atomic_table.proofs.Lists.{at_set, at_snoc, set_here, set_else, at_longer}
-use Rattle.fg_turn.specs.Entries.{Entry}
+use Rattle.atomic_table.proofs.Lists.{at_set, at_snoc, set_else, at_longer}
 use Rattle.fg_turn.specs.declared.note.Note.{Note}
 use Rattle.fg_turn.specs.declared.note.Place.{Place}
 use Rattle.fg_turn.specs.declared.note.Place.TheVariants.{Unopened, Spent, Outside, Waiting, Inside}
-use Rattle.fg_turn.specs.Rule.{drawn_at, live_at, HasTicket, InLine, HasTurn, ticket_at, drawn, live, IsOwner, Fits, Lies, Kept}
+use Rattle.fg_turn.specs.Rule.{drawn_at, live_at, HasTicket, InLine, HasTurn, Lies}
 use Rattle.fg_turn.proofs.Views.{same_view, each_set, each_snoc}
 
 -- list prefixes
@@ -76,13 +71,13 @@ module _ {S : Type 0} where
       → ((j t : ℕ) (u : Note S) → j ≢ i → get_elem? views j ≡ some u → HasTicket t w.place → HasTicket t u.place → ⊥) → Apart (set views i w)
   apart_set views i w apart alone a b t x y at_a at_b has_a has_b = ⊎_elim
       (λ ta. ⊎_elim
-          (λ tb. ta.0 ∙ sym tb.0)
-          (λ tb. absurd (alone b t y tb.0 tb.1 (subst (λ (n : Note S). HasTicket t n.place) (sym ta.1) has_a) has_b))
-          (at_set views i b w y at_b))
+      (λ tb. ta.0 ∙ sym tb.0)
+      (λ tb. absurd (alone b t y tb.0 tb.1 (subst (λ (n : Note S). HasTicket t n.place) (sym ta.1) has_a) has_b))
+      (at_set views i b w y at_b))
       (λ ta. ⊎_elim
-          (λ tb. absurd (alone a t x ta.0 ta.1 (subst (λ (n : Note S). HasTicket t n.place) (sym tb.1) has_b) has_a))
-          (λ tb. apart a b t x y ta.1 tb.1 has_a has_b)
-          (at_set views i b w y at_b))
+      (λ tb. absurd (alone a t x ta.0 ta.1 (subst (λ (n : Note S). HasTicket t n.place) (sym tb.1) has_b) has_a))
+      (λ tb. apart a b t x y ta.1 tb.1 has_a has_b)
+      (at_set views i b w y at_b))
       (at_set views i a w x at_a)
 
   pub apart_snoc : (views : List (Note S)) (w : Note S) → Apart views → ((t : ℕ) → ¬ HasTicket t w.place) → Apart (views ++ w ∷ [])

@@ -1,3 +1,3 @@
 mod Views
 mod Changes
-mod Steps
+mod Keeping

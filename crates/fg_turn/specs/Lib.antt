@@ -1,3 +1,5 @@
 pub mod Entries
 pub mod Rule
 pub mod Plays
+pub mod Standing
+pub mod Inside

@@ -8,5 +8,8 @@
 mod guarded;
 mod note;
 mod rule;
+mod steps;
+mod turn;
 
 pub use guarded::{Guarded, Named};
+pub use turn::{Owner, Seat, Turn};

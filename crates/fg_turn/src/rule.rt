@@ -24,7 +24,7 @@ pub(crate) struct Open<N> {
 impl<S, N: Named> Play<Option<S>, Note<S>> for Open<N> {
     ghost use Rattle.fg_turn.specs.Plays.{opened};
 
-    ghost then = { opened N.entries };
+    ghost then = { λ step. opened N.entries };
 }
 
 /// The seat draws a ticket.
@@ -33,7 +33,7 @@ pub(crate) struct Draw;
 impl<S> Play<Option<S>, Note<S>> for Draw {
     ghost use Rattle.fg_turn.specs.Plays.{drew};
 
-    ghost then = { drew };
+    ghost then = { λ step. drew };
 }
 
 /// The seat looks at the ticket that is served. Where it is its own, it has the turn and the slot.
@@ -42,7 +42,7 @@ pub(crate) struct Look;
 impl<S: Guarded> Play<Option<S>, Note<S>> for Look {
     ghost use Rattle.fg_turn.specs.Plays.{looked};
 
-    ghost then = { looked S.owner S.grows };
+    ghost then = { λ step. looked S.owner S.grows };
 }
 
 /// The turn ends, and the seat was told the list that `N` means.
@@ -54,7 +54,7 @@ impl<S, N: Named> Play<Option<S>, Note<S>> for Serve<N> {
     ghost use Rattle.std.specs.Prelude.{[]};
     ghost use Rattle.fg_turn.specs.Plays.{served};
 
-    ghost then = { served [] N.entries };
+    ghost then = { λ step. served [] N.entries };
 }
 
 /// The owner's turn ends. The first member of `N`'s list is its entry, and the others are told.
@@ -66,7 +66,7 @@ impl<S, N: Named> Play<Option<S>, Note<S>> for ServeOwner<N> {
     ghost use Rattle.fg_turn.specs.Plays.{served};
     ghost use Rattle.fg_turn.specs.Entries.{entry_of, told_of};
 
-    ghost then = { served (entry_of N.entries) (told_of N.entries) };
+    ghost then = { λ step. served (entry_of N.entries) (told_of N.entries) };
 }
 
 /// The owner looks at how many seats are out.
@@ -75,7 +75,7 @@ pub(crate) struct Count;
 impl<S> Play<Option<S>, Note<S>> for Count {
     ghost use Rattle.fg_turn.specs.Plays.{counted};
 
-    ghost then = { counted };
+    ghost then = { λ step. counted };
 }
 
 /// The owner splits off a seat that was told nothing, or takes one back.

@@ -1,24 +1,24 @@
 -- Each kind of step keeps the rule of the turn's table.
-use Rattle.std.proofs.Common.{◌≡◌, ℕ, zero, suc, ◌+◌, ◌-◌, ◌%◌, ◌^◌, ◌<◌, ◌≤◌, ◌≢◌, ◌⊎◌, inl, inr, Bool, true, false, List, [], ◌∷◌, ◌++◌, set, sym, refl, ap, ◌∙◌, subst, ⊎_elim, le_trans, arith}
+use Rattle.std.proofs.Common.{◌≡◌, ℕ, zero, suc, ◌+◌, ◌-◌, ◌%◌, ◌^◌, ◌<◌, ◌≤◌, ◌≢◌, ◌⊎◌, inl, inr, Bool, true, false, List, [], ◌∷◌, ◌++◌, set, sym, refl, ap, ◌∙◌, subst, ⊎_elim, arith}
 use Rattle.std.proofs.Math.Nat.{mod-add-mod}
 use Rattle.std.specs.Prelude.{Option, Some, None, slice_index, slice_set}
 use Rattle.std.specs.List.{sum_by}
 use Rattle.std.proofs.lemmas.List.Sums.{sum_by-cons, sum_by-append}
 use mathlib.Core.List.{IsPrefix, append-nil}
 use mathlib.Core.Option.{none, some, some-injective, some-ne-none}
-use mathlib.Core.Option as maybe
 use mathlib.Core.Logic.{dite}
 use native.Mathlib.Decide.{ℕ_discrete}
 use lib.ListN.{get_elem?}
-use Rattle.atomic_table.specs.Table.{State, Step, Allows, Splits, Joins, Seen, keeps, takes, gives, stepped, opening, rest, put_back}
-use Rattle.atomic_table.proofs.Lists.{set_here, set_else, set_again, one_turn}
+use Rattle.atomic_table.specs.Table.{State, Allows, Splits, Joins, Seen, Final, keeps, takes, gives, stepped, opening, put_back}
+use Rattle.atomic_table.proofs.Lists.{set_else, set_again, one_turn}
 use Rattle.fg_turn.specs.Entries.{Entry}
 use Rattle.fg_turn.specs.declared.note.Note.{Note}
 use Rattle.fg_turn.specs.declared.note.Place.{Place}
 use Rattle.fg_turn.specs.declared.note.Place.TheVariants.{Unopened, Spent, Outside, Waiting, Inside}
-use Rattle.fg_turn.specs.Rule.{drawn_at, live_at, HasTicket, InLine, HasTurn, ticket_at, drawn, live, IsOwner, Fits, Lies, Kept, Ruled, unopened, splitting, newcomer, joining, spent}
-use Rattle.fg_turn.specs.Plays.{Knows, opening_with, opened, waiting, drew, entering, Has, looked, carried, leaving, served, counted}
-use Rattle.fg_turn.proofs.Views.{same_view, set_at, sum_set, sum_has, sum_has_two, sum_below, each_set, each_snoc}
+use Rattle.fg_turn.specs.Rule.{drawn_at, live_at, HasTicket, InLine, HasTurn, ticket_at, drawn, live, Fits, Kept, Ruled, unopened, splitting, newcomer, joining, spent}
+use Rattle.fg_turn.specs.Plays.{Knows, opening_with, opened, waiting, drew, entering, looked, carried, leaving, served, counted}
+use Rattle.fg_turn.specs.Inside.{is_inside, Rests}
+use Rattle.fg_turn.proofs.Views.{same_view, set_at, sum_set, sum_has_two, sum_below, each_set, each_snoc}
 use Rattle.fg_turn.proofs.Changes.{prefix_refl, prefix_more, prefix_nil, ticket_before, line_grows, line_moves, turn_has_ticket, no_turn_outside, drawn_below_live, apart_set, apart_snoc, held_set, held_snoc, lies_set, lies_snoc}
 
 abbrev pub IsOpen : Place → Type 0
@@ -60,8 +60,8 @@ module _ {S : Type 0} (owner grows : List Entry → S → Type 0) where
       (λ k. k)
       ruled
 
-  pub draws : (first : S) (n : ℕ) (st : Step (Option S)) (id : ℕ) (m : Knows S) → m.0.place ≡ Outside → Allows (Ruled owner grows first) n id m 0 (λ x. (x + 1) % 2 ^ 64) (drew st m)
-  draws first n st id m at s ruled long here below =
+  pub draws : (first : S) (n : ℕ) (id : ℕ) (m : Knows S) → m.0.place ≡ Outside → Allows (Ruled owner grows first) n id m 0 (λ x. (x + 1) % 2 ^ 64) (drew m)
+  draws first n id m at s ruled long here below =
       let v : Note S = m.0 in
       let k = kept_of first s ruled id v here (subst IsOpen (sym at) tt) in
       let next : ℕ = k.next in let serving : ℕ = k.serving in
@@ -71,8 +71,7 @@ module _ {S : Type 0} (owner grows : List Entry → S → Type 0) where
       let d0 : drawn v ≡ 0 = ap drawn_at at in
       let l : sum_by live (set s.views id w) + live v ≡ sum_by live s.views + 1 = sum_set live s.views id v w here in
       let l1 : live v ≡ 1 = ap live_at at in
-      let tk : serving + sum_by drawn s.views ≡ next = k.tickets in
-      (
+      let tk : serving + sum_by drawn s.views ≡ next = k.tickets in (
         w,
         keeps,
         tt,
@@ -110,10 +109,10 @@ module _ {S : Type 0} (owner grows : List Entry → S → Type 0) where
       same_word (suc (suc i)) lt = absurd (omega arith)
 
   -- a seat that waits, and sees its own ticket served, has the turn
-  takes_turn : (first : S) (n : ℕ) (st : Step (Option S)) (id : ℕ) (m : Knows S) (t : ℕ) (s : State (Option S) (Note S)) → m.0.place ≡ Waiting t → (k : Kept owner grows s) → get_elem? s.views id ≡ some m.0
+  takes_turn : (first : S) (n : ℕ) (id : ℕ) (m : Knows S) (t : ℕ) (s : State (Option S) (Note S)) → m.0.place ≡ Waiting t → (k : Kept owner grows s) → get_elem? s.views id ≡ some m.0
       → slice_index s.words 1 ≡ ticket_at m.0.place % 2 ^ 64
       → (get_elem? s.homes 0 ≡ some (some (Some k.here))) × Ruled owner grows first (stepped s 1 (slice_index s.words 1) id m.1 (entering k.calls k.here m.0) (takes 0 (Some k.here)))
-  takes_turn first n st id m t s at k here e =
+  takes_turn first n id m t s at k here e =
       let v : Note S = m.0 in
       let next : ℕ = k.next in let serving : ℕ = k.serving in
       let w : Note S = entering k.calls k.here v in
@@ -128,16 +127,15 @@ module _ {S : Type 0} (owner grows : List Entry → S → Type 0) where
       let is : serving ≡ t = one_turn serving t (2 ^ 64) lo (omega arith) (sym (ap (λ ws. slice_index ws 1) k.words) ∙ (e ∙ ap (λ (x : ℕ). x % 2 ^ 64) own)) in
       let has : HasTicket serving v.place = subst (HasTicket serving) (sym at) (sym is) in
       let free : (s.homes ≡ some (Some k.here) ∷ []) × ((j : ℕ) (u : Note S) → get_elem? s.views j ≡ some u → ¬ HasTurn u.place) = ⊎_elim
-          (λ h. h)
-          (λ h. let u : Note S = h.1.1 in let j : ℕ = h.1.0 in
-              let same : v ≡ u = same_view s.views id j v u here h.1.2 (k.apart id j serving v u here h.1.2 has (turn_has_ticket serving next u.place (k.each j u h.1.2).waits h.1.3)) in
-              absurd (subst HasTurn at (subst (λ (x : Note S). HasTurn x.place) (sym same) h.1.3)))
-          k.lies in
+      (λ h. h)
+      (λ h. let u : Note S = h.1.1 in let j : ℕ = h.1.0 in
+      let same : v ≡ u = same_view s.views id j v u here h.1.2 (k.apart id j serving v u here h.1.2 has (turn_has_ticket serving next u.place (k.each j u h.1.2).waits h.1.3)) in
+      absurd (subst HasTurn at (subst (λ (x : Note S). HasTurn x.place) (sym same) h.1.3)))
+      k.lies in
       let d : sum_by drawn (set s.views id w) + drawn v ≡ sum_by drawn s.views + 1 = sum_set drawn s.views id v w here in
       let d1 : drawn v ≡ 1 = ap drawn_at at in
       let l : sum_by live (set s.views id w) + live v ≡ sum_by live s.views + 1 = sum_set live s.views id v w here in
-      let l1 : live v ≡ 1 = ap live_at at in
-      (
+      let l1 : live v ≡ 1 = ap live_at at in (
         ap (λ hs. get_elem? hs 0) free.0,
         inr record {
           next = next;
@@ -159,24 +157,24 @@ module _ {S : Type 0} (owner grows : List Entry → S → Type 0) where
         },
       )
 
-  pub looks : (first : S) (n : ℕ) (st : Step (Option S)) (id : ℕ) (m : Knows S) (t : ℕ) → m.0.place ≡ Waiting t → Allows (Ruled owner grows first) n id m 1 (λ x. x) (looked owner grows st m)
-  looks first n st id m t at s ruled long here below =
+  pub looks : (first : S) (n : ℕ) (id : ℕ) (m : Knows S) (t : ℕ) → m.0.place ≡ Waiting t → Allows (Ruled owner grows first) n id m 1 (λ x. x) (looked owner grows m)
+  looks first n id m t at s ruled long here below =
       let v : Note S = m.0 in
       let k = kept_of first s ruled id v here (subst IsOpen (sym at) tt) in
       let f = k.each id v here in
       dite (ℕ_discrete (slice_index s.words 1) (ticket_at v.place % 2 ^ 64))
-          (λ e. let did = takes_turn first n st id m t s at k here e in
-              (entering k.calls k.here v, takes 0 (Some k.here), did.0, did.1, ((λ _. (k.calls, k.here, refl, f.seen, (λ o. sym (f.owner o).all), k.meets, f.rests)), (λ ne. absurd (ne e)))))
-          (λ ne. (v, keeps, tt, subst (Ruled owner grows first) (sym (stays_same s 1 _ _ id v m.1 (omega arith) k.words here)) ruled, ((λ e. absurd (ne e)), (λ _. refl))))
+      (λ e. let did = takes_turn first n id m t s at k here e in
+      (entering k.calls k.here v, takes 0 (Some k.here), did.0, did.1, ((λ _. (k.calls, k.here, refl, f.seen, (λ o. sym (f.owner o).all), k.meets, f.rests)), (λ ne. absurd (ne e)))))
+      (λ ne. (v, keeps, tt, subst (Ruled owner grows first) (sym (stays_same s 1 _ _ id v m.1 (omega arith) k.words here)) ruled, ((λ e. absurd (ne e)), (λ _. refl))))
 
   -- the turn ends with the state y, which follows the one entered, x
-  pub serves : (first : S) (n : ℕ) (st : Step (Option S)) (id : ℕ) (m : Knows S) (t : ℕ) (x y : S) (entry told : List Entry) → m.0.place ≡ Inside t → m.0.entered ≡ Some x → m.1 ≡ (0, Some y) ∷ []
+  pub serves : (first : S) (n : ℕ) (id : ℕ) (m : Knows S) (t : ℕ) (x y : S) (entry told : List Entry) → m.0.place ≡ Inside t → m.0.entered ≡ Some x → m.1 ≡ (0, Some y) ∷ []
       → ((entry ≡ []) ⊎ (m.0.owns ≡ true))
       → ((calls : List Entry) → owner calls x → owner (calls ++ entry) y)
       → ((calls old : List Entry) → owner calls x → grows old x → grows old y)
       → ((a b : List Entry) → grows a y → grows b y → grows (a ++ b) y) → grows told y
-      → Allows (Ruled owner grows first) n id m 1 (λ z. (z + 1) % 2 ^ 64) (served entry told st m)
-  serves first n st id m t x y entry told at entered holds_y may moves stays both new s ruled long here below =
+      → Allows (Ruled owner grows first) n id m 1 (λ z. (z + 1) % 2 ^ 64) (served entry told m)
+  serves first n id m t x y entry told at entered holds_y may moves stays both new s ruled long here below =
       let v : Note S = m.0 in
       let k = kept_of first s ruled id v here (subst IsOpen (sym at) tt) in
       let next : ℕ = k.next in let serving : ℕ = k.serving in
@@ -186,11 +184,11 @@ module _ {S : Type 0} (owner grows : List Entry → S → Type 0) where
       let has : HasTicket serving v.place = subst (HasTicket serving) (sym at) line.0 in
       let turn : HasTurn v.place = subst HasTurn (sym at) tt in
       let away : (s.homes ≡ none ∷ []) × (k.here ≡ x) = ⊎_elim
-          (λ h. absurd (h.1 id v here turn))
-          (λ h. let u : Note S = h.1.1 in let j : ℕ = h.1.0 in
-              let same : u ≡ v = same_view s.views j id u v h.1.2 here (k.apart j id serving u v h.1.2 here (turn_has_ticket serving next u.place (k.each j u h.1.2).waits h.1.3) has) in
-              (h.0, unwrap_same k.here x (sym h.1.4 ∙ (ap (λ (z : Note S). z.entered) same ∙ entered))))
-          k.lies in
+      (λ h. absurd (h.1 id v here turn))
+      (λ h. let u : Note S = h.1.1 in let j : ℕ = h.1.0 in
+      let same : u ≡ v = same_view s.views j id u v h.1.2 here (k.apart j id serving u v h.1.2 here (turn_has_ticket serving next u.place (k.each j u h.1.2).waits h.1.3) has) in
+      (h.0, unwrap_same k.here x (sym h.1.4 ∙ (ap (λ (z : Note S). z.entered) same ∙ entered))))
+      k.lies in
       let owned : owner k.calls x = subst (owner k.calls) away.1 k.meets in
       let d : sum_by drawn (set s.views id w) + drawn v ≡ sum_by drawn s.views + 0 = sum_set drawn s.views id v w here in
       let d1 : drawn v ≡ 1 = ap drawn_at at in
@@ -198,8 +196,7 @@ module _ {S : Type 0} (owner grows : List Entry → S → Type 0) where
       let l1 : live v ≡ 1 = ap live_at at in
       let tk : serving + sum_by drawn s.views ≡ next = k.tickets in
       let sts : sum_by live s.views ≡ k.out + 1 = k.seats in
-      let kept_told : (old : List Entry) → grows old k.here → grows old y = λ old g. stays k.calls old owned (subst (grows old) away.1 g) in
-      (
+      let kept_told : (old : List Entry) → grows old k.here → grows old y = λ old g. stays k.calls old owned (subst (grows old) away.1 g) in (
         w,
         gives,
         tt,
@@ -246,15 +243,15 @@ module _ {S : Type 0} (owner grows : List Entry → S → Type 0) where
         refl,
       )
 
-  pub counts : (first : S) (n : ℕ) (st : Step (Option S)) (id : ℕ) (m : Knows S) → m.0.owns ≡ true → m.0.place ≡ Outside → Allows (Ruled owner grows first) n id m 0 (λ x. x) (counted st m)
-  counts first n st id m owns at s ruled long here below =
+  pub counts : (first : S) (n : ℕ) (id : ℕ) (m : Knows S) → m.0.owns ≡ true → m.0.place ≡ Outside → Allows (Ruled owner grows first) n id m 0 (λ x. x) (counted m)
+  counts first n id m owns at s ruled long here below =
       let v : Note S = m.0 in
       let k = kept_of first s ruled id v here (subst IsOpen (sym at) tt) in
       let c = ((k.each id v here).owner owns).counts in
       (v, keeps, tt, subst (Ruled owner grows first) (sym (stays_same s 0 _ _ id v m.1 (omega arith) k.words here)) ruled, (refl, omega arith))
 
-  pub opens : (first : S) (n : ℕ) (st : Step (Option S)) (id : ℕ) (m : Knows S) (calls : List Entry) → m.0 ≡ unopened → owner calls first → grows [] first → Allows (Ruled owner grows first) n id m 0 (λ x. x) (opened calls st m)
-  opens first n st id m calls is meets rests s ruled long here below =
+  pub opens : (first : S) (n : ℕ) (id : ℕ) (m : Knows S) (calls : List Entry) → m.0 ≡ unopened → owner calls first → grows [] first → Allows (Ruled owner grows first) n id m 0 (λ x. x) (opened calls m)
+  opens first n id m calls is meets rests s ruled long here below =
       let v : Note S = m.0 in
       let w : Note S = opening_with calls v in
       let o : Note S = opening_with calls unopened in
@@ -319,8 +316,8 @@ module _ {S : Type 0} (owner grows : List Entry → S → Type 0) where
         each = each_snoc (Fits grows next serving k.calls (k.out + 1) k.here) vs b
             (λ j. record { owner = λ e. absurd (not_true e); seen = f.seen; waits = tt; rests = untold k.here })
             (each_set (Fits grows next serving k.calls (k.out + 1) k.here) s.views id a
-                record { owner = λ _. record { first = io.first; all = io.all; counts = omega arith; lives = io.lives }; seen = f.seen; waits = f.waits; rests = f.rests }
-                (λ j u ne at_u. let g = k.each j u at_u in record { owner = λ o. absurd (not_owner next serving k.calls k.out k.here id j v u owns f g ne o); seen = g.seen; waits = g.waits; rests = g.rests }));
+            record { owner = λ _. record { first = io.first; all = io.all; counts = omega arith; lives = io.lives }; seen = f.seen; waits = f.waits; rests = f.rests }
+            (λ j u ne at_u. let g = k.each j u at_u in record { owner = λ o. absurd (not_owner next serving k.calls k.out k.here id j v u owns f g ne o); seen = g.seen; waits = g.waits; rests = g.rests }));
         lies = lies_snoc s.homes vs k.here b (λ h. h) (lies_set s.homes s.views k.here id v a here (no_turn_outside v.place at) (no_turn_outside v.place at) k.lies);
         meets = k.meets;
       }
@@ -362,9 +359,9 @@ module _ {S : Type 0} (owner grows : List Entry → S → Type 0) where
         each = each_set (Fits grows next serving k.calls (k.out - 1) k.here) vs other z
             record { owner = λ e. absurd (not_true e); seen = prefix_nil k.calls; waits = tt; rests = untold k.here }
             (λ j u _ at_u. each_set (Fits grows next serving k.calls (k.out - 1) k.here) s.views id a
-                record { owner = λ _. record { first = io.first; all = io.all; counts = omega arith; lives = io.lives }; seen = f.seen; waits = f.waits; rests = f.rests }
-                (λ j u ne at_u. let g = k.each j u at_u in record { owner = λ o. absurd (not_owner next serving k.calls k.out k.here id j v u owns f g ne o); seen = g.seen; waits = g.waits; rests = g.rests })
-                j u at_u);
+            record { owner = λ _. record { first = io.first; all = io.all; counts = omega arith; lives = io.lives }; seen = f.seen; waits = f.waits; rests = f.rests }
+            (λ j u ne at_u. let g = k.each j u at_u in record { owner = λ o. absurd (not_owner next serving k.calls k.out k.here id j v u owns f g ne o); seen = g.seen; waits = g.waits; rests = g.rests })
+            j u at_u);
         lies = lies_set s.homes vs k.here other w z there (no_turn_outside w.place at') (λ h. h) (lies_set s.homes s.views k.here id v a here (no_turn_outside v.place at) (no_turn_outside v.place at) k.lies);
         meets = k.meets;
       }
@@ -380,11 +377,28 @@ module _ {S : Type 0} (owner grows : List Entry → S → Type 0) where
       let sts : sum_by live s.views ≡ k.out + 1 = k.seats in
       let v1 : live v ≡ 1 = io.lives in
       let home : s.homes ≡ some (Some k.here) ∷ [] = ⊎_elim
-          (λ h. h.0)
-          (λ h. let u : Note S = h.1.1 in let j : ℕ = h.1.0 in
-              let u1 : live u ≡ 1 = turn_lives u.place h.1.3 in
-              let ne : id ≢ j = λ e. no_turn_outside v.place at (subst (λ (x : Note S). HasTurn x.place) (sym (same_view s.views id j v u here h.1.2 e)) h.1.3) in
-              let two : live v + live u ≤ sum_by live s.views = sum_has_two live s.views id j v u ne here h.1.2 in
-              absurd (omega arith))
-          k.lies in
+      (λ h. h.0)
+      (λ h. let u : Note S = h.1.1 in let j : ℕ = h.1.0 in
+      let u1 : live u ≡ 1 = turn_lives u.place h.1.3 in
+      let ne : id ≢ j = λ e. no_turn_outside v.place at (subst (λ (x : Note S). HasTurn x.place) (sym (same_view s.views id j v u here h.1.2 e)) h.1.3) in
+      let two : live v + live u ≤ sum_by live s.views = sum_has_two live s.views id j v u ne here h.1.2 in
+      absurd (omega arith))
+      k.lies in
       (k.here, home, subst (λ (c : List Entry). owner c k.here) (sym io.all) k.meets, f.rests)
+
+  -- what lies in the slot of a closed table
+  pub closed_with : (first : S) (id : ℕ) (v : Note S) (ws : List ℕ) (xs : List (Option S)) (found : Option S) → v.owns ≡ true → v.place ≡ Outside → v.joined ≡ v.split
+      → Final (Seen (Ruled owner grows first) id v) ws xs → get_elem? xs 0 ≡ some found
+      → (x : S) × (found ≡ Some x) × owner v.calls x × grows v.told x
+  closed_with first id v ws xs found owns at none_out final taken =
+      let s = final.0 in
+      let is = closes first id v s owns at none_out final.1 in
+      let there : get_elem? xs 0 ≡ some (Some is.0) = final.4 0 (Some is.0) (ap (λ hs. get_elem? hs 0) is.1) in
+      (is.0, some-injective found (Some is.0) (sym taken ∙ there), is.2, is.3)
+
+pub is_outside : {S : Type 0} (p : Place) (held : List (ℕ × Option S)) → Rests p held → is_inside p ≡ false → p ≡ Outside
+is_outside Unopened held r e = absurd r
+is_outside Spent held r e = absurd r
+is_outside Outside held r e = refl
+is_outside (Waiting t) held r e = absurd r
+is_outside (Inside t) held r e = absurd (not_true (sym e))
