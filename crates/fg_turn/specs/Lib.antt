@@ -3,3 +3,4 @@ pub mod Rule
 pub mod Plays
 pub mod Standing
 pub mod Inside
+pub mod Examples

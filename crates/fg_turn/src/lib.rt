@@ -9,6 +9,8 @@ mod guarded;
 mod note;
 mod rule;
 mod steps;
+#[cfg(test)]
+mod tests;
 mod turn;
 
 pub use guarded::{Guarded, Named};
