@@ -6,6 +6,7 @@
 #![tactic(auto)]
 
 mod guarded;
+pub mod laws;
 mod note;
 mod rule;
 mod steps;

@@ -13,7 +13,7 @@ use atomic_table::{Seat, Shared, Table};
 use std::alloc::Global;
 use std::snapshot::Snapshot;
 use std::sync::Wait;
-use std::thread;
+use std::{hint, thread};
 
 /// The ticket that is drawn next.
 const NEXT: usize = 0;
@@ -24,8 +24,11 @@ const SERVING: usize = 1;
 /// Where the state lies.
 const STATE: usize = 0;
 
-/// How often a seat yields the processor before it sleeps.
-const YIELDS: u32 = 16;
+/// How often a seat that waits looks again at once.
+const SPINS: u32 = 16;
+
+/// How often it looks before it sleeps. After the first looks it yields the processor in between.
+const LOOKS: u32 = 32;
 
 /// The words and the slot of a turn.
 pub(crate) type Words<S> = Shared<Option<S>, Note<S>, Snapshot<S>, Rule>;
@@ -46,11 +49,13 @@ fn draw<S: Guarded>(words: &Words<S>, mark: &mut Mark<S>) -> u64
     words.fetch_add::<Draw>(mark, NEXT, 1)
 }
 
-// Lets other threads run: it yields the processor at first, and then sleeps until another ticket is served.
+// Lets other threads run: a seat looks again at once at first, then it yields the processor, and then it sleeps until another ticket is served.
 fn pause<S: Guarded>(wait: &impl Wait, words: &Words<S>, rounds: u32, serving: u64)
     requires { words.now.table_id.words ≡ 2 }
 {
-    if rounds < YIELDS {
+    if rounds < SPINS {
+        hint::spin_loop();
+    } else if rounds < LOOKS {
         thread::yield_now();
     } else {
         words.park(wait, SERVING, (serving & 0xffff_ffff) as u32);
@@ -71,7 +76,7 @@ fn await_ticket<S: Guarded>(wait: &impl Wait, words: &Words<S>, mark: &mut Mark<
             return;
         }
         pause(wait, words, rounds, serving);
-        if rounds < YIELDS {
+        if rounds < LOOKS {
             rounds += 1;
         }
     }

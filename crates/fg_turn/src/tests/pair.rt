@@ -1,7 +1,8 @@
 // The worked example: the owner's entries raise `a`, and steps without an entry raise `b`.
-ghost use Rattle.std.specs.Prelude.{◌≡◌, ◌+◌, ◌<◌, ◌≤◌, ◌^◌, false, length, IfOk};
+ghost use Rattle.std.specs.Prelude.{◌≡◌, ◌+◌, ◌<◌, ◌≤◌, ◌++◌, [], ◌∷◌, true, false, length, None, IfOk, IsSomeAnd};
+ghost use Rattle.fg_turn.specs.Examples.{Raises};
 
-use crate::{Guarded, Owner, Seat, Turn};
+use crate::{Guarded, Named, Owner, Seat, Turn};
 use std::alloc::{AllocError, Global};
 use std::marker::Brand;
 use std::sync::Wait;
@@ -46,15 +47,26 @@ fn raise_a(wait: &impl Wait, turn: &Turn<Pair>, owner: &mut Owner<Pair>)
     turn.leave_owner::<Brand>(owner, pair);
 }
 
-// One turn of a seat, which is told the count that it leaves.
+// Ends a turn of a seat, which is told a number of the caller's own that the count has reached.
+fn tell<N: Named>(turn: &Turn<Pair>, seat: &mut Seat<Pair>, pair: Pair, seen: u32)
+    requires turn { (seat.old.turn ≡ turn.now.name) × (seat.old.inside ≡ true) }
+    requires step { IsSomeAnd seat.old.entered (λ old. Raises None old.a old.b pair.a pair.b) }
+    requires seen { (seen ≤ pair.b) × (N.entries ≡ (seen ∷ []) ∷ []) }
+    ensures { seat.new ≡ record seat.old { told = seat.old.told ++ (seen ∷ []) ∷ []; inside = false; left = Some pair } }
+{
+    turn.leave::<N>(seat, pair);
+}
+
+// One turn of a seat, which is told the count that it finds.
 fn raise_b(wait: &impl Wait, turn: &Turn<Pair>, seat: &mut Seat<Pair>)
     requires { (seat.old.turn ≡ turn.now.name) × (seat.old.inside ≡ false) }
     ensures turn { (seat.new.turn ≡ turn.now.name) × (seat.new.inside ≡ false) }
     ensures turns { seat.new.turns ≡ seat.old.turns + 1 }
 {
     let mut pair = turn.enter(wait, seat);
-    pair.b = pair.b.saturating_add(1);
-    turn.leave::<Brand>(seat, pair);
+    let seen = pair.b;
+    pair.b = seen.saturating_add(1);
+    tell::<Brand>(turn, seat, pair, seen);
 }
 
 fn owner_turns(

@@ -1,7 +1,7 @@
 // A state of another shape, a stock that only shrinks, and a turn through a bound.
-ghost use Rattle.std.specs.Prelude.{◌≡◌, ◌+◌, ◌≤◌, ◌++◌, [], ◌∷◌, false, length, vec_len, None, IfOk, IsSomeAnd};
+ghost use Rattle.std.specs.Prelude.{◌≡◌, ◌+◌, ◌≤◌, [], ◌∷◌, false, length, None, IfOk, IsSomeAnd};
 
-use crate::{Guarded, Named, Owner, Seat, Turn};
+use crate::{Guarded, Owner, Seat, Turn};
 use std::alloc::{AllocError, Global};
 use std::marker::Brand;
 use std::sync::Wait;
