@@ -9,14 +9,14 @@ use mathlib.Core.Option.{none, some, some-injective, some-ne-none}
 use mathlib.Core.Logic.{dite}
 use native.Mathlib.Decide.{ℕ_discrete}
 use lib.ListN.{get_elem?}
-use Rattle.atomic_table.specs.Table.{State, Allows, Splits, Joins, Seen, Final, keeps, takes, gives, stepped, opening, put_back}
+use Rattle.atomic_table.specs.Table.{State, Allows, Splits, Joins, Seen, Final, keeps, takes, gives, stepped, opening, put_back, rest}
 use Rattle.atomic_table.proofs.Lists.{set_else, set_again, one_turn}
 use Rattle.fg_turn.specs.Entries.{Entry}
 use Rattle.fg_turn.specs.declared.note.Note.{Note}
 use Rattle.fg_turn.specs.declared.note.Place.{Place}
 use Rattle.fg_turn.specs.declared.note.Place.TheVariants.{Unopened, Spent, Outside, Waiting, Inside}
 use Rattle.fg_turn.specs.Rule.{drawn_at, live_at, HasTicket, InLine, HasTurn, ticket_at, drawn, live, Fits, Kept, Ruled, unopened, splitting, newcomer, joining, spent}
-use Rattle.fg_turn.specs.Plays.{Knows, opening_with, opened, waiting, drew, entering, looked, carried, leaving, served, counted}
+use Rattle.fg_turn.specs.Plays.{Knows, opening_with, opened, waiting, drew, entering, Has, looked, carried, leaving, served, counted}
 use Rattle.fg_turn.specs.Inside.{is_inside, Rests}
 use Rattle.fg_turn.proofs.Views.{same_view, set_at, sum_set, sum_has_two, sum_below, each_set, each_snoc}
 use Rattle.fg_turn.proofs.Changes.{prefix_refl, prefix_more, prefix_nil, ticket_before, line_grows, line_moves, turn_has_ticket, no_turn_outside, drawn_below_live, apart_set, apart_snoc, held_set, held_snoc, lies_set, lies_snoc}
@@ -395,6 +395,28 @@ module _ {S : Type 0} (owner grows : List Entry → S → Type 0) where
       let is = closes first id v s owns at none_out final.1 in
       let there : get_elem? xs 0 ≡ some (Some is.0) = final.4 0 (Some is.0) (ap (λ hs. get_elem? hs 0) is.1) in
       (is.0, some-injective found (Some is.0) (sym taken ∙ there), is.2, is.3)
+
+  -- the same where a step before left the seat with this view
+  pub looks_again : (first : S) (n : ℕ) (id : ℕ) (m m' : Knows S) (t : ℕ) → m' ≡ m → m.0.place ≡ Waiting t → Allows (Ruled owner grows first) n id m' 1 (λ x. x) (looked owner grows m')
+  looks_again first n id m m' t is at = looks first n id m' t (ap (λ (z : Knows S). z.0.place) is ∙ at)
+
+  pub serves_after : (first : S) (n : ℕ) (id : ℕ) (v : Note S) (m : Knows S) (t : ℕ) (x y : S) (entry told : List Entry) → m ≡ (v, (0, Some y) ∷ []) → v.place ≡ Inside t → v.entered ≡ Some x
+      → ((entry ≡ []) ⊎ (v.owns ≡ true))
+      → ((calls : List Entry) → owner calls x → owner (calls ++ entry) y)
+      → ((calls old : List Entry) → owner calls x → grows old x → grows old y)
+      → ((a b : List Entry) → grows a y → grows b y → grows (a ++ b) y) → grows told y
+      → Allows (Ruled owner grows first) n id m 1 (λ z. (z + 1) % 2 ^ 64) (served entry told m)
+  serves_after first n id v m t x y entry told is at entered may moves stays both new =
+      serves first n id m t x y entry told (ap (λ (z : Knows S). z.0.place) is ∙ at) (ap (λ (z : Knows S). z.0.entered) is ∙ entered) (ap (λ (z : Knows S). z.1) is)
+      (⊎_elim (λ e. inl e) (λ o. inr (ap (λ (z : Knows S). z.0.owns) is ∙ o)) may) moves stays both new
+
+  pub counts_after : (first : S) (n : ℕ) (id : ℕ) (v : Note S) (m : Knows S) (held : List (ℕ × Option S)) → m ≡ (joining v, held) → v.owns ≡ true → v.place ≡ Outside
+      → Allows (Ruled owner grows first) n id m 0 (λ x. x) (counted m)
+  counts_after first n id v m held is owns at = counts first n id m (ap (λ (z : Knows S). z.0.owns) is ∙ owns) (ap (λ (z : Knows S). z.0.place) is ∙ at)
+
+  -- what a seat that has the turn can take out
+  pub holds_state : (m m' : Knows S) → (has : Has owner grows m m') → (x : Option S) × (m'.1 ≡ (0, x) ∷ rest m'.1)
+  holds_state m m' has = (Some has.1, ap (λ (z : Knows S). z.1) has.2 ∙ ap (λ (z : List (ℕ × Option S)). (0, Some has.1) ∷ z) (sym (ap (λ (z : Knows S). rest z.1) has.2)))
 
 pub is_outside : {S : Type 0} (p : Place) (held : List (ℕ × Option S)) → Rests p held → is_inside p ≡ false → p ≡ Outside
 is_outside Unopened held r e = absurd r

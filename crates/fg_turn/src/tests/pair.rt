@@ -86,12 +86,7 @@ fn owner_turns(
     owner
 }
 
-fn seat_turns(
-    wait: &impl Wait,
-    turn: &Turn<Pair>,
-    mut seat: Seat<Pair>,
-    count: u32,
-) -> Seat<Pair>
+fn seat_turns(wait: &impl Wait, turn: &Turn<Pair>, mut seat: Seat<Pair>, count: u32) -> Seat<Pair>
     requires { (seat.turn ≡ turn.now.name) × (seat.inside ≡ false) }
     ensures turn { (result.turn ≡ turn.now.name) × (result.inside ≡ false) }
     ensures turns { result.turns ≡ seat.turns + count }

@@ -92,7 +92,12 @@ fn open(alloc: Global, stock: Stock) -> Result<(Turn<Stock>, Owner<Stock>), Allo
 #[test]
 fn a_stock_shrinks(rt: HostRuntime) -> Result<(), Fail> {
     let alloc: Global = rt.alloc();
-    let (turn, mut owner) = open(alloc, Stock { items: vec![in alloc; 3, 1, 4]? })?;
+    let (turn, mut owner) = open(
+        alloc,
+        Stock {
+            items: vec![in alloc; 3, 1, 4]?,
+        },
+    )?;
     let mut seat = turn.pass(&mut owner);
     assert_eq!(rt; owner.made(), 1);
     change_once(&rt, &turn, &mut seat);
