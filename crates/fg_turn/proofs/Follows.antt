@@ -1,13 +1,11 @@
 -- What follows from the rule.
-use Rattle.std.proofs.Common.{◌≡◌, ℕ, ◌+◌, ◌%◌, ◌^◌, List, ◌∷◌, sym, ap, ◌∙◌, subst, ⊎_elim}
+use Rattle.std.proofs.Common.{ℕ, ◌+◌, ◌%◌, ◌^◌, List, sym, ap, ◌∙◌, subst, ⊎_elim}
 use Rattle.std.proofs.Math.Nat.{mod-add-mod}
-use Rattle.std.specs.Prelude.{Option, Some, slice_index}
+use Rattle.std.specs.Prelude.{Option, slice_index}
 use Rattle.std.specs.List.{sum_by}
-use mathlib.Core.Option.{some}
-use lib.ListN.{get_elem?}
 use Rattle.fg_turn.specs.Entries.{Entry}
 use Rattle.fg_turn.specs.declared.note.Note.{Note}
-use Rattle.fg_turn.specs.Rule.{HasTurn, drawn, Kept}
+use Rattle.fg_turn.specs.Rule.{drawn, Kept}
 use Rattle.fg_turn.specs.Laws.{TicketsCount, TicketsApart, OneTurn, Guards, HomeState, EnteredState}
 use Rattle.fg_turn.proofs.Views.{same_view}
 use Rattle.fg_turn.proofs.Changes.{turn_has_ticket}

@@ -1,7 +1,7 @@
 -- The two states of the tests: a pair of counts, and a stock that only shrinks.
 use Rattle.std.specs.Prelude.{◌≡◌, ℕ, ◌+◌, ◌≤◌, min, List, [], ◌∷◌, ◌++◌, length, Option, Some, None}
 use Rattle.std.specs.List.{sum}
-use Rattle.std.proofs.Common.{◌∙◌, sym, ap, subst, arith, length-append, append_assoc}
+use Rattle.std.proofs.Common.{◌∙◌, sym, ap, arith, length-append, append_assoc}
 use mathlib.Core.List.{IsPrefix}
 use Rattle.fg_turn.specs.Entries.{Entry}
 
