@@ -9,7 +9,7 @@ use Rattle.atomic_table.proofs.Lists.{at_set, at_snoc, set_else, at_longer}
 use Rattle.fg_turn.specs.declared.note.Note.{Note}
 use Rattle.fg_turn.specs.declared.note.Place.{Place}
 use Rattle.fg_turn.specs.declared.note.Place.TheVariants.{Unopened, Spent, Outside, Waiting, Inside}
-use Rattle.fg_turn.specs.Rule.{drawn_at, live_at, HasTicket, InLine, HasTurn, Lies}
+use Rattle.fg_turn.specs.Rule.{drawn_at, live_at, HasTicket, InLine, HasTurn, ticket_at, Lies}
 use Rattle.fg_turn.proofs.Views.{same_view, each_set, each_snoc}
 
 -- list prefixes
@@ -51,6 +51,13 @@ turn_has_ticket serving next Spent l h = absurd h
 turn_has_ticket serving next Outside l h = absurd h
 turn_has_ticket serving next (Waiting u) l h = absurd h
 turn_has_ticket serving next (Inside u) l h = l.0
+
+pub served_ticket : (serving next : ℕ) (p : Place) → InLine serving next p → HasTurn p → ticket_at p ≡ serving
+served_ticket serving next Unopened l h = absurd h
+served_ticket serving next Spent l h = absurd h
+served_ticket serving next Outside l h = absurd h
+served_ticket serving next (Waiting u) l h = absurd h
+served_ticket serving next (Inside u) l h = l.0
 
 pub no_turn_outside : (p : Place) → p ≡ Outside → ¬ HasTurn p
 no_turn_outside p e h = subst HasTurn e h

@@ -6,9 +6,9 @@ use Rattle.std.specs.List.{sum_by}
 use Rattle.fg_turn.specs.Entries.{Entry}
 use Rattle.fg_turn.specs.declared.note.Note.{Note}
 use Rattle.fg_turn.specs.Rule.{drawn, Kept}
-use Rattle.fg_turn.specs.Laws.{TicketsCount, TicketsApart, OneTurn, Guards, HomeState, EnteredState}
+use Rattle.fg_turn.specs.Laws.{TicketsCount, TicketsApart, OneTurn, TurnIsServed, Guards, HomeState, EnteredState}
 use Rattle.fg_turn.proofs.Views.{same_view}
-use Rattle.fg_turn.proofs.Changes.{turn_has_ticket}
+use Rattle.fg_turn.proofs.Changes.{turn_has_ticket, served_ticket}
 
 module _ {S : Type 0} (owner grows : List Entry → S → Type 0) where
   pub tickets_count : TicketsCount owner grows
@@ -23,6 +23,9 @@ module _ {S : Type 0} (owner grows : List Entry → S → Type 0) where
   pub one_turn : OneTurn owner grows
   one_turn s k i j v w at at' turn turn' =
       k.apart i j k.serving v w at at' (turn_has_ticket k.serving k.next v.place (k.each i v at).waits turn) (turn_has_ticket k.serving k.next w.place (k.each j w at').waits turn')
+
+  pub turn_is_served : TurnIsServed owner grows
+  turn_is_served s k j v at turn = ap (λ ws. slice_index ws 1) k.words ∙ ap (λ (x : ℕ). x % 2 ^ 64) (sym (served_ticket k.serving k.next v.place (k.each j v at).waits turn))
 
   guards : (s : Rattle.atomic_table.specs.Table.State (Option S) (Note S)) (k : Kept owner grows s) → Guards owner grows s.views k.here
   guards s k = (

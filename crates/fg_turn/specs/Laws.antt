@@ -6,7 +6,7 @@ use lib.ListN.{get_elem?}
 use Rattle.atomic_table.specs.Table.{State}
 use Rattle.fg_turn.specs.Entries.{Entry}
 use Rattle.fg_turn.specs.declared.note.Note.{Note}
-use Rattle.fg_turn.specs.Rule.{HasTicket, HasTurn, drawn, Kept}
+use Rattle.fg_turn.specs.Rule.{HasTicket, HasTurn, ticket_at, drawn, Kept}
 
 module _ {S : Type 0} (owner grows : List Entry → S → Type 0) where
   -- word 1 plus the number of seats with a ticket is word 0, modulo 2^64
@@ -20,6 +20,10 @@ module _ {S : Type 0} (owner grows : List Entry → S → Type 0) where
   -- no two seats have the turn
   abbrev pub OneTurn : Type 0
   OneTurn = (s : State (Option S) (Note S)) → Kept owner grows s → (i j : ℕ) (v w : Note S) → get_elem? s.views i ≡ some v → get_elem? s.views j ≡ some w → HasTurn v.place → HasTurn w.place → i ≡ j
+
+  -- who has the turn has the ticket that is served
+  abbrev pub TurnIsServed : Type 0
+  TurnIsServed = (s : State (Option S) (Note S)) → Kept owner grows s → (j : ℕ) (v : Note S) → get_elem? s.views j ≡ some v → HasTurn v.place → slice_index s.words 1 ≡ ticket_at v.place % 2 ^ 64
 
   -- what holds of the state for the calls of the owner, whose seat is the first, and for what each seat was told
   abbrev pub Guards : List (Note S) → S → Type 0

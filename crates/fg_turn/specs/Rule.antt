@@ -44,6 +44,7 @@ InLine serving next Outside = Unit {0}
 InLine serving next (Waiting t) = (serving ≤ t) × (t < next)
 InLine serving next (Inside t) = (t ≡ serving) × (t < next)
 
+-- the ticket of whoever stands there
 abbrev pub ticket_at : Place → ℕ
 ticket_at Unopened = 0
 ticket_at Spent = 0
@@ -51,6 +52,7 @@ ticket_at Outside = 0
 ticket_at (Waiting t) = t
 ticket_at (Inside t) = t
 
+-- whoever stands there is inside
 abbrev pub HasTurn : Place → Type 0
 HasTurn Unopened = ⊥
 HasTurn Spent = ⊥
@@ -72,6 +74,7 @@ module _ {S : Type 0} where
     pub counts : v.joined + out ≡ v.split
     pub lives : live v ≡ 1
 
+  -- what the rule says of one seat: of its calls, its ticket, and what it was told
   pub record Fits (grows : List Entry → S → Type 0) (next serving : ℕ) (calls : List Entry) (out : ℕ) (here : S) (j : ℕ) (v : Note S) : Type 0 where
     pub owner : v.owns ≡ true → IsOwner calls out j v
     pub seen : IsPrefix v.calls calls
@@ -84,6 +87,7 @@ module _ {S : Type 0} where
       ((homes ≡ some (Some here) ∷ []) × ((j : ℕ) (v : Note S) → get_elem? views j ≡ some v → ¬ HasTurn v.place))
       ⊎ ((homes ≡ none ∷ []) × ((j : ℕ) × (v : Note S) × (get_elem? views j ≡ some v) × HasTurn v.place × (v.entered ≡ Some here)))
 
+  -- The rule. Tickets count on past 2^64. `out` is the number of passes that are out, and `here` the state: it lies in the slot, or is the one entered
   pub record Kept (owner grows : List Entry → S → Type 0) (s : State (Option S) (Note S)) : Type 0 where
     pub next : ℕ
     pub serving : ℕ

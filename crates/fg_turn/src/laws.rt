@@ -1,5 +1,5 @@
 //! What the rule says that every atomic step of a turn keeps. Each law is the contract of a function that does nothing.
-ghost use Rattle.fg_turn.specs.Laws.{TicketsCount, TicketsApart, OneTurn, HomeState, EnteredState};
+ghost use Rattle.fg_turn.specs.Laws.{TicketsCount, TicketsApart, OneTurn, TurnIsServed, HomeState, EnteredState};
 
 use crate::guarded::Guarded;
 
@@ -16,6 +16,11 @@ pub fn tickets_apart<S: Guarded>()
 /// At most one seat has the turn.
 pub fn one_turn<S: Guarded>()
     ensures { OneTurn S.owner S.grows }
+{}
+
+/// It is the seat whose ticket is served.
+pub fn turn_is_served<S: Guarded>()
+    ensures { TurnIsServed S.owner S.grows }
 {}
 
 /// Whenever no seat has the turn, the state is in the slot. It is what the owner's calls make of it, and every seat

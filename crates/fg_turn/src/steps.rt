@@ -49,7 +49,8 @@ fn draw<S: Guarded>(words: &Words<S>, mark: &mut Mark<S>) -> u64
     words.fetch_add::<Draw>(mark, NEXT, 1)
 }
 
-// Lets other threads run: a seat looks again at once at first, then it yields the processor, and then it sleeps until another ticket is served.
+// Lets other threads run. A seat looks again at once at first, then it yields the processor, and then it sleeps until
+// another ticket is served.
 fn pause<S: Guarded>(wait: &impl Wait, words: &Words<S>, rounds: u32, serving: u64)
     requires { words.now.table_id.words ≡ 2 }
 {
