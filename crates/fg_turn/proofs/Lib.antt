@@ -1,0 +1,4 @@
+mod Views
+mod Changes
+mod Keeping
+mod Follows
