@@ -1,0 +1,13 @@
+pub mod Ports
+pub mod Words
+pub mod Texts
+pub mod Fields
+pub mod Records
+pub mod Walk
+pub mod Lane
+pub mod Traces
+pub mod Outcomes
+pub mod Lines
+pub mod Fronts
+pub mod Endings
+pub mod OfPort

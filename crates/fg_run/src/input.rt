@@ -1,0 +1,60 @@
+//! Reading the input.
+ghost use Rattle.std.specs.Prelude.{◌≡◌, ◌<◌, ◌≤◌, ◌++◌, ℕ, length, IfOk, IfErr, IfSome, IsErrOf};
+ghost use Rattle.std.specs.Io.KnownBytes.{IsAtEnd};
+ghost use Rattle.fg_io.specs.Faults.{CountsFault};
+ghost use Rattle.fg_io.specs.Source.{Gives};
+ghost use Rattle.fg_run.specs.Trace.{magic, DiffersAt};
+ghost use Rattle.fg_run.specs.Input.{IsReadEnd};
+
+use crate::ended::Why;
+use fg_io::Source;
+use std::alloc::Global;
+
+/// The most bytes that the input may have.
+pub const INPUT_LIMIT: usize = 16_777_216;
+
+/// How many bytes are asked for at a time.
+const PIECE: usize = 16_384;
+
+/// The bytes that begin a trace.
+const MAGIC: [u8; 8] = *b"FECTRAC1";
+
+/// All bytes of the input.
+///
+/// The error is `ReadFault`, `Memory`, or `NotBuilt` of the limit where there are more bytes than that.
+pub fn read_input<S: Source>(alloc: Global, input: &mut S) -> Result<Vec<u8>, Why>
+    ensures gives { IfOk result (λ bytes. Gives (S.left input.old) bytes.items (S.left input.new)) }
+    ensures end { IfOk result (λ _. IsAtEnd (S.left input.new)) }
+    ensures bound { IfOk result (λ bytes. length bytes.items ≤ INPUT_LIMIT) }
+    ensures err { IfErr result (IsReadEnd (S.left input.old) (S.faults input.old) (S.faults input.new)) }
+    ensures never_falls { S.faults input.old ≤ S.faults input.new }
+{
+    let mut bytes = Vec::new(alloc);
+    let mut piece = [0; PIECE];
+    while bytes.len() <= INPUT_LIMIT {
+        let Ok(count) = input.read(&mut piece) else {
+            return Err(Why::ReadFault);
+        };
+        if count == 0 {
+            return Ok(bytes);
+        }
+        if bytes.extend_from_slice(&piece[..count]).is_err() {
+            return Err(Why::Memory);
+        }
+    }
+    Err(Why::NotBuilt(INPUT_LIMIT as u64))
+}
+
+/// The bytes after the magic; or the place of the first byte that differs from it, or the number of bytes where they end
+/// before.
+pub fn after_magic(bytes: &[u8]) -> Result<&[u8], usize>
+    ensures trace { IfOk result (λ rest. bytes.now ≡ magic ++ rest.now) }
+    ensures not_trace { IfErr result (DiffersAt bytes.now) }
+{
+    for (place, expected) in MAGIC.iter().enumerate() {
+        if bytes.get(place) != Some(expected) {
+            return Err(place);
+        }
+    }
+    Ok(&bytes[MAGIC.len()..])
+}

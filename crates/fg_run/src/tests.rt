@@ -1,0 +1,272 @@
+//! The worked examples, over sources, sinks and lanes in memory.
+use super::*;
+use fg_io::{MemOutlet, MemSink, MemSource};
+use std::alloc::AllocError;
+use std::test::Fail;
+
+const REPORT: &[u8] = b"flow 5000 shown 3 repaired 0 missing 0 windows 1 inconsistent 0
+media 5000 admitted 3 duplicate 0 conflict 0 late 0 bad 0
+column 5000 admitted 0 duplicate 0 conflict 0 late 0 notstarted 0 beforestart 0 ahead 0 crowded 0 bad 0
+row 5000 admitted 0 duplicate 0 conflict 0 late 0 notstarted 0 beforestart 0 ahead 0 crowded 0 bad 0
+other 0
+";
+
+/// What the outside is like, and what it holds after a run.
+#[derive(Drop)]
+struct Outside {
+    input: MemSource,
+    out: MemSink,
+    err: MemSink,
+    lanes: MemOutlet,
+}
+
+impl Outside {
+    fn new(alloc: Global, bytes: &[u8]) -> Result<Outside, AllocError> {
+        Ok(Outside {
+            input: MemSource::new(alloc, bytes, 1000, &[])?,
+            out: MemSink::new(alloc, 1000, &[])?,
+            err: MemSink::new(alloc, 100, &[])?,
+            lanes: MemOutlet::new(alloc, &[5000], 200_000, &[])?,
+        })
+    }
+
+    fn run<W: Threads + Wait + Sync>(
+        &mut self,
+        rt: &W,
+        alloc: Global,
+        words: &[&str],
+    ) -> Result<Ended, AllocError> {
+        let mut owned = Vec::new(alloc);
+        for word in words {
+            owned.push(String::from_str(alloc, *word)?)?;
+        }
+        Ok(run(
+            rt,
+            alloc,
+            &owned,
+            &mut self.input,
+            &mut self.out,
+            &mut self.err,
+            &mut self.lanes,
+            &NoGate,
+        ))
+    }
+}
+
+/// The seven transport packets of a datagram.
+fn payload(alloc: Global, seq: u16) -> Result<Vec<u8>, AllocError> {
+    let mut bytes = vec![in alloc; (seq % 251) as u8; 1316]?;
+    for packet in bytes.chunks_mut(188) {
+        packet[0] = 0x47;
+    }
+    Ok(bytes)
+}
+
+/// A trace of media datagrams at time 0, each given by its port and its sequence number.
+fn trace(alloc: Global, records: &[(u16, u16)]) -> Result<Vec<u8>, AllocError> {
+    let mut bytes = Vec::from_slice(alloc, b"FECTRAC1")?;
+    for (port, seq) in records {
+        bytes.extend_from_slice(&[0; 8])?;
+        bytes.extend_from_slice(&port.to_be_bytes())?;
+        bytes.extend_from_slice(&1328u16.to_be_bytes())?;
+        bytes.extend_from_slice(&[0x80, 0x21])?;
+        bytes.extend_from_slice(&seq.to_be_bytes())?;
+        bytes.extend_from_slice(&[0; 8])?;
+        bytes.extend_from_slice(&payload(alloc, *seq)?)?;
+    }
+    Ok(bytes)
+}
+
+fn three_in_order(alloc: Global) -> Result<Vec<u8>, AllocError> {
+    trace(alloc, &[(5000, 10), (5000, 11), (5000, 12)])
+}
+
+#[test]
+fn three_in_order_are_written(rt: HostRuntime) -> Result<(), Fail> {
+    let bytes = three_in_order(rt.alloc())?;
+    assert_eq!(rt; bytes.len(), 4028);
+    let mut lane = Vec::new(rt.alloc());
+    for seq in 10..13 {
+        lane.extend_from_slice(&payload(rt.alloc(), seq)?)?;
+    }
+    let mut outside = Outside::new(rt.alloc(), &bytes)?;
+    let ended = outside.run(&rt, rt.alloc(), &["repair", "flow=5000"])?;
+    assert_eq!(rt;
+        ended,
+        Ended {
+            status: 0,
+            why: Why::Done
+        }
+    );
+    assert_eq!(rt; lane.len(), 3948);
+    assert_eq!(rt; outside.lanes.lane(5000), Some(lane.as_slice()));
+    assert_eq!(rt; outside.out.bytes(), REPORT);
+    assert_eq!(rt; outside.err.bytes(), b"".as_slice());
+    Ok(())
+}
+
+/// Runs `repair flow=5000` on the bytes.
+fn repaired<W: Threads + Wait + Sync>(
+    rt: &W,
+    alloc: Global,
+    bytes: &[u8],
+) -> Result<(Ended, Outside), AllocError> {
+    let mut outside = Outside::new(alloc, bytes)?;
+    let ended = outside.run(rt, alloc, &["repair", "flow=5000"])?;
+    Ok((ended, outside))
+}
+
+/// Whether a run ended so, without an output.
+fn is_refused(ran: &(Ended, Outside), status: u8, why: Why) -> bool {
+    ran.0 == Ended { status, why }
+        && ran.1.out.bytes().is_empty()
+        && ran.1.lanes.lane(5000).is_none()
+}
+
+#[test]
+fn what_is_no_trace_is_refused(rt: HostRuntime) -> Result<(), Fail> {
+    let nothing = repaired(&rt, rt.alloc(), b"")?;
+    assert!(rt; is_refused(&nothing, 4, Why::NotTrace(0)));
+    assert_eq!(rt;
+        nothing.1.err.bytes(),
+        b"not a trace at byte 0\n".as_slice()
+    );
+    let front = repaired(&rt, rt.alloc(), b"FECTR")?;
+    assert!(rt; is_refused(&front, 4, Why::NotTrace(5)));
+    let mut magic = *b"FECTRAC1";
+    for place in 0..8 {
+        magic[place] ^= 1;
+        let ran = repaired(&rt, rt.alloc(), &magic)?;
+        assert!(rt; is_refused(&ran, 4, Why::NotTrace(place as u64)));
+        magic[place] ^= 1;
+    }
+    Ok(())
+}
+
+#[test]
+fn the_magic_alone_is_an_empty_trace(rt: HostRuntime) -> Result<(), Fail> {
+    let (ended, outside) = repaired(&rt, rt.alloc(), b"FECTRAC1")?;
+    assert_eq!(rt;
+        ended,
+        Ended {
+            status: 0,
+            why: Why::Done
+        }
+    );
+    assert_eq!(rt; outside.lanes.lane(5000), Some(b"".as_slice()));
+    let first = b"flow 5000 shown 0 repaired 0 missing 0 windows 0 inconsistent 0\n";
+    assert!(rt; outside.out.bytes().starts_with(first));
+    Ok(())
+}
+
+#[test]
+fn what_is_not_built_is_refused(rt: HostRuntime) -> Result<(), Fail> {
+    let alloc = rt.alloc();
+    let backwards = repaired(&rt, alloc, &trace(alloc, &[(5000, 11), (5000, 10)])?)?;
+    assert!(rt; is_refused(&backwards, 9, Why::NotBuilt(1348)));
+    assert_eq!(rt;
+        backwards.1.err.bytes(),
+        b"not built at byte 1348\n".as_slice()
+    );
+    let elsewhere = repaired(&rt, alloc, &trace(alloc, &[(5000, 1), (5002, 2)])?)?;
+    assert!(rt; is_refused(&elsewhere, 9, Why::NotBuilt(1348)));
+    let mut cut = three_in_order(alloc)?;
+    cut.truncate(4000);
+    assert!(rt; is_refused(&repaired(&rt, alloc, &cut)?, 9, Why::NotBuilt(2688)));
+    let large = vec![in alloc; 0; 16_777_217]?;
+    assert!(rt; is_refused(&repaired(&rt, alloc, &large)?, 9, Why::NotBuilt(16_777_216)));
+    Ok(())
+}
+
+#[test]
+fn other_words_are_refused(rt: HostRuntime) -> Result<(), Fail> {
+    let bytes = three_in_order(rt.alloc())?;
+    for port in [
+        "flow=0",
+        "flow=65532",
+        "flow=05000",
+        "flow=+5000",
+        "flow=",
+        "port=5000",
+        "",
+    ] {
+        let mut outside = Outside::new(rt.alloc(), &bytes)?;
+        let ended = outside.run(&rt, rt.alloc(), &["repair", port])?;
+        assert!(rt; is_refused(&(ended, outside), 9, Why::NotBuilt(0)));
+    }
+    let mut outside = Outside::new(rt.alloc(), &bytes)?;
+    let ended = outside.run(&rt, rt.alloc(), &[])?;
+    assert!(rt; is_refused(&(ended, outside), 9, Why::NotBuilt(0)));
+    Ok(())
+}
+
+#[test]
+fn sequence_numbers_wrap(rt: HostRuntime) -> Result<(), Fail> {
+    let bytes = trace(rt.alloc(), &[(5000, 65535), (5000, 0)])?;
+    let (ended, outside) = repaired(&rt, rt.alloc(), &bytes)?;
+    assert_eq!(rt; ended.why, Why::Done);
+    assert!(rt;
+        outside
+            .out
+            .bytes()
+            .starts_with(b"flow 5000 shown 2 repaired 0")
+    );
+    Ok(())
+}
+
+#[test]
+fn a_hundred_and_one_records_close_two_windows(rt: HostRuntime) -> Result<(), Fail> {
+    let mut records = Vec::new(rt.alloc());
+    for seq in 0..101 {
+        records.push((5000, seq))?;
+    }
+    let (ended, outside) = repaired(&rt, rt.alloc(), &trace(rt.alloc(), &records)?)?;
+    assert_eq!(rt; ended.why, Why::Done);
+    let first = b"flow 5000 shown 101 repaired 0 missing 0 windows 2 inconsistent 0\n";
+    assert!(rt; outside.out.bytes().starts_with(first));
+    Ok(())
+}
+
+#[test]
+fn a_failed_read_ends_the_run(rt: HostRuntime) -> Result<(), Fail> {
+    let bytes = three_in_order(rt.alloc())?;
+    for call in 0..6 {
+        let mut outside = Outside::new(rt.alloc(), &bytes)?;
+        outside.input = MemSource::new(rt.alloc(), &bytes, 1000, &[call])?;
+        let ended = outside.run(&rt, rt.alloc(), &["repair", "flow=5000"])?;
+        assert_eq!(rt; outside.err.bytes(), b"read fault\n".as_slice());
+        assert!(rt; is_refused(&(ended, outside), 2, Why::ReadFault));
+    }
+    Ok(())
+}
+
+#[test]
+fn full_outputs_end_the_run(rt: HostRuntime) -> Result<(), Fail> {
+    let bytes = three_in_order(rt.alloc())?;
+    let mut outside = Outside::new(rt.alloc(), &bytes)?;
+    outside.out = MemSink::new(rt.alloc(), 100, &[])?;
+    let ended = outside.run(&rt, rt.alloc(), &["repair", "flow=5000"])?;
+    assert_eq!(rt;
+        ended,
+        Ended {
+            status: 3,
+            why: Why::WriteFault
+        }
+    );
+    assert_eq!(rt; outside.out.bytes(), REPORT.get(..100).unwrap_or(b""));
+    let mut outside = Outside::new(rt.alloc(), &bytes)?;
+    outside.lanes = MemOutlet::new(rt.alloc(), &[5000], 2000, &[])?;
+    outside.err = MemSink::new(rt.alloc(), 5, &[])?;
+    let ended = outside.run(&rt, rt.alloc(), &["repair", "flow=5000"])?;
+    assert_eq!(rt;
+        ended,
+        Ended {
+            status: 3,
+            why: Why::WriteFault
+        }
+    );
+    assert_eq!(rt; outside.lanes.lane(5000).map_or(0, |lane| lane.len()), 2000);
+    assert_eq!(rt; outside.out.bytes(), b"".as_slice());
+    assert_eq!(rt; outside.err.bytes(), b"write".as_slice());
+    Ok(())
+}
