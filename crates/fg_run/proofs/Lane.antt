@@ -1,5 +1,5 @@
 -- Writing a lane, payload after payload.
-use Rattle.std.proofs.Common.{◌≡◌, ℕ, zero, suc, ◌+◌, ◌%◌, ◌<◌, ◌≤◌, List, [], ◌∷◌, ◌++◌, length, take, drop, Option, None, Some, Result, Ok, Err, OnErr, sym, ap, ◌∙◌, refl, subst, arith, append_assoc, append-nil, length-append}
+use Rattle.std.proofs.Common.{◌≡◌, ℕ, ◌+◌, ◌%◌, ◌<◌, ◌≤◌, List, [], ◌∷◌, ◌++◌, length, drop, Option, Result, Ok, Err, OnErr, sym, ap, ◌∙◌, refl, subst, arith, append_assoc, append-nil}
 use Rattle.std.specs.List.{flat_map, AllByRecursion}
 use Rattle.std.proofs.lemmas.Grind.{flat_map-append}
 use Rattle.fg_words.specs.declared.Word.{Word}
@@ -7,7 +7,7 @@ use Rattle.fg_io.specs.Outlet.{Lanes, Puts, PutsPart}
 use Rattle.fg_io.proofs.OutletLemmas.{Puts-trans, PutsPart-trans, PutsPart-front}
 use Rattle.fg_rtp.specs.MediaDatagram.{IsMediaDatagram}
 use Rattle.fg_run.specs.Trace.{Record, Fits, spelling, StandsFirst}
-use Rattle.fg_run.specs.Flow.{Carries, AreCarried, AreInOrder, SpellInOrder, payload, lane_of_words}
+use Rattle.fg_run.specs.Flow.{Carries, AreCarried, SpellInOrder, payload, lane_of_words}
 use Rattle.fg_run.proofs.Records.{one_record}
 use Rattle.fg_run.proofs.Walk.{one_carried}
 

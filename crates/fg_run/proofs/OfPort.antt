@@ -1,12 +1,11 @@
 -- The port that the words name is one.
-use Rattle.std.proofs.Common.{◌≡◌, ◌⊎◌, inl, inr, ℕ, ◌<◌, ◌≤◌, List, [], ◌∷◌, ◌++◌, Option, None, Some, IfSome, codes, sym, ap, ◌∙◌, refl, subst, arith}
+use Rattle.std.proofs.Common.{◌≡◌, ◌⊎◌, inl, inr, ℕ, List, [], ◌∷◌, ◌++◌, Option, None, Some, IfSome, codes, sym, ◌∙◌, subst, arith}
 use Rattle.std.specs.Fmt.{decimal}
 use Rattle.std.proofs.lemmas.Fmt.{decimal_injective}
-use Rattle.fg_io.specs.Outlet.{Lanes}
 use Rattle.fg_run.specs.declared.ended.Why.{Why}
 use Rattle.fg_run.specs.Command.{IsRepair}
 use Rattle.fg_run.specs.Ended.{IsFault}
-use Rattle.fg_run.specs.Run.{IsEnding, Outputs, OutputsPart}
+use Rattle.fg_run.specs.Run.{IsEnding}
 use Rattle.fg_run.proofs.Endings.{one_ending}
 
 spelled_alike : (words : List (List ℕ)) (p q : ℕ) → IsRepair words p → IsRepair words q → codes "repair" ∷ (codes "flow=" ++ decimal p) ∷ [] ≡ codes "repair" ∷ (codes "flow=" ++ decimal q) ∷ []

@@ -1,5 +1,5 @@
 -- What the parts of a run give together.
-use Rattle.std.proofs.Common.{◌≡◌, ℕ, ◌≤◌, List, [], ◌++◌, length, Option, None, Some, IfSome, inl, inr, ◌⊎◌, sym, ap, ◌∙◌, refl, subst, arith}
+use Rattle.std.proofs.Common.{◌≡◌, ℕ, ◌≤◌, List, ◌++◌, length, Option, None, Some, IfSome, inr, ◌⊎◌, sym, ◌∙◌, subst}
 use Rattle.std.specs.Io.KnownBytes.{IsAtEnd}
 use Rattle.fg_words.specs.declared.Word.{Word}
 use Rattle.fg_io.specs.Source.{Gives}

@@ -1,6 +1,5 @@
 -- What a formatted text says.
-use Rattle.std.proofs.Common.{◌≡◌, ◌++◌, List, ℕ, IfOk, Result, Ok, Err, String, string_bytes, Global, ◌∙◌, append_assoc}
-use Rattle.std.specs.Fmt.{decimal}
+use Rattle.std.proofs.Common.{◌≡◌, ◌++◌, List, ℕ, IfOk, Result, Ok, Err, String, string_bytes, Global, ◌∙◌}
 
 -- the bytes of a text, written another way
 pub text_is : {E : Type 0} (r : Result (String Global) E) (bytes wanted : List ℕ) → IfOk r (λ s. string_bytes s ≡ bytes) → bytes ≡ wanted → IfOk r (λ s. string_bytes s ≡ wanted)

@@ -1,14 +1,14 @@
 -- Traces as wholes.
-use Rattle.std.proofs.Common.{◌≡◌, ℕ, zero, suc, ◌+◌, ◌-◌, ◌<◌, ◌≤◌, List, [], ◌∷◌, ◌++◌, length, Option, None, Some, sym, ap, ◌∙◌, refl, subst, arith, append_assoc, append-nil, length-append}
+use Rattle.std.proofs.Common.{◌≡◌, ℕ, ◌+◌, ◌-◌, ◌≤◌, List, [], ◌∷◌, ◌++◌, length, sym, ap, ◌∙◌, refl, arith, append_assoc, append-nil, length-append}
 use Rattle.std.specs.List.{flat_map, AllByRecursion}
 use Rattle.std.proofs.lemmas.Grind.{flat_map-append}
 use Rattle.fg_words.specs.declared.Word.{Word}
 use Rattle.fg_run.specs.Trace.{Record, Fits, spelling, magic, trace_of, StandsFirst, Begins, IsLongest}
-use Rattle.fg_run.specs.Flow.{AreInOrder, SpellInOrder, IsFirstNotBuilt, IsFirstNotBuiltAt}
+use Rattle.fg_run.specs.Flow.{SpellInOrder, IsFirstNotBuilt, IsFirstNotBuiltAt}
 use Rattle.fg_run.specs.Input.{input_limit}
 use Rattle.fg_run.specs.Run.{AreWords}
 use Rattle.fg_run.proofs.Records.{same_front, one_record}
-use Rattle.fg_run.proofs.Lane.{stands_first, not_nothing}
+use Rattle.fg_run.proofs.Lane.{stands_first}
 
 -- what follows the magic
 pub after_magic_same : (xs ys : List ℕ) → magic ++ xs ≡ magic ++ ys → xs ≡ ys

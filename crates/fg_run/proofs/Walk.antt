@@ -1,12 +1,11 @@
 -- Going over the records of a flow, one after another.
-use Rattle.std.proofs.Common.{◌≡◌, ℕ, zero, suc, ◌+◌, ◌-◌, ◌%◌, ◌<◌, ◌≤◌, List, [], ◌∷◌, ◌++◌, length, Option, None, Some, sym, ap, ◌∙◌, refl, subst, arith, append_assoc, append-nil, length-append}
+use Rattle.std.proofs.Common.{◌≡◌, ℕ, ◌+◌, ◌%◌, ◌<◌, ◌≤◌, List, [], ◌∷◌, ◌++◌, length, Option, None, Some, sym, ap, ◌∙◌, refl, subst, arith, append_assoc, append-nil, length-append}
 use Rattle.std.specs.List.{flat_map, AllByRecursion}
 use Rattle.std.proofs.lemmas.Grind.{flat_map-append}
 use Rattle.fg_words.specs.declared.Word.{Word}
 use Rattle.fg_rtp.proofs.DatagramLemmas.{datagram_one_way}
-use Rattle.fg_run.specs.Trace.{Record, Fits, spelling, StandsFirst}
+use Rattle.fg_run.specs.Trace.{Record, Fits, spelling}
 use Rattle.fg_run.specs.Flow.{Carries, AreCarried, AreInOrder, SpellInOrder, MayFollow, BeginsBuilt, IsFirstNotBuiltAt}
-use Rattle.fg_run.proofs.Records.{one_record}
 
 -- one record more
 pub carried_more : (port first next : ℕ) (rs : List Record) (ws : List Word) (r : Record) (w : Word) → AreCarried port first next rs ws → Carries port next w r → AreCarried port first ((next + 1) % 65536) (rs ++ r ∷ []) (ws ++ w ∷ [])

@@ -1,5 +1,5 @@
 -- The two words of `repair`.
-use Rattle.std.proofs.Common.{◌≡◌, ℕ, List, [], ◌∷◌, ◌++◌, codes, length, map, get_or, IfSome, Option, Some, None, ap, ◌∙◌, arith, refl, drop, ◌<◌, ◌≤◌}
+use Rattle.std.proofs.Common.{◌≡◌, ℕ, List, [], ◌∷◌, ◌++◌, codes, length, map, get_or, IfSome, Option, Some, None, ap, ◌∙◌, arith, ◌<◌, ◌≤◌}
 use Rattle.fg_run.specs.Command.{IsPort, IsRepair}
 
 -- a list of two, by its elements

@@ -1,5 +1,5 @@
 -- A flow whose media datagrams come in order.
-use Rattle.std.specs.Prelude.{◌≡◌, ◌<◌, ◌≤◌, ◌+◌, ◌%◌, ℕ, List, [], ◌∷◌, ◌++◌, ⊤, length, take, Option, None, Some}
+use Rattle.std.specs.Prelude.{◌≡◌, ◌<◌, ◌+◌, ◌%◌, ℕ, List, [], ◌∷◌, ◌++◌, ⊤, length, take, Option, None, Some}
 use Rattle.std.specs.List.{flat_map, AllByRecursion}
 use Rattle.fg_words.specs.declared.Word.{Word}
 use Rattle.fg_rtp.specs.MediaDatagram.{IsMediaDatagram}

@@ -4,7 +4,7 @@ use Rattle.fg_io.specs.Faults.{CountsFault}
 use Rattle.fg_run.specs.Flow.{IsFirstNotBuilt}
 use Rattle.fg_run.specs.Trace.{DiffersAt}
 use Rattle.fg_run.specs.declared.ended.Why.{Why}
-use Rattle.fg_run.specs.declared.ended.Why.TheVariants.{Done, ReadFault, WriteFault, NotTrace, Memory, NotBuilt}
+use Rattle.fg_run.specs.declared.ended.Why.TheVariants.{ReadFault, NotTrace, Memory, NotBuilt}
 
 -- How many bytes the input may have.
 abbrev pub input_limit : ℕ

@@ -4,7 +4,7 @@ use Rattle.fg_words.specs.declared.Word.{Word}
 use Rattle.fg_io.specs.Outlet.{Lanes, Puts, PutsPart}
 use Rattle.fg_io.specs.Sink.{Gains, GainsPart}
 use Rattle.fg_run.specs.declared.ended.Why.{Why}
-use Rattle.fg_run.specs.declared.ended.Why.TheVariants.{Done, ReadFault, WriteFault, NotTrace, Memory, NotBuilt}
+use Rattle.fg_run.specs.declared.ended.Why.TheVariants.{Done, WriteFault, NotTrace, NotBuilt}
 use Rattle.fg_run.specs.Flow.{AreInOrder, IsFirstNotBuilt, lane_of_words}
 use Rattle.fg_run.specs.Input.{input_limit}
 use Rattle.fg_run.specs.Report.{report_of}

@@ -1,7 +1,7 @@
-use Rattle.std.proofs.Common.{◌≡◌, ℕ, ◌⊎◌, List, IfSome, map, string_bytes, sym, ◌∙◌}
+use Rattle.std.proofs.Common.{◌≡◌, ◌⊎◌, sym, ◌∙◌}
 use Rattle.fg_run.specs.declared.ended.Why.{Why}
 use Rattle.fg_run.specs.Ended.{IsFault}
-use Rattle.fg_run.specs.Run.{IsEnding, Outputs, OutputsPart}
+use Rattle.fg_run.specs.Run.{IsEnding}
 use Rattle.fg_run.proofs.OfPort.{of_each, of_each_told, none_told, exactly_told}
 use Rattle.fg_run.proofs.run.Goals as goal
 use Rattle.fg_run.proofs.run.Goals.{in-Some, in-None}

@@ -1,4 +1,4 @@
-use Rattle.std.proofs.Common.{rules, ◌≡◌, ℕ, string_bytes, codes, ◌++◌, ap, ◌∙◌, sym, drop, List}
+use Rattle.std.proofs.Common.{rules, ◌≡◌, string_bytes, codes, ◌++◌, ap, ◌∙◌, sym}
 use Rattle.fg_run.proofs.Words.{two_mapped, repair_spelled}
 use Rattle.fg_run.proofs.command.flow_port.Goals as goal
 

@@ -1,6 +1,5 @@
-use Rattle.std.proofs.Common.{rules, ◌≡◌, ◌≤◌, ℕ, ◌<◌, length, arith, get_or, Some, None, sym, ◌∙◌, ap, slice_get}
+use Rattle.std.proofs.Common.{◌≡◌, ◌<◌, arith, get_or, Some, None, sym, ◌∙◌, ap, slice_get}
 use Rattle.std.specs.Option.{option_copied}
-use Rattle.std.specs.Fmt.{decimal}
 use Rattle.fg_run.proofs.Ports.{port_read, port_spelled, port_least, first_is, first_none, port_first}
 use Rattle.fg_run.proofs.command.port_of.Goals as goal
 

@@ -1,4 +1,4 @@
-use Rattle.std.proofs.Common.{◌≤◌, length, arith}
+use Rattle.std.proofs.Common.{arith}
 use Rattle.fg_run.proofs.Walk.{walked_more, walked_place}
 use Rattle.fg_run.proofs.flow.count_in_order.Goals as goal
 

@@ -1,4 +1,4 @@
-use Rattle.std.proofs.Common.{◌≤◌, length, arith}
+use Rattle.std.proofs.Common.{arith}
 use Rattle.fg_run.proofs.Lane.{next_word, on_err, nothing_part, written_none, written_part, written_more, written_all}
 use Rattle.fg_run.proofs.flow.write_lane.Goals as goal
 

@@ -1,6 +1,5 @@
 use Rattle.std.proofs.Common.{◌-◌, ◌≤◌, vec_len}
 use Rattle.fg_io.specs.Source.{Gives}
-use Rattle.fg_run.specs.Input.{input_limit}
 use Rattle.fg_run.proofs.input.read_input.Given as goal
 
 abbrev pub invariant-loop-piece : goal.invariant-loop-piece

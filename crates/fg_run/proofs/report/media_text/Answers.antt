@@ -1,5 +1,4 @@
-use Rattle.std.proofs.Common.{◌≡◌, ◌++◌, List, ◌∷◌, ℕ, IfOk, string_bytes, codes, append_assoc}
-use Rattle.std.specs.Fmt.{decimal}
+use Rattle.std.proofs.Common.{append_assoc}
 use Rattle.fg_run.specs.Report.{media_line}
 use Rattle.fg_run.proofs.Texts.{text_is}
 use Rattle.fg_run.proofs.report.media_text.Goals as goal

@@ -1,4 +1,4 @@
-use Rattle.std.proofs.Common.{◌<◌, length, arith}
+use Rattle.std.proofs.Common.{arith}
 use Rattle.fg_run.proofs.Records.{cut_datagram}
 use Rattle.fg_run.proofs.trace.split_record.Goals as goal
 
