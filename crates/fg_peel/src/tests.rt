@@ -13,6 +13,7 @@ use std::process::Abort;
 use std::test::Fail;
 
 const ROW: Shape = Shape { offset: 1, na: 4 };
+
 const COLUMN: Shape = Shape { offset: 4, na: 4 };
 
 /// The block's equations in the order in which an encoder sends them: row 3 comes last.
@@ -26,8 +27,11 @@ const EQUATIONS: [(u8, Shape); 8] = [
     (3, COLUMN),
     (12, ROW),
 ];
+
 const ALL: u8 = 0xff;
+
 const ALL_BUT_COLUMN_3: u8 = 0xbf;
+
 const ROW_0_ALONE: u8 = 0x01;
 
 /// A media word of seven packets.
@@ -189,12 +193,21 @@ fn worked_block(rt: HostRuntime) -> Result<(), Fail> {
         (0x0000, ALL, flipped, 0x0000, Verdict::Unsound { place: 1 }),
         // Row 1 gives the wrong word, with which column 1 fails.
         (0x0020, ALL, flipped, 0x0020, Verdict::Unsound { place: 4 }),
-        (0x0008, ROW_0_ALONE, shortened, 0x0008, Verdict::NotMedia { slot: 3 }),
+        (
+            0x0008,
+            ROW_0_ALONE,
+            shortened,
+            0x0008,
+            Verdict::NotMedia { slot: 3 },
+        ),
     ];
     for (lost, given, flip, want, verdict) in rows {
         let mut slots = entries(rt.alloc(), &stamps, lost)?;
         let lines = given_lines(rt.alloc(), &stamps, given, flip)?;
-        assert!(rt; peel_block(&rt, &mut slots, &lines) == verdict, "lost {lost}");
+        assert!(rt;
+            peel_block(&rt, &mut slots, &lines) == verdict,
+            "lost {lost}"
+        );
         assert_eq!(rt; filled(&slots), want, "lost {lost}");
         for (slot, stamp) in slots.iter().zip(stamps.iter()) {
             if verdict == Verdict::Sound
