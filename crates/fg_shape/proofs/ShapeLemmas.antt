@@ -52,12 +52,6 @@ division_from_slot base offset na s some p =
     (omega (arith, n.2), ap (λ x. x % offset) distance ∙ mul-mod_left n.0 offset)
 
 -- no slot is past the last
-pub slot_below_last : (base offset na s : ℕ) → 1 ≤ na → Contains (slots_of base offset na) s → s ≤ base + (na - 1) * offset
-slot_below_last base offset na s some p =
-    let n = number_of_slot base offset na s p in
-    let few : n.0 ≤ na - 1 = omega (arith, n.1) in
-    omega (arith, n.2, mul-le-mul_right offset few)
-
 pub all_below_last : (base offset na : ℕ) → 1 ≤ na → All (λ s. s ≤ base + (na - 1) * offset) (slots_of base offset na)
 all_below_last base offset na some k d within =
     let below : k < na = omega (arith, length-slots_of base offset na, within) in
