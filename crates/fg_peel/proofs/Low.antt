@@ -11,9 +11,10 @@ use Rattle.fg_peel.specs.declared.Line.{Line}
 use Rattle.fg_peel.specs.declared.Slot.{Slot}
 use Rattle.fg_peel.specs.declared.Slot.TheVariants.{Empty, Filled}
 use Rattle.fg_peel.specs.declared.Verdict.{Verdict}
-use Rattle.fg_peel.specs.Equation.{AreAdmissible}
-use Rattle.fg_peel.specs.Slots.{first_position, from_first, before_first, words_at, known_at, recovered_at, equations_of, AllFit, AllFitFrom, OnlyFills, ArePeeled}
-use Rattle.fg_peel.specs.Verdict.{IsPeel, IsPeelAfter, TellsSolution}
+use Rattle.fg_peel.specs.Equation.{Equation, AreAdmissible}
+use Rattle.fg_peel.specs.Slots.{first_position, from_first, before_first, words_at, known_at, recovered_at, equation_of, equations_of, AllFit, AllFitFrom, OnlyFills, ArePeeled}
+use Rattle.fg_peel.specs.Verdict.{AreMedia, IsPeel, IsPeelAfter, TellsSolution}
+use Rattle.fg_peel.proofs.Lines.{line_of_equation}
 use Rattle.fg_peel.proofs.Whole.{ends_from_known, recovered_told, recovered_since, tells_solution}
 
 -- the rest of a list is what follows the part before it
@@ -149,13 +150,26 @@ fits_below (negsuc n) below lines old under least fit =
     let P : List Slot → Type 0 = λ es. AllFitFrom 0 es lines in
     subst P (sym (same_rest n below old least')) fit
 
+-- Lines that fit have offsets, so that their slots differ.
+admissible_at :
+    (low : ℤ) (lines : Slab Line) (old : List Slot) → AllFit low old lines → AreMedia (known_at low old)
+    → AreAdmissible (known_at low old) (equations_of lines)
+admissible_at low lines old fit media = record {
+  known_media = media;
+  some_offset = λ equation listed.
+      (let line = line_of_equation lines equation listed in
+      let P : Equation → Type 0 = λ e. 1 ≤ e.offset in
+      let some : P (equation_of line.0) = (fit line.0 line.1).shape.some_offset in
+      subst P (sym line.2) some);
+}
+
 -- The verdict tells of a solution.
 pub tells_at :
-    (low : ℤ) (lines : Slab Line) (old new : List Slot) (answer : Verdict) → PeelsAt low lines old new answer
-    → AreAdmissible (known_at low old) (equations_of lines) → ArePeeled (equations_of lines) (known_at low old) (words_at low old)
+    (low : ℤ) (lines : Slab Line) (old new : List Slot) (answer : Verdict) → AllFit low old lines → PeelsAt low lines old new answer
+    → AreMedia (known_at low old) → ArePeeled (equations_of lines) (known_at low old) (words_at low old)
     → TellsSolution (equations_of lines) (known_at low old) (words_at low new) answer
-tells_at low lines old new answer peel admissible peeled =
-    tells_solution lines (known_at low old) (words_at low new) (recovered_at low new) admissible
+tells_at low lines old new answer fit peel media peeled =
+    tells_solution lines (known_at low old) (words_at low new) (recovered_at low new) (admissible_at low lines old fit media)
     (ends_from_known (equations_of lines) (known_at low old) (words_at low old) (words_at low new) peeled peel.peeling)
     (recovered_told (first_position low) (from_first low new))
     (recovered_since (first_position low) (from_first low old) (from_first low new) peel.fills)

@@ -136,6 +136,14 @@ fn peel_block(rt: &impl Abort, slots: &mut [Slot], lines: &Slab<Line>) -> Verdic
     peel(0, slots, lines)
 }
 
+/// The same where two entries stand for positions below 0.
+fn peel_after_two(rt: &impl Abort, slots: &mut [Slot], lines: &Slab<Line>) -> Verdict {
+    assert!(rt; slots.len() <= 100 && slots.len() >= 2);
+    let (_, rest) = slots.split_at(2);
+    assert!(rt; lines_fit(rest, lines));
+    peel(-2, slots, lines)
+}
+
 /// Which entries were filled.
 fn filled(slots: &[Slot]) -> u16 {
     let mut mask = 0u16;
@@ -220,6 +228,17 @@ fn worked_block(rt: HostRuntime) -> Result<(), Fail> {
             assert!(rt; least_broken(&slots, &lines) == Some(place), "lost {lost}");
         }
     }
+    Ok(())
+}
+
+#[test]
+fn entries_below_position_0(rt: HostRuntime) -> Result<(), Fail> {
+    let stamps = [7u32; 16];
+    let lines = given_lines(rt.alloc(), &stamps, ROW_0_ALONE, NO_FLIP)?;
+    // One lost at each side of position 0.
+    let mut slots = entries(rt.alloc(), &stamps, 0x0006)?;
+    assert!(rt; peel_after_two(&rt, &mut slots, &lines) == Verdict::Sound);
+    assert_eq!(rt; filled(&slots), 0x0004);
     Ok(())
 }
 
