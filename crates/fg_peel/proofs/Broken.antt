@@ -1,6 +1,5 @@
 -- The least place of a line that is broken.
-use Rattle.std.proofs.Common.{◌≡◌, ◌⊎◌, ◌≤◌, ℕ, List, [], ◌∷◌, Option, Some, None, IfSome, IfNone, min, unwrap_or, sym, ap, inl, inr, ⊎_elim, subst, arith}
-use Rattle.std.proofs.lemmas.Bool.{cases_lt}
+use Rattle.std.proofs.Common.{◌≡◌, ◌⊎◌, ◌≤◌, ℕ, List, [], ◌∷◌, Option, Some, None, IfSome, IfNone, IsSomeAnd, ◌<◌, sym, ap, inl, inr, ⊎_elim, subst, arith}
 use Rattle.std.specs.List.{Contains}
 use Rattle.slab.specs.Slab.{Slab, entries}
 use Rattle.fg_words.specs.declared.Word.{Word}
@@ -17,19 +16,13 @@ abbrev pub IsAtMost : Option ℕ → ℕ → Type 0
 IsAtMost None n = ⊥
 IsAtMost (Some m) n = m ≤ n
 
-lesser-first : (least : Option ℕ) (place n : ℕ) → IsAtMost least n → min (unwrap_or least place) place ≤ n
-lesser-first None place n below = absurd below
-lesser-first (Some m) place n below = omega (arith, below)
+at_most : (least : Option ℕ) (n : ℕ) → IsSomeAnd least (λ m. m ≤ n) → IsAtMost least n
+at_most None n above = absurd above
+at_most (Some m) n above = above
 
-lesser-last : (least : Option ℕ) (place : ℕ) → min (unwrap_or least place) place ≤ place
-lesser-last least place = omega arith
-
-lesser-cases : (least : Option ℕ) (place : ℕ) → (min (unwrap_or least place) place ≡ place) ⊎ (least ≡ Some (min (unwrap_or least place) place))
-lesser-cases None place = inl (omega arith)
-lesser-cases (Some m) place = ⊎_elim
-    (λ less. let e : min m place ≡ m = omega (arith, less) in inr (ap Some (sym e)))
-    (λ more. inl (omega (arith, more)))
-    (cases_lt m place)
+lesser : (least : Option ℕ) (place n : ℕ) → IfSome least (λ m. place < m) → IsAtMost least n → place ≤ n
+lesser None place n below above = absurd above
+lesser (Some m) place n below above = omega (arith, below, above)
 
 module _ (words : ℕ → Option Word) (lines : Slab Line) where
   -- Each live line is left, or it comes out if it is complete, or its place isn't below the least so far.
@@ -52,23 +45,25 @@ module _ (words : ℕ → Option Word) (lines : Slab Line) where
         (λ done. inr done)
         (but line c)
 
-    -- the next line is broken
-    pub broken_more : (least : Option ℕ) → BrokenBut least all → BrokenBut (Some (min (unwrap_or least entry.1.place) entry.1.place)) rest
-    broken_more least but line c = ⊎_elim
+    -- the next line's place isn't below the least so far
+    pub broken_passed : (least : Option ℕ) → IsSomeAnd least (λ m. m ≤ entry.1.place) → BrokenBut least all → BrokenBut least rest
+    broken_passed least above but line c = ⊎_elim
         (λ left. ⊎_elim
-        (λ here. inr (rw here (inr (lesser-last least entry.1.place))))
+        (λ here. inr (rw here (inr (at_most least entry.1.place above))))
         (λ there. inl there)
         (Contains-cases entry.1 (lines_in rest) line (rw cut at left)))
-        (λ done. inr (⊎_elim (λ fine. inl fine) (λ below. inr (lesser-first least entry.1.place line.place below)) done))
+        (λ done. inr done)
         (but line c)
 
-  pub breaks_more :
-      (least : Option ℕ) (line : Line) → Contains (lines_of lines) line → IsComplete words (equation_of line) → (ComesOut words (equation_of line) → ⊥) → IfSome least (BreaksAt words lines)
-      → BreaksAt words lines (min (unwrap_or least line.place) line.place)
-  breaks_more least line live complete broken before = ⊎_elim
-      (λ this. (line, live, sym this, complete, broken))
-      (λ that. rw that at before)
-      (lesser-cases least line.place)
+    -- the next line is broken, and its place is below the least so far
+    pub broken_more : (least : Option ℕ) → IfSome least (λ m. entry.1.place < m) → BrokenBut least all → BrokenBut (Some entry.1.place) rest
+    broken_more least below but line c = ⊎_elim
+        (λ left. ⊎_elim
+        (λ here. (let same : entry.1.place ≤ line.place = omega (arith, ap (λ (l : Line). l.place) here) in inr (inr same)))
+        (λ there. inl there)
+        (Contains-cases entry.1 (lines_in rest) line (rw cut at left)))
+        (λ done. inr (⊎_elim (λ fine. inl fine) (λ above. inr (lesser least entry.1.place line.place below above)) done))
+        (but line c)
 
   -- all lines were looked at
   pub broken_least :

@@ -1,18 +1,20 @@
 -- Rows of entries whose first one may stand for a position below 0.
-use Rattle.std.proofs.Common.{◌≡◌, ◌+◌, ◌-◌, ◌<◌, ◌≤◌, ℕ, ℤ, pos, negsuc, true, false, List, [], ◌∷◌, ◌++◌, length, take, drop, get_or, min, inl, inr, refl, sym, ap, ◌∙◌, ⊎_elim, subst, arith}
+use Rattle.std.proofs.Common.{◌≡◌, ◌⊎◌, ◌+◌, ◌-◌, ◌<◌, ◌≤◌, ℕ, ℤ, pos, negsuc, true, false, List, [], ◌∷◌, ◌++◌, length, take, drop, get_or, min, inl, inr, refl, sym, ap, ◌∙◌, ⊎_elim, subst, arith}
 use Rattle.std.proofs.Math.IntN.{nat_abs}
 use Rattle.std.proofs.Math.Seq.{drop-append_seam}
 use Rattle.std.proofs.lemmas.Bool.{cases_lt, ltb-true}
 use Rattle.std.proofs.lemmas.List.{length-take, length-drop, length-append, drop_all, get_or-drop, get_or-take, get_or_append_left, get_or-append_right, take_all, take-append-le, append-nil}
 use Rattle.std.specs.Int.Signed.{lt_z}
 use Rattle.slab.specs.Slab.{Slab}
+use Rattle.fg_words.specs.declared.Word.{Word}
 use Rattle.fg_peel.specs.declared.Line.{Line}
 use Rattle.fg_peel.specs.declared.Slot.{Slot}
-use Rattle.fg_peel.specs.declared.Slot.TheVariants.{Empty}
+use Rattle.fg_peel.specs.declared.Slot.TheVariants.{Empty, Filled}
 use Rattle.fg_peel.specs.declared.Verdict.{Verdict}
-use Rattle.fg_peel.specs.Equation.{AreAdmissible}
-use Rattle.fg_peel.specs.Slots.{first_position, from_first, before_first, words_at, known_at, recovered_at, equations_of, AllFit, AllFitFrom, OnlyFills, ArePeeled}
-use Rattle.fg_peel.specs.Verdict.{IsPeel, IsPeelAfter, TellsSolution}
+use Rattle.fg_peel.specs.Equation.{Equation, AreAdmissible}
+use Rattle.fg_peel.specs.Slots.{first_position, from_first, before_first, words_at, known_at, recovered_at, equation_of, equations_of, AllFit, AllFitFrom, OnlyFills, ArePeeled}
+use Rattle.fg_peel.specs.Verdict.{AreMedia, IsPeel, IsPeelAfter, TellsSolution}
+use Rattle.fg_peel.proofs.Lines.{line_of_equation}
 use Rattle.fg_peel.proofs.Whole.{ends_from_known, recovered_told, recovered_since, tells_solution}
 
 -- the rest of a list is what follows the part before it
@@ -41,35 +43,49 @@ length-zero : (es : List Slot) → length es ≡ 0 → es ≡ []
 length-zero [] e = refl
 length-zero (x ∷ es) e = absurd (omega (arith, e))
 
+-- the new entries are those of the front, and then the rest
+module _ (below : ℕ) (old new rest : List Slot) (within : below ≤ length old) (joined : new ≡ take below old ++ rest) where
+  front-length : length (take below old) ≡ below
+  front-length = omega (arith, length-take below old, within)
+
+  read-front : (k : ℕ) → k < below → get_or new k Empty ≡ get_or old k Empty
+  read-front k less =
+      ap (λ (es : List Slot). get_or es k Empty) joined
+      ∙ get_or_append_left (take below old) rest Empty k (omega (arith, front-length, less))
+      ∙ get_or-take below old k Empty less
+
+  read-rest : (k : ℕ) → below ≤ k → get_or new k Empty ≡ get_or rest (k - below) Empty
+  read-rest k above =
+      ap (λ (es : List Slot). get_or es k Empty) joined ∙ get_or-append_right (take below old) rest below k Empty front-length above
+
+  read-old : (k : ℕ) → below ≤ k → get_or (drop below old) (k - below) Empty ≡ get_or old k Empty
+  read-old k above =
+      let same : below + (k - below) ≡ k = omega (arith, above) in
+      get_or-drop below old (k - below) Empty ∙ ap (λ i. get_or old i Empty) same
+
+  fills_rest : OnlyFills (drop below old) rest → OnlyFills old new
+  fills_rest fills = record {
+    count = omega (arith, ap length joined, length-append (take below old) rest, front-length, fills.count, length-drop below old, within);
+    kept = λ k some. ⊎_elim
+        (λ less. read-front k less)
+        (λ above. read-rest k above ∙ fills.kept (k - below) (λ gone. some (sym (read-old k above) ∙ gone)) ∙ read-old k above)
+        (cases_lt k below);
+    filled = λ k none. ⊎_elim
+        (λ less. inl (read-front k less ∙ none))
+        (λ above. filled_rest k above (fills.filled (k - below) (read-old k above ∙ none)))
+        (cases_lt k below);
+  }
+    where
+      filled_rest :
+          (k : ℕ) → below ≤ k → (get_or rest (k - below) Empty ≡ Empty) ⊎ ((w : Word) × (get_or rest (k - below) Empty ≡ Filled w))
+          → (get_or new k Empty ≡ Empty) ⊎ ((w : Word) × (get_or new k Empty ≡ Filled w))
+      filled_rest k above (inl still) = inl (read-rest k above ∙ still)
+      filled_rest k above (inr now) = inr (now.0, read-rest k above ∙ now.1)
+
 -- entries that stand for no position are left alone
 pub fills_after :
     (below : ℕ) (lines : Slab Line) (old new : List Slot) (answer : Verdict) → below ≤ length old → IsPeelAfter below lines old new answer → OnlyFills old new
-fills_after below lines old new answer within after =
-    let rest = after.0 in
-    let fills = after.2.fills in
-    let front : length (take below old) ≡ below = omega (arith, length-take below old, within) in
-    let read : (k : ℕ) → below ≤ k → get_or new k Empty ≡ get_or rest (k - below) Empty =
-    λ k above. ap (λ (es : List Slot). get_or es k Empty) after.1 ∙ get_or-append_right (take below old) rest below k Empty front above in
-    let was : (k : ℕ) → below ≤ k → get_or (drop below old) (k - below) Empty ≡ get_or old k Empty =
-    λ k above. get_or-drop below old (k - below) Empty ∙ ap (λ i. get_or old i Empty) (omega (arith, above)) in
-    let same : (k : ℕ) → k < below → get_or new k Empty ≡ get_or old k Empty =
-    λ k less. ap (λ (es : List Slot). get_or es k Empty) after.1
-    ∙ get_or_append_left (take below old) rest Empty k (omega (arith, front, less))
-    ∙ ap (λ (es : List Slot). get_or es k Empty) refl ∙ get_or-take below old k Empty less in
-    record {
-      count = ap length after.1 ∙ length-append (take below old) rest ∙ omega (arith, front, fills.count, length-drop below old, within);
-      kept = λ k some. ⊎_elim
-          (λ less. same k less)
-          (λ above. read k above ∙ fills.kept (k - below) (λ gone. some (sym (was k above) ∙ gone)) ∙ was k above)
-          (cases_lt k below);
-      filled = λ k none. ⊎_elim
-          (λ less. inl (same k less ∙ none))
-          (λ above. ⊎_elim
-          (λ still. inl (read k above ∙ still))
-          (λ now. inr (now.0, read k above ∙ now.1))
-          (fills.filled (k - below) (was k above ∙ none)))
-          (cases_lt k below);
-    }
+fills_after below lines old new answer within after = fills_rest below old new after.0 within after.1 after.2.fills
 
 pub same_before :
     (low : ℤ) (below : ℕ) (lines : Slab Line) (old new : List Slot) (answer : Verdict) → below ≡ min (length old) (nat_abs low)
@@ -134,13 +150,26 @@ fits_below (negsuc n) below lines old under least fit =
     let P : List Slot → Type 0 = λ es. AllFitFrom 0 es lines in
     subst P (sym (same_rest n below old least')) fit
 
+-- Lines that fit have offsets, so that their slots differ.
+admissible_at :
+    (low : ℤ) (lines : Slab Line) (old : List Slot) → AllFit low old lines → AreMedia (known_at low old)
+    → AreAdmissible (known_at low old) (equations_of lines)
+admissible_at low lines old fit media = record {
+  known_media = media;
+  some_offset = λ equation listed.
+      (let line = line_of_equation lines equation listed in
+      let P : Equation → Type 0 = λ e. 1 ≤ e.offset in
+      let some : P (equation_of line.0) = (fit line.0 line.1).shape.some_offset in
+      subst P (sym line.2) some);
+}
+
 -- The verdict tells of a solution.
 pub tells_at :
-    (low : ℤ) (lines : Slab Line) (old new : List Slot) (answer : Verdict) → PeelsAt low lines old new answer
-    → AreAdmissible (known_at low old) (equations_of lines) → ArePeeled (equations_of lines) (known_at low old) (words_at low old)
+    (low : ℤ) (lines : Slab Line) (old new : List Slot) (answer : Verdict) → AllFit low old lines → PeelsAt low lines old new answer
+    → AreMedia (known_at low old) → ArePeeled (equations_of lines) (known_at low old) (words_at low old)
     → TellsSolution (equations_of lines) (known_at low old) (words_at low new) answer
-tells_at low lines old new answer peel admissible peeled =
-    tells_solution lines (known_at low old) (words_at low new) (recovered_at low new) admissible
+tells_at low lines old new answer fit peel media peeled =
+    tells_solution lines (known_at low old) (words_at low new) (recovered_at low new) (admissible_at low lines old fit media)
     (ends_from_known (equations_of lines) (known_at low old) (words_at low old) (words_at low new) peeled peel.peeling)
     (recovered_told (first_position low) (from_first low new))
     (recovered_since (first_position low) (from_first low old) (from_first low new) peel.fills)

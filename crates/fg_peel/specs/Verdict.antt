@@ -25,9 +25,9 @@ RecoversMedia entry = (word : Word) → recovered_in entry ≡ Some word → IsM
 abbrev pub IsNoMedia : (ℕ → Option Word) → ℕ → Type 0
 IsNoMedia recovered position = (word : Word) × (recovered position ≡ Some word) × ¬ IsMedia word
 
--- All recovered words are media words.
+-- All these words are media words.
 abbrev pub AreMedia : (ℕ → Option Word) → Type 0
-AreMedia recovered = (position : ℕ) (word : Word) → recovered position ≡ Some word → IsMedia word
+AreMedia words = (position : ℕ) (word : Word) → words position ≡ Some word → IsMedia word
 
 -- All slots of the equation have words.
 abbrev pub IsComplete : (ℕ → Option Word) → Equation → Type 0

@@ -1,6 +1,6 @@
 //! The verdict on finished words.
 
-ghost use Rattle.std.specs.Prelude.{◌≡◌, ◌+◌, ◌^◌, ◌≤◌, ◌↔◌, length, false, IsTrue, IfSome, IfNone};
+ghost use Rattle.std.specs.Prelude.{◌≡◌, ◌+◌, ◌^◌, ◌<◌, ◌≤◌, ◌↔◌, length, false, IsTrue, IfSome, IfNone, IsSomeAnd};
 ghost use Rattle.fg_words.specs.Word.{HasRoom};
 ghost use Rattle.fg_peel.specs.Laws.{AllComeOut};
 ghost use Rattle.fg_peel.specs.Slots.{word_in, recovered_in, told_from, equation_of, equations_of, FitsFrom, AllFitFrom};
@@ -89,11 +89,22 @@ fn first_broken(start: u64, slots: &[Slot], lines: &Slab<Line>) -> Option<u32>
 {
     let mut least: Option<u32> = None;
     for (_, line) in lines.iter() {
-        if is_broken(start, slots, line) {
-            least = Some(least.unwrap_or(line.place).min(line.place));
+        if is_below(line.place, least) && is_broken(start, slots, line) {
+            least = Some(line.place);
         }
     }
     least
+}
+
+/// Whether a place is below the least one so far.
+fn is_below(place: u32, least: Option<u32>) -> bool
+    ensures below { IsTrue result → IfSome least (λ other. place < other) }
+    ensures above { result ≡ false → IsSomeAnd least (λ other. other ≤ place) }
+{
+    match least {
+        Some(other) => place < other,
+        None => true,
+    }
 }
 
 /// The verdict on the words of a row of entries.

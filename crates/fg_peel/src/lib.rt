@@ -5,9 +5,8 @@
 ghost use Rattle.std.specs.Prelude.{◌≡◌, ◌+◌, ◌^◌, ◌<◌, ◌≤◌, ◌≤ℤ◌, ◌+ℤ◌, ◌↔◌, ℕ, pos, negsuc, length, drop, IsSome, IfSome, IsTrue, Option};
 ghost use Rattle.std.specs.Option.{option_copied};
 ghost use Rattle.fg_peel.specs.Closure.{InClosure};
-ghost use Rattle.fg_peel.specs.Equation.{AreAdmissible};
 ghost use Rattle.fg_peel.specs.Slots.{word_in, told_from, before_first, words_at, known_at, recovered_at, equations_of, AllFit, AllFitFrom, OnlyFills, EndsPeeling, ArePeeled};
-ghost use Rattle.fg_peel.specs.Verdict.{IsVerdict, IsPeel, IsPeelAfter, TellsSolution};
+ghost use Rattle.fg_peel.specs.Verdict.{AreMedia, IsVerdict, IsPeel, IsPeelAfter, TellsSolution};
 
 use checks::verdict_on;
 use fg_shape::Shape;
@@ -94,6 +93,11 @@ pub enum Verdict {
 /// Entry `i` of `slots` stands for position `low + i`; entries for positions below 0 are left alone.
 /// Known are the words of the `Media` and `Filled` entries. Only `Empty` entries change, and only into
 /// `Filled`. It takes no memory.
+///
+/// A payload is read only to be summed: a recovered word costs one copy, of the parity word, and one
+/// XOR in place for each other slot of its equation, and each equation without an `Empty` slot is
+/// summed once more for the verdict. Where a slot is in one row and one column at most, each equation
+/// is looked at twice, and once more for each of its slots that is filled.
 pub fn peel(low: i64, slots: &mut [Slot], lines: &Slab<Line>) -> Verdict
     requires first { negsuc 99 ≤ℤ low }
     requires last { (low +ℤ pos (length slots.old)) ≤ℤ pos (2 ^ 62) }
@@ -108,9 +112,9 @@ pub fn peel(low: i64, slots: &mut [Slot], lines: &Slab<Line>) -> Verdict
     // A recovered word that is no media word counts before an equation that doesn't come out.
     ensures verdict { IsVerdict (recovered_at low slots.new) (words_at low slots.new) lines.now result }
 
-    // Where the recovered words at the start come from a peeling, the verdict tells whether there is a
-    // solution, and the words are then it.
-    ensures solution { AreAdmissible (known_at low slots.old) (equations_of lines.now) → ArePeeled (equations_of lines.now) (known_at low slots.old) (words_at low slots.old) → TellsSolution (equations_of lines.now) (known_at low slots.old) (words_at low slots.new) result }
+    // Where the known words are media words and the recovered ones come from them by a peeling, the
+    // verdict tells whether there is a solution, and the words are then it.
+    ensures solution { AreMedia (known_at low slots.old) → ArePeeled (equations_of lines.now) (known_at low slots.old) (words_at low slots.old) → TellsSolution (equations_of lines.now) (known_at low slots.old) (words_at low slots.new) result }
 {
     if low < 0 {
         let below = slots.len().min(low.unsigned_abs() as usize);

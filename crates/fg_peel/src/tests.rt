@@ -13,6 +13,7 @@ use std::process::Abort;
 use std::test::Fail;
 
 const ROW: Shape = Shape { offset: 1, na: 4 };
+
 const COLUMN: Shape = Shape { offset: 4, na: 4 };
 
 /// The block's equations in the order in which an encoder sends them: row 3 comes last.
@@ -26,8 +27,11 @@ const EQUATIONS: [(u8, Shape); 8] = [
     (3, COLUMN),
     (12, ROW),
 ];
+
 const ALL: u8 = 0xff;
+
 const ALL_BUT_COLUMN_3: u8 = 0xbf;
+
 const ROW_0_ALONE: u8 = 0x01;
 
 /// A media word of seven packets.
@@ -132,6 +136,14 @@ fn peel_block(rt: &impl Abort, slots: &mut [Slot], lines: &Slab<Line>) -> Verdic
     peel(0, slots, lines)
 }
 
+/// The same where two entries stand for positions below 0.
+fn peel_after_two(rt: &impl Abort, slots: &mut [Slot], lines: &Slab<Line>) -> Verdict {
+    assert!(rt; slots.len() <= 100 && slots.len() >= 2);
+    let (_, rest) = slots.split_at(2);
+    assert!(rt; lines_fit(rest, lines));
+    peel(-2, slots, lines)
+}
+
 /// Which entries were filled.
 fn filled(slots: &[Slot]) -> u16 {
     let mut mask = 0u16;
@@ -189,12 +201,21 @@ fn worked_block(rt: HostRuntime) -> Result<(), Fail> {
         (0x0000, ALL, flipped, 0x0000, Verdict::Unsound { place: 1 }),
         // Row 1 gives the wrong word, with which column 1 fails.
         (0x0020, ALL, flipped, 0x0020, Verdict::Unsound { place: 4 }),
-        (0x0008, ROW_0_ALONE, shortened, 0x0008, Verdict::NotMedia { slot: 3 }),
+        (
+            0x0008,
+            ROW_0_ALONE,
+            shortened,
+            0x0008,
+            Verdict::NotMedia { slot: 3 },
+        ),
     ];
     for (lost, given, flip, want, verdict) in rows {
         let mut slots = entries(rt.alloc(), &stamps, lost)?;
         let lines = given_lines(rt.alloc(), &stamps, given, flip)?;
-        assert!(rt; peel_block(&rt, &mut slots, &lines) == verdict, "lost {lost}");
+        assert!(rt;
+            peel_block(&rt, &mut slots, &lines) == verdict,
+            "lost {lost}"
+        );
         assert_eq!(rt; filled(&slots), want, "lost {lost}");
         for (slot, stamp) in slots.iter().zip(stamps.iter()) {
             if verdict == Verdict::Sound
@@ -207,6 +228,17 @@ fn worked_block(rt: HostRuntime) -> Result<(), Fail> {
             assert!(rt; least_broken(&slots, &lines) == Some(place), "lost {lost}");
         }
     }
+    Ok(())
+}
+
+#[test]
+fn entries_below_position_0(rt: HostRuntime) -> Result<(), Fail> {
+    let stamps = [7u32; 16];
+    let lines = given_lines(rt.alloc(), &stamps, ROW_0_ALONE, NO_FLIP)?;
+    // One lost at each side of position 0.
+    let mut slots = entries(rt.alloc(), &stamps, 0x0006)?;
+    assert!(rt; peel_after_two(&rt, &mut slots, &lines) == Verdict::Sound);
+    assert_eq!(rt; filled(&slots), 0x0004);
     Ok(())
 }
 

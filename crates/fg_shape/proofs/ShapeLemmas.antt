@@ -1,8 +1,9 @@
 -- The slots of an equation by their numbers, for this crate and its callers.
-use Rattle.std.proofs.Common.{◌≡◌, ℕ, ◌+◌, ◌-◌, ◌*◌, ◌/◌, ◌%◌, ◌<◌, ◌≤◌, length, get_or, Contains, All, sym, ap, ◌∙◌, arith, zero-add}
+use Rattle.std.proofs.Common.{◌≡◌, ℕ, ◌+◌, ◌-◌, ◌*◌, ◌/◌, ◌%◌, ◌<◌, ◌≤◌, length, get_or, Contains, All, sym, ap, ◌∙◌, ⊎_elim, arith, zero-add}
 use Rattle.std.proofs.lemmas.List.FromFn.{length-map-range_with_len, get_or-map-range_with_len}
 use Rattle.std.proofs.Math.Nat.{mul-div_cancel, mul-mod_left, mul-le-mul_right}
 use Rattle.std.proofs.lemmas.Nat.{div-add-mod'}
+use Rattle.std.proofs.lemmas.Bool.{cases_lt}
 use Rattle.fg_shape.specs.Shape.{slots_of}
 
 pub length-slots_of : (base offset na : ℕ) → length (slots_of base offset na) ≡ na
@@ -29,31 +30,28 @@ slots_apart base offset i j some same =
     let products : i * offset ≡ j * offset = omega arith in
     sym (mul-div_cancel i some) ∙ ap (λ x. x / offset) products ∙ mul-div_cancel j some
 
--- a whole number of offsets past the base, and not too many
-pub slot_from_division : (base offset na s : ℕ) → base ≤ s → (s - base) % offset ≡ 0 → (s - base) / offset < na → Contains (slots_of base offset na) s
-slot_from_division base offset na s above whole few =
+-- a whole number of offsets past the base, and not past a slot
+pub slot_from_division :
+    (base offset na s end : ℕ) → base ≤ s → s ≤ end → Contains (slots_of base offset na) end → 1 ≤ offset → (s - base) % offset ≡ 0
+    → Contains (slots_of base offset na) s
+slot_from_division base offset na s end above within last some whole =
     let number = (s - base) / offset in
+    let n = number_of_slot base offset na end last in
     let steps : (s - base) / offset * offset + (s - base) % offset ≡ s - base = div-add-mod' (s - base) offset in
     let there : base + (s - base) / offset * offset ≡ s = omega arith in
-    rw there at (slot_of_number base offset na ((s - base) / offset) few)
+    let few : (s - base) / offset ≤ n.0 = ⊎_elim
+    (λ more. (let much = mul-le-mul_right offset more in absurd (omega (arith, much, n.2, steps))))
+    (λ less. less)
+    (cases_lt n.0 ((s - base) / offset)) in
+    rw there at (slot_of_number base offset na ((s - base) / offset) (omega (arith, few, n.1)))
 
-pub division_from_slot : (base offset na s : ℕ) → 1 ≤ offset → Contains (slots_of base offset na) s → (base ≤ s) × ((s - base) % offset ≡ 0) × ((s - base) / offset < na)
+pub division_from_slot : (base offset na s : ℕ) → 1 ≤ offset → Contains (slots_of base offset na) s → (base ≤ s) × ((s - base) % offset ≡ 0)
 division_from_slot base offset na s some p =
     let n = number_of_slot base offset na s p in
     let distance : s - base ≡ n.0 * offset = omega (arith, n.2) in
-    let cancel : n.0 * offset / offset ≡ n.0 = mul-div_cancel n.0 some in (
-      omega (arith, n.2),
-      ap (λ x. x % offset) distance ∙ mul-mod_left n.0 offset,
-      rw (distance, cancel) n.1,
-    )
+    (omega (arith, n.2), ap (λ x. x % offset) distance ∙ mul-mod_left n.0 offset)
 
 -- no slot is past the last
-pub slot_below_last : (base offset na s : ℕ) → 1 ≤ na → Contains (slots_of base offset na) s → s ≤ base + (na - 1) * offset
-slot_below_last base offset na s some p =
-    let n = number_of_slot base offset na s p in
-    let few : n.0 ≤ na - 1 = omega (arith, n.1) in
-    omega (arith, n.2, mul-le-mul_right offset few)
-
 pub all_below_last : (base offset na : ℕ) → 1 ≤ na → All (λ s. s ≤ base + (na - 1) * offset) (slots_of base offset na)
 all_below_last base offset na some k d within =
     let below : k < na = omega (arith, length-slots_of base offset na, within) in

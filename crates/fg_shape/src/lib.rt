@@ -42,12 +42,10 @@ pub fn contains(base: u64, shape: Shape, slot: u64) -> bool
     requires base { base ≤ 2 ^ 62 }
     ensures { IsTrue result ↔ Contains (slots_of base shape.offset shape.na) slot }
 {
-    if slot < base {
+    if slot < base || slot > last(base, shape) {
         return false;
     }
-    let offset = u64::from(shape.offset);
-    let distance = slot - base;
-    distance % offset == 0 && distance / offset < u64::from(shape.na)
+    (slot - base) % u64::from(shape.offset) == 0
 }
 
 /// The greatest slot of the equation with this base.

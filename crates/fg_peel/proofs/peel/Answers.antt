@@ -59,7 +59,7 @@ returns-then-low-lt0-clause-verdict c = (below (goal.at.returns-then-low-lt0-cla
 
 pub returns-then-low-lt0-clause-solution : goal.returns-then-low-lt0-clause-solution
 returns-then-low-lt0-clause-solution c =
-    tells_at c.args.low c.args.lines.now c.args.slots.now c.peel_after.new.slots c.peel_after.result
+    tells_at c.args.low c.args.lines.now c.args.slots.now c.peel_after.new.slots c.peel_after.result c.requires.lines
     (below (goal.at.returns-then-low-lt0-clause-solution c).After-peel_after)
 
 pub returns-else-low-lt0-clause-closure : goal.returns-else-low-lt0-clause-closure
@@ -75,5 +75,5 @@ returns-else-low-lt0-clause-verdict c = (up (goal.at.returns-else-low-lt0-clause
 
 pub returns-else-low-lt0-clause-solution : goal.returns-else-low-lt0-clause-solution
 returns-else-low-lt0-clause-solution c =
-    tells_at c.args.low c.args.lines.now c.args.slots.now c.peel_from.new.slots c.peel_from.result
+    tells_at c.args.low c.args.lines.now c.args.slots.now c.peel_from.new.slots c.peel_from.result c.requires.lines
     (up (goal.at.returns-else-low-lt0-clause-solution c).After-peel_from)

@@ -1,7 +1,6 @@
-use Rattle.std.proofs.Common.{◌≡◌, ◌∙◌, length, ℕ, true, false}
-use Rattle.std.proofs.lemmas.Bool.{false≢true}
+use Rattle.std.proofs.Common.{◌∙◌, ℕ}
 use Rattle.fg_peel.specs.declared.Line.{Line}
-use Rattle.fg_peel.proofs.Lines.{FitsBut, fits_none, fits_more, fits_all}
+use Rattle.fg_peel.proofs.Lines.{fits_none, fits_more, fits_all}
 use Rattle.fg_peel.proofs.tests.lines_fit.Goals as goal
 
 pub loop-line-init : goal.loop-line-init

@@ -1,0 +1,24 @@
+#!/usr/bin/env bash
+# Times the peeler, as ratios of one run: XOR in place against memcpy, and peeling a block of 10 columns and 10 rows
+# with ten losses against XORing the same words plainly. It makes a throw-away program over the repository's crates in
+# a temporary folder, which rt proves and builds like any other.
+set -eu
+here=$(cd "$(dirname "$0")" && pwd)
+top=$(cd "$here/../.." && pwd)
+work=$(mktemp -d)
+trap 'rm -rf "$work"' EXIT
+mkdir -p "$work/crates/peel_times/src" "$work/crates/peel_times/proofs/lines_fit"
+for crate in fg_words fg_shape fg_peel; do
+    tar -C "$top/crates" --exclude=out --exclude=must-fail -cf - "$crate" | tar -C "$work/crates" -xf -
+done
+grep -E '^fg_(words|shape|peel):' "$top/crates.txt" > "$work/crates.txt"
+echo 'peel_times: fg_words fg_shape fg_peel slab' >> "$work/crates.txt"
+cp "$top/HANDLES" "$work/"
+cp "$here/program.txt" "$work/crates/peel_times/src/main.rt"
+# The walk through the lines is proved as in the peeler's own tests.
+for part in Invariants Answers; do
+    sed 's/fg_peel\.proofs\.tests\.lines_fit/peel_times.proofs.lines_fit/' \
+        "$top/crates/fg_peel/proofs/tests/lines_fit/$part.antt" > "$work/crates/peel_times/proofs/lines_fit/$part.antt"
+done
+cd "$work/crates/peel_times"
+rt run
