@@ -20,4 +20,5 @@ abbrev pub invariant-loop : goal.invariant-loop
 invariant-loop g l = (l.seat.turn ≡ l.turn.name) × (l.seat.inside ≡ false)
 END
 cd "$work/crates/turn_bench"
-rt run
+rt run > "$work/log" 2>&1 || { cat "$work/log"; exit 1; }
+grep '^round' "$work/log"

@@ -5,3 +5,4 @@ pub mod Laws
 pub mod Standing
 pub mod Inside
 pub mod Examples
+pub mod ExampleLaws

@@ -7,7 +7,8 @@ use std::marker::Brand;
 /// A state that one seat at a time changes.
 ///
 /// An entry, and a thing that a seat was told, is a finite list of numbers. The crate that implements this codes its
-/// calls, and what they tell, as such lists, different ones by different lists.
+/// calls, and what they tell, as such lists, different ones by different lists. A state can be let go, since a turn
+/// that finds no memory has to.
 pub trait Guarded: Sized + Drop {
     /// One step: of its entry, where it is the owner's, and of the states before and after.
     ghost step: { Option Entry → Self → Self → Type 0 };

@@ -16,7 +16,8 @@ struct Pair {
 }
 
 impl Guarded for Pair {
-    ghost use Rattle.fg_turn.specs.Examples.{Raises, Counts, Reached, counts_entry, counts_step, reached_stays, reached_both};
+    ghost use Rattle.fg_turn.specs.Examples.{Raises, Counts, Reached};
+    ghost use Rattle.fg_turn.specs.ExampleLaws.{counts_entry, counts_step, reached_stays, reached_both};
 
     ghost step = { λ entry old new. Raises entry old.a old.b new.a new.b };
 

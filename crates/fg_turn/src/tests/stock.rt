@@ -13,7 +13,8 @@ struct Stock {
 }
 
 impl Guarded for Stock {
-    ghost use Rattle.fg_turn.specs.Examples.{Takes, IsLeft, WasSeen, left_entry, left_step, seen_stays, seen_both};
+    ghost use Rattle.fg_turn.specs.Examples.{Takes, IsLeft, WasSeen};
+    ghost use Rattle.fg_turn.specs.ExampleLaws.{left_entry, left_step, seen_stays, seen_both};
 
     ghost step = { λ entry old new. Takes entry old.items.items new.items.items };
 

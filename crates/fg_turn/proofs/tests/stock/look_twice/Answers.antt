@@ -1,5 +1,6 @@
 use Rattle.std.proofs.Common.{ap, subst, arith, length, length-append}
-use Rattle.fg_turn.specs.Examples.{WasSeen, seen_last}
+use Rattle.fg_turn.specs.Examples.{WasSeen}
+use Rattle.fg_turn.specs.ExampleLaws.{seen_last}
 use Rattle.fg_turn.proofs.tests.stock.look_twice.Goals as goal
 
 pub returns-clause-fewer : goal.returns-clause-fewer
