@@ -1,5 +1,5 @@
 -- Rows of entries that steps of a peeling lead to.
-use Rattle.std.proofs.Common.{◌≡◌, ◌+◌, ◌-◌, ◌<◌, ◌≤◌, ℕ, cond, List, [], ◌∷◌, ◌++◌, length, get_or, set, Option, None, inl, inr, refl, sym, ap, ◌∙◌, ⊎_elim, subst, arith}
+use Rattle.std.proofs.Common.{◌≡◌, ◌+◌, ◌-◌, ◌<◌, ◌≤◌, ℕ, cond, List, [], ◌∷◌, ◌++◌, length, get_or, set, Option, None, IsSome, inl, inr, refl, sym, ap, ◌∙◌, ⊎_elim, subst, arith}
 use Rattle.std.proofs.Math.Path.{fun_ext}
 use Rattle.std.proofs.lemmas.List.{length-set, get_or-set_same, get_or-set_other, length-append}
 use Rattle.std.proofs.lemmas.List.Sums.{sum_by-set}
@@ -143,3 +143,12 @@ IsPeeled-trans start equations old mid new one other =
 pub IsPeeled-count :
     (start : ℕ) (equations : List Equation) (old new : List Slot) → IsPeeled start equations old new → empty_count new ≤ empty_count old
 IsPeeled-count start equations old new p = omega (arith, p.1.counts)
+
+-- the position of a step has a word then
+pub peeled_has :
+    (start : ℕ) (equations : List Equation) (old new : List Slot) (step : Step) → IsPeeledBy start equations old new (step ∷ [])
+    → IsSome (told_from word_in start new step.position)
+peeled_has start equations old new step by =
+    let P : (ℕ → Option Word) → Type 0 = λ words. IsSome (words step.position) in
+    let after : P (after_step (told_from word_in start old) step) = rw (after_step-at (told_from word_in start old) step) refl in
+    subst P (sym by.end) after

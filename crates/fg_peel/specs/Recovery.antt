@@ -28,6 +28,12 @@ abbrev pub AllClosed : (ℕ → Option Word) → Slab Line → Type 0
 AllClosed words lines =
     (line : Line) → Contains (lines_of lines) line → (position : ℕ) → ¬ IsMissing words (equation_of line) (One position)
 
+-- No line with this slot misses just one word: nothing follows from it.
+abbrev pub AllClosedAt : (ℕ → Option Word) → Slab Line → ℕ → Type 0
+AllClosedAt words lines slot =
+    (line : Line) → Contains (lines_of lines) line → Contains (slots (equation_of line)) slot
+    → (position : ℕ) → ¬ IsMissing words (equation_of line) (One position)
+
 abbrev pub is_empty : Slot → Bool
 is_empty Empty = true
 is_empty (Media word) = false

@@ -1,9 +1,9 @@
 //! Filling empty entries from the equations that miss one word.
 
-ghost use Rattle.std.specs.Prelude.{◌≡◌, ◌≢◌, ◌+◌, ◌^◌, ◌<◌, ◌≤◌, length, slice_set, IsTrue, OnSome, IfNone, false};
+ghost use Rattle.std.specs.Prelude.{◌≡◌, ◌≢◌, ◌+◌, ◌^◌, ◌<◌, ◌≤◌, length, slice_set, IsTrue, IsSome, None, OnSome, IfSome, IfNone, false};
 ghost use Rattle.fg_words.specs.Word.{HasRoom};
 ghost use Rattle.fg_peel.specs.Slots.{word_in, told_from, equation_of, equations_of, FitsFrom, AllFitFrom};
-ghost use Rattle.fg_peel.specs.Recovery.{IsMissing, Fills, AllClosed, empty_count, IsPeeled, with_word, AddsWord};
+ghost use Rattle.fg_peel.specs.Recovery.{IsMissing, Fills, AllClosed, AllClosedAt, empty_count, IsPeeled, with_word, AddsWord};
 
 use crate::{Line, Slot, word_at};
 use fg_shape::{contains, slot};
@@ -104,12 +104,16 @@ fn fill_next(start: u64, slots: &mut [Slot], lines: &Slab<Line>, filled: u64) ->
     requires limit { start + length slots.old ≤ 2 ^ 62 }
     ensures peeled { IsPeeled start (equations_of lines.now) slots.old slots.new }
     ensures fewer { OnSome result (empty_count slots.new < empty_count slots.old) }
+    ensures which { IfSome result (λ position. IsSome (told_from word_in start slots.new position)) }
+    ensures unknown { IfSome result (λ position. told_from word_in start slots.old position ≡ None) }
     ensures same { IfNone result (slots.new ≡ slots.old) }
+    ensures none { IfNone result (AllClosedAt (told_from word_in start slots.old) lines.now filled) }
 {
     for (_, line) in lines.iter() {
-        if contains(line.base, line.shape, filled)
-            && let Missing::One(position) = missing_of(start, slots, line)
-        {
+        if !contains(line.base, line.shape, filled) {
+            continue;
+        }
+        if let Missing::One(position) = missing_of(start, slots, line) {
             fill(start, slots, line, position);
             return Some(position);
         }
@@ -121,7 +125,8 @@ fn fill_next(start: u64, slots: &mut [Slot], lines: &Slab<Line>, filled: u64) ->
 fn follow(start: u64, slots: &mut [Slot], lines: &Slab<Line>, filled: u64)
     requires lines { AllFitFrom start slots.old lines.now }
     requires limit { start + length slots.old ≤ 2 ^ 62 }
-    ensures { IsPeeled start (equations_of lines.now) slots.old slots.new }
+    ensures peeled { IsPeeled start (equations_of lines.now) slots.old slots.new }
+    ensures none { slots.new ≡ slots.old → AllClosedAt (told_from word_in start slots.old) lines.now filled }
 {
     let mut next = Some(filled);
     while let Some(position) = next {

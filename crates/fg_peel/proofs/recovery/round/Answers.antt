@@ -34,13 +34,13 @@ loop-line-preserved-in-One c =
     (live_equation c.args.lines.now c.in-Some.line.now (live i)) c.in-One.ensures c.fill.ensures in
     let filled : IsPeeled c.args.start equations c.loop-line.slots c.fill.new.slots = (_, by) in
     let before = IsPeeled-count c.args.start equations c.args.slots.now c.loop-line.slots c.loop-line.invariant.3 in
-    let after = IsPeeled-count c.args.start equations c.fill.new.slots c.follow.new.slots c.follow.ensures in (
+    let after = IsPeeled-count c.args.start equations c.fill.new.slots c.follow.new.slots c.follow.ensures.peeled in (
       tt,
       tt,
       rest i,
       IsPeeled-trans c.args.start equations c.args.slots.now c.fill.new.slots c.follow.new.slots
           (IsPeeled-trans c.args.start equations c.args.slots.now c.loop-line.slots c.fill.new.slots c.loop-line.invariant.3 filled)
-          c.follow.ensures,
+          c.follow.ensures.peeled,
       λ opened. omega (arith, before, by.counts, after),
       λ closed. absurd (cc),
     )
