@@ -6,6 +6,7 @@ use Rattle.fg_words.specs.declared.Word.{Word}
 use Rattle.fg_io.specs.Outlet.{Lanes, Puts, PutsPart}
 use Rattle.fg_io.proofs.OutletLemmas.{Puts-trans, PutsPart-trans, PutsPart-front}
 use Rattle.fg_rtp.specs.MediaDatagram.{IsMediaDatagram}
+use Rattle.fg_rtp.proofs.DatagramLemmas.{datagram_payload}
 use Rattle.fg_run.specs.Trace.{Record, Fits, spelling, StandsFirst}
 use Rattle.fg_run.specs.Flow.{Carries, AreCarried, SpellInOrder, payload, lane_of_words}
 use Rattle.fg_run.proofs.Records.{one_record}
@@ -13,7 +14,9 @@ use Rattle.fg_run.proofs.Walk.{one_carried}
 
 -- a media datagram is a header of twelve bytes and the payload
 pub payload_after_header : (bytes : List ℕ) (seq ssrc : ℕ) (word : Word) → IsMediaDatagram bytes seq ssrc word → (12 ≤ length bytes) × (drop 12 bytes ≡ payload word)
-payload_after_header bytes seq ssrc word h = (omega (arith, ap length h.spelled), ap (drop 12) h.spelled)
+payload_after_header bytes seq ssrc word h =
+    let parts = datagram_payload bytes seq ssrc word h in
+    (omega (arith, parts.1), sym parts.0)
 
 -- the first record of bytes that spell some
 pub stands_first : (q : Record) (records : List Record) (bytes : List ℕ) → AllByRecursion Fits (q ∷ records) → bytes ≡ flat_map spelling (q ∷ records) → StandsFirst bytes q (flat_map spelling records)

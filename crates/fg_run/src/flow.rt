@@ -8,7 +8,7 @@ ghost use Rattle.fg_run.specs.Flow.{Carries, BeginsBuilt, SpellInOrder, IsFirstN
 
 use crate::trace::{TimedDatagram, split_record};
 use fg_io::{Failed, Outlet};
-use fg_rtp::media_word;
+use fg_rtp::{HEADER_LENGTH, media_word};
 
 /// The sequence number of the media datagram that the record carries on the port, and `None` exactly where it carries
 /// none.
@@ -65,9 +65,6 @@ pub fn count_in_order(port: u16, bytes: &[u8]) -> Result<u64, usize>
     Ok(count)
 }
 
-/// The bytes of an RTP header without extension or sources (RFC 3550).
-const RTP_HEADER: usize = 12;
-
 /// Puts the payloads of the flow's media datagrams to the lane of the port, one after another. An empty put makes the
 /// lane first. `bytes` are those of the trace after its magic.
 pub fn write_lane<O: Outlet>(lanes: &mut O, port: u16, bytes: &[u8]) -> Result<(), Failed>
@@ -82,7 +79,7 @@ pub fn write_lane<O: Outlet>(lanes: &mut O, port: u16, bytes: &[u8]) -> Result<(
     lanes.put(port, &[])?;
     let mut rest = bytes;
     while let Some((timed, after)) = split_record(rest) {
-        let (_, payload) = timed.datagram.split_at(RTP_HEADER);
+        let (_, payload) = timed.datagram.split_at(HEADER_LENGTH);
         lanes.put(port, payload)?;
         rest = after;
     }
