@@ -6,10 +6,10 @@ use mathlib.Core.Option.{none, some, some-injective, some-ne-none}
 use mathlib.Core.Option as maybe
 use lib.ListN.{get_elem?}
 use Rattle.atomic_table.proofs.Lists.{at_set, at_snoc, set_else, at_longer}
-use Rattle.fg_turn.specs.declared.note.Note.{Note}
-use Rattle.fg_turn.specs.declared.note.Place.{Place}
-use Rattle.fg_turn.specs.declared.note.Place.TheVariants.{Unopened, Spent, Outside, Waiting, Inside}
-use Rattle.fg_turn.specs.Rule.{drawn_at, live_at, HasTicket, InLine, HasTurn, ticket_at, Lies}
+use Rattle.fg_turn.specs.declared.view.View.{View}
+use Rattle.fg_turn.specs.declared.view.Place.{Place}
+use Rattle.fg_turn.specs.declared.view.Place.TheVariants.{Unopened, Spent, Outside, Waiting, Inside}
+use Rattle.fg_turn.specs.Rule.{drawn_at, live_at, HasTicket, InLine, HasTurn, ticket_at, Lies, Apart}
 use Rattle.fg_turn.proofs.Views.{same_view, each_set, each_snoc}
 
 -- list prefixes
@@ -70,48 +70,45 @@ drawn_below_live (Waiting u) = omega arith
 drawn_below_live (Inside u) = omega arith
 
 module _ {S : Type 0} where
-  abbrev pub Apart : List (Note S) → Type 0
-  Apart views = (i j t : ℕ) (v w : Note S) → get_elem? views i ≡ some v → get_elem? views j ≡ some w → HasTicket t v.place → HasTicket t w.place → i ≡ j
-
   -- tickets stay apart where nobody else has the new view's
-  pub apart_set : (views : List (Note S)) (i : ℕ) (w : Note S) → Apart views
-      → ((j t : ℕ) (u : Note S) → j ≢ i → get_elem? views j ≡ some u → HasTicket t w.place → HasTicket t u.place → ⊥) → Apart (set views i w)
+  pub apart_set : (views : List (View S)) (i : ℕ) (w : View S) → Apart views
+      → ((j t : ℕ) (u : View S) → j ≢ i → get_elem? views j ≡ some u → HasTicket t w.place → HasTicket t u.place → ⊥) → Apart (set views i w)
   apart_set views i w apart alone a b t x y at_a at_b has_a has_b = ⊎_elim
       (λ ta. ⊎_elim
       (λ tb. ta.0 ∙ sym tb.0)
-      (λ tb. absurd (alone b t y tb.0 tb.1 (subst (λ (n : Note S). HasTicket t n.place) (sym ta.1) has_a) has_b))
+      (λ tb. absurd (alone b t y tb.0 tb.1 (subst (λ (n : View S). HasTicket t n.place) (sym ta.1) has_a) has_b))
       (at_set views i b w y at_b))
       (λ ta. ⊎_elim
-      (λ tb. absurd (alone a t x ta.0 ta.1 (subst (λ (n : Note S). HasTicket t n.place) (sym tb.1) has_b) has_a))
+      (λ tb. absurd (alone a t x ta.0 ta.1 (subst (λ (n : View S). HasTicket t n.place) (sym tb.1) has_b) has_a))
       (λ tb. apart a b t x y ta.1 tb.1 has_a has_b)
       (at_set views i b w y at_b))
       (at_set views i a w x at_a)
 
-  pub apart_snoc : (views : List (Note S)) (w : Note S) → Apart views → ((t : ℕ) → ¬ HasTicket t w.place) → Apart (views ++ w ∷ [])
+  pub apart_snoc : (views : List (View S)) (w : View S) → Apart views → ((t : ℕ) → ¬ HasTicket t w.place) → Apart (views ++ w ∷ [])
   apart_snoc views w apart never a b t x y at_a at_b has_a has_b = ⊎_elim
-      (λ ta. ⊎_elim (λ tb. apart a b t x y ta tb has_a has_b) (λ (e : w ≡ y). absurd (never t (subst (λ (n : Note S). HasTicket t n.place) (sym e) has_b))) (at_snoc views w y b at_b))
-      (λ (e : w ≡ x). absurd (never t (subst (λ (n : Note S). HasTicket t n.place) (sym e) has_a)))
+      (λ ta. ⊎_elim (λ tb. apart a b t x y ta tb has_a has_b) (λ (e : w ≡ y). absurd (never t (subst (λ (n : View S). HasTicket t n.place) (sym e) has_b))) (at_snoc views w y b at_b))
+      (λ (e : w ≡ x). absurd (never t (subst (λ (n : View S). HasTicket t n.place) (sym e) has_a)))
       (at_snoc views w x a at_a)
 
-  abbrev pub Held : List (Note S) → Type 0
-  Held views = (o : Note S) × (get_elem? views 0 ≡ some o) × (o.owns ≡ true)
+  abbrev pub Held : List (View S) → Type 0
+  Held views = (o : View S) × (get_elem? views 0 ≡ some o) × (o.owns ≡ true)
 
-  pub held_set : (views : List (Note S)) (i : ℕ) (v w : Note S) → get_elem? views i ≡ some v → w.owns ≡ v.owns → Held views → Held (set views i w)
+  pub held_set : (views : List (View S)) (i : ℕ) (v w : View S) → get_elem? views i ≡ some v → w.owns ≡ v.owns → Held views → Held (set views i w)
   held_set [] i v w at owns held = absurd (some-ne-none v (sym at))
-  held_set (x ∷ xs) zero v w at owns held = (w, refl, owns ∙ (ap (λ (n : Note S). n.owns) (some-injective v held.0 (sym at ∙ held.1)) ∙ held.2))
+  held_set (x ∷ xs) zero v w at owns held = (w, refl, owns ∙ (ap (λ (n : View S). n.owns) (some-injective v held.0 (sym at ∙ held.1)) ∙ held.2))
   held_set (x ∷ xs) (suc i) v w at owns held = held
 
-  pub held_snoc : (views : List (Note S)) (w : Note S) → Held views → Held (views ++ w ∷ [])
+  pub held_snoc : (views : List (View S)) (w : View S) → Held views → Held (views ++ w ∷ [])
   held_snoc views w held = (held.0, at_longer views (w ∷ []) 0 held.0 held.1, held.2)
 
   -- the state lies where it lay, where the view replaced had no turn and the new one has none
-  pub lies_set : (homes : List (maybe.Option (Option S))) (views : List (Note S)) (here : S) (i : ℕ) (v w : Note S) → get_elem? views i ≡ some v → ¬ HasTurn v.place → ¬ HasTurn w.place
+  pub lies_set : (homes : List (maybe.Option (Option S))) (views : List (View S)) (here : S) (i : ℕ) (v w : View S) → get_elem? views i ≡ some v → ¬ HasTurn v.place → ¬ HasTurn w.place
       → Lies homes views here → Lies homes (set views i w) here
   lies_set homes views here i v w at never never' = ⊎_elim
-      (λ h. inl (h.0, each_set (λ j (u : Note S). ¬ HasTurn u.place) views i w never' (λ j u ne at_u. h.1 j u at_u)))
-      (λ h. inr (h.0, (h.1.0, h.1.1, set_else views i h.1.0 w (λ e. never (subst (λ (n : Note S). HasTurn n.place) (same_view views h.1.0 i h.1.1 v h.1.2 at e) h.1.3)) ∙ h.1.2, h.1.3, h.1.4)))
+      (λ h. inl (h.0, each_set (λ j (u : View S). ¬ HasTurn u.place) views i w never' (λ j u ne at_u. h.1 j u at_u)))
+      (λ h. inr (h.0, (h.1.0, h.1.1, set_else views i h.1.0 w (λ e. never (subst (λ (n : View S). HasTurn n.place) (same_view views h.1.0 i h.1.1 v h.1.2 at e) h.1.3)) ∙ h.1.2, h.1.3, h.1.4)))
 
-  pub lies_snoc : (homes : List (maybe.Option (Option S))) (views : List (Note S)) (here : S) (w : Note S) → ¬ HasTurn w.place → Lies homes views here → Lies homes (views ++ w ∷ []) here
+  pub lies_snoc : (homes : List (maybe.Option (Option S))) (views : List (View S)) (here : S) (w : View S) → ¬ HasTurn w.place → Lies homes views here → Lies homes (views ++ w ∷ []) here
   lies_snoc homes views here w never = ⊎_elim
-      (λ h. inl (h.0, each_snoc (λ j (u : Note S). ¬ HasTurn u.place) views w (λ j. never) h.1))
+      (λ h. inl (h.0, each_snoc (λ j (u : View S). ¬ HasTurn u.place) views w (λ j. never) h.1))
       (λ h. inr (h.0, (h.1.0, h.1.1, at_longer views (w ∷ []) h.1.0 h.1.1 h.1.2, h.1.3, h.1.4)))

@@ -1,5 +1,5 @@
 -- Lists of views of which one is replaced, or one is added at the end.
-use Rattle.std.proofs.Common.{◌≡◌, ℕ, zero, suc, ◌+◌, ◌≤◌, ◌≢◌, List, [], ◌∷◌, ◌++◌, set, sym, refl, ap, ◌∙◌, subst, ⊎_elim, zero-le, arith}
+use Rattle.std.proofs.Common.{◌≡◌, ℕ, zero, suc, ◌+◌, ◌≤◌, ◌≢◌, List, [], ◌∷◌, ◌++◌, set, length, sym, refl, ap, ◌∙◌, subst, ⊎_elim, zero-le, arith}
 use Rattle.std.specs.List.{sum_by}
 use Rattle.std.proofs.lemmas.List.Sums.{sum_by-cons}
 use mathlib.Core.Option.{some, some-injective, some-ne-none}
@@ -43,6 +43,14 @@ module _ {V : Type 0} where
       (λ t. let at_w : P j w = subst (λ (k : ℕ). P k w) (sym t.0) here in subst (P j) t.1 at_w)
       (λ t. others j u t.0 t.1)
       (at_set views i j w u at)
+
+  -- the new view stands at the end
+  pub each_last : (P : ℕ → V → Type 0) (views : List V) (w : V) → P (length views) w → ((j : ℕ) (u : V) → get_elem? views j ≡ some u → P j u)
+      → (j : ℕ) (u : V) → get_elem? (views ++ w ∷ []) j ≡ some u → P j u
+  each_last P [] w here others zero u at = subst (P 0) (some-injective w u at) here
+  each_last P [] w here others (suc j) u at = absurd (some-ne-none u (sym at))
+  each_last P (x ∷ xs) w here others zero u at = others 0 u at
+  each_last P (x ∷ xs) w here others (suc j) u at = each_last (λ k. P (suc k)) xs w here (λ k. others (suc k)) j u at
 
   pub each_snoc : (P : ℕ → V → Type 0) (views : List V) (w : V) → ((j : ℕ) → P j w) → ((j : ℕ) (u : V) → get_elem? views j ≡ some u → P j u)
       → (j : ℕ) (u : V) → get_elem? (views ++ w ∷ []) j ≡ some u → P j u

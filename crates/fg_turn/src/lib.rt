@@ -7,12 +7,13 @@
 
 mod guarded;
 pub mod laws;
-mod note;
 mod rule;
+mod sleepers;
 mod steps;
 #[cfg(test)]
 mod tests;
 mod turn;
+mod view;
 
 pub use guarded::{Guarded, Named};
 pub use turn::{Owner, Seat, Turn};

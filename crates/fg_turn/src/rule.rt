@@ -1,6 +1,6 @@
 //! The rule of the table, and what each step tells.
 use crate::guarded::{Guarded, Named};
-use crate::note::Note;
+use crate::view::View;
 use atomic_table::{Join, Play, Split, TableRule};
 use std::marker::PhantomData;
 use std::snapshot::Snapshot;
@@ -8,7 +8,7 @@ use std::snapshot::Snapshot;
 /// Word 0 is the next ticket, word 1 the ticket that is served, and the slot has the state.
 pub(crate) struct Rule;
 
-impl<S: Guarded> TableRule<Option<S>, Note<S>, Snapshot<S>> for Rule {
+impl<S: Guarded> TableRule<Option<S>, View<S>, Snapshot<S>> for Rule {
     ghost use Rattle.fg_turn.specs.Rule.{Ruled, unopened};
 
     ghost holds = { λ key. Ruled S.owner S.grows key.value };
@@ -21,7 +21,7 @@ pub(crate) struct Open<N> {
     named: PhantomData<N>,
 }
 
-impl<S, N: Named> Play<Option<S>, Note<S>> for Open<N> {
+impl<S, N: Named> Play<Option<S>, View<S>> for Open<N> {
     ghost use Rattle.fg_turn.specs.Plays.{opened};
 
     ghost then = { λ step. opened N.entries };
@@ -30,7 +30,7 @@ impl<S, N: Named> Play<Option<S>, Note<S>> for Open<N> {
 /// The seat draws a ticket.
 pub(crate) struct Draw;
 
-impl<S> Play<Option<S>, Note<S>> for Draw {
+impl<S> Play<Option<S>, View<S>> for Draw {
     ghost use Rattle.fg_turn.specs.Plays.{drew};
 
     ghost then = { λ step. drew };
@@ -39,7 +39,7 @@ impl<S> Play<Option<S>, Note<S>> for Draw {
 /// The seat looks at the ticket that is served. Where it is its own, it has the turn and the slot.
 pub(crate) struct Look;
 
-impl<S: Guarded> Play<Option<S>, Note<S>> for Look {
+impl<S: Guarded> Play<Option<S>, View<S>> for Look {
     ghost use Rattle.fg_turn.specs.Plays.{looked};
 
     ghost then = { λ step. looked S.owner S.grows };
@@ -50,7 +50,7 @@ pub(crate) struct Serve<N> {
     named: PhantomData<N>,
 }
 
-impl<S, N: Named> Play<Option<S>, Note<S>> for Serve<N> {
+impl<S, N: Named> Play<Option<S>, View<S>> for Serve<N> {
     ghost use Rattle.std.specs.Prelude.{[]};
     ghost use Rattle.fg_turn.specs.Plays.{served};
 
@@ -62,7 +62,7 @@ pub(crate) struct ServeOwner<N> {
     named: PhantomData<N>,
 }
 
-impl<S, N: Named> Play<Option<S>, Note<S>> for ServeOwner<N> {
+impl<S, N: Named> Play<Option<S>, View<S>> for ServeOwner<N> {
     ghost use Rattle.fg_turn.specs.Plays.{served};
     ghost use Rattle.fg_turn.specs.Entries.{entry_of, told_of};
 
@@ -72,7 +72,7 @@ impl<S, N: Named> Play<Option<S>, Note<S>> for ServeOwner<N> {
 /// The owner looks at how many seats are out.
 pub(crate) struct Count;
 
-impl<S> Play<Option<S>, Note<S>> for Count {
+impl<S> Play<Option<S>, View<S>> for Count {
     ghost use Rattle.fg_turn.specs.Plays.{counted};
 
     ghost then = { λ step. counted };
@@ -81,7 +81,7 @@ impl<S> Play<Option<S>, Note<S>> for Count {
 /// The owner splits off a seat that was told nothing, or takes one back.
 pub(crate) struct Pass;
 
-impl<S> Split<Note<S>> for Pass {
+impl<S> Split<View<S>> for Pass {
     ghost use Rattle.fg_turn.specs.Rule.{splitting, newcomer};
 
     ghost left = { splitting };
@@ -89,7 +89,7 @@ impl<S> Split<Note<S>> for Pass {
     ghost right = { newcomer };
 }
 
-impl<S> Join<Note<S>> for Pass {
+impl<S> Join<View<S>> for Pass {
     ghost use Rattle.fg_turn.specs.Rule.{joining, spent};
 
     ghost both = { λ owner pass. joining owner };

@@ -2,11 +2,12 @@
 ghost use Rattle.std.specs.Prelude.{◌≡◌, ◌+◌, ◌-◌, ◌<◌, ◌≤◌, Bool, true, false, [], ◌∷◌, ◌++◌, Option, Some, None, IfOk, IsSomeAnd};
 ghost use mathlib.Core.List.{IsPrefix};
 ghost use Rattle.fg_turn.specs.Entries.{entry_of, told_of};
-ghost use Rattle.fg_turn.specs.Standing.{newcomer_of, OwnerStep};
+ghost use Rattle.fg_turn.specs.Standing.{owner_of, newcomer_of, OwnerStep};
 
 use crate::guarded::{Guarded, Named};
+use crate::sleepers::Sleepers;
 use crate::steps;
-use crate::steps::{Mark, Whole};
+use crate::steps::{OwnedTable, TableSeat};
 use atomic_table::{Refused, Table};
 use std::alloc::{AllocError, Global};
 use std::marker::Model;
@@ -19,7 +20,8 @@ use std::sync::Wait;
 /// hands the state out, and [`Turn::leave`] takes the next one, which has to follow by one step.
 #[derive(Drop)]
 pub struct Turn<S: Guarded> {
-    table: Whole<S>,
+    table: OwnedTable<S>,
+    sleepers: Sleepers,
     seats: u32,
 }
 
@@ -31,13 +33,14 @@ impl<S: Guarded> Model for Turn<S> {
 
     ghost view = { λ t. record { name = t.table.shared.table_id; seats = t.seats } };
 
-    ghost invariant = { λ t. (t.table.shared.table_id.words ≡ 2) × (t.table.shared.table_id.slots ≡ 1) × (t.seats ≤ 65535) };
+    ghost invariant = { λ t. (t.table.shared.table_id.words ≡ 2) × (t.table.shared.table_id.slots ≡ 1)
+        × (t.seats ≤ 65535) };
 }
 
 /// The one seat of a turn whose steps have entries. A contract sees its standing.
 #[derive(Drop)]
 pub struct Owner<S: Guarded> {
-    mark: Mark<S>,
+    seat: TableSeat<S>,
     made: u32,
 }
 
@@ -47,17 +50,18 @@ impl<S: Guarded> Model for Owner<S> {
 
     ghost Value = { Standing S };
 
-    ghost use Rattle.fg_turn.specs.Inside.{standing, Rests};
+    ghost use Rattle.fg_turn.specs.Inside.{standing, BetweenCalls};
 
-    ghost view = { λ o. standing o.mark o.made };
+    ghost view = { λ o. standing o.seat o.made (o.seat.me.0.split + 1) };
 
-    ghost invariant = { λ o. (o.mark.me.0.owns ≡ true) × (o.mark.me.0.joined + o.made ≡ o.mark.me.0.split) × Rests o.mark.me.0.place o.mark.me.1 };
+    ghost invariant = { λ o. (o.seat.me.0.owns ≡ true) × (o.seat.me.0.joined + o.made ≡ o.seat.me.0.split)
+        × BetweenCalls o.seat.me.0.place o.seat.me.1 };
 }
 
 /// A seat of a turn, for a thread of its own. A contract sees its standing.
 #[derive(Drop)]
 pub struct Seat<S: Guarded> {
-    mark: Mark<S>,
+    seat: TableSeat<S>,
 }
 
 impl<S: Guarded> Model for Seat<S> {
@@ -66,11 +70,11 @@ impl<S: Guarded> Model for Seat<S> {
 
     ghost Value = { Standing S };
 
-    ghost use Rattle.fg_turn.specs.Inside.{standing, Rests};
+    ghost use Rattle.fg_turn.specs.Inside.{standing, BetweenCalls};
 
-    ghost view = { λ s. standing s.mark 0 };
+    ghost view = { λ s. standing s.seat 0 0 };
 
-    ghost invariant = { λ s. (s.mark.me.0.owns ≡ false) × Rests s.mark.me.0.place s.mark.me.1 };
+    ghost invariant = { λ s. (s.seat.me.0.owns ≡ false) × BetweenCalls s.seat.me.0.place s.seat.me.1 };
 }
 
 impl<S: Guarded> Turn<S> {
@@ -83,31 +87,39 @@ impl<S: Guarded> Turn<S> {
     ) -> Result<(Turn<S>, Owner<S>), AllocError>
         requires seats { (1 ≤ seats) × (seats ≤ 65535) }
         requires owner { S.owner N.entries state }
-        ensures { IfOk result (λ r. (r.0.seats ≡ seats) × (r.1 ≡ newcomer_of r.0.name N.entries)) }
+        ensures { IfOk result (λ r. (r.0.seats ≡ seats) × (r.1 ≡ owner_of r.0.name N.entries)) }
     {
         let opened = Snapshot::of(&state);
         let mut slots = Vec::new(alloc);
         slots.push(Some(state))?;
         match Table::new(alloc, &[0, 0], slots, &opened) {
-            Ok((table, mut mark)) => {
-                steps::open::<S, N>(&table.shared, &mut mark);
-                Ok((Turn { table, seats }, Owner { mark, made: 0 }))
+            Ok((table, mut seat)) => {
+                steps::open::<S, N>(&table.shared, &mut seat);
+                let sleepers = Sleepers::new();
+                let turn = Turn {
+                    table,
+                    sleepers,
+                    seats,
+                };
+                Ok((turn, Owner { seat, made: 0 }))
             }
             Err(Refused { slots: _ }) => Err(AllocError),
         }
     }
 
-    /// A further seat, which has seen the owner's calls and was told nothing.
+    /// A further seat, which has seen the owner's calls and was told nothing. Its number is one that no seat of this
+    /// turn had before.
     pub fn pass(&self, owner: &mut Owner<S>) -> Seat<S>
         requires turn { owner.old.turn ≡ self.now.name }
         requires outside { owner.old.inside ≡ false }
         requires room { owner.old.made + 1 < self.now.seats }
-        ensures owner { owner.new ≡ record owner.old { made = owner.old.made + 1 } }
-        ensures seat { result ≡ newcomer_of self.now.name owner.old.calls }
+        ensures owner { owner.new
+            ≡ record owner.old { made = owner.old.made + 1; seated = owner.old.seated + 1 } }
+        ensures seat { result ≡ newcomer_of self.now.name owner.old.seated owner.old.calls }
     {
-        let mark = steps::split(&self.table.shared, &mut owner.mark, owner.made);
+        let seat = steps::split(&self.table.shared, &mut owner.seat, owner.made);
         owner.made += 1;
-        Seat { mark }
+        Seat { seat }
     }
 
     /// Takes back a seat of this turn, which is one of those that are out.
@@ -117,8 +129,8 @@ impl<S: Guarded> Turn<S> {
         ensures out { 0 < owner.old.made }
         ensures owner { owner.new ≡ record owner.old { made = owner.old.made - 1 } }
     {
-        let Seat { mark } = seat;
-        steps::join(&self.table.shared, &mut owner.mark, mark);
+        let Seat { seat } = seat;
+        steps::join(&self.table.shared, &mut owner.seat, seat);
         owner.made -= 1;
     }
 
@@ -130,9 +142,15 @@ impl<S: Guarded> Turn<S> {
         ensures owner { S.owner seat.new.calls result }
         ensures grows { S.grows seat.old.told result }
         ensures calls { IsPrefix seat.old.calls seat.new.calls }
-        ensures seat { seat.new ≡ record seat.old { calls = seat.new.calls; turns = seat.old.turns + 1; inside = true; entered = Some result } }
+        ensures seat { seat.new
+            ≡ record seat.old {
+              calls = seat.new.calls;
+              turns = seat.old.turns + 1;
+              inside = true;
+              entered = Some result;
+            } }
     {
-        steps::take(wait, &self.table.shared, &mut seat.mark)
+        steps::take(wait, &self.table.shared, &self.sleepers, &mut seat.seat)
     }
 
     /// Ends the seat's turn with a state that follows the one entered by a step without an entry. The seat is told
@@ -142,9 +160,14 @@ impl<S: Guarded> Turn<S> {
         requires inside { seat.old.inside ≡ true }
         requires step { IsSomeAnd seat.old.entered (λ old. S.step None old state) }
         requires grows { S.grows N.entries state }
-        ensures { seat.new ≡ record seat.old { told = seat.old.told ++ N.entries; inside = false; left = Some state } }
+        ensures { seat.new
+            ≡ record seat.old {
+              told = seat.old.told ++ N.entries;
+              inside = false;
+              left = Some state;
+            } }
     {
-        steps::serve::<S, N>(&self.table.shared, &mut seat.mark, state);
+        steps::serve::<S, N>(&self.table.shared, &self.sleepers, &mut seat.seat, state);
     }
 
     /// As [`Turn::enter`] for the owner, who has seen all its calls.
@@ -153,9 +176,14 @@ impl<S: Guarded> Turn<S> {
         requires outside { owner.old.inside ≡ false }
         ensures owner { S.owner owner.old.calls result }
         ensures grows { S.grows owner.old.told result }
-        ensures seat { owner.new ≡ record owner.old { turns = owner.old.turns + 1; inside = true; entered = Some result } }
+        ensures seat { owner.new
+            ≡ record owner.old {
+              turns = owner.old.turns + 1;
+              inside = true;
+              entered = Some result;
+            } }
     {
-        steps::take(wait, &self.table.shared, &mut owner.mark)
+        steps::take(wait, &self.table.shared, &self.sleepers, &mut owner.seat)
     }
 
     /// As [`Turn::leave`] for the owner, by a step with an entry: the first member of the list that `N` means, which
@@ -165,9 +193,15 @@ impl<S: Guarded> Turn<S> {
         requires inside { owner.old.inside ≡ true }
         requires step { OwnerStep S.step N.entries owner.old.entered state }
         requires grows { S.grows (told_of N.entries) state }
-        ensures { owner.new ≡ record owner.old { calls = owner.old.calls ++ entry_of N.entries; told = owner.old.told ++ told_of N.entries; inside = false; left = Some state } }
+        ensures { owner.new
+            ≡ record owner.old {
+              calls = owner.old.calls ++ entry_of N.entries;
+              told = owner.old.told ++ told_of N.entries;
+              inside = false;
+              left = Some state;
+            } }
     {
-        steps::serve_owner::<S, N>(&self.table.shared, &mut owner.mark, state);
+        steps::serve_owner::<S, N>(&self.table.shared, &self.sleepers, &mut owner.seat, state);
     }
 
     /// The state, once every pass is back. It is what the owner's calls make of it.
@@ -178,9 +212,13 @@ impl<S: Guarded> Turn<S> {
         ensures owner { S.owner owner.calls result }
         ensures grows { S.grows owner.told result }
     {
-        let Turn { table, seats: _ } = self;
-        let Owner { mark, made: _ } = owner;
-        steps::gather(table, mark).unwrap()
+        let Turn {
+            table,
+            sleepers: _,
+            seats: _,
+        } = self;
+        let Owner { seat, made: _ } = owner;
+        steps::gather(table, seat).unwrap()
     }
 }
 

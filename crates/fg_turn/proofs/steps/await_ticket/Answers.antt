@@ -6,5 +6,5 @@ pub load-serving-requires : goal.load-serving-requires
 load-serving-requires g c = (
   search rules,
   search rules,
-  looks_again g.S.Guarded.owner g.S.Guarded.grows _ _ _ c.args.mark.now.me _ c.requires.waits.0 c.loop.invariant.1 c.requires.waits.1,
+  looks_again g.S.Guarded.owner g.S.Guarded.grows _ _ _ c.args.seat.now.me _ c.requires.waits.0 c.loop.invariant.1 c.requires.waits.1,
 )

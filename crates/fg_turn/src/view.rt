@@ -16,8 +16,10 @@ pub(crate) enum Place {
     Inside(u64),
 }
 
-pub(crate) struct Note<S> {
+pub(crate) struct View<S> {
     pub owns: bool,
+    /// 0 for the owner, and then in the order in which the seats were made.
+    pub number: u64,
     /// How many seats were split off, and how many of them have come back.
     pub split: u64,
     pub joined: u64,

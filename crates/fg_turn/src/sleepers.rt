@@ -1,0 +1,68 @@
+//! Where seats sleep that wait for their turn.
+use std::sync::Wait;
+use std::sync::atomic::AtomicU64;
+use std::sync::atomic::Ordering::SeqCst;
+
+/// How many words there are.
+const WORDS: u64 = 16;
+
+/// A row of words, each for the tickets that are the same modulo 16.
+///
+/// A word is 0, or the token of a ticket whose seat sleeps on the word or is about to.
+#[derive(Drop)]
+pub(crate) struct Sleepers {
+    words: [AtomicU64; 16],
+}
+
+// Odd, so it is not 0, and below 2^32. Tickets that are out at once have tokens that differ.
+fn token(ticket: u64) -> u32 {
+    2 * (ticket & 0x7fff_ffff) as u32 + 1
+}
+
+impl Sleepers {
+    pub(crate) fn new() -> Sleepers {
+        Sleepers {
+            words: [
+                AtomicU64::new(0),
+                AtomicU64::new(0),
+                AtomicU64::new(0),
+                AtomicU64::new(0),
+                AtomicU64::new(0),
+                AtomicU64::new(0),
+                AtomicU64::new(0),
+                AtomicU64::new(0),
+                AtomicU64::new(0),
+                AtomicU64::new(0),
+                AtomicU64::new(0),
+                AtomicU64::new(0),
+                AtomicU64::new(0),
+                AtomicU64::new(0),
+                AtomicU64::new(0),
+                AtomicU64::new(0),
+            ],
+        }
+    }
+
+    fn word(&self, ticket: u64) -> &AtomicU64 {
+        &self.words[(ticket % WORDS) as usize]
+    }
+
+    /// Announces that the seat with this ticket is about to sleep. It has to look once more before it does.
+    pub(crate) fn announce(&self, ticket: u64) {
+        self.word(ticket).store(u64::from(token(ticket)), SeqCst);
+    }
+
+    /// Sleeps, unless the word has changed since the announcement, until it is woken.
+    pub(crate) fn sleep(&self, wait: &impl Wait, ticket: u64) {
+        self.word(ticket).park(wait, token(ticket));
+    }
+
+    /// Wakes the seat with this ticket, where one sleeps or is about to. Whoever else sleeps on its word looks again.
+    pub(crate) fn wake(&self, ticket: u64) {
+        let word = self.word(ticket);
+        if word.load(SeqCst) != 0 {
+            word.store(0, SeqCst);
+            word.wake_all();
+        }
+    }
+}
