@@ -15,7 +15,7 @@ rises : (entry : Option Entry) (calls : List Entry) (a b a' b' : ℕ) → Counts
 rises (Some entry) calls a b a' b' is step = let t = step.1 in omega arith
 rises None calls a b a' b' is step = let t = step.1 in let le = is.1 in omega arith
 
-reached_rises : (told : List Entry) (b b' : ℕ) → b ≤ b' → Reached told b → Reached told b'
+pub reached_rises : (told : List Entry) (b b' : ℕ) → b ≤ b' → Reached told b → Reached told b'
 reached_rises [] b b' le r = tt
 reached_rises (t ∷ ts) b b' le r = let l = r.0 in (omega arith, reached_rises ts b b' le r.1)
 

@@ -6,3 +6,4 @@ pub mod Standing
 pub mod Inside
 pub mod Examples
 pub mod ExampleLaws
+pub mod Board

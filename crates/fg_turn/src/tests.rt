@@ -1,2 +1,4 @@
+mod board;
 mod pair;
 mod stock;
+mod waking;

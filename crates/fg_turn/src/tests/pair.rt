@@ -10,9 +10,9 @@ use std::test::*;
 use std::thread::{Threads, join};
 
 #[derive(Drop)]
-struct Pair {
-    a: u32,
-    b: u32,
+pub(crate) struct Pair {
+    pub(crate) a: u32,
+    pub(crate) b: u32,
 }
 
 impl Guarded for Pair {
@@ -59,7 +59,7 @@ fn tell<N: Named>(turn: &Turn<Pair>, seat: &mut Seat<Pair>, pair: Pair, seen: u3
 }
 
 // One turn of a seat, which is told the count that it finds.
-fn raise_b(wait: &impl Wait, turn: &Turn<Pair>, seat: &mut Seat<Pair>)
+pub(crate) fn raise_b(wait: &impl Wait, turn: &Turn<Pair>, seat: &mut Seat<Pair>)
     requires { (seat.old.turn ≡ turn.now.name) × (seat.old.inside ≡ false) }
     ensures turn { (seat.new.turn ≡ turn.now.name) × (seat.new.inside ≡ false) }
     ensures turns { seat.new.turns ≡ seat.old.turns + 1 }
