@@ -4,7 +4,8 @@ use Rattle.std.specs.List.{sum}
 use mathlib.Core.List.{IsPrefix}
 use Rattle.fg_turn.specs.Entries.{Entry}
 
--- an entry raises the first count, and a step without one the second, which stands still at its type's end
+-- an entry raises the first count, and a step without one the second, which stands still at its
+-- type's end
 abbrev pub Raises : Option Entry → ℕ → ℕ → ℕ → ℕ → Type 0
 Raises (Some entry) a b a' b' = (a' ≡ a + 1) × (b' ≡ b)
 Raises None a b a' b' = (a' ≡ a) × (b' ≡ min (b + 1) 4294967295)

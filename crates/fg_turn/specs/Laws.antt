@@ -30,13 +30,15 @@ module _ {S : Type 0} (owner grows : List Entry → S → Type 0) where
   -- no two seats that were not brought back have one number
   abbrev pub NumbersApart : Type 0
   NumbersApart =
-      Always (λ s. (i j : ℕ) (v w : View S) → get_elem? s.views i ≡ some v → get_elem? s.views j ≡ some w
+      Always (λ s. (i j : ℕ) (v w : View S)
+      → get_elem? s.views i ≡ some v → get_elem? s.views j ≡ some w
       → live v ≡ 1 → live w ≡ 1 → v.number ≡ w.number → i ≡ j)
 
   -- no two seats have the turn
   abbrev pub OneTurn : Type 0
   OneTurn =
-      Always (λ s. (i j : ℕ) (v w : View S) → get_elem? s.views i ≡ some v → get_elem? s.views j ≡ some w
+      Always (λ s. (i j : ℕ) (v w : View S)
+      → get_elem? s.views i ≡ some v → get_elem? s.views j ≡ some w
       → HasTurn v.place → HasTurn w.place → i ≡ j)
 
   -- who has the turn has the ticket that is served

@@ -29,7 +29,8 @@ module _ {S : Type 0} where
 
   -- the view in the turn of its ticket, which begins with this state and has seen these calls
   abbrev pub entering : List Entry → S → View S → View S
-  entering calls x v = record v { place = Inside (ticket_at v.place); calls = calls; entered = Some x }
+  entering calls x v =
+      record v { place = Inside (ticket_at v.place); calls = calls; entered = Some x }
 
   -- the seat has the turn, and with it the slot and the state
   abbrev pub Has : (owner grows : List Entry → S → Type 0) → Knows S → Knows S → Type 0

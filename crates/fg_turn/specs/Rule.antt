@@ -1,5 +1,6 @@
 -- The rule of the turn's table: this project's own. It holds between any two atomic steps.
--- Word 0 is the next ticket and word 1 the ticket that is served, both modulo 2^64. Slot 0 has the state.
+-- Word 0 is the next ticket and word 1 the ticket that is served, both modulo 2^64. Slot 0 has the
+-- state.
 use Rattle.std.specs.Prelude.{◌≡◌, ℕ, ◌+◌, ◌%◌, ◌^◌, ◌<◌, ◌≤◌, true, false, ◌⊎◌}
 use Rattle.std.specs.Prelude.{List, [], ◌∷◌, length, Option, Some, None}
 use Rattle.std.specs.List.{sum_by}

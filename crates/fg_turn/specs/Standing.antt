@@ -11,8 +11,8 @@ pub record TurnId : Type 0 where
 
 -- What an owner or a seat has: the turn that it is of, its number, the owner's calls as far as it
 -- has seen them, what it was told, how many turns it had, whether it is inside, the states that its
--- last turn began and ended with, and, of an owner, how many passes are out and how many seats there
--- have been. The owner's number is 0, and each pass has the number of seats that there were before it
+-- last turn began and ended with, and, of an owner, how many passes are out and how many seats
+-- there have been. The owner's number is 0, and each pass has the number of seats before it
 pub record Standing (S : Type 0) : Type 0 where
   pub turn : TableId
   pub number : ℕ
@@ -51,9 +51,9 @@ OwnerStep step [] old new = ⊥
 OwnerStep step (entry ∷ told) None new = ⊥
 OwnerStep step (entry ∷ told) (Some old) new = step (Some entry) old new
 
--- The codes, by which proofs tell values apart (Rattle.std.specs.Coded): a standing is stored as the
--- tuple of its fields. A type whose model's value has a standing gives `standing_coded` the code of
--- its state, as `map.code coded_ℕ` for a finite map
+-- The codes, by which proofs tell values apart (Rattle.std.specs.Coded): a standing is stored as
+-- the tuple of its fields. A type whose model's value has a standing gives `standing_coded` the
+-- code of its state, as `map.code coded_ℕ coded_ℕ` for a finite map
 abbrev Fields : Type 0 → Type 0
 Fields S =
     TableId × (ℕ × (List Entry × (List Entry × (ℕ × (Bool × (Option S × (Option S × (ℕ × ℕ))))))))

@@ -20,22 +20,31 @@ pub trait Guarded: Sized + Drop {
     ghost grows: { List Entry → Self → Type 0 };
 
     /// A step with an entry extends the owner's entries by it.
-    ghost extends: { (entries : List Entry) (entry : Entry) (before after : Self) → owner entries before → step (Some entry) before after → owner (entries ++ entry ∷ []) after };
+    ghost extends: { (entries : List Entry) (entry : Entry) (before after : Self)
+        → owner entries before
+        → step (Some entry) before after → owner (entries ++ entry ∷ []) after };
 
     /// A step without an entry keeps them.
-    ghost keeps: { (entries : List Entry) (before after : Self) → owner entries before → step None before after → owner entries after };
+    ghost keeps: { (entries : List Entry) (before after : Self) → owner entries before
+        → step None before after → owner entries after };
 
     /// Every step keeps what was told.
-    ghost stays: { (entries told : List Entry) (entry : Option Entry) (before after : Self) → owner entries before → step entry before after → grows told before → grows told after };
+    ghost stays: { (entries told : List Entry) (entry : Option Entry) (before after : Self)
+        → owner entries before → step entry before after → grows told before → grows told after };
 
     /// Who was told nothing rests on nothing.
     ghost untold: { (state : Self) → grows [] state };
 
     /// What holds of two lists of told things holds of both together.
-    ghost both: { (first second : List Entry) (state : Self) → grows first state → grows second state → grows (first ++ second) state };
+    ghost both: { (first second : List Entry) (state : Self)
+        → grows first state → grows second state
+        → grows (first ++ second) state };
 }
 
 /// A list of entries, which the caller picks at a call by passing std's `Brand`.
+///
+/// A pick that is forgotten is no error: the list is then empty, so that [`Turn::leave`](crate::Turn::leave) tells
+/// nothing. A caller's own clause on what was told stays open without the pick.
 pub trait Named {
     ghost entries: { List Entry };
 }

@@ -42,7 +42,8 @@ fn draw<S: Guarded>(table: &SharedTable<S>, seat: &mut TableSeat<S>) -> u64
     requires table { IsOf table.now.table_id seat.old }
     requires outside { seat.old.me.0.place ≡ Outside }
     ensures same { IsSame seat.old seat.new }
-    ensures ticket { (t : ℕ) × (result ≡ t % 2 ^ 64) × (seat.new.me ≡ (waiting t seat.old.me.0, seat.old.me.1)) }
+    ensures ticket { (t : ℕ) × (result ≡ t % 2 ^ 64)
+        × (seat.new.me ≡ (waiting t seat.old.me.0, seat.old.me.1)) }
 {
     table.fetch_add::<Draw>(seat, NEXT, 1)
 }

@@ -33,8 +33,8 @@ impl<S: Guarded> Model for Turn<S> {
 
     ghost view = { λ t. record { name = t.table.shared.table_id; seats = t.seats } };
 
-    ghost invariant = { λ t. (t.table.shared.table_id.words ≡ 2) × (t.table.shared.table_id.slots ≡ 1)
-        × (t.seats ≤ 65535) };
+    ghost invariant = { λ t. (t.table.shared.table_id.words ≡ 2)
+        × (t.table.shared.table_id.slots ≡ 1) × (t.seats ≤ 65535) };
 }
 
 /// The one seat of a turn whose steps have entries. A contract sees its standing.
@@ -54,7 +54,8 @@ impl<S: Guarded> Model for Owner<S> {
 
     ghost view = { λ o. standing o.seat o.made (o.seat.me.0.split + 1) };
 
-    ghost invariant = { λ o. (o.seat.me.0.owns ≡ true) × (o.seat.me.0.joined + o.made ≡ o.seat.me.0.split)
+    ghost invariant = { λ o. (o.seat.me.0.owns ≡ true)
+        × (o.seat.me.0.joined + o.made ≡ o.seat.me.0.split)
         × BetweenCalls o.seat.me.0.place o.seat.me.1 };
 }
 
@@ -74,7 +75,8 @@ impl<S: Guarded> Model for Seat<S> {
 
     ghost view = { λ s. standing s.seat 0 0 };
 
-    ghost invariant = { λ s. (s.seat.me.0.owns ≡ false) × BetweenCalls s.seat.me.0.place s.seat.me.1 };
+    ghost invariant = { λ s. (s.seat.me.0.owns ≡ false)
+        × BetweenCalls s.seat.me.0.place s.seat.me.1 };
 }
 
 impl<S: Guarded> Turn<S> {

@@ -41,7 +41,8 @@ impl Guarded for Shelf {
 
     ghost keeps = { λ calls old new is step. tt };
 
-    ghost stays = { λ calls told entry old new is step r. reached_rises told old.mark new.mark step r };
+    ghost stays = { λ calls told entry old new is step r.
+        reached_rises told old.mark new.mark step r };
 
     ghost untold = { λ shelf. tt };
 
@@ -103,12 +104,7 @@ impl Model for Pass {
 }
 
 // Whether a place was played, in one turn. The seat is told how far it found the shelf played.
-fn look_inside(
-    wait: &impl Wait,
-    turn: &Turn<Shelf>,
-    seat: &mut Seat<Shelf>,
-    place: u64,
-) -> bool
+fn look_inside(wait: &impl Wait, turn: &Turn<Shelf>, seat: &mut Seat<Shelf>, place: u64) -> bool
     requires { (seat.old.turn ≡ turn.now.name) × (seat.old.inside ≡ false) }
     ensures turn { (seat.new.turn ≡ turn.now.name) × (seat.new.inside ≡ false) }
     ensures same { (seat.new.number ≡ seat.old.number) × (seat.new.turns ≡ seat.old.turns + 1) }
@@ -126,16 +122,14 @@ impl Board {
     fn pass(&self, admitter: &mut Admitter) -> Pass
         requires turn { admitter.old.seat.turn ≡ self.now.name }
         requires room { admitter.old.seat.made + 1 < self.now.seats }
-        ensures admitter {
-            admitter.new
+        ensures admitter { admitter.new
             ≡ record {
-                seat = record admitter.old.seat {
-                    made = admitter.old.seat.made + 1;
-                    seated = admitter.old.seat.seated + 1;
-                };
-                looks = 0;
-            }
-        }
+              seat = record admitter.old.seat {
+                made = admitter.old.seat.made + 1;
+                seated = admitter.old.seat.seated + 1;
+              };
+              looks = 0;
+            } }
         ensures number { result.seat.number ≡ admitter.old.seat.seated }
         ensures pass { (result.seat.turn ≡ self.now.name) × (result.looks ≡ 0) }
     {
@@ -146,16 +140,13 @@ impl Board {
     /// Whether a place was played.
     fn look(&self, wait: &impl Wait, pass: &mut Pass, place: u64) -> bool
         requires { pass.old.seat.turn ≡ self.now.name }
-        ensures same {
-            (pass.new.seat.turn ≡ self.now.name) × (pass.new.seat.number ≡ pass.old.seat.number)
-        }
+        ensures same { (pass.new.seat.turn ≡ self.now.name)
+            × (pass.new.seat.number ≡ pass.old.seat.number) }
         ensures turns { pass.new.seat.turns ≡ pass.old.seat.turns + 1 }
-        ensures answer {
-            IsSomeAnd pass.new.seat.entered (λ shelf. IsTrue result ↔ place < shelf.mark)
-        }
-        ensures told {
-            pass.new.seat.told ≡ pass.old.seat.told ++ told_of_look pass.new.seat.entered
-        }
+        ensures answer { IsSomeAnd pass.new.seat.entered
+            (λ shelf. IsTrue result ↔ place < shelf.mark) }
+        ensures told { pass.new.seat.told
+            ≡ pass.old.seat.told ++ told_of_look pass.new.seat.entered }
     {
         pass.looks = pass.looks.saturating_add(1);
         look_inside(wait, &self.turn, &mut pass.seat, place)
@@ -175,9 +166,8 @@ fn two_passes(board: &Board, admitter: &mut Admitter) -> (Pass, Pass)
 }
 
 fn open(alloc: Global, shelf: Shelf) -> Result<(Board, Admitter), AllocError>
-    ensures {
-        IfOk result (λ r. (r.0.seats ≡ 3) × (r.1.seat.turn ≡ r.0.name) × (r.1.seat.made ≡ 0))
-    }
+    ensures { IfOk result (λ r. (r.0.seats ≡ 3) × (r.1.seat.turn ≡ r.0.name)
+        × (r.1.seat.made ≡ 0)) }
 {
     let (turn, owner) = Turn::new::<Brand>(alloc, shelf, 3)?;
     Ok((Board { turn }, Admitter { owner }))

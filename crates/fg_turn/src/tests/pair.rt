@@ -25,11 +25,13 @@ impl Guarded for Pair {
 
     ghost grows = { λ told pair. Reached told pair.b };
 
-    ghost extends = { λ calls entry old new is step. counts_entry calls entry old.a old.b new.a new.b is step };
+    ghost extends = { λ calls entry old new is step.
+        counts_entry calls entry old.a old.b new.a new.b is step };
 
     ghost keeps = { λ calls old new is step. counts_step calls old.a old.b new.a new.b is step };
 
-    ghost stays = { λ calls told entry old new is step r. reached_stays told entry calls old.a old.b new.a new.b is step r };
+    ghost stays = { λ calls told entry old new is step r.
+        reached_stays told entry calls old.a old.b new.a new.b is step r };
 
     ghost untold = { λ pair. tt };
 
@@ -40,7 +42,8 @@ impl Guarded for Pair {
 fn raise_a(wait: &impl Wait, turn: &Turn<Pair>, owner: &mut Owner<Pair>)
     requires turn { (owner.old.turn ≡ turn.now.name) × (owner.old.inside ≡ false) }
     requires few { length owner.old.calls < 4294967295 }
-    ensures turn { (owner.new.turn ≡ turn.now.name) × (owner.new.inside ≡ false) × (owner.new.made ≡ owner.old.made) }
+    ensures turn { (owner.new.turn ≡ turn.now.name) × (owner.new.inside ≡ false)
+        × (owner.new.made ≡ owner.old.made) }
     ensures calls { length owner.new.calls ≡ length owner.old.calls + 1 }
 {
     let mut pair = turn.enter_owner(wait, owner);
@@ -53,7 +56,12 @@ fn tell<N: Named>(turn: &Turn<Pair>, seat: &mut Seat<Pair>, pair: Pair, seen: u3
     requires turn { (seat.old.turn ≡ turn.now.name) × (seat.old.inside ≡ true) }
     requires step { IsSomeAnd seat.old.entered (λ old. Raises None old.a old.b pair.a pair.b) }
     requires seen { (seen ≤ pair.b) × (N.entries ≡ (seen ∷ []) ∷ []) }
-    ensures { seat.new ≡ record seat.old { told = seat.old.told ++ (seen ∷ []) ∷ []; inside = false; left = Some pair } }
+    ensures { seat.new
+        ≡ record seat.old {
+          told = seat.old.told ++ (seen ∷ []) ∷ [];
+          inside = false;
+          left = Some pair;
+        } }
 {
     turn.leave::<N>(seat, pair);
 }
@@ -78,7 +86,8 @@ fn owner_turns(
 ) -> Owner<Pair>
     requires turn { (owner.turn ≡ turn.now.name) × (owner.inside ≡ false) }
     requires few { length owner.calls + count ≤ 4294967295 }
-    ensures turn { (result.turn ≡ turn.now.name) × (result.inside ≡ false) × (result.made ≡ owner.made) }
+    ensures turn { (result.turn ≡ turn.now.name) × (result.inside ≡ false)
+        × (result.made ≡ owner.made) }
     ensures calls { length result.calls ≡ length owner.calls + count }
 {
     for _ in 0..count {
@@ -133,12 +142,17 @@ fn worked<R: Threads + Wait + Sync>(rt: &R, alloc: Global) -> Result<Pair, Alloc
     let (mut owner, (one, two)) = join(
         rt,
         move ||
-            requires { (owner.turn ≡ lock.now.name) × (owner.inside ≡ false) × (length owner.calls + 1000 ≤ 4294967295) }
-            ensures { (result.turn ≡ lock.entry.now.name) × (result.inside ≡ false) × (result.made ≡ owner.made) × (length result.calls ≡ length owner.calls + 1000) }
+            requires { (owner.turn ≡ lock.now.name) × (owner.inside ≡ false)
+                × (length owner.calls + 1000 ≤ 4294967295) }
+            ensures { (result.turn ≡ lock.entry.now.name) × (result.inside ≡ false)
+                × (result.made ≡ owner.made)
+                × (length result.calls ≡ length owner.calls + 1000) }
         { owner_turns(rt, lock, owner, 1000) },
         move ||
-            requires { (one.turn ≡ lock.now.name) × (one.inside ≡ false) × (two.turn ≡ lock.now.name) × (two.inside ≡ false) }
-            ensures { (result.0.turn ≡ lock.entry.now.name) × (result.0.inside ≡ false) × (result.1.turn ≡ lock.entry.now.name) × (result.1.inside ≡ false) }
+            requires { (one.turn ≡ lock.now.name) × (one.inside ≡ false)
+                × (two.turn ≡ lock.now.name) × (two.inside ≡ false) }
+            ensures { (result.0.turn ≡ lock.entry.now.name) × (result.0.inside ≡ false)
+                × (result.1.turn ≡ lock.entry.now.name) × (result.1.inside ≡ false) }
         { both_seats(rt, lock, one, two) },
     );
     turn.back(&mut owner, one);

@@ -22,11 +22,14 @@ impl Guarded for Stock {
 
     ghost grows = { λ told stock. WasSeen told stock.items.items };
 
-    ghost extends = { λ calls entry old new is step. left_entry calls entry old.items.items new.items.items is step };
+    ghost extends = { λ calls entry old new is step.
+        left_entry calls entry old.items.items new.items.items is step };
 
-    ghost keeps = { λ calls old new is step. left_step calls old.items.items new.items.items is step };
+    ghost keeps = { λ calls old new is step.
+        left_step calls old.items.items new.items.items is step };
 
-    ghost stays = { λ calls told entry old new is step r. seen_stays told entry old.items.items new.items.items step r };
+    ghost stays = { λ calls told entry old new is step r.
+        seen_stays told entry old.items.items new.items.items step r };
 
     ghost untold = { λ stock. tt };
 
@@ -75,7 +78,8 @@ fn look_twice(wait: &impl Wait, turn: &Turn<Stock>, seat: &mut Seat<Stock>) -> (
 // The owner takes all.
 fn take_all(wait: &impl Wait, turn: &Turn<Stock>, owner: &mut Owner<Stock>)
     requires { (owner.old.turn ≡ turn.now.name) × (owner.old.inside ≡ false) }
-    ensures turn { (owner.new.turn ≡ turn.now.name) × (owner.new.inside ≡ false) × (owner.new.made ≡ owner.old.made) }
+    ensures turn { (owner.new.turn ≡ turn.now.name) × (owner.new.inside ≡ false)
+        × (owner.new.made ≡ owner.old.made) }
     ensures calls { length owner.new.calls ≡ length owner.old.calls + 1 }
 {
     let mut stock = turn.enter_owner(wait, owner);
@@ -85,7 +89,8 @@ fn take_all(wait: &impl Wait, turn: &Turn<Stock>, owner: &mut Owner<Stock>)
 
 // The turn of a stock begins with one entry, the opening stock.
 fn open(alloc: Global, stock: Stock) -> Result<(Turn<Stock>, Owner<Stock>), AllocError>
-    ensures { IfOk result (λ r. (r.0.seats ≡ 2) × (r.1.turn ≡ r.0.name) × (r.1.calls ≡ stock.items.items ∷ []) × (r.1.inside ≡ false) × (r.1.made ≡ 0)) }
+    ensures { IfOk result (λ r. (r.0.seats ≡ 2) × (r.1.turn ≡ r.0.name) × (r.1.inside ≡ false)
+        × (r.1.calls ≡ stock.items.items ∷ []) × (r.1.made ≡ 0)) }
 {
     Turn::new::<Brand>(alloc, stock, 2)
 }
