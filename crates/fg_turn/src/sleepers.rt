@@ -8,7 +8,8 @@ const WORDS: u64 = 16;
 
 /// A row of words, each for the tickets that are the same modulo 16.
 ///
-/// A word is 0, or the token of a ticket whose seat sleeps on the word or is about to.
+/// A word has the token of the ticket whose seat was the last to announce that it will sleep there, until a seat that
+/// leaves stores 0 in its place.
 #[derive(Drop)]
 pub(crate) struct Sleepers {
     words: [AtomicU64; 16],

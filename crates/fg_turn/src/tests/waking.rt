@@ -14,7 +14,7 @@ use std::thread;
 use std::thread::{JoinHandle, Threads};
 use std::time::{Clock, Duration};
 
-/// How many seats wait at once. Two and two of them sleep on one word.
+/// How many seats wait at once. The last two share the words of the first two.
 const WAITERS: u32 = 18;
 
 /// How many have begun to wait, and how many have had their turn.
