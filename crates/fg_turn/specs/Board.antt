@@ -32,6 +32,6 @@ abbrev pub mark_of : Option ShelfView → ℕ
 mark_of None = 0
 mark_of (Some shelf) = shelf.mark
 
--- what a look tells
+-- what a look tells, and the entry of a play
 abbrev pub told_of_look : Option ShelfView → List Entry
 told_of_look entered = (mark_of entered ∷ []) ∷ []

@@ -117,6 +117,18 @@ fn look_inside(wait: &impl Wait, turn: &Turn<Shelf>, seat: &mut Seat<Shelf>, pla
     played
 }
 
+// Plays one place, in one turn. The mark that was found is the entry.
+fn play_inside(wait: &impl Wait, turn: &Turn<Shelf>, owner: &mut Owner<Shelf>)
+    requires { (owner.old.turn ≡ turn.now.name) × (owner.old.inside ≡ false) }
+    ensures turn { (owner.new.turn ≡ turn.now.name) × (owner.new.inside ≡ false) }
+    ensures turns { owner.new.turns ≡ owner.old.turns + 1 }
+    ensures calls { owner.new.calls ≡ owner.old.calls ++ told_of_look owner.new.entered }
+{
+    let mut shelf = turn.enter_owner(wait, owner);
+    shelf.mark = shelf.mark.saturating_add(1);
+    turn.leave_owner::<Brand>(owner, shelf);
+}
+
 impl Board {
     /// A further pass.
     fn pass(&self, admitter: &mut Admitter) -> Pass
@@ -135,6 +147,17 @@ impl Board {
     {
         let seat = self.turn.pass(&mut admitter.owner);
         Pass { seat, looks: 0 }
+    }
+
+    /// Plays one place.
+    fn play(&self, wait: &impl Wait, admitter: &mut Admitter)
+        requires { admitter.old.seat.turn ≡ self.now.name }
+        ensures turn { admitter.new.seat.turn ≡ self.now.name }
+        ensures turns { admitter.new.seat.turns ≡ admitter.old.seat.turns + 1 }
+        ensures calls { admitter.new.seat.calls
+            ≡ admitter.old.seat.calls ++ told_of_look admitter.new.seat.entered }
+    {
+        play_inside(wait, &self.turn, &mut admitter.owner);
     }
 
     /// Whether a place was played.
@@ -159,6 +182,7 @@ fn two_passes(board: &Board, admitter: &mut Admitter) -> (Pass, Pass)
     requires room { admitter.old.seat.made + 2 < board.now.seats }
     ensures turn { (result.0.seat.turn ≡ board.now.name) × (result.1.seat.turn ≡ board.now.name) }
     ensures apart { result.0.seat.number ≢ result.1.seat.number }
+    ensures admitter { admitter.new.seat.turn ≡ board.now.name }
 {
     let one = board.pass(admitter);
     let two = board.pass(admitter);
@@ -182,6 +206,8 @@ fn two_passes_look_at_a_shelf(rt: HostRuntime) -> Result<(), Fail> {
     assert_eq!(rt; board.look(&rt, &mut one, 3), true);
     assert_eq!(rt; board.look(&rt, &mut two, 3), true);
     assert_eq!(rt; board.look(&rt, &mut two, 4), false);
-    assert_eq!(rt; (one.looks, two.looks), (1, 2));
+    board.play(&rt, &mut admitter);
+    assert_eq!(rt; board.look(&rt, &mut two, 4), true);
+    assert_eq!(rt; (one.looks, two.looks), (1, 3));
     Ok(())
 }
