@@ -53,11 +53,9 @@ fn comes_out(start: u64, slots: &[Slot], line: &Line) -> bool
 fn add_words(sum: &mut Word, start: u64, slots: &[Slot], line: &Line)
     requires line { FitsFrom start (length slots.now) line.now }
     requires limit { start + length slots.now ≤ 2 ^ 62 }
-    ensures added { AddsWords (told_from word_in start slots.now) (equation_of line.now) sum.old sum.new }
-    ensures room { HasRoom sum.old }
+    requires room { HasRoom sum.old }
+    ensures { AddsWords (told_from word_in start slots.now) (equation_of line.now) sum.old sum.new }
 {
-    // The proof reads the payload's length off its type here.
-    let _payload = &sum.bytes;
     for j in 0..line.shape.na {
         let position = slot(line.base, line.shape, j);
         if let Some(word) = word_at(start, slots, position) {

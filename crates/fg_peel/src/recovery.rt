@@ -1,7 +1,6 @@
 //! Filling empty entries from the equations that miss one word.
 
 ghost use Rattle.std.specs.Prelude.{◌≡◌, ◌≢◌, ◌+◌, ◌^◌, ◌<◌, ◌≤◌, length, slice_set, IsTrue, IsSome, None, OnSome, IfSome, IfNone, false};
-ghost use Rattle.fg_words.specs.Word.{HasRoom};
 ghost use Rattle.fg_peel.specs.Slots.{word_in, told_from, equation_of, equations_of, FitsFrom, AllFitFrom};
 ghost use Rattle.fg_peel.specs.Recovery.{IsMissing, Fills, AllClosed, AllClosedAt, empty_count, IsPeeled, with_word, AddsWord};
 
@@ -64,11 +63,8 @@ fn fill(start: u64, slots: &mut [Slot], line: &Line, position: u64)
 /// Puts a copy of a word into an entry.
 fn hold(slots: &mut [Slot], target: usize, word: &Word)
     requires { target < length slots.old }
-    ensures entry { slots.new ≡ slice_set slots.old target (Slot.Filled word.now) }
-    ensures room { HasRoom word.now }
+    ensures { slots.new ≡ slice_set slots.old target (Slot.Filled word.now) }
 {
-    // The proof reads the payload's length off its type here.
-    let _payload = &word.bytes;
     slots[target] = Slot::Filled(*word);
 }
 

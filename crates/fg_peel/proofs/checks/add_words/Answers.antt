@@ -46,8 +46,8 @@ loop-j-preserved c =
           rw w.sum-is (adding_none words xs c.loop-j.j c.loop-j.sum total within none c.loop-j.invariant.0, c.loop-j.invariant.1)
     ]
 
-pub returns-clause-added : goal.returns-clause-added
-returns-clause-added c =
+pub returns : goal.returns
+returns c =
     let xs = slots (equation_of c.args.line.now) in
     let words = told_from word_in c.args.start c.args.slots.now in
     let past : length xs ≤ c.loop-j.j = omega (arith, length-slots_of c.args.line.now.base c.args.line.now.shape.offset c.args.line.now.shape.na) in

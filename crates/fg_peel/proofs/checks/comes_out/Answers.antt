@@ -13,8 +13,8 @@ returns c =
     let xs = slots (equation_of c.args.line.now) in
     let parity = c.args.line.now.parity in
     let total = sum_at words xs in
-    let room : HasRoom parity = rw c.word.ensures at c.add_words.ensures.room in
-    let added : c.add_words.new.sum ≡ word_xor parity total = rw c.word.ensures at c.add_words.ensures.added in (
+    let room : HasRoom parity = rw c.word.ensures.word at c.word.ensures.room in
+    let added : c.add_words.new.sum ≡ word_xor parity total = rw c.word.ensures.word at c.add_words.ensures in (
       λ zero. cancels parity total room (short_sum (filter_map words xs)) (sym added ∙ c.is_zero.ensures.0 zero),
       λ out. c.is_zero.ensures.1 (added ∙ cancelled parity total room out),
     )

@@ -41,8 +41,8 @@ add_word-requires-clause-apart c = λ same.
 
 pub loop-j-init : goal.loop-j-init
 loop-j-init c =
-    rw (c.hold.ensures.entry, c.word.ensures)
-    (filling_first c.args.start c.args.slots.now c.args.position (slots (equation_of c.args.line.now)) c.args.line.now.parity (rw c.word.ensures at c.hold.ensures.room))
+    rw (c.hold.ensures, c.word.ensures.word)
+    (filling_first c.args.start c.args.slots.now c.args.position (slots (equation_of c.args.line.now)) c.args.line.now.parity (rw c.word.ensures.word at c.word.ensures.room))
 
 pub loop-j-preserved : goal.loop-j-preserved
 loop-j-preserved c =
