@@ -10,7 +10,7 @@ pub mod Lines
 pub mod Lists
 pub mod Low
 pub mod Maximal
-pub mod Missing
+pub mod Misses
 pub mod Peelings
 pub mod Slots
 pub mod Solutions

@@ -1,11 +1,10 @@
 -- The laws of closure, solutions and peelings: by them "the repaired stream" means one thing.
-use Rattle.std.specs.Prelude.{◌≡◌, ◌↔◌, ◌++◌, ℕ, List, Bool, Option, Some, None, IsSome, IsTrue}
+use Rattle.std.specs.Prelude.{◌≡◌, ◌↔◌, ◌++◌, ℕ, List, Bool, Option, IsSome, IsTrue}
 use Rattle.std.specs.List.{Contains}
 use Rattle.fg_words.specs.declared.Word.{Word}
-use Rattle.fg_words.specs.Word.{IsMedia}
-use Rattle.fg_peel.specs.Equation.{Equation, AreAdmissible, slots}
+use Rattle.fg_peel.specs.Equation.{Equation, AreAdmissible, AllComeOut}
 use Rattle.fg_peel.specs.Closure.{InClosure, IsClosed}
-use Rattle.fg_peel.specs.Solution.{IsSolution, sum_at}
+use Rattle.fg_peel.specs.Solution.{IsSolution, FindsMedia}
 use Rattle.fg_peel.specs.Peeling.{Step, IsPeeling, IsMaximal, IsSound, end_of}
 
 -- The closure is closed.
@@ -64,23 +63,12 @@ PeelingsContinue =
     (known : ℕ → Option Word) (equations : List Equation) (steps : List Step) → IsPeeling known equations steps
     → (more : List Step) × IsMaximal known equations (steps ++ more)
 
--- Every word that a peeling found is a media word.
-abbrev pub FindsMedia : (ℕ → Option Word) → List Step → Type 0
-FindsMedia known steps =
-    (position : ℕ) (word : Word) → known position ≡ None → end_of known steps position ≡ Some word → IsMedia word
-
--- Every equation comes out whose slots are all known.
-abbrev pub AllComeOut : (ℕ → Option Word) → List Equation → Type 0
-AllComeOut words equations =
-    (equation : Equation) → Contains equations equation
-    → ((position : ℕ) → Contains (slots equation) position → IsSome (words position))
-    → equation.parity ≡ sum_at words (slots equation)
-
 -- A maximal peeling is sound exactly where what it found is media and the equations come out.
 abbrev pub MaximalPeelingsAreTested : Type 0
 MaximalPeelingsAreTested =
     (known : ℕ → Option Word) (equations : List Equation) (steps : List Step) → IsMaximal known equations steps
-    → IsSound known equations steps ↔ (FindsMedia known steps × AllComeOut (end_of known steps) equations)
+    → IsSound known equations steps
+    ↔ (FindsMedia known (end_of known steps) × AllComeOut (end_of known steps) equations)
 
 -- Uniqueness: two solutions are equal.
 abbrev pub Uniqueness : Type 0

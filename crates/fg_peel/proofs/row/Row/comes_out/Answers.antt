@@ -1,15 +1,14 @@
 use Rattle.std.proofs.Common.{◌≡◌, sym, ◌∙◌}
 use Rattle.std.specs.List.{filter_map}
 use Rattle.fg_words.specs.Word.{word_xor, HasRoom}
-use Rattle.fg_peel.specs.Equation.{slots}
-use Rattle.fg_peel.specs.Solution.{sum_at}
-use Rattle.fg_peel.specs.Slots.{word_in, told_from, equation_of}
+use Rattle.fg_peel.specs.Equation.{slots, sum_at}
+use Rattle.fg_peel.specs.Slots.{equation_of, words_from}
 use Rattle.fg_peel.proofs.Adding.{cancels, cancelled, short_sum}
-use Rattle.fg_peel.proofs.checks.comes_out.Goals as goal
+use Rattle.fg_peel.proofs.row.Row.comes_out.Goals as goal
 
 pub returns : goal.returns
 returns c =
-    let words = told_from word_in c.args.start c.args.slots.now in
+    let words = words_from c.args.self.now.start c.args.self.now.slots.now in
     let xs = slots (equation_of c.args.line.now) in
     let parity = c.args.line.now.parity in
     let total = sum_at words xs in
