@@ -103,7 +103,7 @@ module _ (known : ℕ → Option Word) (equations : List Equation) (admissible :
       a.1 ∙ ap Some (turned ∙ ap (λ (x : Word). word_xor step.equation.parity x) (sym same))
 
   -- So every peeling's words are those of the solution.
-  end_agrees :
+  pub end_agrees :
       (words : ℕ → Option Word) → IsSolution known equations words
       → (now : ℕ → Option Word) → ((q : ℕ) (w : Word) → now q ≡ Some w → words q ≡ Some w)
       → (steps : List Step) → IsPeeling now equations steps

@@ -38,6 +38,19 @@ abbrev pub AllComeOut : (ℕ → Option Word) → List Equation → Type 0
 AllComeOut words equations =
     (equation : Equation) → Contains equations equation → IsComplete words equation → ComesOut words equation
 
+-- The equation is settled in these words: its slots all have one, and it comes out.
+abbrev pub IsSettled : (ℕ → Option Word) → Equation → Type 0
+IsSettled words equation = IsComplete words equation × ComesOut words equation
+
+-- Each known word is among these words.
+abbrev pub Keeps : (ℕ → Option Word) → (ℕ → Option Word) → Type 0
+Keeps known words = (position : ℕ) (word : Word) → known position ≡ Some word → words position ≡ Some word
+
+-- Where both have a word, it is the same.
+abbrev pub Agree : (ℕ → Option Word) → (ℕ → Option Word) → Type 0
+Agree one other =
+    (position : ℕ) (first second : Word) → one position ≡ Some first → other position ≡ Some second → first ≡ second
+
 -- All these words are media words.
 abbrev pub AreMedia : (ℕ → Option Word) → Type 0
 AreMedia words = (position : ℕ) (word : Word) → words position ≡ Some word → IsMedia word

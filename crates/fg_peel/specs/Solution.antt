@@ -4,7 +4,7 @@ use Rattle.std.specs.Prelude.{◌≡◌, ◌↔◌, ℕ, List, Option, Some, Non
 use Rattle.std.specs.List.{Contains}
 use Rattle.fg_words.specs.declared.Word.{Word}
 use Rattle.fg_words.specs.Word.{IsMedia}
-use Rattle.fg_peel.specs.Equation.{Equation, slots, ComesOut}
+use Rattle.fg_peel.specs.Equation.{Equation, Keeps, ComesOut, slots}
 use Rattle.fg_peel.specs.Closure.{InClosure}
 
 -- Every word beyond the known ones is a media word.
@@ -16,7 +16,7 @@ pub record IsSolution (known : ℕ → Option Word) (equations : List Equation) 
   -- It has a word at exactly the positions of the closure.
   pub domain : (position : ℕ) → IsSome (words position) ↔ InClosure known equations position
   -- It keeps the known words.
-  pub keeps : (position : ℕ) (word : Word) → known position ≡ Some word → words position ≡ Some word
+  pub keeps : Keeps known words
   -- Every other word is a media word.
   pub media : FindsMedia known words
   -- Each equation whose slots are all in the closure has the sum of their words as its parity word.
