@@ -1,15 +1,13 @@
 -- Bytes that keep every rule are a parity datagram, and a parity datagram keeps them.
-use Rattle.std.proofs.Common.{◌≡◌, ℕ, zero, suc, ◌+◌, ◌-◌, ◌*◌, ◌/◌, ◌%◌, ◌^◌, ◌<◌, ◌≤◌, Bool, true, false, eqb, List, [], ◌∷◌, ◌++◌, length, replicate, take, drop, get_or, refl, sym, ap, subst, ⊎_elim, ◌∙◌, arith, lit<, length-append, append_assoc}
-use Rattle.std.specs.Int.{from_be_bytes, to_be_bytes, w16, w32}
+use Rattle.std.proofs.Common.{◌≡◌, ℕ, ◌+◌, ◌-◌, ◌/◌, ◌%◌, ◌^◌, ◌<◌, ◌≤◌, Bool, true, false, eqb, List, [], ◌∷◌, ◌++◌, length, replicate, take, drop, get_or, refl, sym, ap, subst, ⊎_elim, ◌∙◌, arith, lit<, length-append, append_assoc}
+use Rattle.std.specs.Int.{to_be_bytes, w16, w32}
 use Rattle.std.specs.List.{slice_range}
-use Rattle.std.proofs.lemmas.Bool.{cases_lt, eqb-false}
+use Rattle.std.proofs.lemmas.Bool.{cases_lt}
 use Rattle.std.proofs.lemmas.Nat.{be_bytes_2, be_bytes_4, from_be_bytes-to_be_bytes_2, from_be_bytes-to_be_bytes_4}
 use Rattle.std.proofs.lemmas.List.{get_or_append_left, get_or-append_right, get_or-take, get_or-drop, get_or-replicate, get_or_past, length-take, length-drop, length-replicate, take_at, drop_at, drop-drop, take-append-drop, ext_get_or}
 use Rattle.fg_words.specs.declared.Word.{Word}
 use Rattle.fg_words.proofs.WordLemmas.{word-ext}
-use Rattle.fg_shape.specs.declared.Shape.{Shape}
 use Rattle.fg_shape.specs.Shape.{IsShape}
-use Rattle.fg_rtp.specs.Header.{version}
 use Rattle.fg_fechead.specs.declared.Parity.{Parity}
 use Rattle.fg_fechead.specs.FecHeader.{row_bit, header_of, parity_of, IsExtended, IsPlainXor, HasShape}
 use Rattle.fg_fechead.specs.ParityDatagram.{IsParityDatagram, HasHeaders, IsVersionTwo, HasPayload, header_in}
@@ -38,9 +36,9 @@ padded_front bytes payload size room most is padded =
     let tail_long : length tail ≡ 1316 - length payload = length-replicate {A = ℕ} (1316 - length payload) 0 in
     ext_get_or 0 (payload ++ tail) bytes (length-append payload tail ∙ omega arith) (λ i lt. ⊎_elim
     (λ (inside : i < size).
-        get_or_append_left payload tail 0 i (omega arith) ∙ ap (λ (l : List ℕ). get_or l i 0) is ∙ get_or-take size bytes i 0 inside)
+    get_or_append_left payload tail 0 i (omega arith) ∙ ap (λ (l : List ℕ). get_or l i 0) is ∙ get_or-take size bytes i 0 inside)
     (λ (past : size ≤ i).
-        get_or-append_right payload tail size i 0 long past ∙ zeros_everywhere (1316 - length payload) (i - size) ∙ sym (padded i past))
+    get_or-append_right payload tail size i 0 long past ∙ zeros_everywhere (1316 - length payload) (i - size) ∙ sym (padded i past))
     (cases_lt i size))
 
 row_bit-back : (b : Bool) → eqb (row_bit b / 64 % 2) 1 ≡ b

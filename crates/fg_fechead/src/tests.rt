@@ -8,7 +8,9 @@ use fg_words::Word;
 
 /// The FEC header of a row of five datagrams from number 0x0102 on, with payloads of 1,316 bytes and
 /// the timestamps 1000, 2000, 3000, 4000 and 5000.
-const ROW: [u8; 16] = [1, 2, 5, 0x24, 0xa1, 0, 0, 0, 0, 0, 0x13, 0xa8, 0x40, 1, 5, 0];
+const ROW: [u8; 16] = [
+    1, 2, 5, 0x24, 0xa1, 0, 0, 0, 0, 0, 0x13, 0xa8, 0x40, 1, 5, 0,
+];
 
 /// The FEC header of a column of the first four of such datagrams, five apart.
 const COLUMN: [u8; 16] = [1, 2, 0, 0, 0x80, 0, 0, 0, 0, 0, 0, 0x20, 0, 5, 4, 0];
@@ -104,14 +106,29 @@ fn the_rest_of_the_headers_is_ignored(rt: HostRuntime) {
 #[test]
 fn the_first_broken_rule_is_named(rt: HostRuntime) {
     let mut header = [0xff; 16];
-    assert_eq!(rt; fault(&datagram(0x40, 0, &header), 27), Some(FecFault::Short));
-    assert_eq!(rt; fault(&datagram(0x40, 0, &header), 28), Some(FecFault::Version));
+    assert_eq!(rt;
+        fault(&datagram(0x40, 0, &header), 27),
+        Some(FecFault::Short)
+    );
+    assert_eq!(rt;
+        fault(&datagram(0x40, 0, &header), 28),
+        Some(FecFault::Version)
+    );
     header[4] = 0x7f;
-    assert_eq!(rt; fault(&datagram(0x80, 0, &header), 28), Some(FecFault::NoExtension));
+    assert_eq!(rt;
+        fault(&datagram(0x80, 0, &header), 28),
+        Some(FecFault::NoExtension)
+    );
     header[4] = 0xff;
-    assert_eq!(rt; fault(&datagram(0x80, 0, &header), 28), Some(FecFault::OtherFec));
+    assert_eq!(rt;
+        fault(&datagram(0x80, 0, &header), 28),
+        Some(FecFault::OtherFec)
+    );
     header[12] = 0x40;
-    assert_eq!(rt; fault(&datagram(0x80, 0, &header), 28), Some(FecFault::Shape));
+    assert_eq!(rt;
+        fault(&datagram(0x80, 0, &header), 28),
+        Some(FecFault::Shape)
+    );
     assert_eq!(rt; fault(&datagram(0x80, 0, &ROW), 28), Some(FecFault::Size));
     assert_eq!(rt; fault(&datagram(0x80, 0, &ROW), 1345), Some(FecFault::Size));
     assert!(rt; fault(&datagram(0x80, 0, &ROW), 1344).is_none());
