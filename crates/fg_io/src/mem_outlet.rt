@@ -92,8 +92,11 @@ impl Outlet for MemOutlet {
 
     fn put(&mut self, port: u16, piece: &[u8]) -> Result<(), Failed>
         // What each outlet ensures.
-        ensures puts { OnOk result (Puts (Some (slot_lanes self.old.slots)) port piece.now (Some (slot_lanes self.new.slots))) }
-        ensures failed { OnErr result (PutsPart (Some (slot_lanes self.old.slots)) port piece.now (Some (slot_lanes self.new.slots))) }
+        ensures puts { OnOk result (Puts (Some (slot_lanes self.old.slots)) port piece.now
+            (Some (slot_lanes self.new.slots))) }
+        ensures failed { OnErr result (PutsPart (Some (slot_lanes self.old.slots)) port piece.now
+            (Some (slot_lanes self.new.slots))) }
+        ensures no_fault { OnOk result (self.new.calls.faults ≡ self.old.calls.faults) }
         ensures counted { OnErr result (CountsFault self.old.calls.faults self.new.calls.faults) }
         ensures never_falls { self.old.calls.faults ≤ self.new.calls.faults }
 

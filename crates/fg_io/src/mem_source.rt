@@ -1,5 +1,5 @@
 //! A source in memory.
-ghost use Rattle.std.specs.Prelude.{◌≡◌, ◌↔◌, ◌<◌, ◌≤◌, ◌++◌, length, take, drop, IfOk, OnErr, IsErr, Some};
+ghost use Rattle.std.specs.Prelude.{◌≡◌, ◌↔◌, ◌<◌, ◌≤◌, ◌++◌, length, take, drop, IfOk, OnOk, OnErr, IsErr, Some};
 ghost use Rattle.std.specs.Io.KnownBytes.{IsAtEnd};
 ghost use Rattle.fg_io.specs.Calls.{first_calls, after_call, after_fault, NextFails};
 ghost use Rattle.fg_io.specs.Faults.{CountsFault};
@@ -62,9 +62,12 @@ impl Source for MemSource {
     fn read(&mut self, into: &mut [u8]) -> Result<usize, Failed>
         // What each source ensures.
         ensures bound { IfOk result (λ count. count ≤ length into.new) }
-        ensures gives { IfOk result (λ count. Gives (Some self.old.left) (take count into.new) (Some self.new.left)) }
-        ensures end { IfOk result (λ count. count ≡ 0 → 0 < length into.new → IsAtEnd (Some self.new.left)) }
+        ensures gives { IfOk result (λ count. Gives (Some self.old.left) (take count into.new)
+            (Some self.new.left)) }
+        ensures end { IfOk result (λ count. count ≡ 0 → 0 < length into.new
+            → IsAtEnd (Some self.new.left)) }
         ensures failed { OnErr result (Some self.new.left ≡ Some self.old.left) }
+        ensures no_fault { OnOk result (self.new.calls.faults ≡ self.old.calls.faults) }
         ensures counted { OnErr result (CountsFault self.old.calls.faults self.new.calls.faults) }
         ensures never_falls { self.old.calls.faults ≤ self.new.calls.faults }
 

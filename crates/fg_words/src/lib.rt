@@ -17,16 +17,16 @@ use std::alloc::{AllocError, Global};
 pub const PAYLOAD_LIMIT: usize = 1316;
 
 /// The RTP payload type of MPEG transport packets (RFC 3551).
-const TRANSPORT_TYPE: u8 = 33;
+pub const TRANSPORT_TYPE: u8 = 33;
 
 /// The length of a transport packet in bytes (ISO/IEC 13818-1).
-const PACKET_LENGTH: u16 = 188;
+pub const PACKET_LENGTH: u16 = 188;
 
 /// The most transport packets that a media datagram carries.
-const PACKETS_LIMIT: u16 = 7;
+pub const PACKETS_LIMIT: u16 = 7;
 
 /// The first byte of each transport packet (ISO/IEC 13818-1).
-const SYNC_BYTE: u8 = 0x47;
+pub const SYNC_BYTE: u8 = 0x47;
 
 /// What forward error correction can recover of a media datagram (SMPTE ST 2022-1, the recovery
 /// fields).
