@@ -25,7 +25,7 @@ fn main(rt: HostRuntime) -> ExitCode {
             &mut FolderOutlet::new(&rt),
             &NoGate,
         ),
-        Err(AllocError) => fg_run::end(&mut err, Why::Memory),
+        Err(AllocError) => fg_run::tell_end(&mut err, Why::Memory),
     };
     exit_code(ended)
 }
