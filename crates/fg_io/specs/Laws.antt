@@ -36,7 +36,8 @@ NoneIsPart = (written : Option (List ℕ)) (piece : List ℕ) → GainsPart writ
 
 -- a sink that gained the piece has gained a prefix of it
 abbrev pub AllIsPart : Type 0
-AllIsPart = (before after : Option (List ℕ)) (piece : List ℕ) → Gains before piece after → GainsPart before piece after
+AllIsPart = (before after : Option (List ℕ)) (piece : List ℕ)
+    → Gains before piece after → GainsPart before piece after
 
 -- a sink that gained a prefix of the first of two pieces has gained a prefix of both
 abbrev pub PartOfMore : Type 0
@@ -70,7 +71,8 @@ PutPartOfMore = (before after : Option Lanes) (port : ℕ) (piece more : List �
 -- so has one that gained the first and then a prefix of the second
 abbrev pub PutPartJoins : Type 0
 PutPartJoins = (first second third : Option Lanes) (port : ℕ) (piece more : List ℕ)
-    → Puts first port piece second → PutsPart second port more third → PutsPart first port (piece ++ more) third
+    → Puts first port piece second → PutsPart second port more third
+    → PutsPart first port (piece ++ more) third
 
 -- what each lane is follows from what it was, the port and the piece
 abbrev pub OneLane : Type 0

@@ -80,7 +80,8 @@ impl Sink for MemSink {
             }) }
         ensures takes_none { IfOk result (λ count. count ≡ 0 → 0 < length piece.now → self.new
             ≡ record self.old { calls = after_fault self.old.calls }) }
-        ensures unchanged { OnErr result (self.new ≡ record self.old { calls = after_fault self.old.calls }) }
+        ensures unchanged { OnErr result (self.new
+            ≡ record self.old { calls = after_fault self.old.calls }) }
     {
         if self.calls.next_fails() {
             self.calls.count_fault();

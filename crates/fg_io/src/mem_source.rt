@@ -27,7 +27,11 @@ impl Model for MemSource {
 
     ghost Value = { SourceState };
 
-    ghost view = { λ a. record { left = drop a.given a.bytes.items; piece = a.piece; calls = a.calls } };
+    ghost view = { λ a. record {
+      left = drop a.given a.bytes.items;
+      piece = a.piece;
+      calls = a.calls;
+    } };
 
     ghost invariant = { λ a. (a.given ≤ length a.bytes.items) × (1 ≤ a.piece) };
 }
@@ -74,11 +78,16 @@ impl Source for MemSource {
         // Exactly which calls fail, and what each call gives and leaves.
         ensures fails { IsErr result ↔ NextFails self.old.calls }
         ensures count { IfOk result (λ count. count ≡ given_count self.old (length into.old)) }
-        ensures bytes { IfOk result (λ count. into.new ≡ take count self.old.left ++ drop count into.old) }
+        ensures bytes { IfOk result (λ count. into.new
+            ≡ take count self.old.left ++ drop count into.old) }
         ensures left { IfOk result (λ count. self.new
-            ≡ record self.old { left = drop count self.old.left; calls = after_call self.old.calls }) }
+            ≡ record self.old {
+              left = drop count self.old.left;
+              calls = after_call self.old.calls;
+            }) }
         ensures unread { OnErr result (into.new ≡ into.old) }
-        ensures unchanged { OnErr result (self.new ≡ record self.old { calls = after_fault self.old.calls }) }
+        ensures unchanged { OnErr result (self.new
+            ≡ record self.old { calls = after_fault self.old.calls }) }
     {
         if self.calls.next_fails() {
             self.calls.count_fault();

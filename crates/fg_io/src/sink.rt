@@ -20,7 +20,8 @@ pub trait Sink {
     /// none.
     fn write(&mut self, piece: &[u8]) -> Result<usize, Failed>
         ensures bound { IfOk result (λ count. count ≤ length piece.now) }
-        ensures gains { IfOk result (λ count. Gains (written self.old) (take count piece.now) (written self.new)) }
+        ensures gains { IfOk result (λ count. Gains (written self.old) (take count piece.now)
+            (written self.new)) }
         ensures full { IfOk result (λ count. count ≡ 0 → 0 < length piece.now
             → CountsFault (faults self.old) (faults self.new)) }
         ensures no_fault { IfOk result (λ count. (0 < count) ⊎ (length piece.now ≡ 0)
@@ -55,8 +56,8 @@ pub fn write_all<K: Sink>(sink: &mut K, piece: &[u8]) -> Result<(), Failed>
 ///
 /// After [`Failed`] the sink has gained a prefix of what they are together.
 pub fn write_pieces<K: Sink>(sink: &mut K, pieces: &[&[u8]]) -> Result<(), Failed>
-    ensures whole { OnOk result (Gains (K.written sink.old) (flat_map (λ piece. piece.now) pieces.now)
-        (K.written sink.new)) }
+    ensures whole { OnOk result (Gains (K.written sink.old)
+        (flat_map (λ piece. piece.now) pieces.now) (K.written sink.new)) }
     ensures part { OnErr result (GainsPart (K.written sink.old)
         (flat_map (λ piece. piece.now) pieces.now) (K.written sink.new)) }
     ensures no_fault { OnOk result (K.faults sink.new ≡ K.faults sink.old) }

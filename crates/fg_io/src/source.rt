@@ -20,8 +20,10 @@ pub trait Source {
     /// [`Failed`], is not told. A call that is `Ok` counts no fault.
     fn read(&mut self, into: &mut [u8]) -> Result<usize, Failed>
         ensures bound { IfOk result (λ count. count ≤ length into.new) }
-        ensures gives { IfOk result (λ count. Gives (left self.old) (take count into.new) (left self.new)) }
-        ensures end { IfOk result (λ count. count ≡ 0 → 0 < length into.new → IsAtEnd (left self.new)) }
+        ensures gives { IfOk result (λ count. Gives (left self.old) (take count into.new)
+            (left self.new)) }
+        ensures end { IfOk result (λ count. count ≡ 0 → 0 < length into.new
+            → IsAtEnd (left self.new)) }
         ensures failed { OnErr result (left self.new ≡ left self.old) }
         ensures no_fault { OnOk result (faults self.new ≡ faults self.old) }
         ensures counted { OnErr result (CountsFault (faults self.old) (faults self.new)) }

@@ -67,12 +67,13 @@ impl<R: Read> Source for ReaderSource<R> {
         ensures gives { IfOk result (λ count. Gives None (take count into.new) None) }
         ensures end { IfOk result (λ count. count ≡ 0 → 0 < length into.new → IsAtEnd None) }
         ensures no_fault { OnOk result (source_faults self.new ≡ source_faults self.old) }
-        ensures counted { OnErr result (CountsFault (source_faults self.old) (source_faults self.new)) }
+        ensures counted { OnErr result (CountsFault (source_faults self.old)
+            (source_faults self.new)) }
         ensures never_falls { source_faults self.old ≤ source_faults self.new }
 
         // Where the reader's bytes are known it gives them. The count rises by one, up to its last value.
-        ensures bytes { ReadConsumes (R.remaining (source_reader self.old)) (R.remaining (source_reader self.new))
-            result into.new }
+        ensures bytes { ReadConsumes (R.remaining (source_reader self.old))
+            (R.remaining (source_reader self.new)) result into.new }
         ensures err { OnErr result (source_faults self.new ≡ next_count (source_faults self.old)) }
     {
         let outcome = read_some(&mut self.reader, into);
@@ -101,8 +102,8 @@ impl<W: Write> Sink for WriterSink<W> {
 
         // Where the writer's bytes are known it has taken them. The count rises by one with Err alone, up to its last
         // value.
-        ensures bytes { WriteAppends (W.contents (sink_writer self.old)) (W.contents (sink_writer self.new))
-            result piece.now }
+        ensures bytes { WriteAppends (W.contents (sink_writer self.old))
+            (W.contents (sink_writer self.new)) result piece.now }
         ensures some { IfOk result (λ count. 0 < length piece.now → 0 < count) }
         ensures ok { OnOk result (sink_faults self.new ≡ sink_faults self.old) }
         ensures err { OnErr result (sink_faults self.new ≡ next_count (sink_faults self.old)) }
