@@ -29,4 +29,5 @@ slot_lanes slots port = option_and_then (λ slot. slot.lane) (slot_of slots port
 
 -- how many more bytes the lane of the port takes: none where the port is not listed
 abbrev pub room_left : List SlotState → ℕ → ℕ
-room_left slots port = unwrap_or (option_map (λ slot. slot.room) (slot_of slots port)) 0 - length (lane_bytes (slot_lanes slots) port)
+room_left slots port =
+    unwrap_or (option_map (λ slot. slot.room) (slot_of slots port)) 0 - length (lane_bytes (slot_lanes slots) port)

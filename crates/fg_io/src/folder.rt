@@ -79,11 +79,11 @@ impl<F: Files> Outlet for FolderOutlet<F> {
         // What each outlet ensures.
         ensures puts { OnOk result (Puts None port piece.now None) }
         ensures failed { OnErr result (PutsPart None port piece.now None) }
+        ensures no_fault { OnOk result (self.new ≡ self.old) }
         ensures counted { OnErr result (CountsFault self.old self.new) }
         ensures never_falls { self.old ≤ self.new }
 
-        // Exactly when the count rises.
-        ensures ok { OnOk result (self.new ≡ self.old) }
+        // The count rises by one, up to its last value.
         ensures err { OnErr result (self.new ≡ next_count self.old) }
     {
         if self.append(port, piece).is_err() {

@@ -1,7 +1,8 @@
 //! The outside of the program: where bytes come from and where they go.
 //!
 //! [`Source`] gives bytes, [`Sink`] takes them, and [`Outlet`] keeps one lane of bytes for each port.
-//! Each counts the faults of the outside: a call answers [`Failed`] only where that count rose in the call.
+//! Each counts the faults of the outside. A call answers [`Failed`] only where that count rose in the call, or stands
+//! at its last value, 2^64 - 1; and a call that does what it is asked leaves the count as it was.
 #![tactic(auto)]
 
 mod calls;
@@ -22,11 +23,12 @@ pub use mem_outlet::MemOutlet;
 pub use mem_sink::MemSink;
 pub use mem_source::MemSource;
 pub use outlet::Outlet;
-pub use sink::{Sink, write_all};
+pub use sink::{Sink, write_all, write_pieces};
 pub use source::Source;
 pub use standard::{ReaderSource, StderrSink, StdinSource, StdoutSink, WriterSink};
 
-/// A fault of the outside. The count of faults of the object that was called rose in the call.
+/// A fault of the outside. The count of faults of the object that was called rose in the call, or stands at its last
+/// value.
 #[derive(Clone, Copy, Debug, PartialEq, Eq)]
 pub struct Failed;
 

@@ -71,7 +71,8 @@ fn place_of(slots: &[Slot], port: u16) -> Option<usize>
 
 /// Appends what fits of the piece to the port's lane, and answers whether that is all of it.
 fn append_to(slots: &mut [Slot], port: u16, piece: &[u8]) -> bool
-    ensures whole { IsTrue result ↔ (IsSome (slot_of slots.old port) × (length piece.now ≤ room_left slots.old port)) }
+    ensures whole { IsTrue result
+        ↔ (IsSome (slot_of slots.old port) × (length piece.now ≤ room_left slots.old port)) }
     ensures listed { IsSome (slot_of slots.old port) → LaneGains (slot_lanes slots.old) port
         (take (room_left slots.old port) piece.now) (slot_lanes slots.new) }
     ensures part { LaneGainsPart (slot_lanes slots.old) port piece.now (slot_lanes slots.new) }
@@ -92,21 +93,27 @@ impl Outlet for MemOutlet {
 
     fn put(&mut self, port: u16, piece: &[u8]) -> Result<(), Failed>
         // What each outlet ensures.
-        ensures puts { OnOk result (Puts (Some (slot_lanes self.old.slots)) port piece.now (Some (slot_lanes self.new.slots))) }
-        ensures failed { OnErr result (PutsPart (Some (slot_lanes self.old.slots)) port piece.now (Some (slot_lanes self.new.slots))) }
+        ensures puts { OnOk result (Puts (Some (slot_lanes self.old.slots)) port piece.now
+            (Some (slot_lanes self.new.slots))) }
+        ensures failed { OnErr result (PutsPart (Some (slot_lanes self.old.slots)) port piece.now
+            (Some (slot_lanes self.new.slots))) }
+        ensures no_fault { OnOk result (self.new.calls.faults ≡ self.old.calls.faults) }
         ensures counted { OnErr result (CountsFault self.old.calls.faults self.new.calls.faults) }
         ensures never_falls { self.old.calls.faults ≤ self.new.calls.faults }
 
         // Exactly which calls fail, and what each call takes.
-        ensures fails { IsErr result ↔ (NextFails self.old.calls ⊎ IsNone (slot_of self.old.slots port)
+        ensures fails { IsErr result ↔ (NextFails self.old.calls
+            ⊎ IsNone (slot_of self.old.slots port)
             ⊎ (room_left self.old.slots port < length piece.now)) }
         ensures takes { ¬ NextFails self.old.calls → IsSome (slot_of self.old.slots port)
-            → LaneGains (slot_lanes self.old.slots) port (take (room_left self.old.slots port) piece.now)
-            (slot_lanes self.new.slots) }
+            → LaneGains (slot_lanes self.old.slots) port
+            (take (room_left self.old.slots port) piece.now) (slot_lanes self.new.slots) }
         ensures takes_none { NextFails self.old.calls ⊎ IsNone (slot_of self.old.slots port)
             → self.new.slots ≡ self.old.slots }
-        ensures ports { map (λ slot. slot.port) self.new.slots ≡ map (λ slot. slot.port) self.old.slots }
-        ensures rooms { map (λ slot. slot.room) self.new.slots ≡ map (λ slot. slot.room) self.old.slots }
+        ensures ports { map (λ slot. slot.port) self.new.slots
+            ≡ map (λ slot. slot.port) self.old.slots }
+        ensures rooms { map (λ slot. slot.room) self.new.slots
+            ≡ map (λ slot. slot.room) self.old.slots }
         ensures ok_calls { OnOk result (self.new.calls ≡ after_call self.old.calls) }
         ensures err_calls { OnErr result (self.new.calls ≡ after_fault self.old.calls) }
     {

@@ -60,9 +60,12 @@ impl Sink for MemSink {
     fn write(&mut self, piece: &[u8]) -> Result<usize, Failed>
         // What each sink ensures.
         ensures bound { IfOk result (λ count. count ≤ length piece.now) }
-        ensures gains { IfOk result (λ count. Gains (Some self.old.written) (take count piece.now) (Some self.new.written)) }
+        ensures gains { IfOk result (λ count. Gains (Some self.old.written) (take count piece.now)
+            (Some self.new.written)) }
         ensures full { IfOk result (λ count. count ≡ 0 → 0 < length piece.now
             → CountsFault self.old.calls.faults self.new.calls.faults) }
+        ensures no_fault { IfOk result (λ count. (0 < count) ⊎ (length piece.now ≡ 0)
+            → self.new.calls.faults ≡ self.old.calls.faults) }
         ensures failed { OnErr result (Some self.new.written ≡ Some self.old.written) }
         ensures counted { OnErr result (CountsFault self.old.calls.faults self.new.calls.faults) }
         ensures never_falls { self.old.calls.faults ≤ self.new.calls.faults }
@@ -71,10 +74,14 @@ impl Sink for MemSink {
         ensures fails { IsErr result ↔ NextFails self.old.calls }
         ensures count { IfOk result (λ count. count ≡ taken_count self.old (length piece.now)) }
         ensures takes { IfOk result (λ count. (0 < count) ⊎ (length piece.now ≡ 0) → self.new
-            ≡ record self.old { written = self.old.written ++ take count piece.now; calls = after_call self.old.calls }) }
+            ≡ record self.old {
+              written = self.old.written ++ take count piece.now;
+              calls = after_call self.old.calls;
+            }) }
         ensures takes_none { IfOk result (λ count. count ≡ 0 → 0 < length piece.now → self.new
             ≡ record self.old { calls = after_fault self.old.calls }) }
-        ensures unchanged { OnErr result (self.new ≡ record self.old { calls = after_fault self.old.calls }) }
+        ensures unchanged { OnErr result (self.new
+            ≡ record self.old { calls = after_fault self.old.calls }) }
     {
         if self.calls.next_fails() {
             self.calls.count_fault();

@@ -1,5 +1,5 @@
 //! A source in memory.
-ghost use Rattle.std.specs.Prelude.{◌≡◌, ◌↔◌, ◌<◌, ◌≤◌, ◌++◌, length, take, drop, IfOk, OnErr, IsErr, Some};
+ghost use Rattle.std.specs.Prelude.{◌≡◌, ◌↔◌, ◌<◌, ◌≤◌, ◌++◌, length, take, drop, IfOk, OnOk, OnErr, IsErr, Some};
 ghost use Rattle.std.specs.Io.KnownBytes.{IsAtEnd};
 ghost use Rattle.fg_io.specs.Calls.{first_calls, after_call, after_fault, NextFails};
 ghost use Rattle.fg_io.specs.Faults.{CountsFault};
@@ -27,7 +27,11 @@ impl Model for MemSource {
 
     ghost Value = { SourceState };
 
-    ghost view = { λ a. record { left = drop a.given a.bytes.items; piece = a.piece; calls = a.calls } };
+    ghost view = { λ a. record {
+      left = drop a.given a.bytes.items;
+      piece = a.piece;
+      calls = a.calls;
+    } };
 
     ghost invariant = { λ a. (a.given ≤ length a.bytes.items) × (1 ≤ a.piece) };
 }
@@ -62,20 +66,28 @@ impl Source for MemSource {
     fn read(&mut self, into: &mut [u8]) -> Result<usize, Failed>
         // What each source ensures.
         ensures bound { IfOk result (λ count. count ≤ length into.new) }
-        ensures gives { IfOk result (λ count. Gives (Some self.old.left) (take count into.new) (Some self.new.left)) }
-        ensures end { IfOk result (λ count. count ≡ 0 → 0 < length into.new → IsAtEnd (Some self.new.left)) }
+        ensures gives { IfOk result (λ count. Gives (Some self.old.left) (take count into.new)
+            (Some self.new.left)) }
+        ensures end { IfOk result (λ count. count ≡ 0 → 0 < length into.new
+            → IsAtEnd (Some self.new.left)) }
         ensures failed { OnErr result (Some self.new.left ≡ Some self.old.left) }
+        ensures no_fault { OnOk result (self.new.calls.faults ≡ self.old.calls.faults) }
         ensures counted { OnErr result (CountsFault self.old.calls.faults self.new.calls.faults) }
         ensures never_falls { self.old.calls.faults ≤ self.new.calls.faults }
 
         // Exactly which calls fail, and what each call gives and leaves.
         ensures fails { IsErr result ↔ NextFails self.old.calls }
         ensures count { IfOk result (λ count. count ≡ given_count self.old (length into.old)) }
-        ensures bytes { IfOk result (λ count. into.new ≡ take count self.old.left ++ drop count into.old) }
+        ensures bytes { IfOk result (λ count. into.new
+            ≡ take count self.old.left ++ drop count into.old) }
         ensures left { IfOk result (λ count. self.new
-            ≡ record self.old { left = drop count self.old.left; calls = after_call self.old.calls }) }
+            ≡ record self.old {
+              left = drop count self.old.left;
+              calls = after_call self.old.calls;
+            }) }
         ensures unread { OnErr result (into.new ≡ into.old) }
-        ensures unchanged { OnErr result (self.new ≡ record self.old { calls = after_fault self.old.calls }) }
+        ensures unchanged { OnErr result (self.new
+            ≡ record self.old { calls = after_fault self.old.calls }) }
     {
         if self.calls.next_fails() {
             self.calls.count_fault();

@@ -1,5 +1,6 @@
 //! Where bytes go.
-ghost use Rattle.std.specs.Prelude.{◌≡◌, ℕ, ◌<◌, ◌≤◌, Option, List, length, take, IfOk, OnOk, OnErr};
+ghost use Rattle.std.specs.Prelude.{◌≡◌, ◌⊎◌, ℕ, ◌<◌, ◌≤◌, Option, List, length, take, IfOk, OnOk, OnErr};
+ghost use Rattle.std.specs.List.{flat_map};
 ghost use Rattle.fg_io.specs.Faults.{CountsFault};
 ghost use Rattle.fg_io.specs.Sink.{Gains, GainsPart};
 
@@ -15,12 +16,16 @@ pub trait Sink {
 
     /// Takes some bytes of the front of `piece`, and answers how many.
     ///
-    /// A sink that takes none of a nonempty piece has counted a fault in this call.
+    /// A sink that takes none of a nonempty piece has counted a fault in this call; any other call that is `Ok` counts
+    /// none.
     fn write(&mut self, piece: &[u8]) -> Result<usize, Failed>
         ensures bound { IfOk result (λ count. count ≤ length piece.now) }
-        ensures gains { IfOk result (λ count. Gains (written self.old) (take count piece.now) (written self.new)) }
+        ensures gains { IfOk result (λ count. Gains (written self.old) (take count piece.now)
+            (written self.new)) }
         ensures full { IfOk result (λ count. count ≡ 0 → 0 < length piece.now
             → CountsFault (faults self.old) (faults self.new)) }
+        ensures no_fault { IfOk result (λ count. (0 < count) ⊎ (length piece.now ≡ 0)
+            → faults self.new ≡ faults self.old) }
         ensures failed { OnErr result (written self.new ≡ written self.old) }
         ensures counted { OnErr result (CountsFault (faults self.old) (faults self.new)) }
         ensures never_falls { faults self.old ≤ faults self.new };
@@ -32,6 +37,7 @@ pub trait Sink {
 pub fn write_all<K: Sink>(sink: &mut K, piece: &[u8]) -> Result<(), Failed>
     ensures whole { OnOk result (Gains (K.written sink.old) piece.now (K.written sink.new)) }
     ensures part { OnErr result (GainsPart (K.written sink.old) piece.now (K.written sink.new)) }
+    ensures no_fault { OnOk result (K.faults sink.new ≡ K.faults sink.old) }
     ensures counted { OnErr result (CountsFault (K.faults sink.old) (K.faults sink.new)) }
     ensures never_falls { K.faults sink.old ≤ K.faults sink.new }
 {
@@ -42,6 +48,24 @@ pub fn write_all<K: Sink>(sink: &mut K, piece: &[u8]) -> Result<(), Failed>
             return Err(Failed);
         }
         taken += count;
+    }
+    Ok(())
+}
+
+/// Writes the pieces, one after another.
+///
+/// After [`Failed`] the sink has gained a prefix of what they are together.
+pub fn write_pieces<K: Sink>(sink: &mut K, pieces: &[&[u8]]) -> Result<(), Failed>
+    ensures whole { OnOk result (Gains (K.written sink.old)
+        (flat_map (λ piece. piece.now) pieces.now) (K.written sink.new)) }
+    ensures part { OnErr result (GainsPart (K.written sink.old)
+        (flat_map (λ piece. piece.now) pieces.now) (K.written sink.new)) }
+    ensures no_fault { OnOk result (K.faults sink.new ≡ K.faults sink.old) }
+    ensures counted { OnErr result (CountsFault (K.faults sink.old) (K.faults sink.new)) }
+    ensures never_falls { K.faults sink.old ≤ K.faults sink.new }
+{
+    for piece in pieces {
+        write_all(sink, piece)?;
     }
     Ok(())
 }

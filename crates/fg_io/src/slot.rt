@@ -22,7 +22,11 @@ impl Model for Slot {
 
     ghost Value = { SlotState };
 
-    ghost view = { λ a. record { port = a.port; room = a.room; lane = if a.made then Some a.bytes.items else None } };
+    ghost view = { λ a. record {
+      port = a.port;
+      room = a.room;
+      lane = if a.made then Some a.bytes.items else None;
+    } };
 
     ghost invariant = { λ a. (length a.bytes.items ≤ a.room) × (a.room ≤ vec_capacity a.bytes)
         × (a.made ≡ false → a.bytes.items ≡ []) };
@@ -61,8 +65,11 @@ impl Slot {
 
     /// Makes the lane where there is none, appends what fits of the piece, and answers how many bytes that was.
     pub(crate) fn append(&mut self, piece: &[u8]) -> usize
-        ensures count { result ≡ min (length piece.now) (self.old.room - length (unwrap_or self.old.lane [])) }
-        ensures lane { self.new ≡ record self.old { lane = Some (unwrap_or self.old.lane [] ++ take result piece.now) } }
+        ensures count { result
+            ≡ min (length piece.now) (self.old.room - length (unwrap_or self.old.lane [])) }
+        ensures lane { self.new ≡ record self.old {
+          lane = Some (unwrap_or self.old.lane [] ++ take result piece.now);
+        } }
     {
         self.made = true;
         let count = piece.len().min(self.room - self.bytes.len());

@@ -1,5 +1,5 @@
 //! Where bytes come from.
-ghost use Rattle.std.specs.Prelude.{◌≡◌, ℕ, ◌<◌, ◌≤◌, Option, List, length, take, IfOk, OnErr};
+ghost use Rattle.std.specs.Prelude.{◌≡◌, ℕ, ◌<◌, ◌≤◌, Option, List, length, take, IfOk, OnOk, OnErr};
 ghost use Rattle.std.specs.Io.KnownBytes.{IsAtEnd};
 ghost use Rattle.fg_io.specs.Faults.{CountsFault};
 ghost use Rattle.fg_io.specs.Source.{Gives};
@@ -17,12 +17,15 @@ pub trait Source {
     /// Reads some of the bytes left to the front of `into`, and answers how many.
     ///
     /// 0 for a nonempty `into` means that nothing is left. What `into` holds beyond that many bytes, and after
-    /// [`Failed`], is not told.
+    /// [`Failed`], is not told. A call that is `Ok` counts no fault.
     fn read(&mut self, into: &mut [u8]) -> Result<usize, Failed>
         ensures bound { IfOk result (λ count. count ≤ length into.new) }
-        ensures gives { IfOk result (λ count. Gives (left self.old) (take count into.new) (left self.new)) }
-        ensures end { IfOk result (λ count. count ≡ 0 → 0 < length into.new → IsAtEnd (left self.new)) }
+        ensures gives { IfOk result (λ count. Gives (left self.old) (take count into.new)
+            (left self.new)) }
+        ensures end { IfOk result (λ count. count ≡ 0 → 0 < length into.new
+            → IsAtEnd (left self.new)) }
         ensures failed { OnErr result (left self.new ≡ left self.old) }
+        ensures no_fault { OnOk result (faults self.new ≡ faults self.old) }
         ensures counted { OnErr result (CountsFault (faults self.old) (faults self.new)) }
         ensures never_falls { faults self.old ≤ faults self.new };
 }

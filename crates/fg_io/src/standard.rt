@@ -1,5 +1,5 @@
 //! The standard streams of the process. They tell nothing of content: what they really give and take is trusted.
-ghost use Rattle.std.specs.Prelude.{◌≡◌, ◌<◌, ◌≤◌, length, take, IfOk, OnOk, OnErr, None};
+ghost use Rattle.std.specs.Prelude.{◌≡◌, ◌⊎◌, ◌<◌, ◌≤◌, length, take, IfOk, OnOk, OnErr, None};
 ghost use Rattle.std.specs.Io.KnownBytes.{IsAtEnd, ReadConsumes, WriteAppends};
 ghost use Rattle.fg_io.specs.Calls.{next_count};
 ghost use Rattle.fg_io.specs.Faults.{CountsFault};
@@ -66,13 +66,14 @@ impl<R: Read> Source for ReaderSource<R> {
         ensures bound { IfOk result (λ count. count ≤ length into.new) }
         ensures gives { IfOk result (λ count. Gives None (take count into.new) None) }
         ensures end { IfOk result (λ count. count ≡ 0 → 0 < length into.new → IsAtEnd None) }
-        ensures counted { OnErr result (CountsFault (source_faults self.old) (source_faults self.new)) }
+        ensures no_fault { OnOk result (source_faults self.new ≡ source_faults self.old) }
+        ensures counted { OnErr result (CountsFault (source_faults self.old)
+            (source_faults self.new)) }
         ensures never_falls { source_faults self.old ≤ source_faults self.new }
 
-        // Where the reader's bytes are known it gives them, and exactly when the count rises.
-        ensures bytes { ReadConsumes (R.remaining (source_reader self.old)) (R.remaining (source_reader self.new))
-            result into.new }
-        ensures ok { OnOk result (source_faults self.new ≡ source_faults self.old) }
+        // Where the reader's bytes are known it gives them. The count rises by one, up to its last value.
+        ensures bytes { ReadConsumes (R.remaining (source_reader self.old))
+            (R.remaining (source_reader self.new)) result into.new }
         ensures err { OnErr result (source_faults self.new ≡ next_count (source_faults self.old)) }
     {
         let outcome = read_some(&mut self.reader, into);
@@ -94,12 +95,15 @@ impl<W: Write> Sink for WriterSink<W> {
         ensures gains { IfOk result (λ count. Gains None (take count piece.now) None) }
         ensures full { IfOk result (λ count. count ≡ 0 → 0 < length piece.now
             → CountsFault (sink_faults self.old) (sink_faults self.new)) }
+        ensures no_fault { IfOk result (λ count. (0 < count) ⊎ (length piece.now ≡ 0)
+            → sink_faults self.new ≡ sink_faults self.old) }
         ensures counted { OnErr result (CountsFault (sink_faults self.old) (sink_faults self.new)) }
         ensures never_falls { sink_faults self.old ≤ sink_faults self.new }
 
-        // Where the writer's bytes are known it has taken them, and exactly when the count rises.
-        ensures bytes { WriteAppends (W.contents (sink_writer self.old)) (W.contents (sink_writer self.new))
-            result piece.now }
+        // Where the writer's bytes are known it has taken them. The count rises by one with Err alone, up to its last
+        // value.
+        ensures bytes { WriteAppends (W.contents (sink_writer self.old))
+            (W.contents (sink_writer self.new)) result piece.now }
         ensures some { IfOk result (λ count. 0 < length piece.now → 0 < count) }
         ensures ok { OnOk result (sink_faults self.new ≡ sink_faults self.old) }
         ensures err { OnErr result (sink_faults self.new ≡ next_count (sink_faults self.old)) }

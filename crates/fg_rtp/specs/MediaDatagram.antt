@@ -10,6 +10,10 @@ use Rattle.fg_rtp.specs.declared.media.MediaFault.{MediaFault}
 use Rattle.fg_rtp.specs.declared.media.MediaFault.TheVariants.{Short, Version, Flags, PayloadType, Size, NoSync}
 use Rattle.fg_rtp.specs.Header.{version, header}
 
+-- The payload of a word: as many of its bytes as its length says.
+abbrev pub payload_of : Word → List ℕ
+payload_of word = take word.len word.bytes
+
 -- These bytes are a media datagram with this sequence number, synchronization source and word.
 pub record IsMediaDatagram (bytes : List ℕ) (seq ssrc : ℕ) (word : Word) : Type 0 where
   pub marker : ℕ
@@ -19,7 +23,7 @@ pub record IsMediaDatagram (bytes : List ℕ) (seq ssrc : ℕ) (word : Word) : T
   pub ssrc_size : ssrc < 2 ^ 32
   pub media : IsMedia word
   -- version 2 with no padding, extension or source; marker and payload type 33; the three numbers; the payload
-  pub spelled : bytes ≡ 0x80 ∷ (128 * marker + 33) ∷ (to_be_bytes w16 seq ++ to_be_bytes w32 word.ts ++ to_be_bytes w32 ssrc ++ take word.len word.bytes)
+  pub spelled : bytes ≡ 0x80 ∷ (128 * marker + 33) ∷ (to_be_bytes w16 seq ++ to_be_bytes w32 word.ts ++ to_be_bytes w32 ssrc ++ payload_of word)
 
 -- The word of a payload of transport packets: the payload, padded with zeros to seven packets.
 abbrev pub transport_word : ℕ → List ℕ → Word

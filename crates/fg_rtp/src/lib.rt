@@ -11,7 +11,7 @@ mod media;
 mod tests;
 
 use byteorder::{BigEndian, ByteOrder};
-pub use media::{MediaFault, media_word};
+pub use media::{MediaFault, media_word, payload};
 
 /// The bytes of the fixed header (RFC 3550).
 pub const HEADER_LENGTH: usize = 12;

@@ -2,19 +2,13 @@
 
 ghost use Rattle.std.specs.Prelude.{◌≡◌, ℕ, ◌≤◌, ◌↔◌, ◌++◌, IfErr, IfOk, IsErrOf, IsTrue, drop, length};
 ghost use Rattle.fg_words.specs.declared.Word.{Word};
-ghost use Rattle.fg_rtp.specs.MediaDatagram.{FirstFault, HasHeader, HasPackets, IsMediaDatagram, IsSynced, header_fault, transport_word};
+ghost use Rattle.fg_rtp.specs.MediaDatagram.{FirstFault, HasHeader, HasPackets, IsMediaDatagram, IsSynced, header_fault, payload_of, transport_word};
 
 use crate::{HEADER_LENGTH, RtpFault, read};
-use fg_words::{PAYLOAD_LIMIT, Word};
+use fg_words::{PACKET_LENGTH, PAYLOAD_LIMIT, SYNC_BYTE, TRANSPORT_TYPE, Word};
 
-/// The payload type of transport packets (RFC 3551).
-const TRANSPORT_TYPE: u8 = 33;
-
-/// The bytes of a transport packet (ISO/IEC 13818-1).
-const PACKET_LENGTH: usize = 188;
-
-/// The first byte of a transport packet (ISO/IEC 13818-1).
-const SYNC_BYTE: u8 = 0x47;
+/// The length of a transport packet, as one of bytes in memory.
+const PACKET: usize = PACKET_LENGTH as usize;
 
 /// Why bytes are no media datagram.
 #[derive(Clone, Copy, Debug, PartialEq, Eq)]
@@ -50,7 +44,10 @@ impl From<RtpFault> for MediaFault {
 pub fn media_word(bytes: &[u8]) -> Result<(u16, u32, Word), MediaFault>
     ensures ok { IfOk result (λ t. IsMediaDatagram bytes.now t.0 t.1 t.2) }
     ensures faults { (fault : MediaFault) → IsErrOf result fault ↔ FirstFault fault bytes.now }
-    ensures refused { IfErr result (λ _. (seq ssrc : ℕ) (word : Word) → IsMediaDatagram bytes.now seq ssrc word → ⊥) }
+    ensures only { IfOk result (λ t. (seq ssrc : ℕ) (word : Word)
+        → IsMediaDatagram bytes.now seq ssrc word → (t.0 ≡ seq) × (t.1 ≡ ssrc) × (t.2 ≡ word)) }
+    ensures refused { IfErr result (λ _. (seq ssrc : ℕ) (word : Word)
+        → IsMediaDatagram bytes.now seq ssrc word → ⊥) }
 {
     let header = read(bytes)?;
     if header.padding || header.extension || header.sources != 0 {
@@ -65,8 +62,17 @@ pub fn media_word(bytes: &[u8]) -> Result<(u16, u32, Word), MediaFault>
     if !is_synced(bytes) {
         return Err(MediaFault::NoSync);
     }
-    let word = word_of(header.ts, &bytes[HEADER_LENGTH..]);
+    let word = word_of(header.ts, payload(bytes));
     Ok((header.seq, header.ssrc, word))
+}
+
+/// The bytes of a datagram after the fixed header, which are a media datagram's payload; none where it is shorter.
+pub fn payload(bytes: &[u8]) -> &[u8]
+    ensures rest { result.now ≡ drop HEADER_LENGTH bytes.now }
+    ensures media { (seq ssrc : ℕ) (word : Word) → IsMediaDatagram bytes.now seq ssrc word
+        → result.now ≡ payload_of word }
+{
+    bytes.get(HEADER_LENGTH..).unwrap_or(&[])
 }
 
 /// Whether the datagram's payload is 1 to 7 whole packets long.
@@ -75,7 +81,7 @@ fn has_whole_packets(bytes: &[u8]) -> bool
     ensures { IsTrue result ↔ HasPackets bytes.now }
 {
     let length = bytes.len() - HEADER_LENGTH;
-    length > 0 && length <= PAYLOAD_LIMIT && length % PACKET_LENGTH == 0
+    length > 0 && length <= PAYLOAD_LIMIT && length % PACKET == 0
 }
 
 /// Whether each packet of the datagram's payload begins with the sync byte.
@@ -83,9 +89,9 @@ fn is_synced(bytes: &[u8]) -> bool
     requires { HasHeader bytes.now }
     ensures { IsTrue result ↔ IsSynced bytes.now }
 {
-    let packets = (bytes.len() - HEADER_LENGTH).div_ceil(PACKET_LENGTH);
+    let packets = (bytes.len() - HEADER_LENGTH).div_ceil(PACKET);
     for packet in 0..packets {
-        if bytes[HEADER_LENGTH + PACKET_LENGTH * packet] != SYNC_BYTE {
+        if bytes[HEADER_LENGTH + PACKET * packet] != SYNC_BYTE {
             return false;
         }
     }

@@ -2,7 +2,7 @@
 
 ghost use Rattle.std.specs.Prelude.{◌≤◌};
 
-use crate::{MediaFault, RtpFault, media_word, read};
+use crate::{MediaFault, RtpFault, media_word, payload, read};
 use fg_words::Word;
 
 /// The bytes of seven packets after a header that begins with these two bytes, with sequence number
@@ -66,6 +66,8 @@ fn a_media_datagram_has_its_word(rt: HostRuntime) {
             assert_eq!(rt; seq, 0x0102);
             assert_eq!(rt; ssrc, 0x0708_090a);
             assert!(rt; word.same(&wanted));
+            assert_eq!(rt; payload(&bytes).len(), 1316);
+            assert!(rt; payload(&bytes[..11]).is_empty());
         }
         Err(_) => assert!(rt; false),
     }

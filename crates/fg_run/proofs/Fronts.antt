@@ -31,13 +31,13 @@ fit_front : (p : List Record) (r : Record) (tail : List Record) → AllByRecursi
 fit_front [] r tail h = (h.0, tt)
 fit_front (q ∷ p) r tail h = (h.0, fit_front p r tail h.1)
 
-carried_front : (port first next : ℕ) (p : List Record) (r : Record) (tail : List Record) (ws : List Word) → AreCarried port first next (p ++ r ∷ tail) ws → (last : ℕ) × (vs : List Word) × AreCarried port first last (p ++ r ∷ []) vs
-carried_front port first next [] r tail [] h = absurd h
-carried_front port first next [] r tail (w ∷ ws) h = ((first + 1) % 65536, w ∷ [], (h.0, refl))
-carried_front port first next (q ∷ p) r tail [] h = absurd h
-carried_front port first next (q ∷ p) r tail (w ∷ ws) h =
-    let inner = carried_front port ((first + 1) % 65536) next p r tail ws h.1 in
-    (inner.0, w ∷ inner.1, (h.0, inner.2))
+carried_front : (port first : ℕ) (p : List Record) (r : Record) (tail : List Record) (ws : List Word) → AreCarried port first (p ++ r ∷ tail) ws → (vs : List Word) × AreCarried port first (p ++ r ∷ []) vs
+carried_front port first [] r tail [] h = absurd h
+carried_front port first [] r tail (w ∷ ws) h = (w ∷ [], (h.0, tt))
+carried_front port first (q ∷ p) r tail [] h = absurd h
+carried_front port first (q ∷ p) r tail (w ∷ ws) h =
+    let inner = carried_front port ((first + 1) % 65536) p r tail ws h.1 in
+    (w ∷ inner.0, (h.0, inner.1))
 
 split_spelling : (p : List Record) (r : Record) (tail : List Record) → flat_map spelling (p ++ r ∷ tail) ≡ flat_map spelling (p ++ r ∷ []) ++ flat_map spelling tail
 split_spelling p r tail =
@@ -60,8 +60,8 @@ begins_front bytes max p r tail h =
 -- records in order don't go on past the first that isn't built
 pub stops : (port : ℕ) (bytes : List ℕ) (n max : ℕ) (next : Record) (tail : List Record) (words : List Word) → (h : IsFirstNotBuilt port bytes n) → Begins bytes max (h.before ++ next ∷ tail) → AreInOrder port (h.before ++ next ∷ tail) words → ⊥
 stops port bytes n max next tail words h b k =
-    let front = carried_front port k.0 k.1 h.before next tail words k.2 in
-    h.none next front.1 (begins_front bytes max h.before next tail b) (k.0, front.0, front.2)
+    let front = carried_front port k.0 h.before next tail words k.1 in
+    h.none next front.0 (begins_front bytes max h.before next tail b) (k.0, front.1)
 
 -- bytes that begin with the magic differ from it nowhere
 pub no_difference : (bytes rest : List ℕ) (n : ℕ) → bytes ≡ magic ++ rest → DiffersAt bytes n → ⊥

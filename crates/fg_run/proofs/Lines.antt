@@ -1,19 +1,18 @@
 -- A line that is written in three pieces.
-use Rattle.std.proofs.Common.{◌≡◌, ℕ, List, ◌++◌, Option, Result, Ok, Err, OnErr, subst}
+use Rattle.std.proofs.Common.{◌≡◌, ℕ, List, [], ◌++◌, Option, Result, OnOk, OnErr, sym, ap, ◌∙◌, subst, append_assoc, append-nil}
 use Rattle.fg_io.specs.Sink.{Gains, GainsPart}
-use Rattle.fg_io.proofs.SinkLemmas.{Gains-trans, GainsPart-longer, GainsPart-trans}
 
--- part of the first piece
-pub part_of_first : (before after : Option (List ℕ)) (a b c : List ℕ) → GainsPart before a after → GainsPart before (a ++ b ++ c) after
-part_of_first before after a b c h = GainsPart-longer before after (a ++ b) c (GainsPart-longer before after a b h)
+-- three pieces one after another
+three : (a b c middle : List ℕ) → middle ≡ b → a ++ (middle ++ (c ++ [])) ≡ a ++ b ++ c
+three a b c middle same =
+    ap (λ t. a ++ (t ++ (c ++ []))) same ∙ ap (λ t. a ++ (b ++ t)) (append-nil c) ∙ sym (append_assoc a b c)
 
--- the first piece, and part of the second
-pub part_of_second : (before now after : Option (List ℕ)) (a b c piece : List ℕ) → Gains before a now → piece ≡ b → GainsPart now piece after → GainsPart before (a ++ b ++ c) after
-part_of_second before now after a b c piece one e h =
-    GainsPart-longer before after (a ++ b) c (GainsPart-trans before now after a b one (subst (λ (t : List ℕ). GainsPart now t after) e h))
+-- all three were written
+pub whole_of_three : {T E : Type 0} (r : Result T E) (before after : Option (List ℕ)) (a b c middle : List ℕ) → middle ≡ b
+    → OnOk r (Gains before (a ++ (middle ++ (c ++ []))) after) → OnOk r (Gains before (a ++ b ++ c) after)
+whole_of_three r before after a b c middle same h = subst (λ t. OnOk r (Gains before t after)) (three a b c middle same) h
 
--- two pieces, and part of the third, where that failed
-pub part_of_third : {T E : Type 0} (r : Result T E) (before now then' after : Option (List ℕ)) (a b c piece : List ℕ) → Gains before a now → piece ≡ b → Gains now piece then' → OnErr r (GainsPart then' c after) → OnErr r (GainsPart before (a ++ b ++ c) after)
-part_of_third (Ok _) before now then' after a b c piece one e two h = tt
-part_of_third (Err _) before now then' after a b c piece one e two h =
-    GainsPart-trans before then' after (a ++ b) c (Gains-trans before now then' a b one (subst (λ (t : List ℕ). Gains now t then') e two)) h
+-- part of them was written
+pub part_of_three : {T E : Type 0} (r : Result T E) (before after : Option (List ℕ)) (a b c middle : List ℕ) → middle ≡ b
+    → OnErr r (GainsPart before (a ++ (middle ++ (c ++ []))) after) → OnErr r (GainsPart before (a ++ b ++ c) after)
+part_of_three r before after a b c middle same h = subst (λ t. OnErr r (GainsPart before t after)) (three a b c middle same) h

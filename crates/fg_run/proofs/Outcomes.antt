@@ -1,12 +1,9 @@
 -- What the parts of a run give together.
 use Rattle.std.proofs.Common.{◌≡◌, ℕ, ◌≤◌, List, ◌++◌, length, Option, None, Some, IfSome, inr, ◌⊎◌, sym, ◌∙◌, subst}
-use Rattle.std.specs.Io.KnownBytes.{IsAtEnd}
 use Rattle.fg_words.specs.declared.Word.{Word}
-use Rattle.fg_io.specs.Source.{Gives}
-use Rattle.fg_io.proofs.SourceLemmas.{Gives-all}
 use Rattle.fg_run.specs.declared.ended.Why.TheVariants.{Done}
 use Rattle.fg_run.specs.Trace.{magic}
-use Rattle.fg_run.specs.Flow.{SpellInOrder}
+use Rattle.fg_run.specs.Steps.{SpellInOrder}
 use Rattle.fg_run.specs.Ended.{IsFault}
 use Rattle.fg_run.specs.Input.{input_limit}
 use Rattle.fg_run.specs.Run.{AreWords, IsEnding}
@@ -17,9 +14,9 @@ told_words None given port words e h = tt
 told_words (Some bytes) given port words e h = subst (λ b. AreWords port b words) (sym e) h
 
 -- the words of an input that was read to its end
-pub words_of_input : (left now : Option (List ℕ)) (given slice body : List ℕ) (port : ℕ) (words : List Word) → Gives left given now → IsAtEnd now → slice ≡ given → slice ≡ magic ++ body → length given ≤ input_limit → SpellInOrder port body words → IfSome left (λ bytes. AreWords port bytes words)
-words_of_input left now given slice body port words gives end same e within h =
-    told_words left given port words (Gives-all left now given gives end) (are_words port given body words (sym same ∙ e) within h)
+pub words_of_input : (left : Option (List ℕ)) (given slice body : List ℕ) (port : ℕ) (words : List Word) → IfSome left (λ bytes. bytes ≡ given) → slice ≡ given → slice ≡ magic ++ body → length given ≤ input_limit → SpellInOrder port body words → IfSome left (λ bytes. AreWords port bytes words)
+words_of_input left given slice body port words whole same e within h =
+    told_words left given port words whole (are_words port given body words (sym same ∙ e) within h)
 
 -- an input that has words ends with `Done`
 pub done_of_words : (left : Option (List ℕ)) (port : ℕ) (words : List Word) → IfSome left (λ bytes. AreWords port bytes words) → IfSome left (λ bytes. IsFault Done ⊎ IsEnding port bytes Done)

@@ -1,6 +1,7 @@
 -- The two words of `repair`.
 use Rattle.std.proofs.Common.{◌≡◌, ℕ, List, [], ◌∷◌, ◌++◌, codes, length, map, get_or, IfSome, Option, Some, None, ap, ◌∙◌, arith, ◌<◌, ◌≤◌}
-use Rattle.fg_run.specs.Command.{IsPort, IsRepair}
+use Rattle.fg_run.specs.Command.{IsRepair}
+use Rattle.fg_run.specs.Steps.{IsPort}
 
 -- a list of two, by its elements
 pub two_mapped : {A : Type 0} (f : A → List ℕ) (xs : List A) (a b : A) → 2 ≤ length xs → length xs < 3 → a ≡ get_or xs 0 a → b ≡ get_or xs 1 b → map f xs ≡ f a ∷ f b ∷ []

@@ -33,4 +33,5 @@ fault_line (NotBuilt n) = codes "not built at byte " ++ decimal n ++ codes "\n"
 
 -- The error sink has gained the line, or a prefix of it where a fault was counted.
 abbrev pub TellsFault : Why → Option (List ℕ) → ℕ → Option (List ℕ) → ℕ → Type 0
-TellsFault why before faults after faults' = Gains before (fault_line why) after ⊎ (GainsPart before (fault_line why) after × CountsFault faults faults')
+TellsFault why before faults after faults' =
+    Gains before (fault_line why) after ⊎ (GainsPart before (fault_line why) after × CountsFault faults faults')

@@ -6,3 +6,4 @@ pub mod Report
 pub mod Trace
 pub mod Run
 pub mod Laws
+pub mod Steps

@@ -30,12 +30,13 @@ pub record Outputs (port : ℕ) (input : Option (List ℕ)) (lanes lanes' : Opti
   pub lane : Puts lanes port (lane_of_words words) lanes'
   pub report : Gains written (report_of port (length words)) written'
 
--- The outputs have each gained a prefix of that. No other lane has changed.
-pub record OutputsPart (port : ℕ) (input : Option (List ℕ)) (lanes lanes' : Option Lanes) (written written' : Option (List ℕ)) : Type 0 where
+-- What a fault leaves in the outputs, the lane first: the lane of the port has gained a prefix of the payloads, and the
+-- sink is as it was; or the lane all payloads, and the sink a prefix of the report. No other lane has changed.
+pub record OutputsPart {K : Type 0} (port : ℕ) (input : Option (List ℕ)) (lanes lanes' : Option Lanes) (written : K → Option (List ℕ)) (out out' : K) : Type 0 where
   pub words : List Word
   pub of_input : IfSome input (λ bytes. AreWords port bytes words)
-  pub lane : PutsPart lanes port (lane_of_words words) lanes'
-  pub report : GainsPart written (report_of port (length words)) written'
+  pub outputs : (PutsPart lanes port (lane_of_words words) lanes' × (out' ≡ out))
+      ⊎ (Puts lanes port (lane_of_words words) lanes' × GainsPart (written out) (report_of port (length words)) (written out'))
 
 -- An answer that comes before anything is written.
 abbrev pub WritesNothing : Why → Type 0

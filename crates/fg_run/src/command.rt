@@ -1,6 +1,7 @@
 //! The words of the command line.
 ghost use Rattle.std.specs.Prelude.{◌≡◌, ◌≤◌, ℕ, IfSome, IfNone, map, string_bytes};
-ghost use Rattle.fg_run.specs.Command.{IsPort, IsRepair};
+ghost use Rattle.fg_run.specs.Command.{IsRepair};
+ghost use Rattle.fg_run.specs.Steps.{IsPort};
 
 /// The greatest port that a flow may have: its parity ports lie two and four above it.
 const LAST_PORT: u16 = 65531;

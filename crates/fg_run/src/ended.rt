@@ -16,8 +16,8 @@ pub enum Why {
     NotTrace(u64),
     /// There was no memory.
     Memory,
-    /// What is asked isn't built yet: the place of the first byte of the first record that isn't, or 0 where the words
-    /// aren't.
+    /// What is asked isn't built yet: 0 where the words aren't, the most bytes that an input may have where it has more,
+    /// and else the place of the first byte of the first record that isn't.
     NotBuilt(u64),
 }
 

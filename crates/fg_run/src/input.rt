@@ -2,12 +2,11 @@
 ghost use Rattle.std.specs.Prelude.{◌≡◌, ◌<◌, ◌≤◌, ◌++◌, ℕ, length, IfOk, IfErr, IfSome, IsErrOf};
 ghost use Rattle.std.specs.Io.KnownBytes.{IsAtEnd};
 ghost use Rattle.fg_io.specs.Faults.{CountsFault};
-ghost use Rattle.fg_io.specs.Source.{Gives};
 ghost use Rattle.fg_run.specs.Trace.{magic, DiffersAt};
-ghost use Rattle.fg_run.specs.Input.{IsReadEnd};
+ghost use Rattle.fg_run.specs.Steps.{IsReadEnd};
 
 use crate::ended::Why;
-use fg_io::Source;
+use fg_io::{Source, laws};
 use std::alloc::Global;
 
 /// The most bytes that the input may have.
@@ -19,16 +18,18 @@ const PIECE: usize = 16_384;
 /// The bytes that begin a trace.
 const MAGIC: [u8; 8] = *b"FECTRAC1";
 
-/// All bytes of the input.
+/// All bytes of the input. A fault ends the reading.
 ///
 /// The error is `ReadFault`, `Memory`, or `NotBuilt` of the limit where there are more bytes than that.
 pub fn read_input<S: Source>(alloc: Global, input: &mut S) -> Result<Vec<u8>, Why>
-    ensures gives { IfOk result (λ bytes. Gives (S.left input.old) bytes.items (S.left input.new)) }
+    ensures whole { IfOk result (λ bytes. IfSome (S.left input.old) (λ left. left ≡ bytes.items)) }
     ensures end { IfOk result (λ _. IsAtEnd (S.left input.new)) }
     ensures bound { IfOk result (λ bytes. length bytes.items ≤ INPUT_LIMIT) }
     ensures err { IfErr result (IsReadEnd (S.left input.old) (S.faults input.old) (S.faults input.new)) }
+    ensures no_fault { ¬ IsErrOf result Why.ReadFault → S.faults input.new ≡ S.faults input.old }
     ensures never_falls { S.faults input.old ≤ S.faults input.new }
 {
+    laws::end_gave_all();
     let mut bytes = Vec::new(alloc);
     let mut piece = [0; PIECE];
     while bytes.len() <= INPUT_LIMIT {

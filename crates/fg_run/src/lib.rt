@@ -3,7 +3,7 @@
 //! What is built so far is `repair flow=P` of a trace whose records are the media datagrams of one flow, in order.
 #![tactic(auto)]
 
-ghost use Rattle.std.specs.Prelude.{◌≡◌, ◌↔◌, ◌≤◌, ◌⊎◌, ℕ, IfSome, map, string_bytes};
+ghost use Rattle.std.specs.Prelude.{◌≡◌, ◌≢◌, ◌↔◌, ◌≤◌, ◌⊎◌, ℕ, IfSome, map, string_bytes};
 ghost use Rattle.std.specs.Io.KnownBytes.{IsAtEnd};
 ghost use Rattle.fg_io.specs.Faults.{CountsFault};
 ghost use Rattle.fg_run.specs.declared.ended.Why.{Why as AnyWhy};
@@ -13,7 +13,7 @@ ghost use Rattle.fg_run.specs.Run.{IsEnding, Outputs, OutputsPart, WritesNothing
 
 mod command;
 mod ended;
-mod fault;
+mod fault_line;
 mod flow;
 mod gate;
 mod input;
@@ -67,18 +67,26 @@ pub fn run<
 
     // The headline: with status 0 the outputs have gained what the definition gives, and all was read.
     ensures done { result.why ≡ Why.Done → (port : ℕ) → IsRepair (map string_bytes words.now) port
-        → Outputs port (S.left input.old) (O.lanes lanes.old) (O.lanes lanes.new) (K.written out.old) (K.written out.new) }
+        → Outputs port (S.left input.old) (O.lanes lanes.old) (O.lanes lanes.new)
+        (K.written out.old) (K.written out.new) }
     ensures all_read { result.why ≡ Why.Done → IsAtEnd (S.left input.new) }
 
-    // After a fault of the outputs each has gained a prefix of it, and with every other answer nothing.
+    // After a fault of the lane the sink has gained nothing, and after one of the sink the lane is whole. With every
+    // other answer nothing is written.
     ensures part { result.why ≡ Why.WriteFault → (port : ℕ) → IsRepair (map string_bytes words.now) port
-        → OutputsPart port (S.left input.old) (O.lanes lanes.old) (O.lanes lanes.new) (K.written out.old) (K.written out.new) }
+        → OutputsPart port (S.left input.old) (O.lanes lanes.old) (O.lanes lanes.new)
+        K.written out.old out.new }
     ensures nothing_written { WritesNothing result.why → (out.new ≡ out.old) × (lanes.new ≡ lanes.old) }
 
-    // A fault of the outside is answered only where it was counted in this call. No count falls.
+    // A fault of the outside is answered only where it was counted in this call, and with every other answer none was.
+    // No count falls.
     ensures read_fault { result.why ≡ Why.ReadFault → CountsFault (S.faults input.old) (S.faults input.new) }
     ensures write_fault { result.why ≡ Why.WriteFault
-        → CountsFault (K.faults out.old) (K.faults out.new) ⊎ CountsFault (O.faults lanes.old) (O.faults lanes.new) }
+        → CountsFault (K.faults out.old) (K.faults out.new)
+        ⊎ CountsFault (O.faults lanes.old) (O.faults lanes.new) }
+    ensures no_read_fault { result.why ≢ Why.ReadFault → S.faults input.new ≡ S.faults input.old }
+    ensures no_write_fault { result.why ≢ Why.WriteFault
+        → (K.faults out.new ≡ K.faults out.old) × (O.faults lanes.new ≡ O.faults lanes.old) }
 
     ensures input_faults { S.faults input.old ≤ S.faults input.new }
     ensures out_faults { K.faults out.old ≤ K.faults out.new }
@@ -86,26 +94,28 @@ pub fn run<
     ensures err_faults { E.faults err.old ≤ E.faults err.new }
 
     // The error sink gains the line, or a prefix of it where a fault of its own was counted.
-    ensures err { TellsFault result.why (E.written err.old) (E.faults err.old) (E.written err.new) (E.faults err.new) }
+    ensures err { TellsFault result.why (E.written err.old) (E.faults err.old)
+        (E.written err.new) (E.faults err.new) }
     ensures quiet { result.why ≡ Why.Done → err.new ≡ err.old }
 {
     let why = match command::flow_port(words) {
         Some(port) => repair::repair(alloc, port, input, out, lanes),
         None => Why::NotBuilt(0),
     };
-    end(err, why)
+    tell_end(err, why)
 }
 
-/// Ends a call: writes the line that says why to `err`, and answers with the status. A fault of `err` changes nothing
-/// else.
-pub fn end<E: Sink>(err: &mut E, why: Why) -> Ended
+/// Tells how a call ended: writes the line that says why to `err`, and answers with the status. A fault of `err`
+/// changes nothing else.
+pub fn tell_end<E: Sink>(err: &mut E, why: Why) -> Ended
     ensures why { result.why ≡ why }
     ensures status { result.status ≡ status_of why }
-    ensures err { TellsFault why (E.written err.old) (E.faults err.old) (E.written err.new) (E.faults err.new) }
+    ensures err { TellsFault why (E.written err.old) (E.faults err.old)
+        (E.written err.new) (E.faults err.new) }
     ensures quiet { why ≡ Why.Done → err.new ≡ err.old }
     ensures never_falls { E.faults err.old ≤ E.faults err.new }
 {
-    let _ = fault::write_fault(err, why);
+    let _ = fault_line::write_fault_line(err, why);
     Ended {
         status: why.status(),
         why,

@@ -1,5 +1,5 @@
 //! The text of the report.
-ghost use Rattle.std.specs.Prelude.{◌≡◌, ◌<◌, ◌^◌, IfOk, string_bytes};
+ghost use Rattle.std.specs.Prelude.{◌≡◌, IfOk, string_bytes};
 ghost use Rattle.fg_run.specs.Report.{flow_line, media_line, parity_line, report_of};
 
 use std::alloc::{AllocError, Global};
@@ -9,7 +9,6 @@ const WINDOW: u64 = 100;
 
 /// The report of a flow that shows so many words, all of them received in order.
 pub fn report_text(alloc: Global, port: u16, shown: u64) -> Result<String, AllocError>
-    requires { shown < 2 ^ 32 }
     ensures { IfOk result (λ text. string_bytes text ≡ report_of port shown) }
 {
     let mut text = flow_text(alloc, port, shown)?;
@@ -21,7 +20,6 @@ pub fn report_text(alloc: Global, port: u16, shown: u64) -> Result<String, Alloc
 }
 
 fn flow_text(alloc: Global, port: u16, shown: u64) -> Result<String, AllocError>
-    requires { shown < 2 ^ 32 }
     ensures { IfOk result (λ text. string_bytes text ≡ flow_line port shown) }
 {
     let windows = shown.div_ceil(WINDOW);

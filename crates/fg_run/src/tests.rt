@@ -274,13 +274,33 @@ fn a_failed_read_ends_the_run(rt: HostRuntime) -> Result<(), Fail> {
     Ok(())
 }
 
+/// How many bytes the lane has, where there is one.
+fn lane_length(outside: &Outside) -> Option<usize> {
+    outside.lanes.lane(5000).map(|lane| lane.len())
+}
+
+/// Runs the first example with an outlet that fails at this call, the empty put being call 0.
+fn with_failing_put<W: Threads + Wait + Sync>(
+    rt: &W,
+    alloc: Global,
+    call: u64,
+) -> Result<(Ended, Outside), AllocError> {
+    let mut outside = Outside::new(alloc, &three_in_order(alloc)?)?;
+    outside.lanes = MemOutlet::new(alloc, &[5000], 200_000, &[call])?;
+    let ended = outside.run(rt, alloc, &["repair", "flow=5000"])?;
+    Ok((ended, outside))
+}
+
+// The report is written after a whole lane alone.
 #[test]
-fn a_full_sink_ends_the_run(rt: HostRuntime) -> Result<(), Fail> {
-    let mut outside = Outside::new(rt.alloc(), &three_in_order(rt.alloc())?)?;
-    outside.out = MemSink::new(rt.alloc(), 100, &[])?;
-    let ended = outside.run(&rt, rt.alloc(), &["repair", "flow=5000"])?;
-    assert_eq!(rt; ended.status, 3);
-    assert_eq!(rt; outside.out.bytes(), REPORT.get(..100).unwrap_or(b""));
+fn a_failed_put_ends_the_run(rt: HostRuntime) -> Result<(), Fail> {
+    for (call, length) in [(0, None), (1, Some(0)), (2, Some(1316)), (3, Some(2632))] {
+        let (ended, outside) = with_failing_put(&rt, rt.alloc(), call)?;
+        assert_eq!(rt; ended.why, Why::WriteFault);
+        assert_eq!(rt; lane_length(&outside), length);
+        assert_eq!(rt; outside.out.bytes(), b"".as_slice());
+        assert_eq!(rt; outside.err.bytes(), b"write fault\n".as_slice());
+    }
     Ok(())
 }
 
@@ -288,11 +308,50 @@ fn a_full_sink_ends_the_run(rt: HostRuntime) -> Result<(), Fail> {
 fn a_full_lane_ends_the_run(rt: HostRuntime) -> Result<(), Fail> {
     let mut outside = Outside::new(rt.alloc(), &three_in_order(rt.alloc())?)?;
     outside.lanes = MemOutlet::new(rt.alloc(), &[5000], 2000, &[])?;
-    outside.err = MemSink::new(rt.alloc(), 5, &[])?;
     let ended = outside.run(&rt, rt.alloc(), &["repair", "flow=5000"])?;
     assert_eq!(rt; ended.why, Why::WriteFault);
-    assert_eq!(rt; outside.lanes.lane(5000).map_or(0, |lane| lane.len()), 2000);
-    assert_eq!(rt; outside.err.bytes(), b"write".as_slice());
+    assert_eq!(rt; lane_length(&outside), Some(2000));
+    assert_eq!(rt; outside.out.bytes(), b"".as_slice());
+    Ok(())
+}
+
+/// Whether the run ended with a write fault after a whole lane, and with this much of the report.
+fn is_cut_report(outside: &Outside, ended: Ended, length: usize) -> bool {
+    ended.status == 3
+        && lane_length(outside) == Some(3948)
+        && outside.out.bytes() == REPORT.get(..length).unwrap_or(b"")
+}
+
+#[test]
+fn a_full_sink_ends_the_run(rt: HostRuntime) -> Result<(), Fail> {
+    let mut outside = Outside::new(rt.alloc(), &three_in_order(rt.alloc())?)?;
+    outside.out = MemSink::new(rt.alloc(), 100, &[])?;
+    let ended = outside.run(&rt, rt.alloc(), &["repair", "flow=5000"])?;
+    assert!(rt; is_cut_report(&outside, ended, 100));
+    Ok(())
+}
+
+// A body that tries again would write all.
+#[test]
+fn a_failed_write_ends_the_run(rt: HostRuntime) -> Result<(), Fail> {
+    let mut outside = Outside::new(rt.alloc(), &three_in_order(rt.alloc())?)?;
+    outside.out = MemSink::new(rt.alloc(), 1000, &[0])?;
+    let ended = outside.run(&rt, rt.alloc(), &["repair", "flow=5000"])?;
+    assert!(rt; is_cut_report(&outside, ended, 0));
+    Ok(())
+}
+
+#[test]
+fn a_fault_of_the_error_sink_changes_nothing_else(rt: HostRuntime) -> Result<(), Fail> {
+    for (room, fails, line) in [
+        (5, 9, b"not a".as_slice()),
+        (100, 1, b"not a trace at byte "),
+    ] {
+        let mut outside = Outside::new(rt.alloc(), b"")?;
+        outside.err = MemSink::new(rt.alloc(), room, &[fails])?;
+        let ended = outside.run(&rt, rt.alloc(), &["repair", "flow=5000"])?;
+        assert!(rt; is_refused(&(ended, outside), Why::NotTrace(0), line));
+    }
     Ok(())
 }
 

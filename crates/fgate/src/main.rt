@@ -1,39 +1,69 @@
 //! The program: makes the real source, sinks and folder, and calls [`fg_run::run`].
 #![tactic(auto)]
 
-ghost use Rattle.std.specs.Prelude.{◌≡◌, [], drop, IfOk, IfErr};
-ghost use Rattle.std.specs.Vec.Iter.{into_iter_items};
+ghost use Rattle.std.specs.Prelude.{◌≡◌, ◌↔◌, ℕ, [], drop, map, string_bytes, IfOk, IfErr, IsErr, OnErr};
+ghost use Rattle.std.specs.IoError.{error_kind};
 ghost use Rattle.std.specs.Process.{exit_status};
+ghost use Rattle.std.specs.Vec.Iter.{into_iter_items};
+ghost use Rattle.fg_run.specs.Command.{IsRepair};
+ghost use Rattle.fg_run.specs.Ended.{TellsFault, status_of};
+ghost use Rattle.fg_run.specs.Run.{Outputs};
 
-use fg_io::{FolderOutlet, StderrSink, StdinSource, StdoutSink};
+use fg_io::{FolderOutlet, Outlet, Sink, Source, StderrSink, StdinSource, StdoutSink};
 use fg_run::{Ended, NoGate, Why};
 use std::alloc::{AllocError, Global};
 use std::io::ErrorKind;
 use std::process::ExitCode;
+use std::sync::Wait;
+use std::thread::Threads;
 use std::{env, io};
 
 fn main(rt: HostRuntime) -> ExitCode {
-    let mut err = StderrSink::new(rt.stderr());
-    let ended = match words(rt.alloc(), env::args(&rt)) {
-        Ok(words) => fg_run::run(
-            &rt,
-            rt.alloc(),
-            &words,
-            &mut StdinSource::new(rt.stdin()),
-            &mut StdoutSink::new(rt.stdout()),
-            &mut err,
-            &mut FolderOutlet::new(&rt),
-            &NoGate,
-        ),
-        Err(AllocError) => fg_run::end(&mut err, Why::Memory),
-    };
-    exit_code(ended)
+    exit_code(run_words(
+        &rt,
+        rt.alloc(),
+        words(rt.alloc(), env::args(&rt)),
+        &mut StdinSource::new(rt.stdin()),
+        &mut StdoutSink::new(rt.stdout()),
+        &mut StderrSink::new(rt.stderr()),
+        &mut FolderOutlet::new(&rt),
+    ))
+}
+
+/// Runs the program that the words name; where there was no memory for them, only that is told.
+fn run_words<W: Threads + Wait + Sync, S: Source + Send, K: Sink + Send, E: Sink, O: Outlet + Send>(
+    rt: &W,
+    alloc: Global,
+    words: Result<Vec<String>, AllocError>,
+    input: &mut S,
+    out: &mut K,
+    err: &mut E,
+    lanes: &mut O,
+) -> Ended
+    ensures status { result.status ≡ status_of result.why }
+    ensures no_memory { OnErr words (result.why ≡ Why.Memory) }
+    ensures words { IfOk words (λ words. (result.why ≡ Why.NotBuilt 0)
+        ↔ ((port : ℕ) → IsRepair (map string_bytes words.items) port → ⊥)) }
+    ensures done { IfOk words (λ words. result.why ≡ Why.Done
+        → (port : ℕ) → IsRepair (map string_bytes words.items) port
+        → Outputs port (S.left input.old) (O.lanes lanes.old) (O.lanes lanes.new)
+        (K.written out.old) (K.written out.new)) }
+    ensures err { TellsFault result.why (E.written err.old) (E.faults err.old)
+        (E.written err.new) (E.faults err.new) }
+{
+    match words {
+        Ok(words) => fg_run::run(rt, alloc, &words, input, out, err, lanes, &NoGate),
+        Err(AllocError) => fg_run::tell_end(err, Why::Memory),
+    }
 }
 
 /// The words that the program is called with. Where one isn't UTF-8 there are none, which is a faulty command line.
 fn words(alloc: Global, args: io::Result<env::Args>) -> Result<Vec<String>, AllocError>
-    ensures text { IfOk args (λ args. IfOk result (λ words. words.items ≡ drop 1 (into_iter_items args))) }
+    ensures text { IfOk args (λ args. IfOk result (λ words.
+        words.items ≡ drop 1 (into_iter_items args))) }
     ensures no_text { IfErr args (λ _. IfOk result (λ words. words.items ≡ [])) }
+    ensures no_memory { IfErr args (λ fault. IsErr result
+        ↔ (error_kind fault ≡ ErrorKind.OutOfMemory)) }
 {
     match args {
         Ok(args) => after_the_name(alloc, args),

@@ -1,5 +1,5 @@
-use Rattle.fg_io.proofs.OutletLemmas.{LaneGains-trans}
+use Rattle.fg_io.proofs.OutletLemmas.{Puts-trans}
 use Rattle.fg_io.proofs.laws.puts_join.Goals as goal
 
 pub returns : goal.returns
-returns c = LaneGains-trans
+returns c = Puts-trans

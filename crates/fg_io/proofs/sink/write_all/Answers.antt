@@ -1,5 +1,5 @@
 -- What was taken so far is the front of the piece.
-use Rattle.std.proofs.Common.{◌≡◌, ℕ, ◌+◌, ◌-◌, List, ◌++◌, length, take, drop, sym, ◌∙◌, arith, rules}
+use Rattle.std.proofs.Common.{◌≡◌, ℕ, ◌+◌, ◌-◌, List, ◌++◌, length, take, drop, sym, ◌∙◌, inl, arith, rules}
 use Rattle.std.proofs.lemmas.Grind.{common_steps}
 use Rattle.std.proofs.lemmas.List.{take_rest}
 use Rattle.std.proofs.Math.Seq.{take-add}
@@ -32,5 +32,5 @@ loop-taken-preserved g c = (
   grind (arith, common_steps, c.in_ok-count.ensures.bound, c.loop-taken.invariant.0),
   rw (← take_then c.loop-taken.taken c.in_ok-count.count c.args.piece.now)
       (Gains-trans _ _ _ _ _ c.loop-taken.invariant.1 c.in_ok-count.ensures.gains),
-  omega arith,
+  c.in_ok-count.ensures.no_fault (inl (omega (arith, c.if-count-eq0.false))) ∙ c.loop-taken.invariant.2,
 )

@@ -1,10 +1,9 @@
-use Rattle.std.proofs.Common.{◌≡◌, ℕ, ◌-◌, ◌<◌, ◌≤◌, sym, ap, ◌∙◌, subst, List, length, get_or, drop, take, arith}
-use Rattle.std.proofs.lemmas.List.{take_all, length-drop}
+use Rattle.std.proofs.Common.{◌≡◌, ℕ, ◌<◌, sym, ap, ◌∙◌, subst, List, get_or, drop, arith}
 use Rattle.fg_words.specs.declared.Word.{Word}
 use Rattle.fg_rtp.specs.declared.Rtp.{Rtp}
 use Rattle.fg_rtp.specs.Header.{header, version}
 use Rattle.fg_rtp.specs.MediaDatagram.{IsMediaDatagram, HasHeader, IsPlain, IsTransport, transport_word}
-use Rattle.fg_rtp.proofs.DatagramLemmas.{datagram_is_synced, datagram_of_rules}
+use Rattle.fg_rtp.proofs.DatagramLemmas.{datagram_is_synced, datagram_of_rules, datagram_one_way}
 use Rattle.fg_rtp.proofs.media.media_word.Goals as goal
 
 -- src/media.rt:66:9
@@ -25,13 +24,14 @@ returns-clause-ok c =
     let transport : IsTransport bytes = sym (ap (λ (h : Rtp). h.pt) is) ∙ c.if-header-ne-TRANSPORT_TYPE.false in
     let packets = c.has_whole_packets.ensures.0 c.if-not-has_whole_packets.false in
     let synced = c.is_synced.ensures.0 c.if-not-is_synced.false in
-    let rest : length (drop 12 bytes) ≤ length bytes - 12 = omega (arith, length-drop 12 bytes) in
-    let payload : take (length bytes - 12) (drop 12 bytes) ≡ drop 12 bytes = take_all (length bytes - 12) (drop 12 bytes) rest in
     let word : c.word_of-word.result ≡ transport_word (header bytes).ts (drop 12 bytes) =
     c.word_of-word.ensures
-    ∙ ap (λ (h : Rtp). transport_word h.ts (take (length bytes - 12) (drop 12 bytes))) is
-    ∙ ap (λ (l : List ℕ). transport_word (header bytes).ts l) payload in
+    ∙ ap (λ (h : Rtp). transport_word h.ts c.payload.result.now) is
+    ∙ ap (λ (l : List ℕ). transport_word (header bytes).ts l) c.payload.ensures.rest in
     let fits : (i : ℕ) → get_or bytes i 0 < 256 = λ i. (c.type_inv.bytes i).fits in
     let read = datagram_of_rules bytes fits long two plain transport packets synced in
     subst (λ (h : Rtp). IsMediaDatagram bytes h.seq h.ssrc c.word_of-word.result) (sym is)
     (subst (λ (w : Word). IsMediaDatagram bytes (header bytes).seq (header bytes).ssrc w) (sym word) read)
+
+pub returns-clause-only : goal.returns-clause-only
+returns-clause-only c seq ssrc word d = datagram_one_way c.args.bytes.now _ _ seq ssrc _ word (returns-clause-ok c) d

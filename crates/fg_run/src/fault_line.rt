@@ -6,11 +6,11 @@ ghost use Rattle.fg_io.specs.Sink.{Gains, GainsPart};
 ghost use Rattle.fg_run.specs.Ended.{fault_line};
 
 use crate::ended::Why;
-use fg_io::{Failed, Sink, write_all};
+use fg_io::{Failed, Sink, write_all, write_pieces};
 use itoa::Buffer;
 
 /// Writes the line for a program that ended so; nothing is written where all was done.
-pub fn write_fault<E: Sink>(err: &mut E, why: Why) -> Result<(), Failed>
+pub fn write_fault_line<E: Sink>(err: &mut E, why: Why) -> Result<(), Failed>
     ensures whole { OnOk result (Gains (E.written err.old) (fault_line why) (E.written err.new)) }
     ensures part { OnErr result (GainsPart (E.written err.old) (fault_line why) (E.written err.new)) }
     ensures counted { OnErr result (CountsFault (E.faults err.old) (E.faults err.new)) }
@@ -29,13 +29,13 @@ pub fn write_fault<E: Sink>(err: &mut E, why: Why) -> Result<(), Failed>
 
 /// Writes a line of a text and a place.
 fn write_place<E: Sink>(err: &mut E, text: &[u8], place: u64) -> Result<(), Failed>
-    ensures whole { OnOk result (Gains (E.written err.old) (text.now ++ decimal place ++ codes "\n") (E.written err.new)) }
-    ensures part { OnErr result (GainsPart (E.written err.old) (text.now ++ decimal place ++ codes "\n") (E.written err.new)) }
+    ensures whole { OnOk result (Gains (E.written err.old)
+        (text.now ++ decimal place ++ codes "\n") (E.written err.new)) }
+    ensures part { OnErr result (GainsPart (E.written err.old)
+        (text.now ++ decimal place ++ codes "\n") (E.written err.new)) }
     ensures counted { OnErr result (CountsFault (E.faults err.old) (E.faults err.new)) }
     ensures never_falls { E.faults err.old ≤ E.faults err.new }
 {
     let mut digits = Buffer::new();
-    write_all(err, text)?;
-    write_all(err, digits.format(place).as_bytes())?;
-    write_all(err, b"\n")
+    write_pieces(err, &[text, digits.format(place).as_bytes(), b"\n"])
 }
