@@ -1,0 +1,6 @@
+-- Lemmas on the trace, which proofs of other crates cite too.
+pub mod Endings
+pub mod Fields
+pub mod Fronts
+pub mod Records
+pub mod Traces

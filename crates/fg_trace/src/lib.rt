@@ -1,0 +1,4 @@
+//! The trace: timed datagrams one after another.
+#![tactic(auto)]
+
+pub mod laws;
