@@ -2,5 +2,7 @@
 pub mod Endings
 pub mod Fields
 pub mod Fronts
+pub mod Pieces
+pub mod Ranges
 pub mod Records
 pub mod Traces
