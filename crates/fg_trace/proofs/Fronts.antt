@@ -29,7 +29,7 @@ fit_front : (p : List Record) (r : Record) (tail : List Record) → AllByRecursi
 fit_front [] r tail h = (h.0, tt)
 fit_front (q ∷ p) r tail h = (h.0, fit_front p r tail h.1)
 
-split_spelling : (p : List Record) (r : Record) (tail : List Record) → flat_map spelling (p ++ r ∷ tail) ≡ flat_map spelling (p ++ r ∷ []) ++ flat_map spelling tail
+pub split_spelling : (p : List Record) (r : Record) (tail : List Record) → flat_map spelling (p ++ r ∷ tail) ≡ flat_map spelling (p ++ r ∷ []) ++ flat_map spelling tail
 split_spelling p r tail =
     flat_map-append spelling p (r ∷ tail) ∙ sym (append_assoc (flat_map spelling p) (spelling r) (flat_map spelling tail))
     ∙ ap (λ t. t ++ flat_map spelling tail) (sym (flat_map-append spelling p (r ∷ []) ∙ ap (λ t. flat_map spelling p ++ t) (append-nil (spelling r))))

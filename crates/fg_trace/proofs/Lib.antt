@@ -5,4 +5,6 @@ pub mod Fronts
 pub mod Pieces
 pub mod Ranges
 pub mod Records
+pub mod Stopping
 pub mod Traces
+pub mod Walking

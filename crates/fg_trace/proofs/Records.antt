@@ -27,7 +27,7 @@ eight_same : (m n : ℕ) → m < 2 ^ 64 → n < 2 ^ 64 → to_be_bytes w64 m ≡
 eight_same m n small below e = sym (from_be_bytes-to_be_bytes_8 m small) ∙ ap (from_be_bytes w64) e ∙ from_be_bytes-to_be_bytes_8 n below
 
 -- a header of twelve bytes and what follows
-header_same : (t p s t' p' s' : ℕ) (xs ys : List ℕ) → t < 2 ^ 64 → p < 2 ^ 16 → s < 2 ^ 16 → t' < 2 ^ 64 → p' < 2 ^ 16 → s' < 2 ^ 16
+pub header_same : (t p s t' p' s' : ℕ) (xs ys : List ℕ) → t < 2 ^ 64 → p < 2 ^ 16 → s < 2 ^ 16 → t' < 2 ^ 64 → p' < 2 ^ 16 → s' < 2 ^ 16
     → to_be_bytes w64 t ++ (to_be_bytes w16 p ++ (to_be_bytes w16 s ++ xs)) ≡ to_be_bytes w64 t' ++ (to_be_bytes w16 p' ++ (to_be_bytes w16 s' ++ ys))
     → (t ≡ t') × (p ≡ p') × (s ≡ s') × (xs ≡ ys)
 header_same t p s t' p' s' xs ys ft fp fs ft' fp' fs' e =
@@ -37,7 +37,7 @@ header_same t p s t' p' s' xs ys ft fp fs ft' fp' fs' e =
     (eight_same t t' ft ft' one.0, two_same p p' fp fp' two.0, two_same s s' fs fs' three.0, three.1)
 
 -- a record's spelling and what follows, as a header and the datagram
-spelling_by_header : (r : Record) (rest : List ℕ) → spelling r ++ rest ≡ to_be_bytes w64 r.time ++ (to_be_bytes w16 r.port ++ (to_be_bytes w16 (length r.datagram) ++ (r.datagram ++ rest)))
+pub spelling_by_header : (r : Record) (rest : List ℕ) → spelling r ++ rest ≡ to_be_bytes w64 r.time ++ (to_be_bytes w16 r.port ++ (to_be_bytes w16 (length r.datagram) ++ (r.datagram ++ rest)))
 spelling_by_header r rest = simp append_assoc
 
 -- where a header asks for more bytes than follow, no record stands

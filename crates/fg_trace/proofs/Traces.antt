@@ -13,7 +13,7 @@ last_fits : (rs : List Record) (r : Record) → AllByRecursion Fits (rs ++ r ∷
 last_fits [] r h = h.0
 last_fits (q ∷ rs) r h = last_fits rs r h.1
 
-spelled_last : (rs : List Record) (r : Record) → flat_map spelling (rs ++ r ∷ []) ≡ flat_map spelling rs ++ spelling r
+pub spelled_last : (rs : List Record) (r : Record) → flat_map spelling (rs ++ r ∷ []) ≡ flat_map spelling rs ++ spelling r
 spelled_last rs r = flat_map-append spelling rs (r ∷ []) ∙ ap (λ t. flat_map spelling rs ++ t) (append-nil (spelling r))
 
 -- the bytes after the records that a longer trace begins with

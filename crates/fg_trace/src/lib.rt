@@ -7,11 +7,11 @@
 
 mod header;
 pub mod laws;
-//mod reader;
+mod reader;
 mod step;
 mod window;
 mod write;
 
-//pub use reader::Reader;
+pub use reader::Reader;
 pub use step::{Finish, Step, TraceFault};
 pub use write::write_datagram;

@@ -1,5 +1,5 @@
 //! What was read of the input and isn't answered yet, in one buffer.
-ghost use Rattle.std.specs.Prelude.{◌≡◌, ◌+◌, ◌-◌, ◌<◌, ◌≤◌, ◌⊎◌, ℕ, [], length, take, drop, slice_range, IfOk, OnOk, OnErr};
+ghost use Rattle.std.specs.Prelude.{◌≡◌, ◌+◌, ◌-◌, ◌<◌, ◌≤◌, ◌⊎◌, ℕ, [], max, length, take, drop, slice_range, IfOk, OnOk, OnErr};
 ghost use Rattle.std.specs.Io.KnownBytes.{IsAtEnd};
 ghost use Rattle.fg_io.specs.Faults.{CountsFault};
 ghost use Rattle.fg_io.specs.Source.{Gives};
@@ -76,15 +76,15 @@ impl Window {
         self.from = self.payload + size;
     }
 
-    /// Reads until so many bytes are held, or the input is at its end. At most `most` are held then. The payload goes.
+    /// Reads until so many bytes are held, or the input is at its end. It reads
+    /// no further than that `most` are held. The payload goes.
     pub(crate) fn fill<S: Source>(&mut self, from: &mut S, want: usize, most: usize) -> Result<(), Failed>
         requires want { want ≤ BUFFER }
         requires most { want ≤ most }
         requires bound { most ≤ BUFFER + 1 }
-        requires held { length self.old.held ≤ most }
         ensures takes { TakesMore self.old.held (S.left from.old) self.new.held (S.left from.new) }
         ensures payload { self.new.payload ≡ [] }
-        ensures bounded { length self.new.held ≤ most }
+        ensures bounded { length self.new.held ≤ max most (length self.old.held) }
         ensures filled { OnOk result ((want ≤ length self.new.held) ⊎ IsAtEnd (S.left from.new)) }
         ensures counted { OnErr result (CountsFault (S.faults from.old) (S.faults from.new)) }
         ensures never_falls { S.faults from.old ≤ S.faults from.new }
