@@ -6,7 +6,7 @@ use Rattle.fg_trace.proofs.Fronts.{no_difference, one_difference, one_longest}
 use Rattle.fg_trace.proofs.Traces.{longest}
 
 -- bytes with the magic are no other
-apart : (bytes : List ℕ) (max : ℕ) (records : List Record) (n : ℕ) → Begins bytes max records → DiffersAt bytes n → ⊥
+pub apart : (bytes : List ℕ) (max : ℕ) (records : List Record) (n : ℕ) → Begins bytes max records → DiffersAt bytes n → ⊥
 apart bytes max records n h k = no_difference bytes (flat_map spelling records ++ h.rest) n (h.spelled ∙ append_assoc magic (flat_map spelling records) h.rest) k
 
 same_place : (bytes : List ℕ) (max : ℕ) (p q : List Record) → IsLongest bytes max p → IsLongest bytes max q → length (trace_of p) ≡ length (trace_of q)

@@ -8,3 +8,4 @@ pub mod Records
 pub mod Stopping
 pub mod Traces
 pub mod Walking
+pub mod Walks
