@@ -1,6 +1,7 @@
 -- Lemmas on the definitions of this crate, which proofs of other crates cite too.
 pub mod FaultLemmas
 pub mod OutletLemmas
+pub mod PieceLemmas
 pub mod PrefixLemmas
 pub mod SinkLemmas
 mod SlotLemmas

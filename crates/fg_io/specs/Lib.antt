@@ -8,6 +8,7 @@ pub mod MemSink
 pub mod MemSource
 pub mod Outlet
 pub mod Prefix
+pub mod Safe
 pub mod Sink
 pub mod Source
 pub mod Standard

@@ -1,0 +1,11 @@
+-- Lemmas on the trace, which proofs of other crates cite too.
+pub mod Endings
+pub mod Fields
+pub mod Fronts
+pub mod Pieces
+pub mod Ranges
+pub mod Records
+pub mod Stopping
+pub mod Traces
+pub mod Walking
+pub mod Walks

@@ -1,0 +1,6 @@
+use Rattle.std.proofs.Common.{◌≡◌, take}
+use Rattle.fg_trace.specs.Trace.{magic}
+use Rattle.fg_trace.proofs.header.differs_from_magic.Given as goal
+
+abbrev pub invariant-loop-place : goal.invariant-loop-place
+invariant-loop-place l = take l.place l.bytes ≡ take l.place magic

@@ -1,0 +1,7 @@
+-- The definitions that the contracts of this crate cite.
+pub mod Header
+pub mod Laws
+pub mod Reader
+pub mod Trace
+pub mod Walk
+pub mod Window

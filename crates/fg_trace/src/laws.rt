@@ -1,0 +1,27 @@
+//! Laws of the definition of the trace and of where a reader stands, each the contract of a function with an empty body.
+ghost use Rattle.fg_trace.specs.Laws.{OneTrace, SpelledIsRead, WalksTheFront, EndsOnce, SpelledIsWalked};
+
+/// Bytes have at most one list of records, and one ending.
+pub fn one_trace()
+    ensures { OneTrace }
+{}
+
+/// The trace of a list of records that fits the limit is read as that list.
+pub fn spelled_is_read()
+    ensures { SpelledIsRead }
+{}
+
+/// Wherever a reader stands, it has answered the first records of the trace.
+pub fn walks_the_front()
+    ensures { WalksTheFront }
+{}
+
+/// One answer is the ending of a trace, after one list of records: a reader that answers an ending has answered all records.
+pub fn ends_once()
+    ensures { EndsOnce }
+{}
+
+/// A trace that was written is read back, in whatever pieces.
+pub fn spelled_is_walked()
+    ensures { SpelledIsWalked }
+{}

@@ -1,0 +1,32 @@
+//! Writing a record.
+ghost use Rattle.std.specs.Prelude.{◌≡◌, ◌+◌, ◌<◌, ◌≤◌, ◌^◌, ◌++◌, length, take, drop};
+ghost use Rattle.fg_trace.specs.Trace.{spelling};
+
+use crate::header::HEADER;
+
+/// Writes the record of a datagram to the front of `into`, and answers how many bytes that took: 12 and the payload's.
+///
+/// The time is in microseconds. What `into` holds behind the record stays.
+pub fn write_datagram(time: u64, port: u16, payload: &[u8], into: &mut [u8]) -> usize
+    requires size { length payload.now < 2 ^ 16 }
+    requires room { HEADER + length payload.now ≤ length into.old }
+    ensures size { result ≡ HEADER + length payload.now }
+    ensures spelled { into.new
+        ≡ spelling (record { time = time; port = port; datagram = payload.now }) ++ drop result into.old }
+{
+    let end = put(into, 0, &time.to_be_bytes());
+    let end = put(into, end, &port.to_be_bytes());
+    let end = put(into, end, &(payload.len() as u16).to_be_bytes());
+    put(into, end, payload)
+}
+
+/// Writes a piece at a place, and answers where it ends.
+fn put(into: &mut [u8], at: usize, piece: &[u8]) -> usize
+    requires { at + length piece.now ≤ length into.old }
+    ensures end { result ≡ at + length piece.now }
+    ensures written { into.new ≡ take at into.old ++ (piece.now ++ drop result into.old) }
+{
+    let end = at + piece.len();
+    into[at..end].copy_from_slice(piece);
+    end
+}
