@@ -7,9 +7,6 @@ ghost use Rattle.fg_rtp.specs.MediaDatagram.{FirstFault, HasHeader, HasPackets, 
 use crate::{HEADER_LENGTH, RtpFault, read};
 use fg_words::{PACKET_LENGTH, PAYLOAD_LIMIT, SYNC_BYTE, TRANSPORT_TYPE, Word};
 
-/// The length of a transport packet, as one of bytes in memory.
-const PACKET: usize = PACKET_LENGTH as usize;
-
 /// Why bytes are no media datagram.
 #[derive(Clone, Copy, Debug, PartialEq, Eq)]
 pub enum MediaFault {
@@ -81,7 +78,7 @@ fn has_whole_packets(bytes: &[u8]) -> bool
     ensures { IsTrue result ↔ HasPackets bytes.now }
 {
     let length = bytes.len() - HEADER_LENGTH;
-    length > 0 && length <= PAYLOAD_LIMIT && length % PACKET == 0
+    length > 0 && length <= PAYLOAD_LIMIT && length % PACKET_LENGTH == 0
 }
 
 /// Whether each packet of the datagram's payload begins with the sync byte.
@@ -89,9 +86,9 @@ fn is_synced(bytes: &[u8]) -> bool
     requires { HasHeader bytes.now }
     ensures { IsTrue result ↔ IsSynced bytes.now }
 {
-    let packets = (bytes.len() - HEADER_LENGTH).div_ceil(PACKET);
+    let packets = (bytes.len() - HEADER_LENGTH).div_ceil(PACKET_LENGTH);
     for packet in 0..packets {
-        if bytes[HEADER_LENGTH + PACKET * packet] != SYNC_BYTE {
+        if bytes[HEADER_LENGTH + PACKET_LENGTH * packet] != SYNC_BYTE {
             return false;
         }
     }
