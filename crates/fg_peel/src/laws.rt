@@ -3,6 +3,7 @@
 
 ghost use Rattle.fg_peel.specs.Block.{ThreeLostFollow, TwoPassesFollow, FourInSquareStay, WrongParityIsUnsolvable};
 ghost use Rattle.fg_peel.specs.Laws.{ClosureIsClosed, ClosureIsLeast, ClosureHasTest, ClosureGrows, ClosureIsFinal};
+ghost use Rattle.fg_peel.specs.Laws.{PeelingsKeepWords, PeelingsAppend, SolutionsKeepPeelings};
 ghost use Rattle.fg_peel.specs.Laws.{PeelingsStayInClosure, MaximalPeelingsEndAtClosure, MaximalPeelingExists, PeelingsContinue, MaximalPeelingsAreTested};
 ghost use Rattle.fg_peel.specs.Laws.{SettledKeepClosure, SettledKeepSolutions, FoundKeepsClosure, FoundKeepsSolutions};
 ghost use Rattle.fg_peel.specs.Laws.{TruthIsSolvable, SolutionsAreTrue};
@@ -24,12 +25,15 @@ pub fn closure_grows()
 {}
 
 /// Peelings stay in the closure, and each maximal one ends at the closure. There is a maximal one,
-/// and every peeling can be continued to one.
+/// and every peeling can be continued to one. A peeling keeps the known words, and two in succession
+/// are one.
 pub fn peelings_fill_the_closure()
     ensures within { PeelingsStayInClosure }
     ensures filled { MaximalPeelingsEndAtClosure }
     ensures exists { MaximalPeelingExists }
     ensures continued { PeelingsContinue }
+    ensures keeps { PeelingsKeepWords }
+    ensures appended { PeelingsAppend }
 {}
 
 /// Whether a maximal peeling is sound shows in its words: each found word is a media word, and each
@@ -44,12 +48,13 @@ pub fn uniqueness()
 {}
 
 /// If one maximal peeling is sound, all are, with the same end. If a solution exists, some maximal
-/// peeling is sound, and each ends at the solution. So a maximal peeling is sound exactly where a
-/// solution exists.
+/// peeling is sound, and each ends at the solution, which so has every word of every peeling. So a
+/// maximal peeling is sound exactly where a solution exists.
 pub fn confluence()
     ensures agreed { SoundPeelingsAgree }
     ensures reached { SolutionsAreReached }
     ensures same_end { MaximalPeelingsEndAtSolution }
+    ensures kept { SolutionsKeepPeelings }
     ensures solvable { SoundWhereSolvable }
 {}
 
