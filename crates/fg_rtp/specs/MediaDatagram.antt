@@ -23,7 +23,8 @@ pub record IsMediaDatagram (bytes : List ℕ) (seq ssrc : ℕ) (word : Word) : T
   pub ssrc_size : ssrc < 2 ^ 32
   pub media : IsMedia word
   -- version 2 with no padding, extension or source; marker and payload type 33; the three numbers; the payload
-  pub spelled : bytes ≡ 0x80 ∷ (128 * marker + 33) ∷ (to_be_bytes w16 seq ++ to_be_bytes w32 word.ts ++ to_be_bytes w32 ssrc ++ payload_of word)
+  pub spelled : bytes ≡ 0x80 ∷ (128 * marker + 33)
+      ∷ (to_be_bytes w16 seq ++ to_be_bytes w32 word.ts ++ to_be_bytes w32 ssrc ++ payload_of word)
 
 -- The word of a payload of transport packets: the payload, padded with zeros to seven packets.
 abbrev pub transport_word : ℕ → List ℕ → Word
@@ -63,8 +64,10 @@ FirstFault Short bytes = ¬ HasHeader bytes
 FirstFault Version bytes = HasHeader bytes × (¬ IsVersionTwo bytes)
 FirstFault Flags bytes = HasHeader bytes × IsVersionTwo bytes × (¬ IsPlain bytes)
 FirstFault PayloadType bytes = HasHeader bytes × IsVersionTwo bytes × IsPlain bytes × (¬ IsTransport bytes)
-FirstFault Size bytes = HasHeader bytes × IsVersionTwo bytes × IsPlain bytes × IsTransport bytes × (¬ HasPackets bytes)
-FirstFault NoSync bytes = HasHeader bytes × IsVersionTwo bytes × IsPlain bytes × IsTransport bytes × HasPackets bytes × (¬ IsSynced bytes)
+FirstFault Size bytes =
+    HasHeader bytes × IsVersionTwo bytes × IsPlain bytes × IsTransport bytes × (¬ HasPackets bytes)
+FirstFault NoSync bytes =
+    HasHeader bytes × IsVersionTwo bytes × IsPlain bytes × IsTransport bytes × HasPackets bytes × (¬ IsSynced bytes)
 
 -- A header's fault is the datagram's.
 abbrev pub header_fault : RtpFault → MediaFault

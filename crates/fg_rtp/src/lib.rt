@@ -52,7 +52,8 @@ pub enum RtpFault {
 pub fn read(bytes: &[u8]) -> Result<Rtp, RtpFault>
     ensures ok { IfOk result (λ rtp. rtp ≡ header bytes.now) }
     ensures short { IsErrOf result RtpFault.Short ↔ length bytes.now < 12 }
-    ensures version { IsErrOf result RtpFault.Version ↔ ((12 ≤ length bytes.now) × (version bytes.now ≢ 2)) }
+    ensures version { IsErrOf result RtpFault.Version
+        ↔ ((12 ≤ length bytes.now) × (version bytes.now ≢ 2)) }
 {
     if bytes.len() < HEADER_LENGTH {
         return Err(RtpFault::Short);

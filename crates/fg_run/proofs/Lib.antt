@@ -11,3 +11,4 @@ pub mod Lines
 pub mod Fronts
 pub mod Endings
 pub mod OfPort
+pub mod Stops

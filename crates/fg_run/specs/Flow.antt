@@ -17,7 +17,8 @@ abbrev pub AreCarried : ℕ → ℕ → List Record → List Word → Type 0
 AreCarried port first [] [] = ⊤
 AreCarried port first [] (word ∷ words) = ⊥
 AreCarried port first (r ∷ records) [] = ⊥
-AreCarried port first (r ∷ records) (word ∷ words) = Carries port first word r × AreCarried port ((first + 1) % 65536) records words
+AreCarried port first (r ∷ records) (word ∷ words) =
+    Carries port first word r × AreCarried port ((first + 1) % 65536) records words
 
 -- The records are the flow's media datagrams in order, with these words. The first may have any sequence number.
 abbrev pub AreInOrder : ℕ → List Record → List Word → Type 0
@@ -32,7 +33,8 @@ pub record IsFirstNotBuilt (port : ℕ) (bytes : List ℕ) (n : ℕ) : Type 0 wh
   pub in_order : AreInOrder port before words
   pub place : n ≡ length (trace_of before)
   pub more : n < length bytes
-  pub none : (next : Record) (others : List Word) → Begins bytes (length bytes) (before ++ next ∷ []) → AreInOrder port (before ++ next ∷ []) others → ⊥
+  pub none : (next : Record) (others : List Word)
+      → Begins bytes (length bytes) (before ++ next ∷ []) → AreInOrder port (before ++ next ∷ []) others → ⊥
 
 -- The lane of a flow: the payloads of its words, one after another.
 abbrev pub lane_of_words : List Word → List ℕ

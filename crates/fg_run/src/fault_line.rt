@@ -12,7 +12,8 @@ use itoa::Buffer;
 /// Writes the line for a program that ended so; nothing is written where all was done.
 pub fn write_fault_line<E: Sink>(err: &mut E, why: Why) -> Result<(), Failed>
     ensures whole { OnOk result (Gains (E.written err.old) (fault_line why) (E.written err.new)) }
-    ensures part { OnErr result (GainsPart (E.written err.old) (fault_line why) (E.written err.new)) }
+    ensures part { OnErr result (GainsPart (E.written err.old) (fault_line why)
+        (E.written err.new)) }
     ensures counted { OnErr result (CountsFault (E.faults err.old) (E.faults err.new)) }
     ensures never_falls { E.faults err.old ≤ E.faults err.new }
     ensures quiet { why ≡ Why.Done → err.new ≡ err.old }

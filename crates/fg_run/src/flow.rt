@@ -39,7 +39,8 @@ fn sequence_number(port: u16, timed: &TimedDatagram<'_>) -> Option<u16>
 /// The sequence number of the built record at the front of the bytes, and the bytes after it; `None` exactly where no
 /// record that is built stands there. `expected` is the sequence number that has to follow, if one does.
 fn split_built(port: u16, expected: Option<u16>, bytes: &[u8]) -> Option<(u16, &[u8])>
-    ensures found { IfSome result (λ found. BeginsBuilt port expected bytes.now found.0 found.1.now) }
+    ensures found { IfSome result (λ found.
+        BeginsBuilt port expected bytes.now found.0 found.1.now) }
     ensures shorter { IfSome result (λ found. length found.1.now < length bytes.now) }
     ensures none { IfNone result ((seq : ℕ) (rest : List ℕ)
         → BeginsBuilt port expected bytes.now seq rest → ⊥) }

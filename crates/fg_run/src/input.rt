@@ -5,7 +5,7 @@ ghost use Rattle.fg_io.specs.Faults.{CountsFault};
 ghost use Rattle.fg_run.specs.Trace.{magic, DiffersAt};
 ghost use Rattle.fg_run.specs.Steps.{IsReadEnd};
 
-use crate::ended::Why;
+use crate::fault::Fault;
 use fg_io::{Source, laws};
 use std::alloc::Global;
 
@@ -20,13 +20,14 @@ const MAGIC: [u8; 8] = *b"FECTRAC1";
 
 /// All bytes of the input. A fault ends the reading.
 ///
-/// The error is `ReadFault`, `Memory`, or `NotBuilt` of the limit where there are more bytes than that.
-pub fn read_input<S: Source>(alloc: Global, input: &mut S) -> Result<Vec<u8>, Why>
+/// The error is `Read`, `Memory`, or `NotBuilt` of the limit where there are more bytes than that.
+pub fn read_input<S: Source>(alloc: Global, input: &mut S) -> Result<Vec<u8>, Fault>
     ensures whole { IfOk result (λ bytes. IfSome (S.left input.old) (λ left. left ≡ bytes.items)) }
     ensures end { IfOk result (λ _. IsAtEnd (S.left input.new)) }
     ensures bound { IfOk result (λ bytes. length bytes.items ≤ INPUT_LIMIT) }
-    ensures err { IfErr result (IsReadEnd (S.left input.old) (S.faults input.old) (S.faults input.new)) }
-    ensures no_fault { ¬ IsErrOf result Why.ReadFault → S.faults input.new ≡ S.faults input.old }
+    ensures err { IfErr result (IsReadEnd (S.left input.old) (S.faults input.old)
+        (S.faults input.new)) }
+    ensures no_fault { ¬ IsErrOf result Fault.Read → S.faults input.new ≡ S.faults input.old }
     ensures never_falls { S.faults input.old ≤ S.faults input.new }
 {
     laws::end_gave_all();
@@ -34,16 +35,14 @@ pub fn read_input<S: Source>(alloc: Global, input: &mut S) -> Result<Vec<u8>, Wh
     let mut piece = [0; PIECE];
     while bytes.len() <= INPUT_LIMIT {
         let Ok(count) = input.read(&mut piece) else {
-            return Err(Why::ReadFault);
+            return Err(Fault::Read);
         };
         if count == 0 {
             return Ok(bytes);
         }
-        if bytes.extend_from_slice(&piece[..count]).is_err() {
-            return Err(Why::Memory);
-        }
+        bytes.extend_from_slice(&piece[..count])?;
     }
-    Err(Why::NotBuilt(INPUT_LIMIT as u64))
+    Err(Fault::NotBuilt(INPUT_LIMIT as u64))
 }
 
 /// The bytes after the magic; or the place of the first byte that differs from it, or the number of bytes where they end

@@ -9,10 +9,12 @@ ghost use Rattle.fg_io.specs.Faults.{CountsFault};
 ghost use Rattle.fg_run.specs.declared.ended.Why.{Why as AnyWhy};
 ghost use Rattle.fg_run.specs.Command.{IsRepair};
 ghost use Rattle.fg_run.specs.Ended.{IsFault, TellsFault, status_of};
+ghost use Rattle.fg_run.specs.Steps.{answer_of};
 ghost use Rattle.fg_run.specs.Run.{IsEnding, Outputs, OutputsPart, WritesNothing};
 
 mod command;
 mod ended;
+mod fault;
 mod fault_line;
 mod flow;
 mod gate;
@@ -25,6 +27,7 @@ mod tests;
 mod trace;
 
 pub use ended::{Ended, Why};
+use fault::Fault;
 use fg_io::{Outlet, Sink, Source};
 pub use gate::{Gate, NoGate};
 use std::alloc::Global;
@@ -56,13 +59,16 @@ pub fn run<
     ensures status { result.status ≡ status_of result.why }
 
     // Words that are no `repair` of one flow are refused at once.
-    ensures words { (result.why ≡ Why.NotBuilt 0) ↔ ((port : ℕ) → IsRepair (map string_bytes words.now) port → ⊥) }
+    ensures words { (result.why ≡ Why.NotBuilt 0)
+        ↔ ((port : ℕ) → IsRepair (map string_bytes words.now) port → ⊥) }
     ensures nothing_read { result.why ≡ Why.NotBuilt 0 → input.new ≡ input.old }
 
     // Every answer but a fault's or want of memory's is the one that the input's bytes have, and no other is.
-    ensures ending { IfSome (S.left input.old) (λ bytes. (port : ℕ) → IsRepair (map string_bytes words.now) port
+    ensures ending { IfSome (S.left input.old) (λ bytes. (port : ℕ)
+        → IsRepair (map string_bytes words.now) port
         → IsFault result.why ⊎ IsEnding port bytes result.why) }
-    ensures exactly { IfSome (S.left input.old) (λ bytes. (port : ℕ) → IsRepair (map string_bytes words.now) port
+    ensures exactly { IfSome (S.left input.old) (λ bytes. (port : ℕ)
+        → IsRepair (map string_bytes words.now) port
         → (why : AnyWhy) → IsEnding port bytes why → IsFault result.why ⊎ (result.why ≡ why)) }
 
     // The headline: with status 0 the outputs have gained what the definition gives, and all was read.
@@ -73,14 +79,17 @@ pub fn run<
 
     // After a fault of the lane the sink has gained nothing, and after one of the sink the lane is whole. With every
     // other answer nothing is written.
-    ensures part { result.why ≡ Why.WriteFault → (port : ℕ) → IsRepair (map string_bytes words.now) port
+    ensures part { result.why ≡ Why.WriteFault → (port : ℕ)
+        → IsRepair (map string_bytes words.now) port
         → OutputsPart port (S.left input.old) (O.lanes lanes.old) (O.lanes lanes.new)
         K.written out.old out.new }
-    ensures nothing_written { WritesNothing result.why → (out.new ≡ out.old) × (lanes.new ≡ lanes.old) }
+    ensures nothing_written { WritesNothing result.why
+        → (out.new ≡ out.old) × (lanes.new ≡ lanes.old) }
 
     // A fault of the outside is answered only where it was counted in this call, and with every other answer none was.
     // No count falls.
-    ensures read_fault { result.why ≡ Why.ReadFault → CountsFault (S.faults input.old) (S.faults input.new) }
+    ensures read_fault { result.why ≡ Why.ReadFault
+        → CountsFault (S.faults input.old) (S.faults input.new) }
     ensures write_fault { result.why ≡ Why.WriteFault
         → CountsFault (K.faults out.old) (K.faults out.new)
         ⊎ CountsFault (O.faults lanes.old) (O.faults lanes.new) }
@@ -99,10 +108,20 @@ pub fn run<
     ensures quiet { result.why ≡ Why.Done → err.new ≡ err.old }
 {
     let why = match command::flow_port(words) {
-        Some(port) => repair::repair(alloc, port, input, out, lanes),
+        Some(port) => answer(repair::repair(alloc, port, input, out, lanes)),
         None => Why::NotBuilt(0),
     };
     tell_end(err, why)
+}
+
+/// The answer of a run that has this outcome.
+fn answer(outcome: Result<(), Fault>) -> Why
+    ensures { result ≡ answer_of outcome }
+{
+    match outcome {
+        Ok(()) => Why::Done,
+        Err(fault) => fault.into(),
+    }
 }
 
 /// Tells how a call ended: writes the line that says why to `err`, and answers with the status. A fault of `err`
