@@ -1,5 +1,5 @@
 -- What contracts see of a reader of a trace, and where it stands: this project's own rule.
-use Rattle.std.specs.Prelude.{◌≡◌, ◌+◌, ◌<◌, ◌≤◌, ◌⊎◌, ℕ, Bool, true, false, Option, None, Some, IfSome, IsSome, Result, Ok, Err, List, [], ◌∷◌, ◌++◌, length, nat_lt, nat_eq, if◌then◌else◌}
+use Rattle.std.specs.Prelude.{◌≡◌, ◌+◌, ◌≤◌, ◌⊎◌, ℕ, Bool, true, false, Option, None, Some, IfSome, IsSome, Result, Ok, Err, List, [], ◌∷◌, ◌++◌, length, nat_lt, nat_eq, if◌then◌else◌}
 use Rattle.std.specs.List.{AllByRecursion}
 use Rattle.fg_io.specs.Source.{Gives}
 use Rattle.fg_trace.specs.declared.step.Step.{Step}

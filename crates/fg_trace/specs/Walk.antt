@@ -1,5 +1,5 @@
 -- The steps of a reader. No public contract cites it.
-use Rattle.std.specs.Prelude.{◌≡◌, ◌+◌, ◌<◌, ◌≤◌, ◌⊎◌, ℕ, Bool, true, false, Option, None, Some, IfSome, IsSome, Ok, Err, List, [], ◌++◌, length, take, drop, ⊤}
+use Rattle.std.specs.Prelude.{◌≡◌, ◌+◌, ◌<◌, ◌≤◌, ◌⊎◌, ℕ, Bool, true, false, Option, IfSome, IsSome, Err, List, [], ◌++◌, length, take, drop, ⊤}
 use Rattle.std.specs.Io.KnownBytes.{IsAtEnd}
 use Rattle.fg_trace.specs.declared.step.TraceFault.TheVariants.{NotTrace}
 use Rattle.fg_trace.specs.Header.{IsHeader}

@@ -35,12 +35,12 @@ impl Model for Reader {
     ghost use Rattle.fg_trace.specs.Walk.{IsReader};
 
     ghost view = { λ a. record {
-        max = a.max;
-        started = a.started;
-        place = a.place;
-        held = a.window.held;
-        payload = a.window.payload;
-        kept = a.kept
+      max = a.max;
+      started = a.started;
+      place = a.place;
+      held = a.window.held;
+      payload = a.window.payload;
+      kept = a.kept;
     } };
 
     ghost invariant = { λ a. IsReader a.max a.started a.place a.window.held a.window.payload a.kept };
@@ -75,6 +75,7 @@ impl Reader {
         ensures unchanged { IsDecided self.old → (self.new ≡ self.old) × (from.new ≡ from.old) }
 
         ensures started { IsOk result → self.new.started ≡ true }
+        ensures payload { self.old.payload ≡ [] → self.new.payload ≡ [] }
         ensures max { self.new.max ≡ self.old.max }
         ensures bounded { self.new.place + length self.new.held ≤ self.new.max + 1 }
         ensures counted { result ≡ Err TraceFault.ReadFault → CountsFault (S.faults from.old) (S.faults from.new) }

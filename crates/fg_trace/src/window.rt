@@ -30,9 +30,9 @@ impl Model for Window {
     ghost Value = { WindowState };
 
     ghost view = { λ a. record {
-        payload = slice_range a.buffer.items a.payload a.from;
-        held = slice_range a.buffer.items a.from a.to;
-        room = BUFFER - a.from
+      payload = slice_range a.buffer.items a.payload a.from;
+      held = slice_range a.buffer.items a.from a.to;
+      room = BUFFER - a.from;
     } };
 
     ghost invariant = { λ a. AreInOrder a.buffer.items a.payload a.from a.to };
@@ -78,7 +78,12 @@ impl Window {
 
     /// Reads until so many bytes are held, or the input is at its end. It reads
     /// no further than that `most` are held. The payload goes.
-    pub(crate) fn fill<S: Source>(&mut self, from: &mut S, want: usize, most: usize) -> Result<(), Failed>
+    pub(crate) fn fill<S: Source>(
+        &mut self,
+        from: &mut S,
+        want: usize,
+        most: usize,
+    ) -> Result<(), Failed>
         requires want { want ≤ BUFFER }
         requires most { want ≤ most }
         requires bound { most ≤ BUFFER + 1 }
@@ -146,7 +151,12 @@ impl Window {
 }
 
 /// Reads once into the buffer between these places, and answers how many bytes it read.
-fn read_between<S: Source>(from: &mut S, buffer: &mut Vec<u8>, at: usize, end: usize) -> Result<usize, Failed>
+fn read_between<S: Source>(
+    from: &mut S,
+    buffer: &mut Vec<u8>,
+    at: usize,
+    end: usize,
+) -> Result<usize, Failed>
     requires order { at < end }
     requires within { end ≤ length buffer.old.items }
     ensures before { take at buffer.new.items ≡ take at buffer.old.items }
