@@ -10,6 +10,9 @@ pub(crate) const MAGIC: [u8; 8] = *b"FECTRAC1";
 /// How many bytes a record has before its datagram.
 pub(crate) const HEADER: usize = 12;
 
+/// How many bytes the largest record has.
+pub(crate) const LARGEST: usize = HEADER + 65_535;
+
 /// The numbers before a record's datagram.
 #[derive(Clone, Copy)]
 pub(crate) struct Header {

@@ -8,7 +8,7 @@ ghost use Rattle.fg_trace.specs.Window.{TakesMore};
 ghost use Rattle.fg_trace.specs.Reader.{StandsBefore, StandsAfter, Opens, Walks, payload_size, record_size, kept_answer, ending_at, start_answer, IsDecided, new_reader};
 ghost use Rattle.fg_trace.specs.Walk.{TakesIn, HoldsEnough, HoldsRecord, HoldsNone, after_record, after_magic};
 
-use crate::header::{HEADER, Header, MAGIC, differs_from_magic, read_header};
+use crate::header::{HEADER, Header, LARGEST, MAGIC, differs_from_magic, read_header};
 use crate::step::{Step, TraceFault};
 use crate::window::{BUFFER, Window};
 use fg_io::{Failed, Source};
@@ -151,7 +151,7 @@ impl Reader {
 
     /// Reads until so many bytes are held, or one past the limit, or the input is at its end. The payload goes.
     fn fill<S: Source>(&mut self, from: &mut S, want: usize) -> Result<(), TraceFault>
-        requires want { want ≤ 65547 }
+        requires want { want ≤ LARGEST }
         requires open { self.old.kept ≡ None }
         ensures takes { TakesIn self.old (S.left from.old) self.new (S.left from.new) }
         ensures bounded { self.new.place + length self.new.held ≤ self.new.max + 1 }
