@@ -26,7 +26,8 @@ pub(crate) struct Header {
 
 /// The header at the front of the bytes; `None` exactly where they are fewer than a header has.
 pub(crate) fn read_header(bytes: &[u8]) -> Option<Header>
-    ensures found { IfSome result (λ header. IsHeader bytes.now header.time header.port header.size) }
+    ensures found { IfSome result (λ header.
+        IsHeader bytes.now header.time header.port header.size) }
     ensures none { IfNone result (length bytes.now < HEADER) }
 {
     let (time, rest) = split_u64(bytes)?;

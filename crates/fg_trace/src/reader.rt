@@ -43,7 +43,8 @@ impl Model for Reader {
       kept = a.kept;
     } };
 
-    ghost invariant = { λ a. IsReader a.max a.started a.place a.window.held a.window.payload a.kept };
+    ghost invariant = { λ a.
+        IsReader a.max a.started a.place a.window.held a.window.payload a.kept };
 }
 
 impl Reader {
@@ -51,7 +52,8 @@ impl Reader {
     pub fn new(alloc: Global, max: u64) -> Result<Reader, AllocError>
         requires { 8 ≤ max }
         ensures new { IfOk result (λ reader. reader ≡ new_reader max) }
-        ensures opening { IfOk result (λ reader. (first : Option (List ℕ)) → StandsBefore reader first first) }
+        ensures opening { IfOk result (λ reader.
+            (first : Option (List ℕ)) → StandsBefore reader first first) }
     {
         Ok(Reader {
             window: Window::new(alloc)?,
@@ -78,7 +80,8 @@ impl Reader {
         ensures payload { self.old.payload ≡ [] → self.new.payload ≡ [] }
         ensures max { self.new.max ≡ self.old.max }
         ensures bounded { self.new.place + length self.new.held ≤ self.new.max + 1 }
-        ensures counted { result ≡ Err TraceFault.ReadFault → CountsFault (S.faults from.old) (S.faults from.new) }
+        ensures counted { result ≡ Err TraceFault.ReadFault
+            → CountsFault (S.faults from.old) (S.faults from.new) }
         ensures never_falls { S.faults from.old ≤ S.faults from.new }
     {
         if let Some(answer) = self.kept {
@@ -121,7 +124,8 @@ impl Reader {
         ensures bounded { self.new.place + length self.new.held ≤ self.new.max + 1 }
         ensures max { self.new.max ≡ self.old.max }
         ensures started { self.new.started ≡ true }
-        ensures counted { result ≡ Err TraceFault.ReadFault → CountsFault (S.faults from.old) (S.faults from.new) }
+        ensures counted { result ≡ Err TraceFault.ReadFault
+            → CountsFault (S.faults from.old) (S.faults from.new) }
         ensures never_falls { S.faults from.old ≤ S.faults from.new }
     {
         if let Some(answer) = self.kept {

@@ -49,7 +49,8 @@ impl Model for Window {
 impl Window {
     /// A window with nothing in it, whose memory is taken here.
     pub(crate) fn new(alloc: Global) -> Result<Window, AllocError>
-        ensures { IfOk result (λ window. window ≡ record { payload = []; held = []; room = PIECE }) }
+        ensures { IfOk result (λ window. window
+            ≡ record { payload = []; held = []; room = PIECE }) }
     {
         Ok(Window {
             buffer: vec![in alloc; 0; BUFFER]?,
