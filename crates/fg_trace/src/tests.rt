@@ -100,12 +100,10 @@ fn each_cut_in_pieces(rt: HostRuntime) -> Result<(), Fail> {
 fn cut_in_any_pieces(rt: HostRuntime) -> Result<(), Fail> {
     let bytes = three(rt.alloc())?;
     assert_eq!(rt; bytes.len(), 4028);
+    let cut = &bytes[..4000];
     for piece in [1, 7, 4000] {
-        let piece = piece.max(1);
-        assert_eq!(rt;
-            walked(rt.alloc(), &bytes[..4000], piece, 1 << 40)?,
-            (2, Err(TraceFault::Cut(2688)))
-        );
+        let walk = walked(rt.alloc(), cut, piece.max(1), 1 << 40)?;
+        assert_eq!(rt; walk, (2, Err(TraceFault::Cut(2688))));
     }
     Ok(())
 }
