@@ -51,16 +51,20 @@ impl Source for SafeSource {
     ghost faults = { λ _. 0 };
 
     fn read(&mut self, into: &mut [u8]) -> Result<usize, Failed>
-        // What each source ensures. The count stands still, so a fault would break `counted`: `ok` says that there is none.
+        // What each source ensures of a call that is Ok, as each one is.
         ensures bound { IfOk result (λ count. count ≤ length into.new) }
-        ensures gives { IfOk result (λ count. Gives (Some self.old.left) (take count into.new) (Some self.new.left)) }
-        ensures end { IfOk result (λ count. count ≡ 0 → 0 < length into.new → IsAtEnd (Some self.new.left)) }
+        ensures gives { IfOk result (λ count.
+            Gives (Some self.old.left) (take count into.new) (Some self.new.left)) }
+        ensures end { IfOk result (λ count.
+            count ≡ 0 → 0 < length into.new → IsAtEnd (Some self.new.left)) }
         ensures ok { IsOk result }
 
         // What each call gives and leaves.
         ensures count { IfOk result (λ count. count ≡ safe_count self.old (length into.old)) }
-        ensures bytes { IfOk result (λ count. into.new ≡ take count self.old.left ++ drop count into.old) }
-        ensures left { IfOk result (λ count. self.new ≡ record self.old { left = drop count self.old.left }) }
+        ensures bytes { IfOk result (λ count.
+            into.new ≡ take count self.old.left ++ drop count into.old) }
+        ensures left { IfOk result (λ count.
+            self.new ≡ record self.old { left = drop count self.old.left }) }
     {
         let left = &self.bytes[self.given..];
         let count = into.len().min(self.piece).min(left.len());

@@ -1,11 +1,10 @@
 -- Where a reader finds the ending of the trace.
-use Rattle.std.proofs.Common.{◌≡◌, ◌⊎◌, inl, inr, ℕ, suc, ◌+◌, ◌-◌, ◌<◌, ◌≤◌, ◌^◌, min, Bool, true, false, Option, None, Some, IfSome, Ok, Err, List, [], ◌∷◌, ◌++◌, length, take, drop, get_or, sym, ap, ◌∙◌, refl, subst, arith, append_assoc, append-nil, length-append}
-use Rattle.std.specs.Prelude.{nat_lt, nat_eq, if◌then◌else◌}
+use Rattle.std.proofs.Common.{◌≡◌, ◌⊎◌, inl, inr, ℕ, suc, ◌+◌, ◌<◌, ◌≤◌, Bool, Option, None, Some, IfSome, Ok, Err, List, [], ◌∷◌, ◌++◌, length, sym, ap, ◌∙◌, refl, subst, arith, append_assoc, append-nil, length-append}
+use Rattle.std.specs.Prelude.{nat_eq, if◌then◌else◌}
 use Rattle.std.specs.List.{flat_map, AllByRecursion}
 use Rattle.std.specs.Io.KnownBytes.{IsAtEnd}
 use Rattle.std.proofs.lemmas.Bool.Decides.{eqb_tells, leb_tells}
 use Rattle.std.proofs.lemmas.List.{take-append-le, get_or_append_left}
-use Rattle.fg_io.specs.Source.{Gives}
 use Rattle.fg_trace.specs.declared.step.Step.TheVariants.{Datagram, End}
 use Rattle.fg_trace.specs.declared.step.TraceFault.TheVariants.{ReadFault, NotTrace as NoMagic, TooLong as PastLimit, Cut as CutShort}
 use Rattle.fg_trace.specs.Header.{IsHeader}
@@ -26,21 +25,21 @@ longest_here bytes max records rest fit within spelled none =
       most = λ others b. elim (traces bytes max max records others begun b) [
         | inl w ↦ omega (arith, ap length w.1, length-append others w.0)
         | inr w ↦
-          let longer : Begins bytes max (records ++ w.0 ∷ w.1) = subst (Begins bytes max) w.2 b in
-          let one = begins_front bytes max records w.0 w.1 longer in
-          let stands = next_stands bytes (flat_map spelling records ++ rest) rest records w.0 (length bytes) (spelled ∙ append_assoc magic (flat_map spelling records) rest) refl one in
-          let past = none w.0 one.rest stands in
-          absurd (omega (
-            arith,
-            past,
-            longer.within,
-            ap length (trace_more records w.0),
-            length-append (trace_of records) (spelling w.0),
-            length-append magic (flat_map spelling (records ++ w.0 ∷ w.1)),
-            length-append magic (flat_map spelling (records ++ w.0 ∷ [])),
-            ap length (split_spelling records w.0 w.1),
-            length-append (flat_map spelling (records ++ w.0 ∷ [])) (flat_map spelling w.1),
-          ))
+            let longer : Begins bytes max (records ++ w.0 ∷ w.1) = subst (Begins bytes max) w.2 b in
+            let one = begins_front bytes max records w.0 w.1 longer in
+            let stands = next_stands bytes (flat_map spelling records ++ rest) rest records w.0 (length bytes) (spelled ∙ append_assoc magic (flat_map spelling records) rest) refl one in
+            let past = none w.0 one.rest stands in
+            absurd (omega (
+              arith,
+              past,
+              longer.within,
+              ap length (trace_more records w.0),
+              length-append (trace_of records) (spelling w.0),
+              length-append magic (flat_map spelling (records ++ w.0 ∷ w.1)),
+              length-append magic (flat_map spelling (records ++ w.0 ∷ [])),
+              ap length (split_spelling records w.0 w.1),
+              length-append (flat_map spelling (records ++ w.0 ∷ [])) (flat_map spelling w.1),
+            ))
       ];
     }
 
@@ -56,12 +55,12 @@ ends_here bytes max place records held rest longest there within spelled known =
     elim (leb_tells (suc max) (place + length held)) [
       | inl past ↦ subst (λ b. says (choose b)) (sym past.0) (omega (arith, past.1, long), longest, there)
       | inr not_past ↦
-        let few : place + length held ≤ max = omega (arith, not_past.1) in
-        let none : length rest ≡ 0 = inside few in
-        subst (λ b. says (choose b)) (sym not_past.0) (elim (eqb_tells (length held) 0) [
-          | inl empty ↦ subst (λ b. says (choose_end b)) (sym empty.0) (omega (arith, long, few, none), longest, omega (arith, long, none, empty.1, there))
-          | inr some ↦ subst (λ b. says (choose_end b)) (sym some.0) (omega (arith, long, few, none), longest, there, omega (arith, long, some.1))
-        ])
+          let few : place + length held ≤ max = omega (arith, not_past.1) in
+          let none : length rest ≡ 0 = inside few in
+          subst (λ b. says (choose b)) (sym not_past.0) (elim (eqb_tells (length held) 0) [
+            | inl empty ↦ subst (λ b. says (choose_end b)) (sym empty.0) (omega (arith, long, few, none), longest, omega (arith, long, none, empty.1, there))
+            | inr some ↦ subst (λ b. says (choose_end b)) (sym some.0) (omega (arith, long, few, none), longest, there, omega (arith, long, some.1))
+          ])
     ]
 
 -- where a reader finds no next record, the ending that is here is the trace's
@@ -75,42 +74,6 @@ ends reader (Some bytes) (Some rest) records h k =
     let spelled : bytes ≡ trace_of records ++ (reader.held ++ rest) = whole ∙ append_assoc (trace_of records) reader.held rest in
     let longest = longest_here bytes reader.max records (reader.held ++ rest) h.fit (omega (arith, h.place, h.within)) spelled (λ r after stands. omega (arith, h.place, k.none r after stands)) in
     ends_here bytes reader.max reader.place records reader.held rest longest h.place h.within spelled k.known
-
--- what is known of the input's end, where the bytes held are too few
-known_end : (reader : ReaderState) (left : Option (List ℕ)) (want : ℕ) → HoldsEnough reader left want → (reader.max < reader.place + want) ⊎ (length reader.held < want) → (reader.max < reader.place + length reader.held) ⊎ IsAtEnd left
-known_end reader left want (inl enough) (inl far) = inl (omega (arith, enough, far))
-known_end reader left want (inl enough) (inr few) = absurd (omega (arith, enough, few))
-known_end reader left want (inr known) less = known
-
--- a record that stands next is past the limit
-none_known : (max place : ℕ) (held rest : List ℕ) (r : Record) (after : List ℕ) → (max < place + length held) ⊎ (rest ≡ []) → StandsFirst (held ++ rest) r after → length held < length (spelling r) → max < place + length (spelling r)
-none_known max place held rest r after (inl past) stands short = omega (arith, past, short)
-none_known max place held rest r after (inr end) stands short =
-    absurd (omega (arith, short, ap length end, ap length stands.spelled, length-append held rest, length-append (spelling r) after))
-
--- fewer bytes than a header has
-pub none_short : (reader : ReaderState) (left : Option (List ℕ)) → HoldsEnough reader left 12 → length reader.held < 12 → HoldsNone reader left
-none_short reader None enough short = record { known = known_end reader None 12 enough (inr short); none = tt }
-none_short reader (Some rest) enough short =
-    let known = known_end reader (Some rest) 12 enough (inr short) in
-    record {
-      known = known;
-      none = λ r after stands. none_known reader.max reader.place reader.held rest r after known stands (omega (arith, short, length_spelling r));
-    }
-
--- a record past the limit, or one that is cut
-pub none_whole : (reader : ReaderState) (left : Option (List ℕ)) (time port size : ℕ) → IsHeader reader.held time port size → HoldsEnough reader left (12 + size) → (reader.max < reader.place + (12 + size)) ⊎ (length reader.held < 12 + size) → HoldsNone reader left
-none_whole reader None time port size header enough less = record { known = known_end reader None (12 + size) enough less; none = tt }
-none_whole reader (Some rest) time port size header enough (inl far) = record {
-  known = known_end reader (Some rest) (12 + size) enough (inl far);
-  none = λ r after stands. omega (arith, far, header_size reader.held rest time port size r after header stands);
-}
-none_whole reader (Some rest) time port size header enough (inr few) =
-    let known = known_end reader (Some rest) (12 + size) enough (inr few) in
-    record {
-      known = known;
-      none = λ r after stands. none_known reader.max reader.place reader.held rest r after known stands (omega (arith, few, header_size reader.held rest time port size r after header stands));
-    }
 
 -- bytes that differ from the magic do so too where more come behind them
 differs_more : (held rest : List ℕ) (n : ℕ) → 8 ≤ length held → DiffersAt held n → DiffersAt (held ++ rest) n
@@ -147,11 +110,11 @@ no_record max place count time port size e =
     elim (leb_tells (suc max) (place + count)) [
       | inl past ↦ let is : ending_at max place count ≡ Err (PastLimit place) = ap (λ b. if b then Err (PastLimit place) else (if nat_eq count 0 then Ok End else Err (CutShort place))) past.0 in cc
       | inr not_past ↦
-        let is : ending_at max place count ≡ (if nat_eq count 0 then Ok End else Err (CutShort place)) = ap (λ b. if b then Err (PastLimit place) else (if nat_eq count 0 then Ok End else Err (CutShort place))) not_past.0 in
-        elim (eqb_tells count 0) [
-          | inl empty ↦ let end : (if nat_eq count 0 then Ok End else Err (CutShort place)) ≡ Ok End = ap (λ b. if b then Ok End else Err (CutShort place)) empty.0 in cc
-          | inr some ↦ let cut : (if nat_eq count 0 then Ok End else Err (CutShort place)) ≡ Err (CutShort place) = ap (λ b. if b then Ok End else Err (CutShort place)) some.0 in cc
-        ]
+          let is : ending_at max place count ≡ (if nat_eq count 0 then Ok End else Err (CutShort place)) = ap (λ b. if b then Err (PastLimit place) else (if nat_eq count 0 then Ok End else Err (CutShort place))) not_past.0 in
+          elim (eqb_tells count 0) [
+            | inl empty ↦ let end : (if nat_eq count 0 then Ok End else Err (CutShort place)) ≡ Ok End = ap (λ b. if b then Ok End else Err (CutShort place)) empty.0 in cc
+            | inr some ↦ let cut : (if nat_eq count 0 then Ok End else Err (CutShort place)) ≡ Err (CutShort place) = ap (λ b. if b then Ok End else Err (CutShort place)) some.0 in cc
+          ]
     ]
 
 -- what an answer says that is an ending

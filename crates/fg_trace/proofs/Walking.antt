@@ -1,19 +1,16 @@
 -- Where a reader stands, as it takes bytes in and answers records.
-use Rattle.std.proofs.Common.{◌≡◌, ◌⊎◌, inl, inr, ℕ, ◌+◌, ◌-◌, ◌<◌, ◌≤◌, ◌^◌, Option, None, Some, IfSome, IsSome, Ok, Err, List, [], ◌∷◌, ◌++◌, length, take, drop, sym, ap, ◌∙◌, refl, subst, arith, append_assoc, append-nil, length-append}
+use Rattle.std.proofs.Common.{◌≡◌, ℕ, ◌+◌, ◌<◌, ◌≤◌, ◌^◌, Option, None, IfSome, Ok, List, [], ◌∷◌, ◌++◌, length, take, drop, sym, ap, ◌∙◌, refl, subst, arith, append_assoc, length-append}
 use Rattle.std.specs.Int.{to_be_bytes, w16, w64}
 use Rattle.std.specs.List.{flat_map, AllByRecursion}
-use Rattle.std.specs.Io.KnownBytes.{IsAtEnd}
 use Rattle.std.proofs.lemmas.List.{take-append-drop, drop-drop, length-take-le}
-use Rattle.std.proofs.lemmas.Grind.{flat_map-append}
 use Rattle.fg_io.specs.Source.{Gives}
-use Rattle.fg_io.proofs.SourceLemmas.{Gives-trans, Gives-nil}
+use Rattle.fg_io.proofs.SourceLemmas.{Gives-trans}
 use Rattle.fg_trace.specs.declared.step.Step.{Step}
 use Rattle.fg_trace.specs.declared.step.Step.TheVariants.{Datagram}
 use Rattle.fg_trace.specs.Header.{IsHeader, BeginsMagic}
-use Rattle.fg_trace.specs.Trace.{Record, Fits, spelling, magic, trace_of, StandsFirst, DiffersAt}
-use Rattle.fg_trace.specs.Window.{TakesMore}
+use Rattle.fg_trace.specs.Trace.{Record, Fits, spelling, magic, trace_of, StandsFirst}
 use Rattle.fg_trace.specs.Reader.{Answer, ReaderState, StandsBefore, StandsAfter, KeepsEnding, IsEnding, Walks}
-use Rattle.fg_trace.specs.Walk.{TakesIn, HoldsEnough, HoldsRecord, HoldsNone, after_record, after_magic}
+use Rattle.fg_trace.specs.Walk.{TakesIn, HoldsRecord, after_record, after_magic}
 use Rattle.fg_trace.proofs.Records.{header_same, spelling_by_header}
 use Rattle.fg_trace.proofs.Traces.{spelled_last}
 
@@ -113,7 +110,7 @@ after_answer reader first left records time port size h none k =
     let front = front_record reader.held time port size k.header k.whole in
     let longer : trace_of (records ++ r ∷ []) ≡ trace_of records ++ spelling r = trace_more records r in
     let split : trace_of records ++ reader.held ≡ trace_of (records ++ r ∷ []) ++ drop (12 + size) reader.held = ap (λ t. trace_of records ++ t) front.0.spelled
-        ∙ sym (append_assoc (trace_of records) (spelling r) (drop (12 + size) reader.held)) ∙ ap (λ t. t ++ drop (12 + size) reader.held) (sym longer) in
+    ∙ sym (append_assoc (trace_of records) (spelling r) (drop (12 + size) reader.held)) ∙ ap (λ t. t ++ drop (12 + size) reader.held) (sym longer) in
     record {
       started = h.started;
       fit = all_fit_more records r h.fit front.0.fits;

@@ -7,11 +7,13 @@ use Rattle.fg_trace.specs.Reader.{Answer, ReaderState, StandsAfter, IsEnding}
 
 -- Bytes have at most one list of records, and one ending.
 abbrev pub OneTrace : Type 0
-OneTrace = (bytes : List ℕ) (max : ℕ) (one other : List Record) (end end' : Ending) → IsTrace bytes max one end → IsTrace bytes max other end' → (one ≡ other) × (end ≡ end')
+OneTrace = (bytes : List ℕ) (max : ℕ) (one other : List Record) (end end' : Ending)
+    → IsTrace bytes max one end → IsTrace bytes max other end' → (one ≡ other) × (end ≡ end')
 
 -- What a list of records spells is read as that list.
 abbrev pub SpelledIsRead : Type 0
-SpelledIsRead = (records : List Record) (max : ℕ) → AllByRecursion Fits records → length (trace_of records) ≤ max → IsTrace (trace_of records) max records Ended
+SpelledIsRead = (records : List Record) (max : ℕ)
+    → AllByRecursion Fits records → length (trace_of records) ≤ max → IsTrace (trace_of records) max records Ended
 
 -- Wherever a reader stands, it has answered the first records of the trace.
 abbrev pub WalksTheFront : Type 0
@@ -20,11 +22,14 @@ WalksTheFront = (reader : ReaderState) (bytes : List ℕ) (now : Option (List �
 
 -- One answer is the ending of a trace, after one list of records.
 abbrev pub EndsOnce : Type 0
-EndsOnce = (bytes : List ℕ) (max : ℕ) (records all : List Record) (one other : Answer) → IsEnding one bytes max records → IsEnding other bytes max all → (records ≡ all) × (one ≡ other)
+EndsOnce = (bytes : List ℕ) (max : ℕ) (records all : List Record) (one other : Answer)
+    → IsEnding one bytes max records → IsEnding other bytes max all → (records ≡ all) × (one ≡ other)
 
 -- A trace that was written is read back: wherever a reader stands in it, it has answered the first of the records written,
 -- and the one ending comes after them all.
 abbrev pub SpelledIsWalked : Type 0
-SpelledIsWalked = (reader : ReaderState) (now : Option (List ℕ)) (records all : List Record) → AllByRecursion Fits all → length (trace_of all) ≤ reader.max
+SpelledIsWalked = (reader : ReaderState) (now : Option (List ℕ)) (records all : List Record)
+    → AllByRecursion Fits all → length (trace_of all) ≤ reader.max
     → StandsAfter reader (Some (trace_of all)) now records
-    → (records ≡ take (length records) all) × ((answer : Answer) → IsEnding answer (trace_of all) reader.max records → (records ≡ all) × (answer ≡ Ok End))
+    → (records ≡ take (length records) all)
+    × ((answer : Answer) → IsEnding answer (trace_of all) reader.max records → (records ≡ all) × (answer ≡ Ok End))

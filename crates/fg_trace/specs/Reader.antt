@@ -1,5 +1,5 @@
 -- What contracts see of a reader of a trace, and where it stands: this project's own rule.
-use Rattle.std.specs.Prelude.{◌≡◌, ◌+◌, ◌<◌, ◌≤◌, ◌⊎◌, ℕ, Bool, true, false, Option, None, Some, IfSome, IsSome, Result, Ok, Err, List, [], ◌∷◌, ◌++◌, length, nat_lt, nat_eq, if◌then◌else◌}
+use Rattle.std.specs.Prelude.{◌≡◌, ◌+◌, ◌≤◌, ◌⊎◌, ℕ, Bool, true, false, Option, None, Some, IfSome, IsSome, Result, Ok, Err, List, [], ◌∷◌, ◌++◌, length, nat_lt, nat_eq, if◌then◌else◌}
 use Rattle.std.specs.List.{AllByRecursion}
 use Rattle.fg_io.specs.Source.{Gives}
 use Rattle.fg_trace.specs.declared.step.Step.{Step}
@@ -37,7 +37,8 @@ IsEnding _ bytes max records = ⊥
 
 -- An answer that was kept is the ending, where the source tells its bytes.
 abbrev pub KeepsEnding : ReaderState → Option (List ℕ) → List Record → Type 0
-KeepsEnding reader first records = IfSome reader.kept (λ answer. IfSome first (λ bytes. IsEnding answer bytes reader.max records))
+KeepsEnding reader first records =
+    IfSome reader.kept (λ answer. IfSome first (λ bytes. IsEnding answer bytes reader.max records))
 
 -- The reader looks for the magic: the source, which had `first` left, has given what the reader holds.
 pub record StandsBefore (reader : ReaderState) (first now : Option (List ℕ)) : Type 0 where
@@ -60,7 +61,8 @@ pub record StandsAfter (reader : ReaderState) (first now : Option (List ℕ)) (r
 -- failed, and nothing is lost.
 abbrev pub Opens : Result (Unit {0}) TraceFault → ReaderState → Option (List ℕ) → Option (List ℕ) → Type 0
 Opens (Ok _) reader first now = StandsAfter reader first now []
-Opens (Err (NoMagic n)) reader first now = StandsBefore reader first now × IfSome first (λ bytes. IsTrace bytes reader.max [] (NotTrace n))
+Opens (Err (NoMagic n)) reader first now =
+    StandsBefore reader first now × IfSome first (λ bytes. IsTrace bytes reader.max [] (NotTrace n))
 Opens (Err ReadFault) reader first now = StandsBefore reader first now
 Opens _ reader first now = ⊥
 
@@ -70,7 +72,8 @@ abbrev pub Walks : Answer → ReaderState → Option (List ℕ) → Option (List
 Walks (Ok (Datagram time port size)) reader first now records =
     StandsAfter reader first now (records ++ (record { time = time; port = port; datagram = reader.payload }) ∷ [])
 Walks (Err ReadFault) reader first now records = StandsAfter reader first now records
-Walks answer reader first now records = StandsAfter reader first now records × IfSome first (λ bytes. IsEnding answer bytes reader.max records)
+Walks answer reader first now records =
+    StandsAfter reader first now records × IfSome first (λ bytes. IsEnding answer bytes reader.max records)
 
 -- How many bytes the payload has after an answer.
 abbrev pub payload_size : Answer → ℕ
@@ -90,7 +93,8 @@ kept_answer answer = Some answer
 
 -- The ending that a reader finds that has so many bytes from a place on.
 abbrev pub ending_at : ℕ → ℕ → ℕ → Answer
-ending_at max place count = if nat_lt max (place + count) then Err (PastLimit place) else (if nat_eq count 0 then Ok End else Err (CutShort place))
+ending_at max place count =
+    if nat_lt max (place + count) then Err (PastLimit place) else (if nat_eq count 0 then Ok End else Err (CutShort place))
 
 -- The answer again of `start`: a fault that is kept, else that the magic was found.
 abbrev pub start_answer : Option Answer → Result (Unit {0}) TraceFault

@@ -56,9 +56,11 @@ pub data Ending : Type 0 where
 -- The bytes, under a limit on their number, have these records and this ending. The places count from the trace's
 -- first byte: of the first difference from the magic, or of the first byte after the last whole record.
 abbrev pub IsTrace : List ℕ → ℕ → List Record → Ending → Type 0
-IsTrace bytes max records Ended = (length bytes ≤ max) × IsLongest bytes max records × (length bytes ≡ length (trace_of records))
+IsTrace bytes max records Ended =
+    (length bytes ≤ max) × IsLongest bytes max records × (length bytes ≡ length (trace_of records))
 IsTrace bytes max records (NotTrace n) = (records ≡ []) × DiffersAt bytes n
-IsTrace bytes max records (Cut n) = (length bytes ≤ max) × IsLongest bytes max records × (n ≡ length (trace_of records)) × (n < length bytes)
+IsTrace bytes max records (Cut n) =
+    (length bytes ≤ max) × IsLongest bytes max records × (n ≡ length (trace_of records)) × (n < length bytes)
 IsTrace bytes max records (TooLong n) = (max < length bytes) × IsLongest bytes max records × (n ≡ length (trace_of records))
 
 -- The record stands at the front of the bytes, and these are the rest.

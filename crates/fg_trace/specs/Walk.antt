@@ -1,5 +1,5 @@
 -- The steps of a reader. No public contract cites it.
-use Rattle.std.specs.Prelude.{◌≡◌, ◌+◌, ◌<◌, ◌≤◌, ◌⊎◌, ℕ, Bool, true, false, Option, None, Some, IfSome, IsSome, Ok, Err, List, [], ◌++◌, length, take, drop, ⊤}
+use Rattle.std.specs.Prelude.{◌≡◌, ◌+◌, ◌<◌, ◌≤◌, ◌⊎◌, ℕ, Bool, true, false, Option, IfSome, IsSome, Err, List, [], ◌++◌, length, take, drop, ⊤}
 use Rattle.std.specs.Io.KnownBytes.{IsAtEnd}
 use Rattle.fg_trace.specs.declared.step.TraceFault.TheVariants.{NotTrace}
 use Rattle.fg_trace.specs.Header.{IsHeader}
@@ -28,7 +28,8 @@ pub record TakesIn (old : ReaderState) (left : Option (List ℕ)) (new : ReaderS
 
 -- It holds so many bytes, or one past the limit, or all that there are.
 abbrev pub HoldsEnough : ReaderState → Option (List ℕ) → ℕ → Type 0
-HoldsEnough reader left want = (want ≤ length reader.held) ⊎ ((reader.max < reader.place + length reader.held) ⊎ IsAtEnd left)
+HoldsEnough reader left want =
+    (want ≤ length reader.held) ⊎ ((reader.max < reader.place + length reader.held) ⊎ IsAtEnd left)
 
 -- The next record is whole and within the limit, and its header has these numbers.
 pub record HoldsRecord (reader : ReaderState) (time port size : ℕ) : Type 0 where
@@ -39,11 +40,13 @@ pub record HoldsRecord (reader : ReaderState) (time port size : ℕ) : Type 0 wh
 -- No record stands next within the limit, and it is known whether the input goes past it.
 pub record HoldsNone (reader : ReaderState) (left : Option (List ℕ)) : Type 0 where
   pub known : (reader.max < reader.place + length reader.held) ⊎ IsAtEnd left
-  pub none : IfSome left (λ rest. (r : Record) (after : List ℕ) → StandsFirst (reader.held ++ rest) r after → reader.max < reader.place + length (spelling r))
+  pub none : IfSome left (λ rest. (r : Record) (after : List ℕ)
+      → StandsFirst (reader.held ++ rest) r after → reader.max < reader.place + length (spelling r))
 
 -- The record at the front was answered.
 abbrev pub after_record : ReaderState → ℕ → ReaderState
-after_record reader size = record reader { place = reader.place + (12 + size); held = drop (12 + size) reader.held; payload = take size (drop 12 reader.held) }
+after_record reader size =
+    record reader { place = reader.place + (12 + size); held = drop (12 + size) reader.held; payload = take size (drop 12 reader.held) }
 
 -- The magic was found.
 abbrev pub after_magic : ReaderState → ReaderState

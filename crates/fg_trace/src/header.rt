@@ -10,6 +10,9 @@ pub(crate) const MAGIC: [u8; 8] = *b"FECTRAC1";
 /// How many bytes a record has before its datagram.
 pub(crate) const HEADER: usize = 12;
 
+/// How many bytes the largest record has.
+pub(crate) const LARGEST: usize = HEADER + 65_535;
+
 /// The numbers before a record's datagram.
 #[derive(Clone, Copy)]
 pub(crate) struct Header {
@@ -23,7 +26,8 @@ pub(crate) struct Header {
 
 /// The header at the front of the bytes; `None` exactly where they are fewer than a header has.
 pub(crate) fn read_header(bytes: &[u8]) -> Option<Header>
-    ensures found { IfSome result (λ header. IsHeader bytes.now header.time header.port header.size) }
+    ensures found { IfSome result (λ header.
+        IsHeader bytes.now header.time header.port header.size) }
     ensures none { IfNone result (length bytes.now < HEADER) }
 {
     let (time, rest) = split_u64(bytes)?;

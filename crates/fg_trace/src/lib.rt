@@ -15,3 +15,6 @@ mod write;
 pub use reader::Reader;
 pub use step::{Finish, Step, TraceFault};
 pub use write::write_datagram;
+
+#[cfg(test)]
+mod tests;

@@ -8,7 +8,7 @@ ghost use Rattle.fg_trace.specs.Window.{TakesMore};
 ghost use Rattle.fg_trace.specs.Reader.{StandsBefore, StandsAfter, Opens, Walks, payload_size, record_size, kept_answer, ending_at, start_answer, IsDecided, new_reader};
 ghost use Rattle.fg_trace.specs.Walk.{TakesIn, HoldsEnough, HoldsRecord, HoldsNone, after_record, after_magic};
 
-use crate::header::{HEADER, Header, MAGIC, differs_from_magic, read_header};
+use crate::header::{HEADER, Header, LARGEST, MAGIC, differs_from_magic, read_header};
 use crate::step::{Step, TraceFault};
 use crate::window::{BUFFER, Window};
 use fg_io::{Failed, Source};
@@ -35,15 +35,16 @@ impl Model for Reader {
     ghost use Rattle.fg_trace.specs.Walk.{IsReader};
 
     ghost view = { λ a. record {
-        max = a.max;
-        started = a.started;
-        place = a.place;
-        held = a.window.held;
-        payload = a.window.payload;
-        kept = a.kept
+      max = a.max;
+      started = a.started;
+      place = a.place;
+      held = a.window.held;
+      payload = a.window.payload;
+      kept = a.kept;
     } };
 
-    ghost invariant = { λ a. IsReader a.max a.started a.place a.window.held a.window.payload a.kept };
+    ghost invariant = { λ a.
+        IsReader a.max a.started a.place a.window.held a.window.payload a.kept };
 }
 
 impl Reader {
@@ -51,7 +52,8 @@ impl Reader {
     pub fn new(alloc: Global, max: u64) -> Result<Reader, AllocError>
         requires { 8 ≤ max }
         ensures new { IfOk result (λ reader. reader ≡ new_reader max) }
-        ensures opening { IfOk result (λ reader. (first : Option (List ℕ)) → StandsBefore reader first first) }
+        ensures opening { IfOk result (λ reader.
+            (first : Option (List ℕ)) → StandsBefore reader first first) }
     {
         Ok(Reader {
             window: Window::new(alloc)?,
@@ -75,9 +77,11 @@ impl Reader {
         ensures unchanged { IsDecided self.old → (self.new ≡ self.old) × (from.new ≡ from.old) }
 
         ensures started { IsOk result → self.new.started ≡ true }
+        ensures payload { self.old.payload ≡ [] → self.new.payload ≡ [] }
         ensures max { self.new.max ≡ self.old.max }
         ensures bounded { self.new.place + length self.new.held ≤ self.new.max + 1 }
-        ensures counted { result ≡ Err TraceFault.ReadFault → CountsFault (S.faults from.old) (S.faults from.new) }
+        ensures counted { result ≡ Err TraceFault.ReadFault
+            → CountsFault (S.faults from.old) (S.faults from.new) }
         ensures never_falls { S.faults from.old ≤ S.faults from.new }
     {
         if let Some(answer) = self.kept {
@@ -120,7 +124,8 @@ impl Reader {
         ensures bounded { self.new.place + length self.new.held ≤ self.new.max + 1 }
         ensures max { self.new.max ≡ self.old.max }
         ensures started { self.new.started ≡ true }
-        ensures counted { result ≡ Err TraceFault.ReadFault → CountsFault (S.faults from.old) (S.faults from.new) }
+        ensures counted { result ≡ Err TraceFault.ReadFault
+            → CountsFault (S.faults from.old) (S.faults from.new) }
         ensures never_falls { S.faults from.old ≤ S.faults from.new }
     {
         if let Some(answer) = self.kept {
@@ -150,7 +155,7 @@ impl Reader {
 
     /// Reads until so many bytes are held, or one past the limit, or the input is at its end. The payload goes.
     fn fill<S: Source>(&mut self, from: &mut S, want: usize) -> Result<(), TraceFault>
-        requires want { want ≤ 65547 }
+        requires want { want ≤ LARGEST }
         requires open { self.old.kept ≡ None }
         ensures takes { TakesIn self.old (S.left from.old) self.new (S.left from.new) }
         ensures bounded { self.new.place + length self.new.held ≤ self.new.max + 1 }

@@ -5,12 +5,20 @@ ghost use Rattle.fg_io.specs.Faults.{CountsFault};
 ghost use Rattle.fg_io.specs.Source.{Gives};
 ghost use Rattle.fg_trace.specs.Window.{TakesMore};
 
+use crate::header::LARGEST;
 use fg_io::{Failed, Source};
 use std::alloc::{AllocError, Global};
 use std::marker::Model;
 
-/// How many bytes the buffer has: about four of the largest records.
-pub(crate) const BUFFER: usize = 262_144;
+/// How many bytes the source is asked for at once, where nothing is left of the piece before.
+const PIECE: usize = 262_144;
+
+/// Where such a piece is put. What is left of the piece before is moved to just before it, so that all whole pieces are
+/// read to the same place, at a multiple of a cache line, and at the same places of the source.
+const FRONT: usize = 65_600;
+
+/// How many bytes the buffer has.
+pub(crate) const BUFFER: usize = FRONT + PIECE;
 
 /// The payload of the record that was answered last, and behind it the bytes that were read and belong to no record that
 /// was answered.
@@ -30,9 +38,9 @@ impl Model for Window {
     ghost Value = { WindowState };
 
     ghost view = { λ a. record {
-        payload = slice_range a.buffer.items a.payload a.from;
-        held = slice_range a.buffer.items a.from a.to;
-        room = BUFFER - a.from
+      payload = slice_range a.buffer.items a.payload a.from;
+      held = slice_range a.buffer.items a.from a.to;
+      room = BUFFER - a.from;
     } };
 
     ghost invariant = { λ a. AreInOrder a.buffer.items a.payload a.from a.to };
@@ -41,13 +49,14 @@ impl Model for Window {
 impl Window {
     /// A window with nothing in it, whose memory is taken here.
     pub(crate) fn new(alloc: Global) -> Result<Window, AllocError>
-        ensures { IfOk result (λ window. window ≡ record { payload = []; held = []; room = BUFFER }) }
+        ensures { IfOk result (λ window. window
+            ≡ record { payload = []; held = []; room = PIECE }) }
     {
         Ok(Window {
             buffer: vec![in alloc; 0; BUFFER]?,
-            payload: 0,
-            from: 0,
-            to: 0,
+            payload: FRONT,
+            from: FRONT,
+            to: FRONT,
         })
     }
 
@@ -78,8 +87,13 @@ impl Window {
 
     /// Reads until so many bytes are held, or the input is at its end. It reads
     /// no further than that `most` are held. The payload goes.
-    pub(crate) fn fill<S: Source>(&mut self, from: &mut S, want: usize, most: usize) -> Result<(), Failed>
-        requires want { want ≤ BUFFER }
+    pub(crate) fn fill<S: Source>(
+        &mut self,
+        from: &mut S,
+        want: usize,
+        most: usize,
+    ) -> Result<(), Failed>
+        requires want { want ≤ LARGEST }
         requires most { want ≤ most }
         requires bound { most ≤ BUFFER + 1 }
         ensures takes { TakesMore self.old.held (S.left from.old) self.new.held (S.left from.new) }
@@ -98,30 +112,32 @@ impl Window {
         Ok(())
     }
 
-    /// Moves what is held to the front of the buffer where so many bytes have no room behind it. The payload goes.
+    /// Makes room for so many bytes to be held. The payload goes.
     fn make_room(&mut self, want: usize)
-        requires { want ≤ BUFFER }
+        requires { want ≤ LARGEST }
         ensures held { self.new.held ≡ self.old.held }
         ensures payload { self.new.payload ≡ [] }
         ensures room { want ≤ self.new.room }
     {
         self.payload = self.from;
         if BUFFER - self.from < want {
-            self.move_to_front();
+            self.move_forward();
         }
     }
 
-    /// Moves what is held to the front of the buffer.
-    fn move_to_front(&mut self)
+    /// Moves what is held, which is part of a record, to just before the place of a whole piece.
+    fn move_forward(&mut self)
+        requires { length self.old.held ≤ FRONT }
         ensures held { self.new.held ≡ self.old.held }
         ensures payload { self.new.payload ≡ [] }
-        ensures room { self.new.room ≡ BUFFER }
+        ensures room { PIECE ≤ self.new.room }
     {
         let (from, to) = (self.from, self.to);
-        self.buffer.as_mut_slice().copy_within(from..to, 0);
-        self.payload = 0;
-        self.from = 0;
-        self.to = to - from;
+        let start = FRONT - (to - from);
+        self.buffer.as_mut_slice().copy_within(from..to, start);
+        self.payload = start;
+        self.from = start;
+        self.to = FRONT;
     }
 
     /// Reads once, as much as the buffer has room for, but so that at most `most` bytes are held then. It answers how many
@@ -146,7 +162,12 @@ impl Window {
 }
 
 /// Reads once into the buffer between these places, and answers how many bytes it read.
-fn read_between<S: Source>(from: &mut S, buffer: &mut Vec<u8>, at: usize, end: usize) -> Result<usize, Failed>
+fn read_between<S: Source>(
+    from: &mut S,
+    buffer: &mut Vec<u8>,
+    at: usize,
+    end: usize,
+) -> Result<usize, Failed>
     requires order { at < end }
     requires within { end ≤ length buffer.old.items }
     ensures before { take at buffer.new.items ≡ take at buffer.old.items }

@@ -12,7 +12,8 @@ pub fn write_datagram(time: u64, port: u16, payload: &[u8], into: &mut [u8]) -> 
     requires room { HEADER + length payload.now ≤ length into.old }
     ensures size { result ≡ HEADER + length payload.now }
     ensures spelled { into.new
-        ≡ spelling (record { time = time; port = port; datagram = payload.now }) ++ drop result into.old }
+        ≡ spelling (record { time = time; port = port; datagram = payload.now })
+        ++ drop result into.old }
 {
     let end = put(into, 0, &time.to_be_bytes());
     let end = put(into, end, &port.to_be_bytes());

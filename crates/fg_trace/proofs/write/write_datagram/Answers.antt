@@ -1,4 +1,4 @@
-use Rattle.std.proofs.Common.{◌≡◌, ◌++◌, List, ℕ, length, drop, sym, ap, ◌∙◌}
+use Rattle.std.proofs.Common.{◌++◌, drop, ap, ◌∙◌}
 use Rattle.std.specs.Int.{to_be_bytes, w16, w64}
 use Rattle.fg_trace.proofs.Pieces.{four_pieces}
 use Rattle.fg_trace.proofs.write.write_datagram.Goals as goal

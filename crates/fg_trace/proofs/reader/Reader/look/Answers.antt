@@ -1,9 +1,7 @@
-use Rattle.std.proofs.Common.{◌≡◌, ◌≤◌, ◌<◌, ◌+◌, ℕ, List, length, sym, ap, ◌∙◌, subst, arith}
+use Rattle.std.proofs.Common.{◌≡◌, length, sym, ap, ◌∙◌, subst, arith}
 use Rattle.fg_trace.specs.Header.{IsHeader}
 use Rattle.fg_trace.specs.Reader.{ReaderState}
-use Rattle.fg_trace.specs.Walk.{HoldsNone}
-use Rattle.fg_trace.proofs.Walking.{takes_trans, header_longer}
-use Rattle.fg_trace.proofs.Stopping.{none_short, none_whole, ends, differs}
+use Rattle.fg_trace.proofs.Walking.{header_longer}
 use Rattle.fg_trace.proofs.reader.Reader.look.Goals as goal
 
 pub returns-clause-found : goal.returns-clause-found

@@ -1,4 +1,4 @@
-use Rattle.std.proofs.Common.{◌≡◌, IfSome, IfNone, Some, None, subst, arith}
+use Rattle.std.proofs.Common.{◌≡◌, None, arith}
 use Rattle.fg_trace.specs.Walk.{HoldsRecord, HoldsNone}
 use Rattle.fg_trace.proofs.Walking.{after_taking, walks_record}
 use Rattle.fg_trace.proofs.Stopping.{walks_ending}
