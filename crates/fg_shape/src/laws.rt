@@ -1,5 +1,5 @@
 //! Laws of the slots of an equation, each the contract of a function that does nothing.
-ghost use Rattle.fg_shape.specs.Shape.{CountsItsSlots, NumbersItsSlots, SlotsDiffer};
+ghost use Rattle.fg_shape.specs.Laws.{CountsItsSlots, NumbersItsSlots, SlotsDiffer};
 
 /// A shape has as many slots as it counts.
 pub fn a_shape_counts_its_slots()
