@@ -81,8 +81,8 @@ impl<T: Drop> From<AllocFailed<T>> for TableFault {
     }
 }
 
-/// 1 to 64 flows by their ports, of which no two have a port in common. Contracts see it as the list
-/// of the flows' own ports.
+/// 1 to 64 flows by their ports, of which no two have a port in common. Contracts see it as the
+/// list of the flows' own ports.
 #[derive(Drop)]
 pub struct Table {
     flows: Vec<u16>,
@@ -99,7 +99,8 @@ impl Model for Table {
 
     ghost view = { λ table. table.flows.items };
 
-    ghost invariant = { λ table. IsTable table.flows.items × IsIndex table.flows.items (length table.flows.items) table.owners };
+    ghost invariant = { λ table. IsTable table.flows.items
+        × IsIndex table.flows.items (length table.flows.items) table.owners };
 }
 
 impl Table {
@@ -187,8 +188,8 @@ pub struct Plan {
     pub table: Table,
     /// Positions that are played at once, 1 to 100.
     pub window: u32,
-    /// A window is played once a media datagram comes that is so far past its first position: from the
-    /// window to 1000 positions.
+    /// A window is played once a media datagram comes that is so far past its first position, from
+    /// the window to 1000 positions.
     pub depth: u32,
     /// Threads beside the one that reads, 0 to 16.
     pub workers: u32,
