@@ -1,9 +1,9 @@
 -- Readings and faults exclude each other.
 use Rattle.std.proofs.Common.{◌≡◌, ℕ, ◌+◌, ◌<◌, ◌≤◌, Bool, true, false, List, [], ◌∷◌, length, take, Option, Some, None, nat_eq, refl, ap, ◌∙◌, sym, subst, arith}
 use Rattle.fg_shape.specs.declared.layouts.LayoutFault.{LayoutFault}
-use Rattle.fg_shape.specs.declared.layouts.LayoutFault.TheVariants as layouts
 use Rattle.fg_shape.specs.declared.encoding.Settings.{Settings}
-use Rattle.fg_shape.specs.Limits.{IsLayout, FirstLayoutFault}
+use Rattle.fg_shape.specs.Limits.{FirstLayoutFault}
+use Rattle.fg_shape.proofs.LimitLemmas.{no_layout_fault}
 use Rattle.fg_flows.specs.Flows.{IsTable}
 use Rattle.fg_flows.proofs.FlowLemmas.{no_fault}
 use Rattle.fg_cli.specs.declared.Order.{Order}
@@ -19,22 +19,14 @@ use Rattle.fg_cli.specs.Lines.{CanBegin, IsLine, missing_of, number_of, values_o
 use Rattle.fg_cli.specs.Orders.{AreSettings, AreWhole, FirstFault, FirstOfLine, IsOrder, IsReading}
 use Rattle.fg_cli.proofs.Lines.{one_line, line_begins}
 
--- a layout that is accepted has no fault
-accepted_layout : (l d : ℕ) (rows : Bool) (f : LayoutFault) → IsLayout l d rows → FirstLayoutFault l d rows f → ⊥
-accepted_layout l d rows layouts.Columns x y = y x.columns
-accepted_layout l d rows layouts.Rows x y = y.1 x.height
-accepted_layout l d rows layouts.Product x y = omega (arith, x.product, y.2)
-accepted_layout l d rows layouts.RowsNeedFour x y =
-    let four = x.rows_need_four y.3 in
-    omega (arith, four, y.4)
-
+-- an encoding that is set has a layout that is written
 set_layout : (ss : List Setting) (s : Settings) (f : LayoutFault) → AreSettings ss s
     → FirstLayoutFault (number_of key.Columns ss) (number_of key.Rows ss) (nat_eq (number_of key.Fec ss) 1) f → ⊥
 set_layout ss s f x y =
     let A : ℕ → Type 0 = λ n. FirstLayoutFault n (number_of key.Rows ss) (nat_eq (number_of key.Fec ss) 1) f in
     let B : ℕ → Type 0 = λ n. FirstLayoutFault s.layout.l n (nat_eq (number_of key.Fec ss) 1) f in
     let C : Bool → Type 0 = λ b. FirstLayoutFault s.layout.l s.layout.d b f in
-    accepted_layout s.layout.l s.layout.d s.layout.rows f s.layout.accepted
+    no_layout_fault s.layout.l s.layout.d s.layout.rows f s.layout.accepted
     (subst C (sym x.both) (subst B (sym x.rows) (subst A (sym x.columns) y)))
 
 -- what an order says of its layout and its flows
@@ -67,7 +59,8 @@ line_has_no_fault c ss o (fault.Depth i) whole x y = whole.deep y.1
 line_has_no_fault c ss o (fault.Layout f) whole x y = (let s = order_layout c ss o x y.1 in set_layout ss s.0 f s.1 y.2)
 line_has_no_fault c ss o (fault.Flows f) whole x y = no_fault (values_of key.Flow ss) f (order_flows c ss o x y.1) y.2
 
-same_fault : (words : List (List ℕ)) (b c : Command) (xs ys : List Setting) (f : WordFault) → IsLine words b xs → IsLine words c ys → FirstOfLine c ys f → FirstOfLine b xs f
+-- a fault of the one line of the words
+pub same_fault : (words : List (List ℕ)) (b c : Command) (xs ys : List Setting) (f : WordFault) → IsLine words b xs → IsLine words c ys → FirstOfLine c ys f → FirstOfLine b xs f
 same_fault words b c xs ys f p q y =
     let one = one_line words b c xs ys p q in
     let P : Command → Type 0 = λ x. FirstOfLine x ys f in

@@ -22,3 +22,8 @@ abbrev pub ReadingsHaveNoFault : Type 0
 ReadingsHaveNoFault =
     (words : List (List ℕ)) (order : Order) (fault : WordFault)
     → IsReading words order → FirstFault words fault → ⊥
+
+-- Words break at most one rule first.
+abbrev pub OneFault : Type 0
+OneFault =
+    (words : List (List ℕ)) (a b : WordFault) → FirstFault words a → FirstFault words b → a ≡ b
