@@ -1,5 +1,5 @@
 -- Words break at most one rule first.
-use Rattle.std.proofs.Common.{◌≡◌, ℕ, zero, suc, ◌+◌, ◌<◌, ◌≤◌, Bool, true, false, List, [], ◌∷◌, length, take, Option, Some, None, slice_get, nat_eq, refl, ap, ◌∙◌, sym, subst, inl, inr, arith}
+use Rattle.std.proofs.Common.{◌≡◌, ℕ, zero, suc, ◌+◌, ◌<◌, ◌≤◌, true, false, List, [], ◌∷◌, length, take, Some, nat_eq, refl, ap, ◌∙◌, sym, subst, inl, inr, arith}
 use Rattle.std.proofs.lemmas.Bool.{cases_order}
 use Rattle.std.proofs.lemmas.List.{length-take-le}
 use Rattle.fg_shape.proofs.LimitLemmas as limits
@@ -118,7 +118,7 @@ same_bad : (words : List (List ℕ)) (i j : ℕ) → FirstFault words (fault.Bad
 same_bad words i j x y =
     elim (cases_order i j) [
       | inl same ↦ same
-      | inr apart ↦ (elim apart [ | inl less ↦ absurd (x.2 (earlier words i j less y.0 y.1)) | inr more ↦ absurd (y.2 (earlier words j i more x.0 x.1)) ])
+      | inr apart ↦ (elim apart [ inl less ↦ absurd (x.2 (earlier words i j less y.0 y.1)) | inr more ↦ absurd (y.2 (earlier words j i more x.0 x.1)) ])
     ]
 
 of_line : (words : List (List ℕ)) (a b : WordFault) (c d : Command) (xs ys : List Setting) → IsLine words c xs → IsLine words d ys → FirstOfLine c xs a → FirstOfLine d ys b → a ≡ b

@@ -1,5 +1,5 @@
 -- The rows of the table: names told apart, and values within their ranges.
-use Rattle.std.proofs.Common.{◌≡◌, ◌≢◌, ℕ, zero, suc, ◌+◌, ◌^◌, ◌<◌, ◌≤◌, Bool, true, false, cond, nat_eq, List, [], ◌∷◌, ◌++◌, get_or, length, map, Option, Some, None, refl, ap, ◌∙◌, sym, subst, arith, append_assoc, lit<, lit≤}
+use Rattle.std.proofs.Common.{◌≡◌, ◌≢◌, ℕ, zero, suc, ◌^◌, ◌<◌, ◌≤◌, Bool, true, false, cond, nat_eq, List, [], ◌∷◌, ◌++◌, get_or, map, refl, ap, ◌∙◌, sym, subst, arith, append_assoc, lit<, lit≤}
 use Rattle.std.specs.Fmt.{decimal}
 use lib.Pointwise.{pointwise}
 use Rattle.std.specs.List.{position_or_len}
@@ -10,7 +10,7 @@ use Rattle.fg_cli.specs.declared.grammar.Key.TheVariants as key
 use Rattle.fg_cli.specs.declared.grammar.Command.{Command}
 use Rattle.fg_cli.specs.declared.grammar.Command.TheVariants as command
 use Rattle.fg_cli.specs.declared.settings.Setting.{Setting}
-use Rattle.fg_cli.specs.Grammar.{row, place, same_key, Range, Number, Either, Allows, value_text, Knows, keys_of, command_text}
+use Rattle.fg_cli.specs.Grammar.{row, place, same_key, Either, Allows, value_text, command_text}
 use Rattle.fg_cli.specs.Lines.{word_of, setting_text, default_of}
 use Rattle.fg_cli.specs.Reading.{greatest_of}
 

@@ -1,5 +1,5 @@
 -- Lines: words that are a command and settings, in one way, and word by word.
-use Rattle.std.proofs.Common.{◌≡◌, ℕ, zero, suc, ◌+◌, ◌<◌, ◌≤◌, Bool, true, false, List, [], ◌∷◌, ◌++◌, get_or, length, take, drop, map, Option, Some, None, slice_get, refl, ap, ◌∙◌, sym, subst, inl, inr, arith, lit≤, add-one, length-append, append-nil}
+use Rattle.std.proofs.Common.{◌≡◌, ℕ, zero, suc, ◌+◌, ◌<◌, ◌≤◌, true, false, List, [], ◌∷◌, ◌++◌, get_or, length, take, drop, map, Option, Some, None, slice_get, refl, ap, ◌∙◌, sym, subst, inl, inr, arith, lit≤, add-one, length-append, append-nil}
 use Rattle.std.specs.List.{All}
 use Rattle.std.proofs.lemmas.List.{take_more, map-append, take-append-drop, length-take-le}
 use Rattle.std.proofs.lemmas.List.Elements.{All-append, All-cons, All-nil, All-take}
@@ -7,7 +7,7 @@ use Rattle.fg_cli.specs.declared.grammar.Command.{Command}
 use Rattle.fg_cli.specs.declared.grammar.Key.{Key}
 use Rattle.fg_cli.specs.declared.grammar.Key.TheVariants as key
 use Rattle.fg_cli.specs.declared.settings.Setting.{Setting}
-use Rattle.fg_cli.specs.Grammar.{row, same_key, Allows, Knows, command_text}
+use Rattle.fg_cli.specs.Grammar.{row, same_key, Allows, command_text}
 use Rattle.fg_cli.specs.Lines.{setting_text, values_of, IsKnown, AtMost, IsLine, CanBegin}
 use Rattle.fg_cli.specs.Reading.{AreBounded, InRanges}
 use Rattle.fg_cli.proofs.Keys.{setting_injective, command_injective, allowed_bound, same_is, same_self}

@@ -1,5 +1,5 @@
 -- Lists of settings by the values that they give a name.
-use Rattle.std.proofs.Common.{◌≡◌, ℕ, zero, suc, ◌+◌, ◌<◌, ◌≤◌, Bool, true, false, cond, List, [], ◌∷◌, ◌++◌, get_or, length, take, map, filter, Option, Some, None, slice_get, IfNone, nat_eq, ◌||◌, ◌&&◌, refl, ap, ◌∙◌, sym, arith, length-append}
+use Rattle.std.proofs.Common.{◌≡◌, ℕ, zero, suc, ◌+◌, ◌<◌, Bool, true, false, cond, List, [], ◌∷◌, ◌++◌, get_or, length, take, map, filter, Option, Some, None, slice_get, IfNone, nat_eq, ◌||◌, ◌&&◌, refl, ap, ◌∙◌, sym, arith}
 use lib.Pointwise.{pointwise}
 use Rattle.std.specs.List.{cons_option, filter_map, list_any}
 use Rattle.std.proofs.lemmas.Bool.{eq-eqb}

@@ -1,5 +1,5 @@
 -- Values that a line sets lie within their names' ranges.
-use Rattle.std.proofs.Common.{◌≡◌, ℕ, zero, suc, ◌+◌, ◌<◌, ◌≤◌, ◌^◌, Bool, true, false, cond, List, [], ◌∷◌, get_or, length, Option, Some, None, slice_get, unwrap_or, refl, ap, ◌∙◌, sym, subst, inl, inr, ◌⊎◌, arith, lit≤}
+use Rattle.std.proofs.Common.{◌≡◌, ℕ, suc, ◌≤◌, true, false, List, [], ◌∷◌, slice_get, unwrap_or, refl, sym, subst, inl, inr, ◌⊎◌, arith, lit≤}
 use Rattle.std.specs.List.{All}
 use Rattle.std.proofs.lemmas.List.Elements.{All-cons, All-nil}
 use Rattle.fg_cli.specs.declared.grammar.Key.{Key}

@@ -1,5 +1,5 @@
 -- Readings and faults exclude each other.
-use Rattle.std.proofs.Common.{◌≡◌, ℕ, ◌+◌, ◌<◌, ◌≤◌, Bool, true, false, List, [], ◌∷◌, length, take, Option, Some, None, nat_eq, refl, ap, ◌∙◌, sym, subst, arith}
+use Rattle.std.proofs.Common.{◌≡◌, ℕ, Bool, List, nat_eq, ◌∙◌, sym, subst}
 use Rattle.fg_shape.specs.declared.layouts.LayoutFault.{LayoutFault}
 use Rattle.fg_shape.specs.declared.encoding.Settings.{Settings}
 use Rattle.fg_shape.specs.Limits.{FirstLayoutFault}
@@ -14,8 +14,8 @@ use Rattle.fg_cli.specs.declared.grammar.Command.{Command}
 use Rattle.fg_cli.specs.declared.grammar.Command.TheVariants as command
 use Rattle.fg_cli.specs.declared.grammar.Key.TheVariants as key
 use Rattle.fg_cli.specs.declared.settings.Setting.{Setting}
-use Rattle.fg_cli.specs.Grammar.{Knows, command_text}
-use Rattle.fg_cli.specs.Lines.{CanBegin, IsLine, missing_of, number_of, values_of, setting_text}
+use Rattle.fg_cli.specs.Grammar.{Knows}
+use Rattle.fg_cli.specs.Lines.{IsLine, number_of, values_of}
 use Rattle.fg_cli.specs.Orders.{AreSettings, AreWhole, FirstFault, FirstOfLine, IsOrder, IsReading}
 use Rattle.fg_cli.proofs.Lines.{one_line, line_begins}
 

@@ -1,5 +1,5 @@
 -- Two orders of one command with the same settings are equal.
-use Rattle.std.proofs.Common.{◌≡◌, ℕ, ◌≤◌, Bool, List, [], ◌∷◌, nat_eq, IsTrue, refl, ap, ◌∙◌, sym, subst}
+use Rattle.std.proofs.Common.{◌≡◌, ℕ, Bool, List, [], ◌∷◌, refl, ap, ◌∙◌, sym, subst}
 use Rattle.std.proofs.Props.{props}
 use Rattle.fg_shape.specs.declared.layouts.Layout.{Layout}
 use Rattle.fg_shape.specs.declared.encoding.Settings.{Settings}
@@ -11,7 +11,6 @@ use Rattle.fg_cli.specs.declared.Order.TheVariants as order
 use Rattle.fg_cli.specs.declared.grammar.Command.{Command}
 use Rattle.fg_cli.specs.declared.grammar.Command.TheVariants as command
 use Rattle.fg_cli.specs.declared.settings.Setting.{Setting}
-use Rattle.fg_cli.specs.Lines.{IsLine}
 use Rattle.fg_cli.specs.Orders.{AreLosses, AreSettings, IsOrder, IsPlan, IsReading}
 use Rattle.fg_cli.proofs.Lines.{one_line}
 

@@ -1,7 +1,7 @@
 -- The words of the command line, as a manual page has them: for each command the names that may stand after
 -- it, and for each name the values that it takes, what holds where it isn't there, and how often it may
 -- stand. All of it is this project's own.
-use Rattle.std.specs.Prelude.{◌<◌, ◌≤◌, ◌≡◌, ◌∷◌, [], ℕ, zero, suc, Bool, List, Option, Some, None, IsTrue, codes, nat_eq}
+use Rattle.std.specs.Prelude.{◌≤◌, ◌∷◌, [], ℕ, zero, suc, Bool, List, Option, Some, None, IsTrue, codes, nat_eq}
 use Rattle.std.specs.Fmt.{decimal}
 use Rattle.std.specs.List.{list_any}
 use Rattle.fg_cli.specs.declared.Name.TheVariants as name

@@ -1,5 +1,5 @@
 -- What the words of the command line spell: a command and its settings.
-use Rattle.std.specs.Prelude.{◌≡◌, ◌≤◌, ◌∷◌, ◌++◌, [], ℕ, Bool, List, Option, Some, None, ◌⊎◌, codes, filter, map, length, slice_get, unwrap_or, nat_eq, if◌then◌else◌}
+use Rattle.std.specs.Prelude.{◌≡◌, ◌≤◌, ◌∷◌, ◌++◌, [], ℕ, List, Option, Some, None, ◌⊎◌, codes, filter, map, length, slice_get, unwrap_or, nat_eq, if◌then◌else◌}
 use Rattle.std.specs.List.{All, filter_map}
 use Rattle.fg_cli.specs.declared.Name.{Name}
 use Rattle.fg_cli.specs.declared.grammar.Absent.{Absent}

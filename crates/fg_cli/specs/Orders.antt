@@ -1,5 +1,5 @@
 -- What a command line orders, and the first rule that one breaks.
-use Rattle.std.specs.Prelude.{◌≡◌, ◌+◌, ◌^◌, ◌<◌, ◌≤◌, ◌∷◌, [], ℕ, List, Option, Some, None, ◌⊎◌, length, nat_eq, take, if◌then◌else◌}
+use Rattle.std.specs.Prelude.{◌≡◌, ◌+◌, ◌^◌, ◌<◌, ◌≤◌, ◌∷◌, [], ℕ, List, Some, None, ◌⊎◌, length, nat_eq, take}
 use Rattle.std.specs.List.{All}
 use Rattle.fg_shape.specs.declared.encoding.Settings.{Settings}
 use Rattle.fg_shape.specs.declared.encoding.Losses.{Losses}

@@ -139,10 +139,8 @@ impl Command {
     /// The name that may stand after the command and is spelled so.
     pub fn key(self, name: &str) -> Option<Key>
         ensures found { IfSome result (λ key. Knows self key × (name.now ≡ (row key).name)) }
-        ensures none {
-            IfNone result
-              ((key : Key) → Knows self key → name.now ≡ (row key).name → ⊥)
-        }
+        ensures none { IfNone result
+            ((key : Key) → Knows self key → name.now ≡ (row key).name → ⊥) }
     {
         for key in self.keys() {
             if key.row().name == name {

@@ -229,10 +229,8 @@ fn layout(settings: &[Setting]) -> Result<Layout, LayoutFault>
     ensures columns { IfOk result (λ layout. layout.l ≡ number_of key.Columns settings.now) }
     ensures rows { IfOk result (λ layout. layout.d ≡ number_of key.Rows settings.now) }
     ensures both { IfOk result (λ layout. layout.rows ≡ nat_eq (number_of key.Fec settings.now) 1) }
-    ensures staggered {
-        IfOk result
-          (λ layout. layout.staggered ≡ nat_eq (number_of key.Layout settings.now) 1)
-    }
+    ensures staggered { IfOk result
+        (λ layout. layout.staggered ≡ nat_eq (number_of key.Layout settings.now) 1) }
     ensures faults { IfErr result
         (FirstLayoutFault (number_of key.Columns settings.now) (number_of key.Rows settings.now)
         (nat_eq (number_of key.Fec settings.now) 1)) }

@@ -23,10 +23,8 @@ pub fn read_settings(
     words: &[String],
 ) -> Result<Vec<Setting>, ReadWords>
     requires { slice_get (map string_bytes words.now) 0 ≡ Some (command_text command) }
-    ensures line {
-        IfOk result
-          (λ settings. IsLine (map string_bytes words.now) command settings.items)
-    }
+    ensures line { IfOk result
+        (λ settings. IsLine (map string_bytes words.now) command settings.items) }
     ensures faults { IfErr result (IsFault (map string_bytes words.now)) }
 {
     let mut settings = Vec::new(alloc);
@@ -58,10 +56,8 @@ fn next_setting(command: Command, word: &str, settings: &[Setting]) -> Option<Se
 
 /// The setting that the word spells, where it may stand after the command.
 fn read_setting(command: Command, word: &str) -> Option<Setting>
-    ensures found {
-        IfSome result
-          (λ setting. IsKnown command setting × (word.now ≡ setting_text setting))
-    }
+    ensures found { IfSome result
+        (λ setting. IsKnown command setting × (word.now ≡ setting_text setting)) }
     ensures none { IfNone result
         ((setting : Setting) → IsKnown command setting → word.now ≡ setting_text setting → ⊥) }
 {

@@ -1,8 +1,8 @@
 -- A layout's first fault.
-use Rattle.std.proofs.Common.{◌≡◌, ℕ, ◌*◌, ◌<◌, ◌≤◌, Bool, refl, arith}
+use Rattle.std.proofs.Common.{◌≡◌, ℕ, Bool, refl, arith}
 use Rattle.fg_shape.specs.declared.layouts.LayoutFault.{LayoutFault}
 use Rattle.fg_shape.specs.declared.layouts.LayoutFault.TheVariants.{Columns, Rows, Product, RowsNeedFour}
-use Rattle.fg_shape.specs.Limits.{HasColumns, HasRows, IsLayout, FirstLayoutFault}
+use Rattle.fg_shape.specs.Limits.{IsLayout, FirstLayoutFault}
 
 -- a layout that is written has no fault
 pub no_layout_fault : (l d : ℕ) (rows : Bool) (f : LayoutFault) → IsLayout l d rows → FirstLayoutFault l d rows f → ⊥

@@ -1,5 +1,4 @@
-use Rattle.std.proofs.Common.{◌≡◌, ◌<◌, ◌^◌, ℕ, sym, arith}
-use Rattle.fg_cli.specs.Reading.{BeginsPlain}
+use Rattle.std.proofs.Common.{◌≡◌, ◌<◌, ◌^◌, sym, arith}
 use Rattle.fg_cli.proofs.Numbers.{number_read, number_spelled, plain_decimal, plain_is}
 use Rattle.fg_cli.proofs.grammar.number.Goals as goal
 use Rattle.fg_cli.proofs.grammar.number.Goals.{then-number-least-via-then-number-least, then-number-least-via-else-number-least+then-number-greatest}

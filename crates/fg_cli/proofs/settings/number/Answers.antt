@@ -1,4 +1,4 @@
-use Rattle.std.proofs.Common.{◌≡◌, ◌<◌, length, unwrap_or, ap, sym, ◌∙◌, arith}
+use Rattle.std.proofs.Common.{◌<◌, length, unwrap_or, ap, sym, ◌∙◌, arith}
 use Rattle.fg_cli.specs.Grammar.{row}
 use Rattle.fg_cli.specs.Lines.{default_of}
 use Rattle.fg_cli.proofs.Lists.{first_value}

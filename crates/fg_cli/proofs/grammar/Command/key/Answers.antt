@@ -1,9 +1,9 @@
-use Rattle.std.proofs.Common.{rules, ◌≡◌, ◌<◌, ℕ, get_or, length, List, true, ap, sym, subst, ◌∙◌, arith, below_more}
+use Rattle.std.proofs.Common.{rules, ◌≡◌, ◌<◌, get_or, length, List, true, ap, sym, subst, ◌∙◌, arith, below_more}
 use Rattle.std.specs.List.{list_any}
 use Rattle.std.proofs.lemmas.List.Folds.{list_any_at}
 use Rattle.fg_cli.specs.declared.grammar.Key.{Key}
 use Rattle.fg_cli.specs.declared.grammar.Key.TheVariants as key
-use Rattle.fg_cli.specs.Grammar.{row, same_key, keys_of}
+use Rattle.fg_cli.specs.Grammar.{row, same_key}
 use Rattle.fg_cli.proofs.Keys.{same_is, same_self}
 use Rattle.fg_cli.proofs.Lists.{any_index, text_equal}
 use Rattle.fg_cli.proofs.grammar.Command.key.Goals as goal
