@@ -24,12 +24,8 @@ pub use mem_outlet::MemOutlet;
 pub use mem_sink::MemSink;
 pub use mem_source::MemSource;
 pub use outlet::Outlet;
-<<<<<<< HEAD
-pub use sink::{Sink, write_all, write_pieces};
-=======
 pub use safe::{SafeOutlet, SafeSink, SafeSource};
-pub use sink::{Sink, write_all};
->>>>>>> 291e0f49c3241c4251b204ea8a94f873f078a5f2
+pub use sink::{Sink, write_all, write_pieces};
 pub use source::Source;
 pub use standard::{ReaderSource, StderrSink, StdinSource, StdoutSink, WriterSink};
 
