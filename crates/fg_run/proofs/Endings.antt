@@ -5,7 +5,7 @@ use Rattle.std.proofs.lemmas.Grind.{flat_map-append}
 use Rattle.fg_words.specs.declared.Word.{Word}
 use Rattle.fg_run.specs.declared.ended.Why.{Why}
 use Rattle.fg_run.specs.declared.ended.Why.TheVariants.{Done, ReadFault, WriteFault, NotTrace as NoTrace, Memory, NotBuilt}
-use Rattle.fg_run.specs.Trace.{Record, Fits, spelling, magic, trace_of, Begins, IsLongest, DiffersAt, Ending, Ended, NotTrace, Cut, TooLong, IsTrace}
+use Rattle.fg_trace.specs.Trace.{Record, Fits, spelling, magic, trace_of, Begins, IsLongest, DiffersAt, Ending, Ended, NotTrace, Cut, TooLong, IsTrace}
 use Rattle.fg_run.specs.Flow.{AreInOrder, IsFirstNotBuilt}
 use Rattle.fg_run.specs.Input.{input_limit}
 use Rattle.fg_run.specs.Run.{AreWords, IsEnding}

@@ -4,7 +4,7 @@ use Rattle.std.specs.List.{flat_map, AllByRecursion}
 use Rattle.std.proofs.lemmas.List.{get_or-take, get_or_append_left, length-take}
 use Rattle.std.proofs.lemmas.Grind.{flat_map-append}
 use Rattle.fg_words.specs.declared.Word.{Word}
-use Rattle.fg_run.specs.Trace.{Record, Fits, spelling, magic, trace_of, StandsFirst, Begins, IsLongest, DiffersAt}
+use Rattle.fg_trace.specs.Trace.{Record, Fits, spelling, magic, trace_of, StandsFirst, Begins, IsLongest, DiffersAt}
 use Rattle.fg_run.specs.Flow.{AreCarried, AreInOrder, IsFirstNotBuilt}
 use Rattle.fg_run.proofs.Records.{one_record}
 use Rattle.fg_run.proofs.Traces.{after_magic_same}

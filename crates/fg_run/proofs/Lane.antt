@@ -7,7 +7,7 @@ use Rattle.fg_io.specs.Laws.{PutsJoin, PutPartOfMore, PutPartJoins}
 use Rattle.fg_io.specs.Outlet.{Lanes, Puts, PutsPart}
 use Rattle.fg_rtp.specs.Laws.{ReadsOneWay}
 use Rattle.fg_rtp.specs.MediaDatagram.{IsMediaDatagram, payload_of}
-use Rattle.fg_run.specs.Trace.{Record, Fits, spelling, StandsFirst}
+use Rattle.fg_trace.specs.Trace.{Record, Fits, spelling, StandsFirst}
 use Rattle.fg_run.specs.Flow.{Carries, AreCarried, lane_of_words}
 use Rattle.fg_run.specs.Steps.{SpellInOrder}
 use Rattle.fg_run.proofs.Records.{one_record}

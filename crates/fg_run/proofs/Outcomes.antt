@@ -4,7 +4,7 @@ use Rattle.fg_words.specs.declared.Word.{Word}
 use Rattle.fg_run.specs.declared.ended.Why.TheVariants.{Done}
 use Rattle.fg_run.specs.declared.fault.Fault.{Fault}
 use Rattle.fg_run.specs.declared.fault.Fault.TheVariants.{Write}
-use Rattle.fg_run.specs.Trace.{magic}
+use Rattle.fg_trace.specs.Trace.{magic}
 use Rattle.fg_run.specs.Steps.{SpellInOrder}
 use Rattle.fg_run.specs.Input.{input_limit}
 use Rattle.fg_run.specs.Run.{AreWords, IsEnding}

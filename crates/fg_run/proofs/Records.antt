@@ -3,7 +3,7 @@ use Rattle.std.proofs.Common.{◌≡◌, ℕ, ◌+◌, ◌<◌, ◌^◌, List, [
 use Rattle.std.specs.Int.{to_be_bytes, w16, w64}
 use Rattle.std.proofs.lemmas.Nat.{from_be_bytes-to_be_bytes_2, from_be_bytes-to_be_bytes_8}
 use Rattle.std.specs.Int.{from_be_bytes}
-use Rattle.fg_run.specs.Trace.{Record, spelling, StandsFirst}
+use Rattle.fg_trace.specs.Trace.{Record, spelling, StandsFirst}
 
 -- two lists with fronts of one length
 pub same_front : (a b xs ys : List ℕ) → length a ≡ length b → a ++ xs ≡ b ++ ys → (a ≡ b) × (xs ≡ ys)

@@ -3,7 +3,7 @@ use Rattle.std.proofs.Common.{◌≡◌, ℕ, ◌+◌, ◌-◌, ◌≤◌, List,
 use Rattle.std.specs.List.{flat_map, AllByRecursion}
 use Rattle.std.proofs.lemmas.Grind.{flat_map-append}
 use Rattle.fg_words.specs.declared.Word.{Word}
-use Rattle.fg_run.specs.Trace.{Record, Fits, spelling, magic, trace_of, StandsFirst, Begins, IsLongest}
+use Rattle.fg_trace.specs.Trace.{Record, Fits, spelling, magic, trace_of, StandsFirst, Begins, IsLongest}
 use Rattle.fg_run.specs.Flow.{IsFirstNotBuilt}
 use Rattle.fg_run.specs.Steps.{SpellInOrder, IsFirstNotBuiltAt}
 use Rattle.fg_run.specs.Input.{input_limit}

@@ -4,7 +4,7 @@ use Rattle.std.specs.List.{flat_map, AllByRecursion}
 use Rattle.std.proofs.lemmas.Grind.{flat_map-append}
 use Rattle.fg_words.specs.declared.Word.{Word}
 use Rattle.fg_rtp.specs.Laws.{ReadsOneWay}
-use Rattle.fg_run.specs.Trace.{Record, Fits, spelling}
+use Rattle.fg_trace.specs.Trace.{Record, Fits, spelling}
 use Rattle.fg_run.specs.Flow.{Carries, AreCarried, AreInOrder}
 use Rattle.fg_run.specs.Steps.{SpellInOrder, MayFollow, BeginsBuilt, IsFirstNotBuiltAt}
 

@@ -3,7 +3,7 @@ use Rattle.std.specs.Prelude.{◌≡◌, ◌<◌, ◌+◌, ◌%◌, ℕ, List, [
 use Rattle.std.specs.List.{flat_map}
 use Rattle.fg_words.specs.declared.Word.{Word}
 use Rattle.fg_rtp.specs.MediaDatagram.{IsMediaDatagram, payload_of}
-use Rattle.fg_run.specs.Trace.{Record, Begins, trace_of}
+use Rattle.fg_trace.specs.Trace.{Record, Begins, trace_of}
 
 -- The record is on the port, and its datagram is a media datagram with this sequence number and word.
 pub record Carries (port seq : ℕ) (word : Word) (r : Record) : Type 0 where

@@ -8,7 +8,7 @@ use Rattle.fg_run.specs.declared.ended.Why.TheVariants.{Done, WriteFault, NotTra
 use Rattle.fg_run.specs.Flow.{AreInOrder, IsFirstNotBuilt, lane_of_words}
 use Rattle.fg_run.specs.Input.{input_limit}
 use Rattle.fg_run.specs.Report.{report_of}
-use Rattle.fg_run.specs.Trace.{Record, IsTrace, Ended as AtRecordEnd, NotTrace as NoMagic}
+use Rattle.fg_trace.specs.Trace.{Record, IsTrace, Ended as AtRecordEnd, NotTrace as NoMagic}
 
 -- The bytes are a trace, and its records are the flow's media datagrams in order, with these words.
 abbrev pub AreWords : ℕ → List ℕ → List Word → Type 0

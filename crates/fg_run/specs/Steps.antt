@@ -6,7 +6,7 @@ use Rattle.fg_words.specs.declared.Word.{Word}
 use Rattle.fg_io.specs.Faults.{CountsFault}
 use Rattle.fg_run.specs.Flow.{Carries, AreInOrder, IsFirstNotBuilt}
 use Rattle.fg_run.specs.Input.{input_limit}
-use Rattle.fg_run.specs.Trace.{Record, Fits, StandsFirst, DiffersAt, spelling}
+use Rattle.fg_trace.specs.Trace.{Record, Fits, StandsFirst, DiffersAt, spelling}
 use Rattle.fg_run.specs.declared.ended.Why.{Why}
 use Rattle.fg_run.specs.declared.ended.Why.TheVariants.{Done, ReadFault, WriteFault, NotTrace as NoTrace, Memory as NoMemory, NotBuilt as Unbuilt}
 use Rattle.fg_run.specs.declared.fault.Fault.{Fault}

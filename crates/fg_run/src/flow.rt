@@ -3,7 +3,7 @@ ghost use Rattle.std.specs.Prelude.{◌≡◌, ◌<◌, ◌≤◌, ℕ, List, If
 ghost use Rattle.fg_io.specs.Faults.{CountsFault};
 ghost use Rattle.fg_io.specs.Outlet.{Puts, PutsPart};
 ghost use Rattle.fg_words.specs.declared.Word.{Word};
-ghost use Rattle.fg_run.specs.Trace.{Record};
+ghost use Rattle.fg_trace.specs.Trace.{Record};
 ghost use Rattle.fg_run.specs.Flow.{Carries, lane_of_words};
 ghost use Rattle.fg_run.specs.Steps.{BeginsBuilt, SpellInOrder, IsFirstNotBuiltAt};
 

@@ -2,7 +2,7 @@
 ghost use Rattle.std.specs.Prelude.{◌≡◌, ◌<◌, ◌≤◌, ◌++◌, ℕ, length, IfOk, IfErr, IfSome, IsErrOf};
 ghost use Rattle.std.specs.Io.KnownBytes.{IsAtEnd};
 ghost use Rattle.fg_io.specs.Faults.{CountsFault};
-ghost use Rattle.fg_run.specs.Trace.{magic, DiffersAt};
+ghost use Rattle.fg_trace.specs.Trace.{magic, DiffersAt};
 ghost use Rattle.fg_run.specs.Steps.{IsReadEnd};
 
 use crate::fault::Fault;

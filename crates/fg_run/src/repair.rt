@@ -7,7 +7,7 @@ ghost use Rattle.fg_run.specs.declared.ended.Why.TheVariants.{Done};
 ghost use Rattle.fg_run.specs.Ended.{IsFault};
 ghost use Rattle.fg_run.specs.Steps.{SpellInOrder, IsRefusal, why_of};
 ghost use Rattle.fg_run.specs.Run.{IsEnding, Outputs, OutputsPart, WritesNothing};
-ghost use Rattle.fg_run.specs.Trace.{magic};
+ghost use Rattle.fg_trace.specs.Trace.{magic};
 
 use crate::fault::Fault;
 use crate::flow::{count_in_order, write_lane};

@@ -1,7 +1,7 @@
 //! Records of a trace.
 ghost use Rattle.std.specs.Prelude.{◌≡◌, ◌<◌, ◌^◌, ◌++◌, ℕ, List, IfSome, IfNone, length};
 ghost use Rattle.std.specs.Int.{to_be_bytes, w16, w64};
-ghost use Rattle.fg_run.specs.Trace.{Record, StandsFirst};
+ghost use Rattle.fg_trace.specs.Trace.{Record, StandsFirst};
 
 /// A timed datagram of a trace.
 #[derive(Clone, Copy)]

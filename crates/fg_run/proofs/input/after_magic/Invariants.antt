@@ -1,5 +1,5 @@
 use Rattle.std.proofs.Common.{◌≡◌, take}
-use Rattle.fg_run.specs.Trace.{magic}
+use Rattle.fg_trace.specs.Trace.{magic}
 use Rattle.fg_run.proofs.input.after_magic.Given as goal
 
 abbrev pub invariant-loop-place : goal.invariant-loop-place

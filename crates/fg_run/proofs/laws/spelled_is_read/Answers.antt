@@ -1,5 +1,0 @@
-use Rattle.fg_run.proofs.Endings.{spelled_is_read}
-use Rattle.fg_run.proofs.laws.spelled_is_read.Goals as goal
-
-pub returns : goal.returns
-returns c = spelled_is_read
