@@ -1,5 +1,6 @@
 //! The worked examples: the trace of three records has 4,028 bytes, of which the third record begins at 2,688.
-ghost use Rattle.std.specs.Prelude.{◌≡◌, ◌≤◌, true};
+ghost use Rattle.std.specs.Prelude.{◌≡◌, ◌≤◌, ◌<◌, ◌^◌, ℕ, List, length, IfOk, IfSome, true};
+ghost use Rattle.fg_trace.specs.Trace.{Record, IsTrace, Ended};
 
 use super::*;
 use fg_io::{MemSource, SafeSource, Source};
@@ -98,11 +99,11 @@ fn each_cut_in_pieces(rt: HostRuntime) -> Result<(), Fail> {
 
 #[test]
 fn cut_in_any_pieces(rt: HostRuntime) -> Result<(), Fail> {
-    let bytes = three(rt.alloc())?;
+    let mut bytes = three(rt.alloc())?;
     assert_eq!(rt; bytes.len(), 4028);
-    let cut = &bytes[..4000];
+    bytes.truncate(4000);
     for piece in [1, 7, 4000] {
-        let walk = walked(rt.alloc(), cut, piece.max(1), 1 << 40)?;
+        let walk = walked(rt.alloc(), &bytes, piece.max(1), 1 << 40)?;
         assert_eq!(rt; walk, (2, Err(TraceFault::Cut(2688))));
     }
     Ok(())
@@ -238,6 +239,39 @@ fn a_written_record_is_read_back(rt: HostRuntime) -> Result<(), Fail> {
         15
     );
     assert!(rt; bytes.starts_with(b"\x01\x02\x03\x04\x05\x06\x07\x08\x13\x89\x00\x03abc*"));
+    Ok(())
+}
+
+/// How many records a trace has that comes to its end: a loop over a reader, whose invariant is where the reader stands.
+fn count_records<S: Source>(
+    alloc: Global,
+    from: &mut S,
+    max: u64,
+) -> Result<Result<u64, TraceFault>, AllocError>
+    requires least { 8 ≤ max }
+    requires few { max < 2 ^ 63 }
+    ensures { IfOk result (λ counted. IfOk counted (λ count.
+        (records : List Record) × (count ≡ length records)
+        × IfSome (S.left from.old) (λ bytes. IsTrace bytes max records Ended))) }
+{
+    let mut reader = Reader::new(alloc, max)?;
+    if let Err(fault) = reader.start(from) {
+        return Ok(Err(fault));
+    }
+    let mut count = 0;
+    loop {
+        match reader.next(from) {
+            Ok(Step::Datagram { .. }) => count += 1,
+            Ok(Step::End) => return Ok(Ok(count)),
+            Err(fault) => return Ok(Err(fault)),
+        }
+    }
+}
+
+#[test]
+fn records_are_counted(rt: HostRuntime) -> Result<(), Fail> {
+    let mut source = SafeSource::new(rt.alloc(), &three(rt.alloc())?, 7)?;
+    assert_eq!(rt; count_records(rt.alloc(), &mut source, 1 << 40)?, Ok(3));
     Ok(())
 }
 
