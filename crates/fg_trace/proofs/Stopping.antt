@@ -2,18 +2,16 @@
 use Rattle.std.proofs.Common.{◌≡◌, ◌⊎◌, inl, inr, ℕ, suc, ◌+◌, ◌<◌, ◌≤◌, Bool, Option, None, Some, IfSome, Ok, Err, List, [], ◌∷◌, ◌++◌, length, sym, ap, ◌∙◌, refl, subst, arith, append_assoc, append-nil, length-append}
 use Rattle.std.specs.Prelude.{nat_eq, if◌then◌else◌}
 use Rattle.std.specs.List.{flat_map, AllByRecursion}
-use Rattle.std.specs.Io.KnownBytes.{IsAtEnd}
 use Rattle.std.proofs.lemmas.Bool.Decides.{eqb_tells, leb_tells}
 use Rattle.std.proofs.lemmas.List.{take-append-le, get_or_append_left}
 use Rattle.fg_trace.specs.declared.step.Step.TheVariants.{Datagram, End}
 use Rattle.fg_trace.specs.declared.step.TraceFault.TheVariants.{ReadFault, NotTrace as NoMagic, TooLong as PastLimit, Cut as CutShort}
-use Rattle.fg_trace.specs.Header.{IsHeader}
 use Rattle.fg_trace.specs.Trace.{Record, Fits, spelling, magic, trace_of, StandsFirst, Begins, IsLongest, DiffersAt, IsTrace, NotTrace}
 use Rattle.fg_trace.specs.Reader.{Answer, ReaderState, StandsBefore, StandsAfter, IsEnding, Walks, ending_at}
 use Rattle.fg_trace.specs.Walk.{HoldsEnough, HoldsNone}
 use Rattle.fg_trace.proofs.Traces.{next_stands}
 use Rattle.fg_trace.proofs.Fronts.{traces, begins_front, split_spelling}
-use Rattle.fg_trace.proofs.Walking.{header_size, length_spelling, trace_more}
+use Rattle.fg_trace.proofs.Walking.{trace_more}
 
 -- no list is longer where no record stands next
 longest_here : (bytes : List ℕ) (max : ℕ) (records : List Record) (rest : List ℕ) → AllByRecursion Fits records → length (trace_of records) ≤ max → bytes ≡ trace_of records ++ rest

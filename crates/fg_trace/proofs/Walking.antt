@@ -11,7 +11,7 @@ use Rattle.fg_trace.specs.Header.{IsHeader, BeginsMagic}
 use Rattle.fg_trace.specs.Trace.{Record, Fits, spelling, magic, trace_of, StandsFirst}
 use Rattle.fg_trace.specs.Reader.{Answer, ReaderState, StandsBefore, StandsAfter, KeepsEnding, IsEnding, Walks}
 use Rattle.fg_trace.specs.Walk.{TakesIn, HoldsRecord, after_record, after_magic}
-use Rattle.fg_trace.proofs.Records.{header_same, spelling_by_header}
+use Rattle.fg_trace.proofs.Records.{spelling_by_header}
 use Rattle.fg_trace.proofs.Traces.{spelled_last}
 
 -- nothing is kept, so what is kept is right
@@ -75,13 +75,6 @@ front_record held time port size h whole =
       },
       counted,
     )
-
--- all records that stand at the front of a header's bytes have its size
-pub header_size : (held rest : List ℕ) (time port size : ℕ) (r : Record) (after : List ℕ) → IsHeader held time port size → StandsFirst (held ++ rest) r after → length (spelling r) ≡ 12 + size
-header_size held rest time port size r after h k =
-    let same = header_same time port size r.time r.port (length r.datagram) (h.rest ++ rest) (r.datagram ++ after) h.time_fits h.port_fits h.size_fits k.fits.time k.fits.port k.fits.size
-    (sym (ap (λ t. t ++ rest) h.spelled) ∙ k.spelled ∙ spelling_by_header r after) in
-    omega (arith, same.2, length_spelling r)
 
 -- a header stays when more comes behind it
 pub header_longer : (held given : List ℕ) (time port size : ℕ) → IsHeader held time port size → IsHeader (held ++ given) time port size
