@@ -60,7 +60,8 @@ pub enum FecFault {
 pub fn read(bytes: &[u8]) -> Result<Parity, FecFault>
     ensures ok { IfOk result (λ parity. IsParityDatagram bytes.now parity) }
     ensures faults { (fault : FecFault) → IsErrOf result fault ↔ FirstFault fault bytes.now }
-    ensures refused { IfErr result (λ _. (parity : Parity) → IsParityDatagram bytes.now parity → ⊥) }
+    ensures refused { IfErr result (λ _. (parity : Parity)
+        → IsParityDatagram bytes.now parity → ⊥) }
 {
     if bytes.len() < HEADERS_LENGTH {
         return Err(FecFault::Short);

@@ -16,7 +16,8 @@ pub struct TimedDatagram<'a> {
 
 /// The record at the front of the bytes, and the bytes after it; `None` exactly where no whole record stands there.
 pub fn split_record(bytes: &[u8]) -> Option<(TimedDatagram<'_>, &[u8])>
-    ensures found { IfSome result (λ found. StandsFirst bytes.now (record { time = found.0.time; port = found.0.port; datagram = found.0.datagram.now }) found.1.now) }
+    ensures found { IfSome result (λ found. StandsFirst bytes.now
+        (record { time = found.0.time; port = found.0.port; datagram = found.0.datagram.now }) found.1.now) }
     ensures shorter { IfSome result (λ found. length found.1.now < length bytes.now) }
     ensures none { IfNone result ((r : Record) (rest : List ℕ) → StandsFirst bytes.now r rest → ⊥) }
 {
