@@ -1,0 +1,117 @@
+-- Laws that show the definitions of a desk to be right.
+use Rattle.std.specs.Prelude.{◌≡◌, ◌≢◌, ◌+◌, ◌-◌, ◌*◌, ◌<◌, ◌≤◌, ◌^◌, ◌↔◌, ◌++◌, ℕ, ⊤, nat_le, List, [], ◌∷◌, length, filter, Option, Some, None, IsSome}
+use Rattle.std.specs.List.{All}
+use Rattle.fg_words.specs.declared.Word.{Word}
+use Rattle.fg_words.specs.Word.{IsMedia}
+use Rattle.fg_shape.specs.Shape.{IsShape}
+use Rattle.fg_peel.specs.Peeling.{Step, IsPeeling, end_of}
+use Rattle.fg_peel.specs.Closure as peel
+use Rattle.fg_peel.specs.Solution as peeled
+use Rattle.fg_desk.specs.declared.reply.Reply.{Reply}
+use Rattle.fg_desk.specs.declared.reply.Outcome.TheVariants.{Repaired}
+use Rattle.fg_desk.specs.State.{State, known, live_equations, opening}
+use Rattle.fg_desk.specs.Contents.{HasRoom}
+use Rattle.fg_desk.specs.Solution.{InClosure, IsSolution}
+use Rattle.fg_desk.specs.Admission.{Parity, AdmitsMedia, AdmitsParity, IsDue}
+use Rattle.fg_desk.specs.Play.{Play, IsPlay, IsFlushStep, IsHighest, HasMore}
+use Rattle.fg_desk.specs.Run.{Arrival, carries, protects, refused, TakesAll, IsRun}
+use Rattle.fg_desk.specs.Facts.{Holds}
+
+-- The facts hold at first, and every call keeps them.
+
+abbrev pub OpeningHolds : Type 0
+OpeningHolds =
+    (window depth : ℕ) → 1 ≤ window → window ≤ 100 → window ≤ depth → Holds (opening window depth)
+
+abbrev pub MediaKeeps : Type 0
+MediaKeeps =
+    (old new : State) (seq : ℕ) (word : Word) (reply : Reply) → Holds old → IsMedia word → ¬ IsDue old seq
+    → AdmitsMedia old seq word reply new → Holds new
+
+abbrev pub ParityKeeps : Type 0
+ParityKeeps =
+    (old new : State) (parity : Parity) (reply : Reply) → Holds old → HasRoom old
+    → IsShape parity.offset parity.count → AdmitsParity old parity reply new → Holds new
+
+abbrev pub PlayKeeps : Type 0
+PlayKeeps =
+    (count : ℕ) (old new : State) (play : Play) → Holds old → old.top ≢ None → IsPlay count old play new → Holds new
+
+abbrev pub FlushStepKeeps : Type 0
+FlushStepKeeps = (old new : State) (play : Play) → Holds old → IsFlushStep old play new → Holds new
+
+-- On such a desk closure and solutions are those of peeling: the mark makes no difference.
+
+abbrev pub ClosureIsPeelings : Type 0
+ClosureIsPeelings =
+    (desk : State) → Holds desk → (position : ℕ)
+    → InClosure desk position ↔ peel.InClosure (known desk) (live_equations desk) position
+
+abbrev pub SolutionsArePeelings : Type 0
+SolutionsArePeelings =
+    (desk : State) → Holds desk → (words : ℕ → Option Word)
+    → IsSolution desk words ↔ peeled.IsSolution (known desk) (live_equations desk) words
+
+-- What is past the mark after a play followed before it already.
+abbrev pub ClosureGainsNothing : Type 0
+ClosureGainsNothing =
+    (count : ℕ) (old new : State) (play : Play) → Holds old → IsPlay count old play new
+    → (position : ℕ) → InClosure new position → InClosure old position
+
+-- Flush steps one after another.
+abbrev pub AreFlushSteps : State → List Play → State → Type 0
+AreFlushSteps old [] new = new ≡ old
+AreFlushSteps old (play ∷ plays) new = (next : State) × IsFlushStep old play next × AreFlushSteps next plays new
+
+-- A flush ends: there are no more steps than positions up to the highest that follows.
+abbrev pub FlushEnds : Type 0
+FlushEnds =
+    (old new : State) (plays : List Play) (highest : ℕ) → Holds old → IsHighest old highest
+    → AreFlushSteps old plays new → length plays ≤ highest + 1 - old.mark
+
+-- A known position ahead stays derivable: what a peeling found before a repaired play is, past the new mark, found by a
+-- peeling after it, with the same words.
+abbrev pub SolvedStaysPeeled : Type 0
+SolvedStaysPeeled =
+    (count : ℕ) (old new : State) (play : Play) (steps : List Step) → Holds old → IsPlay count old play new
+    → play.outcome ≡ Repaired → IsPeeling (known old) (live_equations old) steps
+    → IsPeeling (known new) (live_equations new) (filter (λ step. nat_le new.mark step.position) steps)
+    × ((position : ℕ) → new.mark ≤ position
+        → end_of (known new) (filter (λ step. nat_le new.mark step.position) steps) position
+        ≡ end_of (known old) steps position)
+
+-- Later datagrams change nothing of what was shown and answered before.
+abbrev pub LaterChangesNothing : Type 0
+LaterChangesNothing =
+    (old new : State) (earlier later : List Arrival) (plays : List Play) (replies : List (Option Reply))
+    → TakesAll old (earlier ++ later) plays replies new
+    → (between : State) × (before : List Play) × (after : List Play)
+    × (first : List (Option Reply)) × (second : List (Option Reply))
+    × TakesAll old earlier before first between × TakesAll between later after second new
+    × (plays ≡ before ++ after) × (replies ≡ first ++ second)
+
+-- Each play begins where the one before ends.
+abbrev pub AreInSuccession : ℕ → List Play → Type 0
+AreInSuccession first [] = ⊤
+AreInSuccession first (play ∷ plays) = (play.first ≡ first) × AreInSuccession (first + length play.shown) plays
+
+-- So each position is shown or missing once, in order and without holes.
+abbrev pub PlaysFollow : Type 0
+PlaysFollow =
+    (window depth : ℕ) (arrivals : List Arrival) (plays : List Play) (replies : List (Option Reply))
+    → IsRun window depth arrivals plays replies → AreInSuccession 0 plays
+
+-- Datagrams as the readers give them: media words, and shapes that are read.
+abbrev pub IsRead : Arrival → Type 0
+IsRead (carries seq word) = (seq < 2 ^ 16) × IsMedia word
+IsRead (protects stream parity) = (parity.base < 2 ^ 16) × IsShape parity.offset parity.count
+IsRead (refused stream) = ⊤
+
+-- A flow has one run, as long as its datagrams are fewer than 2^44.
+abbrev pub OneRun : Type 0
+OneRun =
+    (window depth : ℕ) (arrivals : List Arrival) (plays plays' : List Play) (replies replies' : List (Option Reply))
+    → 1 ≤ window → window ≤ 100 → window ≤ depth → depth ≤ 1000
+    → All IsRead arrivals → length arrivals < 2 ^ 44
+    → IsRun window depth arrivals plays replies → IsRun window depth arrivals plays' replies'
+    → (plays ≡ plays') × (replies ≡ replies')
