@@ -2,5 +2,8 @@
 #![tactic(auto)]
 
 mod reply;
+mod row;
+mod tray;
 
 pub use reply::{Outcome, Reply};
+pub use tray::Tray;
