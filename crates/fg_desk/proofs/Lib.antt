@@ -1,0 +1,4 @@
+pub mod RowMaps
+pub mod RowViews
+pub mod RowChanges
+pub mod RowLoops

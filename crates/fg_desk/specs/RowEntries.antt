@@ -1,5 +1,5 @@
 -- A row of entries, the first of which stands for 100 positions before the mark, and what it is seen as.
-use Rattle.std.specs.Prelude.{◌≡◌, ◌≢◌, ◌+◌, ◌-◌, ◌<◌, ◌≤◌, ◌^◌, ℕ, zero, suc, Bool, true, false, List, length, nat_lt, slice_index_or, Option, Some, None, IsSome, is_some, not, ◌&&◌, refl, if◌then◌else◌}
+use Rattle.std.specs.Prelude.{◌≡◌, ◌≢◌, ◌+◌, ◌-◌, ◌<◌, ◌≤◌, ◌^◌, ℕ, zero, suc, Bool, true, false, List, length, nat_lt, slice_index_or, Option, Some, None, IsSome, IsTrue, is_some, not, ◌&&◌, refl, if◌then◌else◌}
 use Rattle.std.specs.Ordering.{nat_cmp}
 use Rattle.std.specs.Coded.{Coded, code_by, coded×, coded_ℕ, coded_bool, coded_list, coded_option}
 use Rattle.std.specs.FinMap as map
@@ -7,11 +7,15 @@ use Rattle.std.specs.FinSet as set
 use Rattle.fg_words.specs.declared.Word.{Word}
 use Rattle.fg_peel.specs.declared.Slot.{Slot}
 use Rattle.fg_peel.specs.declared.Slot.TheVariants.{Empty, Media, Solved, Filled}
-use Rattle.fg_peel.specs.Slots.{word_in}
+use Rattle.slab.specs.Slab.{Slab}
+use Rattle.fg_peel.specs.declared.Line.{Line}
+use Rattle.fg_peel.specs.Closure.{InClosure}
+use Rattle.fg_peel.specs.Solution.{IsSolution}
+use Rattle.fg_peel.specs.Slots.{word_in, equations_of, OnlyFills, EndsPeeling}
 use Rattle.fg_desk.specs.State.{Words}
 use Rattle.fg_desk.specs.Admission.{kept_count}
 use Rattle.fg_desk.specs.Contents.{Holding}
-use Rattle.fg_desk.specs.Play.{Shown}
+use Rattle.fg_desk.specs.Play.{Shown, nothing_shown}
 use Rattle.fg_desk.specs.Row.{RowState}
 
 -- The entry of a position.
@@ -84,12 +88,36 @@ pub record AreEntries (mark : ℕ) (entries : List Slot) : Type 0 where
   pub below : (i : ℕ) → mark + i < kept_count → slice_index_or entries i Empty ≡ Empty
   pub own : (i : ℕ) (word : Word) → slice_index_or entries i Empty ≢ Solved word
 
+-- The words of the entries by position.
+abbrev pub words_of : ℕ → List Slot → ℕ → Option Word
+words_of mark entries position = word_in (entry_at mark entries position)
+
+-- What peeling leaves of the entries, and whether there is a solution.
+pub record Recovers (mark : ℕ) (lines : Slab Line) (old new : List Slot) (answer : Bool) : Type 0 where
+  pub fills : OnlyFills old new
+  pub below : (i : ℕ) → mark + i < kept_count → slice_index_or new i Empty ≡ slice_index_or old i Empty
+  pub peeling : EndsPeeling (equations_of lines) (words_of mark old) (words_of mark new)
+  pub inside :
+      (position : ℕ) → IsSome (words_of mark new position)
+      → InClosure (words_of mark old) (equations_of lines) position
+  pub solved : IsTrue answer → IsSolution (words_of mark old) (equations_of lines) (words_of mark new)
+  pub solvable :
+      (solution : ℕ → Option Word) → IsSolution (words_of mark old) (equations_of lines) solution
+      → IsTrue answer × (words_of mark new ≡ solution)
+
 -- What an entry shows.
 abbrev pub shown_in : Slot → Shown
 shown_in entry = record {
   word = word_in entry;
   repaired = is_some (word_in entry) && not (is_some (received_in entry));
 }
+
+-- What the first entries from the mark on show.
+pub record ShowsEntries (entries : List Slot) (count : ℕ) (shown : List Shown) : Type 0 where
+  pub length_is : length shown ≡ count
+  pub each :
+      (i : ℕ) → i < count
+      → slice_index_or shown i nothing_shown ≡ shown_in (slice_index_or entries (kept_count + i) Empty)
 
 -- An entry without a found word.
 abbrev pub forgotten : Slot → Slot

@@ -1,14 +1,14 @@
 //! The row of entries around the mark.
 
-ghost use Rattle.std.specs.Prelude.{◌≡◌, ◌+◌, ◌<◌, ◌≤◌, ◌^◌, ◌↔◌, ◌++◌, ◌∷◌, [], ℕ, length, slice_index_or, unwrap_or, Option, None, IsTrue, IfOk, IfSome, IfNone};
+ghost use Rattle.std.specs.Prelude.{◌≡◌, ◌+◌, ◌<◌, ◌≤◌, ◌^◌, ◌↔◌, ◌++◌, ◌∷◌, [], ℕ, pos, ◌-ℤ◌, length, slice_index_or, unwrap_or, Option, None, IsTrue, IfOk, IfSome, IfNone};
 ghost use Rattle.std.specs.Option.{option_copied};
-ghost use Rattle.std.specs.FinMap.{get, empty};
+ghost use Rattle.std.specs.FinMap.{empty};
 ghost use Rattle.fg_shape.specs.Shape.{IsShape};
 ghost use Rattle.fg_peel.specs.Solution.{IsSolution};
 ghost use Rattle.fg_peel.specs.Slots.{word_in, equation_of, equations_of, EndsPeeling};
 ghost use Rattle.fg_peel.specs.Verdict.{AreMedia, IsComplete};
 ghost use Rattle.fg_desk.specs.Row.{opened_row, row_words, row_known, row_shared, IsRow, receives, AllLieIn, IsHighestWord, Shows, Advances};
-ghost use Rattle.fg_desk.specs.RowEntries.{entry_at, shown_in, IsLastWord, HasNoWordFrom, ForgetsFound};
+ghost use Rattle.fg_desk.specs.RowEntries.{entry_at, words_of, row_of, received_in, shown_in, AreEntries, Recovers, ShowsEntries, IsLastWord, HasNoWordFrom, ForgetsFound};
 
 use crate::tray::Tray;
 use fg_peel::{Line, Slot, Verdict, peel};
@@ -72,9 +72,12 @@ impl Row {
     pub(crate) fn word(&self, position: u64) -> Option<&Word>
         ensures { option_copied result ≡ row_known self.now position }
     {
-        match entry(self.mark, &self.slots, position)? {
-            Slot::Filled(_) if position >= self.mark => None,
-            slot => word_of(slot),
+        if position < self.mark {
+            return self.any_word(position);
+        }
+        match self.share(position) {
+            Some(share) => Some(share.word()),
+            None => None,
         }
     }
 
@@ -82,17 +85,14 @@ impl Row {
     pub(crate) fn share(&self, position: u64) -> Option<&Shared>
         ensures { option_copied result ≡ row_shared self.now position }
     {
-        match entry(self.mark, &self.slots, position)? {
-            Slot::Media(share) => Some(share),
-            _ => None,
-        }
+        share_at(self.mark, &self.slots, position)
     }
 
     /// The word at a position, also where it was found ahead of its play.
     pub(crate) fn any_word(&self, position: u64) -> Option<&Word>
         ensures { option_copied result ≡ row_words self.now position }
     {
-        word_of(entry(self.mark, &self.slots, position)?)
+        word_at(self.mark, &self.slots, position)
     }
 
     /// Whether all slots of a line have words.
@@ -122,7 +122,6 @@ impl Row {
     pub(crate) fn put_media(&mut self, position: u64, share: Shared)
         requires ahead { self.old.mark ≤ position }
         requires near { position < self.old.mark + self.old.reach }
-        requires new { get self.old.media position ≡ None }
         ensures { self.new ≡ receives self.old position share }
     {
         let index = (position - self.mark) as usize + KEPT;
@@ -146,11 +145,7 @@ impl Row {
         ensures solved { IsTrue result → IsSolution (row_words self.old) (equations_of lines.now) (row_words self.new) }
         ensures solvable { (solution : ℕ → Option Word) → IsSolution (row_words self.old) (equations_of lines.now) solution → IsTrue result × (row_words self.new ≡ solution) }
     {
-        let low = self.mark as i64 - KEPT as i64;
-        match peel(low, &mut self.slots, lines) {
-            Verdict::Sound => true,
-            Verdict::Unsound { place: _ } | Verdict::NotMedia { slot: _ } => false,
-        }
+        recover_words(self.mark, &mut self.slots, lines)
     }
 
     /// Copies the words at the first positions from the mark on to a tray.
@@ -160,10 +155,7 @@ impl Row {
         ensures shows { Shows self.now count tray.new.shown }
         ensures window { tray.new.window ≡ tray.old.window }
     {
-        tray.clear();
-        for i in 0..count {
-            show_entry(&self.slots[KEPT + i as usize], tray);
-        }
+        show_entries(&self.slots, count, tray);
     }
 
     /// Moves the mark on. What is played stays as long as it is kept.
@@ -187,6 +179,28 @@ fn entry(mark: u64, slots: &[Slot], position: u64) -> Option<&Slot>
     slots.get(index as usize)
 }
 
+/// The word at a position.
+fn word_at(mark: u64, slots: &[Slot], position: u64) -> Option<&Word>
+    requires { mark + length slots.now ≤ 2 ^ 62 }
+    ensures { option_copied result ≡ word_in (entry_at mark slots.now position) }
+{
+    match entry(mark, slots, position) {
+        Some(slot) => word_of(slot),
+        None => None,
+    }
+}
+
+/// The share at a position.
+fn share_at(mark: u64, slots: &[Slot], position: u64) -> Option<&Shared>
+    requires { mark + length slots.now ≤ 2 ^ 62 }
+    ensures { option_copied result ≡ received_in (entry_at mark slots.now position) }
+{
+    match entry(mark, slots, position) {
+        Some(slot) => share_of(slot),
+        None => None,
+    }
+}
+
 /// The word of an entry.
 fn word_of(slot: &Slot) -> Option<&Word>
     ensures { option_copied result ≡ word_in slot.now }
@@ -195,6 +209,37 @@ fn word_of(slot: &Slot) -> Option<&Word>
         Slot::Empty => None,
         Slot::Media(share) | Slot::Solved(share) => Some(share.word()),
         Slot::Filled(word) => Some(word),
+    }
+}
+
+/// The share of an entry that has a kept or a received word.
+fn share_of(slot: &Slot) -> Option<&Shared>
+    ensures { option_copied result ≡ received_in slot.now }
+{
+    match slot {
+        Slot::Media(share) => Some(share),
+        Slot::Empty | Slot::Solved(_) | Slot::Filled(_) => None,
+    }
+}
+
+/// The position of the first entry.
+fn low_of(mark: u64) -> i64
+    requires { mark ≤ 2 ^ 62 }
+    ensures { result ≡ (pos mark -ℤ pos 100) }
+{
+    mark as i64 - KEPT as i64
+}
+
+/// Peels the entries, and tells whether there is a solution.
+fn recover_words(mark: u64, slots: &mut [Slot], lines: &Slab<Line>) -> bool
+    requires entries { AreEntries mark slots.old }
+    requires within { AllLieIn (row_of mark slots.old) lines.now }
+    requires media { AreMedia (words_of mark slots.old) }
+    ensures { Recovers mark lines.now slots.old slots.new result }
+{
+    match peel(low_of(mark), slots, lines) {
+        Verdict::Sound => true,
+        Verdict::Unsound { place: _ } | Verdict::NotMedia { slot: _ } => false,
     }
 }
 
@@ -232,6 +277,19 @@ fn show_entry(slot: &Slot, tray: &mut Tray)
         Slot::Media(share) => tray.show(Some(share.word()), false),
         Slot::Solved(share) => tray.show(Some(share.word()), true),
         Slot::Filled(word) => tray.show(Some(word), true),
+    }
+}
+
+/// Shows the first `count` entries from the mark on.
+fn show_entries(slots: &[Slot], count: u32, tray: &mut Tray)
+    requires room { count ≤ tray.old.window }
+    requires within { KEPT + count ≤ length slots.now }
+    ensures shows { ShowsEntries slots.now count tray.new.shown }
+    ensures window { tray.new.window ≡ tray.old.window }
+{
+    tray.clear();
+    for i in 0..count {
+        show_entry(&slots[KEPT + i as usize], tray);
     }
 }
 
