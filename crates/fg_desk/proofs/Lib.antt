@@ -2,3 +2,4 @@ pub mod RowMaps
 pub mod RowViews
 pub mod RowChanges
 pub mod RowLoops
+pub mod RowPeels

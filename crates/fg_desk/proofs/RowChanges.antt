@@ -1,6 +1,6 @@
 -- What a change of the entries does to a row.
 use Rattle.std.proofs.Common.{◌≡◌, ◌≢◌, ◌⊎◌, ◌+◌, ◌-◌, ◌<◌, ◌≤◌, ◌^◌, ℕ, Bool, true, false, ◌&&◌, not, is_some, IsSome, List, length, get_or, set, Option, Some, None, nat_lt, nat_le, if◌then◌else◌, cond, refl, sym, ap, ◌∙◌, ⊎_elim, subst, arith}
-use Rattle.std.proofs.lemmas.Bool.{cases_lt, cases_eq, le-leb, lt-leb}
+use Rattle.std.proofs.lemmas.Bool.{cases_lt, cases_eq, le-leb, lt-leb, lt-ltb, le-ltb}
 use Rattle.std.proofs.lemmas.List.{get_or_past, get_or-set_same, get_or-set_other, length-set}
 use Rattle.std.specs.Ordering.{nat_cmp}
 use Rattle.std.specs.FinMap as map
@@ -10,7 +10,7 @@ use Rattle.fg_peel.specs.declared.Slot.{Slot}
 use Rattle.fg_peel.specs.declared.Slot.TheVariants.{Empty, Media, Solved, Filled}
 use Rattle.fg_peel.specs.Slots.{word_in}
 use Rattle.fg_desk.specs.Play.{Shown, nothing_shown}
-use Rattle.fg_desk.specs.Row.{RowState, row_words, row_shows, receives, Shows, Advances, IsHighestWord}
+use Rattle.fg_desk.specs.Row.{RowState, row_words, row_shows, receives, Shows, Advances, IsHighestWord, opened_row}
 use Rattle.fg_desk.specs.RowEntries.{entry_at, received_in, found_in, is_alone, kept_at, received_at, found_at, bare_at, row_of, AreEntries, forgotten, ForgetsFound, shown_in, ShowsEntries, HasNoWordFrom, IsLastWord}
 use Rattle.fg_desk.proofs.RowMaps.{if-less, if-not_less, get-insert_same, get-insert_other, get-remove_same, get-remove_other}
 use Rattle.fg_desk.proofs.RowViews.{entry_at-row, entry_at-before, entry_at-past, get-kept, get-media, get-cached, contains-bare, same_row, row_words-entry, entry_own, none_not_some, some_along}
@@ -261,9 +261,9 @@ module _
       (cases_lt p (mark + count))
     where
       lt_is : (p : ℕ) → p < mark + count → nat_lt p (mark + count) ≡ true
-      lt_is p before = if-less p (mark + count) true false before
+      lt_is p before = lt-ltb p (mark + count) before
       ge_is : (p : ℕ) → mark + count ≤ p → nat_lt p (mark + count) ≡ false
-      ge_is p from = if-not_less p (mark + count) true false from
+      ge_is p from = le-ltb p (mark + count) from
 
   ahead_after :
       (f : Slot → Option Word) (p : ℕ)
@@ -393,3 +393,30 @@ no_highest_row mark entries are none p from =
     let up : mark ≤ p + 100 = omega arith in
     let high : 100 ≤ p + 100 - mark = omega arith in
     row_words-entry mark entries are p ∙ ap word_in (entry_at-row mark entries p up) ∙ none (p + 100 - mark) high
+
+-- The row at first.
+pub opened_are :
+    (entries : List Slot) (depth : ℕ) → length entries ≡ depth + 200 → depth ≤ 1000
+    → ((k : ℕ) → get_or entries k Empty ≡ Empty) → AreEntries 0 entries
+opened_are entries depth size limit empty = record {
+  some = omega arith;
+  limit = omega arith;
+  below = λ i less. empty i;
+  own = λ i word is. (let e : Empty ≡ Solved word = sym (empty i) ∙ is in (cc));
+}
+
+pub opened_row_is :
+    (entries : List Slot) (depth : ℕ) → length entries ≡ depth + 200 → ((k : ℕ) → get_or entries k Empty ≡ Empty)
+    → row_of 0 entries ≡ opened_row (depth + 100)
+opened_row_is entries depth size empty =
+    same_row (row_of 0 entries) (opened_row (depth + 100)) refl (omega arith)
+    (λ p. get-kept 0 entries p ∙ if-not_less p 0 _ None (omega arith) ∙ sym (map.get-empty nat_cmp p))
+    (λ p.
+    get-media 0 entries p ∙ if-not_less p 0 None _ (omega arith) ∙ ap received_in (none p)
+    ∙ sym (map.get-empty nat_cmp p))
+    (λ p.
+    get-cached 0 entries p ∙ if-not_less p 0 None _ (omega arith) ∙ ap found_in (none p) ∙ sym (map.get-empty nat_cmp p))
+    (λ p. contains-bare 0 entries p ∙ if-not_less p 0 _ false (omega arith) ∙ sym (set.contains-empty nat_cmp p))
+  where
+    none : (p : ℕ) → entry_at 0 entries p ≡ Empty
+    none p = entry_at-row 0 entries p (omega arith) ∙ empty (p + 100 - 0)

@@ -1,13 +1,16 @@
 -- Steps of the loops over a row's entries.
-use Rattle.std.proofs.Common.{◌≡◌, ◌≢◌, ◌⊎◌, ◌+◌, ◌-◌, ◌<◌, ◌≤◌, ℕ, true, false, IsSome, List, ◌++◌, ◌∷◌, [], length, get_or, set, Option, None, refl, sym, ap, ◌∙◌, ⊎_elim, subst, arith}
+use Rattle.std.proofs.Common.{◌≡◌, ◌≢◌, ◌⊎◌, ◌+◌, ◌-◌, ◌<◌, ◌≤◌, ℕ, true, false, IsSome, is_some, List, ◌++◌, ◌∷◌, [], length, get_or, set, Option, Some, None, Bor, Contains, ◌*◌, refl, sym, ap, ◌∙◌, ⊎_elim, subst, arith}
 use Rattle.std.proofs.lemmas.Bool.{cases_lt, cases_eq}
-use Rattle.std.proofs.lemmas.List.{get_or_default, get_or_past, get_or_append_left, get_or-append_right, get_or-set_same, get_or-set_other, get_or_push, length-append, length-set}
+use Rattle.std.proofs.lemmas.List.{get_or_default, get_or_past, get_or_append_left, get_or-append_right, get_or-set_same, get_or-set_other, get_or_push, length-append, length-set, length-map}
 use Rattle.fg_words.specs.declared.Word.{Word}
 use Rattle.fg_peel.specs.declared.Slot.{Slot}
 use Rattle.fg_peel.specs.declared.Slot.TheVariants.{Empty, Media, Solved, Filled}
 use Rattle.fg_peel.specs.Slots.{word_in}
-use Rattle.fg_desk.specs.Play.{Shown, nothing_shown}
-use Rattle.fg_desk.specs.RowEntries.{HasNoWordFrom, forgotten, shown_in}
+use Rattle.std.specs.Option.{option_copied}
+use Rattle.std.specs.List.{range_with_len}
+use Rattle.std.proofs.lemmas.List.FromFn.{length-range_with_len}
+use Rattle.fg_shape.specs.Shape.{slots_of}
+use Rattle.fg_desk.specs.RowEntries.{HasNoWordFrom, IsLastWord}
 
 -- the last entry with a word
 pub no_word_past : (entries : List Slot) → HasNoWordFrom entries (length entries)
@@ -18,6 +21,45 @@ pub no_word_at :
     → HasNoWordFrom entries i
 no_word_at entries i here later k from =
     ⊎_elim (λ same. ap (λ j. word_in (get_or entries j Empty)) same ∙ here) (λ other. later k (omega (arith, other))) (cases_eq k i)
+
+pub last_word_at :
+    (entries : List Slot) (i : ℕ) → 100 < i → i ≤ length entries → IsSome (word_in (get_or entries (i - 1) Empty))
+    → HasNoWordFrom entries i → IsLastWord entries (i - 1)
+last_word_at entries i some within word later = record {
+  ahead = omega arith;
+  within = omega arith;
+  word = word;
+  none_later = λ k from. later k (omega (arith, from, some));
+}
+
+-- what a look at an entry tells
+pub none_of_copied : (o : Option Word) (r : Option (Bor Word)) → option_copied r ≡ o → is_some r ≡ false → o ≡ None
+none_of_copied o None is none = sym is
+none_of_copied o (Some w) is none = absurd (cc)
+
+pub some_of_copied : (o : Option Word) (r : Option (Bor Word)) → option_copied r ≡ o → is_some r ≡ true → IsSome o
+some_of_copied o None is some = absurd (cc)
+some_of_copied o (Some w) is some = rw (← is) refl
+
+-- all slots have words, where each numbered one has
+pub length-slots_of : (base offset na : ℕ) → length (slots_of base offset na) ≡ na
+length-slots_of base offset na =
+    length-map (range_with_len 0 na) (λ j. base + j * offset) ∙ length-range_with_len 0 na
+
+pub all_have_words :
+    (words : ℕ → Option Word) (xs : List ℕ) (n : ℕ) → length xs ≡ n
+    → ((k : ℕ) → k < n → IsSome (words (get_or xs k 0))) → (p : ℕ) → Contains xs p → IsSome (words p)
+all_have_words words xs n size each p c =
+    let same : get_or xs c.0 0 ≡ p = get_or_default xs c.0 0 p c.1 ∙ c.2 in
+    let P : ℕ → Type 0 = λ q. IsSome (words q) in
+    let less : c.0 < n = omega (arith, c.1, size) in
+    subst P same (each c.0 less)
+
+pub one_more_has :
+    (words : ℕ → Option Word) (xs : List ℕ) (j : ℕ) → IsSome (words (get_or xs j 0))
+    → ((k : ℕ) → k < j → IsSome (words (get_or xs k 0))) → (k : ℕ) → k < j + 1 → IsSome (words (get_or xs k 0))
+one_more_has words xs j has below k less =
+    ⊎_elim (λ same. rw same has) (λ other. below k (omega (arith, other))) (cases_eq k j)
 
 -- One step of the move: the first part takes what the second begins with.
 module _

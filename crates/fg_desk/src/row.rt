@@ -114,8 +114,10 @@ impl Row {
         ensures some { IfSome result (IsHighestWord self.now) }
         ensures none { IfNone result ((position : ℕ) → self.now.mark ≤ position → row_words self.now position ≡ None) }
     {
-        let index = last_word(&self.slots)?;
-        Some(self.mark + (index - KEPT) as u64)
+        match last_word(&self.slots) {
+            Some(last) => Some(self.mark + (last - KEPT) as u64),
+            None => None,
+        }
     }
 
     /// Puts a received word at a position. A word that was found there goes.
@@ -239,7 +241,7 @@ fn recover_words(mark: u64, slots: &mut [Slot], lines: &Slab<Line>) -> bool
 {
     match peel(low_of(mark), slots, lines) {
         Verdict::Sound => true,
-        Verdict::Unsound { place: _ } | Verdict::NotMedia { slot: _ } => false,
+        _ => false,
     }
 }
 
