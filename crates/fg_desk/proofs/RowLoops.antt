@@ -99,3 +99,6 @@ module _
       get_or_default back 0 d Empty has ∙ ap (λ k. get_or back k Empty) (sym none)
       ∙ sym (get_or-append_right front back (i + count) (i + count) Empty size up)
       ∙ ap (λ (xs : List Slot). get_or xs (i + count) Empty) (sym cut)
+
+  pub taken_is : (d : Slot) → x ≡ get_or back 0 d → x ≡ get_or old (i + count) Empty
+  taken_is d is = is ∙ taken_from d

@@ -132,7 +132,7 @@ module _
       → (AreMedia (known_at low old) → ArePeeled (equations_of lines) (known_at low old) (words_at low old)
         → TellsSolution (equations_of lines) (known_at low old) (words_at low new) verdict)
       → (IsTrue answer → verdict ≡ Sound) → (verdict ≡ Sound → IsTrue answer) → Recovers mark lines old new answer
-  recovers fills below inside peeling solution yes no =
+  recovers fills below inside peeling solution if_sound sound_if =
       let E = equations_of lines in
       let one = words_low mark low old is in
       let two = words_low mark low new is in
@@ -152,11 +152,11 @@ module _
         solved = λ true'.
             (let P : (ℕ → Option Word) → Type 0 = λ w. IsSolution w E (words_of mark new) in
             let Q : (ℕ → Option Word) → Type 0 = λ w. IsSolution (known_at low old) E w in
-            subst P three (subst Q two (tells.sound (yes true'))));
+            subst P three (subst Q two (tells.sound (if_sound true'))));
         solvable = λ solution solves.
             (let P : (ℕ → Option Word) → Type 0 = λ w. IsSolution w E solution in
             let all = tells.complete solution (subst P (sym three) solves) in
-            (no all.0, sym two ∙ all.1));
+            (sound_if all.0, sym two ∙ all.1));
       }
 
 -- an equation is that of a line
@@ -227,21 +227,18 @@ module _
       (cases_lt (p + 100) mark)
 
   -- a position before the mark that is in the closure had a word
-  had_word : (p : ℕ) → p < mark → InClosure (words_of mark old) (equations_of lines) p → IsSome (words_of mark old p)
-  had_word p before inside =
-      elim inside as (λ {q} _. q < mark → IsSome (words_of mark old q)) [
-        | given some ↦ λ _. some
-        | derived equation {position} listed in_line others ↦ λ low. based equation position listed in_line low
-      ] before
-    where
-      based :
-          (equation : Equation) (q : ℕ) → Contains (equations_of lines) equation → Contains (slots equation) q → q < mark
-          → IsSome (words_of mark old q)
-      based equation q listed in_line low =
-          let line = from_map equation_of (lines_of lines) equation listed in
-          let P : Equation → Type 0 = λ e. Contains (slots e) q in
-          let kept = (within line.0 line.1).based q (subst P line.2 in_line) low in
-          some_along _ _ (get-kept mark old q ∙ if-less q mark _ None low) kept
+  based_word :
+      (equation : Equation) (q : ℕ) → Contains (equations_of lines) equation → Contains (slots equation) q → q < mark
+      → IsSome (words_of mark old q)
+  based_word equation q listed in_line low =
+      let line = from_map equation_of (lines_of lines) equation listed in
+      let P : Equation → Type 0 = λ e. Contains (slots e) q in
+      let kept = (within line.0 line.1).based q (subst P line.2 in_line) low in
+      some_along _ _ (get-kept mark old q ∙ if-less q mark _ None low) kept
+
+  had_word : {p : ℕ} → InClosure (words_of mark old) (equations_of lines) p → p < mark → IsSome (words_of mark old p)
+  had_word (given some) low = some
+  had_word (derived equation listed in_line others) low = based_word equation _ listed in_line low
 
   same_before : (p : ℕ) → p < mark → entry_at mark new p ≡ entry_at mark old p
   same_before p before =
@@ -249,7 +246,7 @@ module _
       (λ same. same)
       (λ filled.
       let some : IsSome (words_of mark new p) = some_along _ _ (sym (ap word_in filled.1.1)) refl in
-      absurd (none_not_some (words_of mark old p) (ap word_in filled.0) (had_word p before (r.inside p some))))
+      absurd (none_not_some (words_of mark old p) (ap word_in filled.0) (had_word (r.inside p some) before)))
       (same_at p)
 
   same_received : (p : ℕ) → received_in (entry_at mark new p) ≡ received_in (entry_at mark old p)
@@ -289,3 +286,59 @@ module _
 pub row_words-of :
     (mark : ℕ) (entries : List Slot) → AreEntries mark entries → row_words (row_of mark entries) ≡ words_of mark entries
 row_words-of mark entries are = fun_ext (λ q. row_words-entry mark entries are q)
+
+-- What a call leaves of the row.
+pub record RowRecovers (lines : Slab Line) (old new : RowState) (answer : Bool) : Type 0 where
+  pub rest : new ≡ record old { cached = new.cached }
+  pub peeling : EndsPeeling (equations_of lines) (row_words old) (row_words new)
+  pub solved : IsTrue answer → IsSolution (row_words old) (equations_of lines) (row_words new)
+  pub solvable :
+      (solution : ℕ → Option Word) → IsSolution (row_words old) (equations_of lines) solution
+      → IsTrue answer × (row_words new ≡ solution)
+
+pub recovers_row :
+    (mark : ℕ) (lines : Slab Line) (old new : List Slot) (answer : Bool) → AreEntries mark old
+    → AllLieIn (row_of mark old) lines → Recovers mark lines old new answer
+    → RowRecovers lines (row_of mark old) (row_of mark new) answer
+recovers_row mark lines old new answer are within r =
+    let E = equations_of lines in
+    let one : words_of mark old ≡ row_words (row_of mark old) = sym (row_words-of mark old are) in
+    let two : words_of mark new ≡ row_words (row_of mark new) =
+    sym (row_words-of mark new (recovered_are mark lines old new answer are within r)) in
+    record {
+      rest = recovered_row mark lines old new answer are within r;
+      peeling =
+          (let P : (ℕ → Option Word) → Type 0 = λ w. EndsPeeling E w (row_words (row_of mark new)) in
+          let Q : (ℕ → Option Word) → Type 0 = λ w. EndsPeeling E (words_of mark old) w in
+          subst P one (subst Q two r.peeling));
+      solved = λ sound.
+          (let P : (ℕ → Option Word) → Type 0 = λ w. IsSolution w E (row_words (row_of mark new)) in
+          let Q : (ℕ → Option Word) → Type 0 = λ w. IsSolution (words_of mark old) E w in
+          subst P one (subst Q two (r.solved sound)));
+      solvable = λ solution solves.
+          (let P : (ℕ → Option Word) → Type 0 = λ w. IsSolution w E solution in
+          let all = r.solvable solution (subst P (sym one) solves) in
+          (all.0, sym two ∙ all.1));
+    }
+
+-- the same of the values that a call has
+pub recovers_call :
+    (mark : ℕ) (lines : Slab Line) (old given_old new after : List Slot) (now : RowState) (answer : Bool)
+    → AreEntries mark old → row_of mark old ≡ now → AllLieIn now lines → given_old ≡ old → after ≡ new
+    → Recovers mark lines given_old new answer → RowRecovers lines now (row_of mark after) answer
+recovers_call mark lines old given_old new after now answer are view within same full r =
+    let P : RowState → Type 0 = λ s. AllLieIn s lines in
+    let Q : List Slot → Type 0 = λ s. Recovers mark lines s new answer in
+    let all = recovers_row mark lines old new answer are (subst P (sym view) within) (subst Q same r) in
+    let U : RowState → Type 0 = λ s. RowRecovers lines s (row_of mark new) answer in
+    let V : List Slot → Type 0 = λ s. RowRecovers lines now (row_of mark s) answer in
+    subst V (sym full) (subst U view all)
+
+pub media_call :
+    (mark : ℕ) (old given_old : List Slot) (now : RowState) → AreEntries mark old → row_of mark old ≡ now
+    → given_old ≡ old → AreMedia (row_words now) → AreMedia (words_of mark given_old)
+media_call mark old given_old now are view same media =
+    let P : RowState → Type 0 = λ s. AreMedia (row_words s) in
+    let Q : (ℕ → Option Word) → Type 0 = λ w. AreMedia w in
+    let V : List Slot → Type 0 = λ s. AreMedia (words_of mark s) in
+    subst V (sym same) (subst Q (row_words-of mark old are) (subst P (sym view) media))
