@@ -3,3 +3,4 @@ pub mod RowViews
 pub mod RowChanges
 pub mod RowLoops
 pub mod RowPeels
+pub mod TrayPlaces

@@ -1,5 +1,6 @@
 use Rattle.std.proofs.Common.{◌≡◌, List, length, subst, ap, sym, ◌∙◌, vec_len, arith}
 use Rattle.std.proofs.lemmas.List.{with_items_is}
+use Rattle.std.specs.Vec.{with_items}
 use Rattle.fg_peel.specs.declared.Slot.{Slot}
 use Rattle.fg_desk.specs.Row.{RowState, AllLieIn}
 use Rattle.fg_desk.specs.RowEntries.{row_of}
@@ -7,9 +8,13 @@ use Rattle.fg_desk.proofs.RowPeels.{RowRecovers, recovers_call, media_call}
 use Rattle.fg_desk.proofs.row.Row.recover.Goals as goal
 use Rattle.fg_desk.proofs.row.Row.recover.Goals.{After-recover_words}
 
-told : (c : After-recover_words) → RowRecovers c.args.lines.now c.args.self.now (row_of c.self.inside.mark _) c.recover_words.result
+told :
+    (c : After-recover_words)
+    → RowRecovers c.args.lines.now c.args.self.now
+    (row_of c.self.inside.mark (with_items c.self.inside.slots c.recover_words.new.slots).items) c.recover_words.result
 told c =
-    recovers_call c.self.inside.mark c.args.lines.now c.self.inside.slots.items c.deref_mut.result.now c.recover_words.new.slots _
+    recovers_call c.self.inside.mark c.args.lines.now c.self.inside.slots.items c.deref_mut.result.now c.recover_words.new.slots
+    (with_items c.self.inside.slots c.recover_words.new.slots).items
     c.args.self.now c.recover_words.result c.self.invariant c.self.view_is c.requires.within c.deref_mut.ensures.value
     (with_items_is c.self.inside.slots c.recover_words.new.slots (omega arith)) c.recover_words.ensures
 
@@ -24,7 +29,7 @@ recover_words-requires-clause-media c =
     c.self.view_is c.deref_mut.ensures.value c.requires.media
 
 pub returns-clause-rest : goal.returns-clause-rest
-returns-clause-rest c = ?
+returns-clause-rest c = (told (goal.at.returns-clause-rest c).After-recover_words).rest
 
 pub returns-clause-peeling : goal.returns-clause-peeling
 returns-clause-peeling c = (told (goal.at.returns-clause-peeling c).After-recover_words).peeling
