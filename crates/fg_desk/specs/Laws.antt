@@ -1,21 +1,30 @@
 -- Laws that show the definitions of a desk to be right.
 use Rattle.std.specs.Prelude.{◌≡◌, ◌≢◌, ◌+◌, ◌-◌, ◌*◌, ◌<◌, ◌≤◌, ◌^◌, ◌↔◌, ◌++◌, ℕ, ⊤, nat_le, List, [], ◌∷◌, length, filter, Option, Some, None, IsSome}
-use Rattle.std.specs.List.{All}
+use Rattle.std.specs.List.{All, Contains}
+use Rattle.std.specs.FinMap.{get}
 use Rattle.fg_words.specs.declared.Word.{Word}
 use Rattle.fg_words.specs.Word.{IsMedia}
 use Rattle.fg_shape.specs.Shape.{IsShape}
+use Rattle.fg_peel.specs.Equation.{Equation}
 use Rattle.fg_peel.specs.Peeling.{Step, IsPeeling, end_of}
 use Rattle.fg_peel.specs.Closure as peel
 use Rattle.fg_peel.specs.Solution as peeled
 use Rattle.fg_desk.specs.declared.reply.Reply.{Reply}
 use Rattle.fg_desk.specs.declared.reply.Outcome.TheVariants.{Repaired}
-use Rattle.fg_desk.specs.State.{State, known, live_equations, opening}
+use Rattle.fg_desk.specs.State.{State, Live, known, live_equations, opening}
 use Rattle.fg_desk.specs.Contents.{HasRoom}
 use Rattle.fg_desk.specs.Solution.{InClosure, IsSolution}
 use Rattle.fg_desk.specs.Admission.{Parity, AdmitsMedia, AdmitsParity, IsDue}
 use Rattle.fg_desk.specs.Play.{Play, IsPlay, IsFlushStep, IsHighest, HasMore}
 use Rattle.fg_desk.specs.Run.{Arrival, carries, protects, refused, TakesAll, IsRun}
 use Rattle.fg_desk.specs.Facts.{Holds}
+
+-- The live equations are those that stand under some serial number.
+abbrev pub LiveStandUnderSerials : Type 0
+LiveStandUnderSerials =
+    (desk : State) (equation : Equation)
+    → Contains (live_equations desk) equation
+    ↔ ((serial : ℕ) × (live : Live) × (get desk.equations serial ≡ Some live) × (live.equation ≡ equation))
 
 -- The facts hold at first, and every call keeps them.
 
