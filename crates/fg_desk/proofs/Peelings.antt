@@ -5,7 +5,7 @@ use Rattle.std.specs.List.{Contains, cons_option}
 use Rattle.fg_words.specs.declared.Word.{Word}
 use Rattle.fg_words.specs.Word.{word_sum, word_xor}
 use Rattle.fg_peel.specs.Equation.{Equation, slots, others}
-use Rattle.fg_peel.specs.Solution.{sum_at}
+use Rattle.fg_peel.specs.Equation.{sum_at}
 use Rattle.fg_peel.specs.Peeling.{Step, CanFollow, IsPeeling, after_step, end_of, given_word}
 use Rattle.fg_desk.proofs.Lists.{Contains-here, Contains-there, Contains-cases, Contains-nil}
 
