@@ -15,5 +15,9 @@ pub mod Places
 pub mod PlayKeeps
 pub mod Plays
 pub mod Replies
+pub mod RowChanges
+pub mod RowLoops
+pub mod RowMaps
+pub mod RowViews
 pub mod SlotRange
 pub mod StaysPeeled
