@@ -1,21 +1,30 @@
 -- Laws that show the definitions of a desk to be right.
 use Rattle.std.specs.Prelude.{◌≡◌, ◌≢◌, ◌+◌, ◌-◌, ◌*◌, ◌<◌, ◌≤◌, ◌^◌, ◌↔◌, ◌++◌, ℕ, ⊤, nat_le, List, [], ◌∷◌, length, filter, Option, Some, None, IsSome}
-use Rattle.std.specs.List.{All}
+use Rattle.std.specs.List.{All, Contains}
+use Rattle.std.specs.FinMap.{get}
 use Rattle.fg_words.specs.declared.Word.{Word}
 use Rattle.fg_words.specs.Word.{IsMedia}
 use Rattle.fg_shape.specs.Shape.{IsShape}
+use Rattle.fg_peel.specs.Equation.{Equation}
 use Rattle.fg_peel.specs.Peeling.{Step, IsPeeling, end_of}
 use Rattle.fg_peel.specs.Closure as peel
 use Rattle.fg_peel.specs.Solution as peeled
 use Rattle.fg_desk.specs.declared.reply.Reply.{Reply}
 use Rattle.fg_desk.specs.declared.reply.Outcome.TheVariants.{Repaired}
-use Rattle.fg_desk.specs.State.{State, known, live_equations, opening}
+use Rattle.fg_desk.specs.State.{State, Live, known, live_equations, opening}
 use Rattle.fg_desk.specs.Contents.{HasRoom}
 use Rattle.fg_desk.specs.Solution.{InClosure, IsSolution}
 use Rattle.fg_desk.specs.Admission.{Parity, AdmitsMedia, AdmitsParity, IsDue}
 use Rattle.fg_desk.specs.Play.{Play, IsPlay, IsFlushStep, IsHighest, HasMore}
-use Rattle.fg_desk.specs.Run.{Arrival, carries, protects, refused, TakesAll, IsRun}
+use Rattle.fg_desk.specs.Run.{Arrival, carries, protects, refused, TakesAll, IsFlush, IsRun}
 use Rattle.fg_desk.specs.Facts.{Holds}
+
+-- The live equations are those that stand under some serial number.
+abbrev pub LiveStandUnderSerials : Type 0
+LiveStandUnderSerials =
+    (desk : State) (equation : Equation)
+    → Contains (live_equations desk) equation
+    ↔ ((serial : ℕ) × (live : Live) × (get desk.equations serial ≡ Some live) × (live.equation ≡ equation))
 
 -- The facts hold at first, and every call keeps them.
 
@@ -55,7 +64,7 @@ SolutionsArePeelings =
 -- What is past the mark after a play followed before it already.
 abbrev pub ClosureGainsNothing : Type 0
 ClosureGainsNothing =
-    (count : ℕ) (old new : State) (play : Play) → Holds old → IsPlay count old play new
+    (count : ℕ) (old new : State) (play : Play) → IsPlay count old play new
     → (position : ℕ) → InClosure new position → InClosure old position
 
 -- Flush steps one after another.
@@ -68,6 +77,10 @@ abbrev pub FlushEnds : Type 0
 FlushEnds =
     (old new : State) (plays : List Play) (highest : ℕ) → Holds old → IsHighest old highest
     → AreFlushSteps old plays new → length plays ≤ highest + 1 - old.mark
+
+-- And after it nothing that follows is left to be shown.
+abbrev pub FlushLeavesNothing : Type 0
+FlushLeavesNothing = (old new : State) (plays : List Play) → IsFlush old plays new → ¬ HasMore new
 
 -- A known position ahead stays derivable: what a peeling found before a repaired play is, past the new mark, found by a
 -- peeling after it, with the same words.
@@ -107,11 +120,9 @@ IsRead (carries seq word) = (seq < 2 ^ 16) × IsMedia word
 IsRead (protects stream parity) = (parity.base < 2 ^ 16) × IsShape parity.offset parity.count
 IsRead (refused stream) = ⊤
 
--- A flow has one run, as long as its datagrams are fewer than 2^44.
+-- A flow has one run.
 abbrev pub OneRun : Type 0
 OneRun =
     (window depth : ℕ) (arrivals : List Arrival) (plays plays' : List Play) (replies replies' : List (Option Reply))
-    → 1 ≤ window → window ≤ 100 → window ≤ depth → depth ≤ 1000
-    → All IsRead arrivals → length arrivals < 2 ^ 44
-    → IsRun window depth arrivals plays replies → IsRun window depth arrivals plays' replies'
+    → All IsRead arrivals → IsRun window depth arrivals plays replies → IsRun window depth arrivals plays' replies'
     → (plays ≡ plays') × (replies ≡ replies')

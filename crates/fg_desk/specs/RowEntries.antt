@@ -11,7 +11,8 @@ use Rattle.slab.specs.Slab.{Slab}
 use Rattle.fg_peel.specs.declared.Line.{Line}
 use Rattle.fg_peel.specs.Closure.{InClosure}
 use Rattle.fg_peel.specs.Solution.{IsSolution}
-use Rattle.fg_peel.specs.Slots.{word_in, equations_of, OnlyFills, EndsPeeling}
+use Rattle.fg_peel.specs.Peeling.{EndsPeeling}
+use Rattle.fg_peel.specs.Slots.{word_in, equations_of, OnlyFills}
 use Rattle.fg_desk.specs.State.{Words}
 use Rattle.fg_desk.specs.Admission.{kept_count}
 use Rattle.fg_desk.specs.Contents.{Holding}

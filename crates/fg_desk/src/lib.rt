@@ -1,6 +1,7 @@
 //! A desk: one flow's window state.
 #![tactic(auto)]
 
+pub mod laws;
 mod reply;
 mod row;
 mod tray;

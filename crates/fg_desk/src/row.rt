@@ -5,8 +5,9 @@ ghost use Rattle.std.specs.Option.{option_copied};
 ghost use Rattle.std.specs.FinMap.{empty};
 ghost use Rattle.fg_shape.specs.Shape.{IsShape};
 ghost use Rattle.fg_peel.specs.Solution.{IsSolution};
-ghost use Rattle.fg_peel.specs.Slots.{word_in, equation_of, equations_of, EndsPeeling};
-ghost use Rattle.fg_peel.specs.Verdict.{AreMedia, IsComplete};
+ghost use Rattle.fg_peel.specs.Equation.{AreMedia, IsComplete};
+ghost use Rattle.fg_peel.specs.Peeling.{EndsPeeling};
+ghost use Rattle.fg_peel.specs.Slots.{word_in, equation_of, equations_of};
 ghost use Rattle.fg_desk.specs.Row.{opened_row, row_words, row_known, row_shared, IsRow, receives, AllLieIn, IsHighestWord, Shows, Advances};
 ghost use Rattle.fg_desk.specs.RowEntries.{entry_at, words_of, row_of, received_in, shown_in, AreEntries, Recovers, ShowsEntries, IsLastWord, HasNoWordFrom, ForgetsFound};
 

@@ -1,0 +1,60 @@
+//! The laws that show the definitions of a desk to be right. Each is the contract of a function that
+//! does nothing, or only calls laws below it.
+
+ghost use Rattle.fg_desk.specs.Laws.{LiveStandUnderSerials, OpeningHolds, MediaKeeps, ParityKeeps, PlayKeeps, FlushStepKeeps};
+ghost use Rattle.fg_desk.specs.Laws.{ClosureIsPeelings, SolutionsArePeelings, ClosureGainsNothing, FlushEnds, FlushLeavesNothing};
+ghost use Rattle.fg_desk.specs.Laws.{LaterChangesNothing, PlaysFollow, SolvedStaysPeeled, OneRun};
+
+use fg_peel::laws::{confluence, peelings_fill_the_closure, uniqueness};
+
+/// The live equations are those that stand under some serial number.
+pub fn live_equations()
+    ensures { LiveStandUnderSerials }
+{}
+
+/// The facts hold of a new desk, and every call keeps them.
+pub fn facts()
+    ensures opening { OpeningHolds }
+    ensures media { MediaKeeps }
+    ensures parity { ParityKeeps }
+    ensures play { PlayKeeps }
+    ensures flush { FlushStepKeeps }
+{}
+
+/// On each desk of which the facts hold, closure and solutions are those of peeling: the mark makes
+/// no difference.
+pub fn peeling()
+    ensures closure { ClosureIsPeelings }
+    ensures solutions { SolutionsArePeelings }
+{}
+
+/// After a play nothing follows that did not follow before it. So a flush ends, and then nothing is
+/// left to be shown.
+pub fn flushes()
+    ensures gains { ClosureGainsNothing }
+    ensures ends { FlushEnds }
+    ensures leaves { FlushLeavesNothing }
+{}
+
+/// What a peeling found before a repaired play is, past the new mark, found by a peeling after it, with
+/// the same words.
+pub fn solved_stays_peeled()
+    ensures { SolvedStaysPeeled }
+{
+    peelings_fill_the_closure();
+    confluence();
+}
+
+/// Later datagrams change nothing of what was shown and answered before, and each position is shown
+/// or missing once, in order and without holes.
+pub fn runs()
+    ensures later { LaterChangesNothing }
+    ensures follow { PlaysFollow }
+{}
+
+/// A flow has one run.
+pub fn one_run()
+    ensures { OneRun }
+{
+    uniqueness();
+}
