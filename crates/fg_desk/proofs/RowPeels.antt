@@ -14,11 +14,12 @@ use Rattle.fg_peel.specs.declared.Slot.TheVariants.{Empty, Media, Solved, Filled
 use Rattle.fg_peel.specs.declared.Line.{Line}
 use Rattle.fg_peel.specs.declared.Verdict.{Verdict}
 use Rattle.fg_peel.specs.declared.Verdict.TheVariants.{Sound}
-use Rattle.fg_peel.specs.Equation.{Equation, slots}
+use Rattle.fg_peel.specs.Equation.{Equation, slots, AreMedia}
+use Rattle.fg_peel.specs.Peeling.{ArePeeled, EndsPeeling}
 use Rattle.fg_peel.specs.Closure.{InClosure, given, derived}
 use Rattle.fg_peel.specs.Solution.{IsSolution}
-use Rattle.fg_peel.specs.Slots.{word_in, known_in, told_from, first_position, from_first, before_first, words_at, known_at, equation_of, equations_of, lines_of, AllFit, OnlyFills, EndsPeeling, ArePeeled}
-use Rattle.fg_peel.specs.Verdict.{AreMedia, TellsSolution}
+use Rattle.fg_peel.specs.Slots.{word_in, known_in, told_from, first_position, from_first, before_first, words_at, known_at, equation_of, equations_of, lines_of, AllFit, OnlyFills}
+use Rattle.fg_peel.specs.Verdict.{TellsSolution}
 use Rattle.fg_desk.specs.Row.{RowState, row_words, LiesIn, AllLieIn}
 use Rattle.fg_desk.specs.RowEntries.{entry_at, words_of, received_in, found_in, is_alone, row_of, AreEntries, Recovers}
 use Rattle.fg_desk.proofs.RowMaps.{if-less, if-not_less}

@@ -188,7 +188,7 @@ fn word_at(mark: u64, slots: &[Slot], position: u64) -> Option<&Word>
     ensures { option_copied result ≡ word_in (entry_at mark slots.now position) }
 {
     match entry(mark, slots, position) {
-        Some(slot) => word_of(slot),
+        Some(slot) => slot.word(),
         None => None,
     }
 }
@@ -201,17 +201,6 @@ fn share_at(mark: u64, slots: &[Slot], position: u64) -> Option<&Shared>
     match entry(mark, slots, position) {
         Some(slot) => share_of(slot),
         None => None,
-    }
-}
-
-/// The word of an entry.
-fn word_of(slot: &Slot) -> Option<&Word>
-    ensures { option_copied result ≡ word_in slot.now }
-{
-    match slot {
-        Slot::Empty => None,
-        Slot::Media(share) | Slot::Solved(share) => Some(share.word()),
-        Slot::Filled(word) => Some(word),
     }
 }
 
@@ -252,7 +241,7 @@ fn last_word(slots: &[Slot]) -> Option<usize>
     ensures none { IfNone result (HasNoWordFrom slots.now KEPT) }
 {
     for i in (KEPT..slots.len()).rev() {
-        if word_of(&slots[i]).is_some() {
+        if slots[i].word().is_some() {
             return Some(i);
         }
     }

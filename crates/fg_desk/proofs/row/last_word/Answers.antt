@@ -14,7 +14,7 @@ loop-i-preserved c =
     let within : i - 1 < length xs = omega arith in
     let here : word_in (get_or xs (i - 1) Empty) ≡ None =
     ap word_in (get_or_default xs (i - 1) Empty c.index-slots-i.result within ∙ sym c.index-slots-i.is)
-    ∙ none_of_copied _ c.word_of.result c.word_of.ensures (sym c.is_some.ensures ∙ c.if-is_some.false) in
+    ∙ none_of_copied _ c.word.result c.word.ensures (sym c.is_some.ensures ∙ c.if-is_some.false) in
     let next : i ≡ i - 1 + 1 = omega arith in
     let later : HasNoWordFrom xs (i - 1 + 1) = subst (λ n. HasNoWordFrom xs n) next c.loop-i.invariant in
     no_word_at xs (i - 1) here later
@@ -27,6 +27,6 @@ returns-then-is_some-clause-some c =
     let entry : get_or xs (i - 1) Empty ≡ c.index-slots-i.result =
     get_or_default xs (i - 1) Empty c.index-slots-i.result within ∙ sym c.index-slots-i.is in
     let some : IsSome (word_in c.index-slots-i.result) =
-    some_of_copied _ c.word_of.result c.word_of.ensures (sym c.is_some.ensures ∙ c.if-is_some.true) in
+    some_of_copied _ c.word.result c.word.ensures (sym c.is_some.ensures ∙ c.if-is_some.true) in
     last_word_at xs i (omega arith) (omega arith)
     (subst (λ (e : Slot). IsSome (word_in e)) (sym entry) some) c.loop-i.invariant
