@@ -1,10 +1,8 @@
 -- A flush ends, and leaves nothing to be shown.
-use Rattle.std.proofs.Common.{◌≡◌, ◌+◌, ◌-◌, ◌≤◌, ℕ, min, List, [], ◌∷◌, length, refl, sym, ap, subst, ◌∙◌, arith}
+use Rattle.std.proofs.Common.{◌≡◌, ◌+◌, ◌-◌, ◌≤◌, ℕ, min, [], ◌∷◌, length, sym, subst, arith}
 use Rattle.fg_desk.specs.State.{State}
-use Rattle.fg_desk.specs.Play.{Play, IsPlay, IsHighest, IsFlushStep, HasMore}
-use Rattle.fg_desk.specs.Run.{IsFlush}
-use Rattle.fg_desk.specs.Facts.{Holds}
-use Rattle.fg_desk.specs.Laws.{AreFlushSteps, FlushEnds, FlushLeavesNothing}
+use Rattle.fg_desk.specs.Play.{Play, IsHighest, IsFlushStep, HasMore}
+use Rattle.fg_desk.specs.Laws.{FlushEnds, FlushLeavesNothing}
 use Rattle.fg_desk.proofs.Plays.{followed_before}
 use Rattle.fg_desk.proofs.PlayKeeps.{flush_step_keeps}
 

@@ -1,5 +1,5 @@
 -- Closure and solutions of a desk are those of peeling.
-use Rattle.std.proofs.Common.{◌≡◌, ◌<◌, ℕ, Option, IsSome, ⊎_elim}
+use Rattle.std.proofs.Common.{ℕ, Option, ⊎_elim}
 use Rattle.std.proofs.lemmas.Bool.{cases_lt}
 use Rattle.fg_words.specs.declared.Word.{Word}
 use Rattle.fg_peel.specs.Closure.{InClosure as Follows, given as follows_given, derived as follows_derived}

@@ -1,13 +1,13 @@
 -- Plays keep the facts.
-use Rattle.std.proofs.Common.{◌≡◌, ◌≢◌, ◌+◌, ◌<◌, ◌≤◌, ℕ, Option, Some, None, IsSome, refl, sym, ap, subst, ◌∙◌, ⊎_elim, arith}
+use Rattle.std.proofs.Common.{◌≡◌, ◌≢◌, ℕ, Option, Some, None, IsSome, sym, ap, subst, ◌∙◌, ⊎_elim, arith}
 use Rattle.std.proofs.lemmas.Bool.{cases_lt}
 use Rattle.std.specs.List.{Contains}
-use Rattle.std.specs.FinMap.{get, empty, entries}
+use Rattle.std.specs.FinMap.{get, empty}
 use Rattle.fg_words.specs.declared.Word.{Word}
 use Rattle.fg_peel.specs.Equation.{Equation}
-use Rattle.fg_desk.specs.State.{State, Top, Live, Words, known, live_equations}
+use Rattle.fg_desk.specs.State.{State, Live, Words, known, live_equations}
 use Rattle.fg_desk.specs.Solution.{InClosure, given, derived}
-use Rattle.fg_desk.specs.Play.{Play, IsPlay, IsFlushStep}
+use Rattle.fg_desk.specs.Play.{Play, IsPlay}
 use Rattle.fg_desk.specs.Facts.{Holds, IsKept, IsReceived, IsLive}
 use Rattle.fg_desk.specs.Laws.{PlayKeeps, FlushStepKeeps, ClosureGainsNothing}
 use Rattle.fg_desk.proofs.Options.{value_of, nothing_in_empty}

@@ -1,5 +1,5 @@
 -- What a peeling found stays peeled over a repaired play.
-use Rattle.std.proofs.Common.{◌≡◌, ◌≢◌, ◌+◌, ◌++◌, ◌<◌, ◌≤◌, ◌&&◌, ℕ, Bool, true, false, cond, ltb, leb, List, [], ◌∷◌, filter, Option, Some, None, IsSome, refl, sym, ap, subst, ◌∙◌, ⊎_elim, arith, le-leb, lt-ltb, le-ltb}
+use Rattle.std.proofs.Common.{◌≡◌, ◌+◌, ◌++◌, ◌<◌, ◌≤◌, ℕ, Bool, cond, ltb, leb, List, [], ◌∷◌, filter, Option, Some, IsSome, refl, sym, ap, subst, ◌∙◌, ⊎_elim, arith, le-leb, lt-ltb, le-ltb}
 use Rattle.std.proofs.lemmas.Bool.{cases_lt, cases_eq, cond-true, cond-false, lt-leb}
 use Rattle.std.specs.List.{Contains}
 use Rattle.std.specs.FinMap.{get}
@@ -9,7 +9,7 @@ use Rattle.fg_peel.specs.Peeling.{Step, CanFollow, IsPeeling, after_step, end_of
 use Rattle.fg_peel.specs.Laws.{PeelingsContinue, MaximalPeelingsEndAtSolution}
 use Rattle.fg_desk.specs.declared.reply.Outcome.{Outcome}
 use Rattle.fg_desk.specs.declared.reply.Outcome.TheVariants.{Repaired}
-use Rattle.fg_desk.specs.State.{State, Live, known, live_equations, last_slot}
+use Rattle.fg_desk.specs.State.{State, Live, known, live_equations}
 use Rattle.fg_desk.specs.Admission.{kept_count}
 use Rattle.fg_desk.specs.Solution.{IsSolution}
 use Rattle.fg_desk.specs.Play.{Play, Decides, Survives, IsPlay}
@@ -40,7 +40,6 @@ record Stays (mark : ℕ) (equations : List Equation) (before after : ℕ → Op
 module _
     (count : ℕ) (old new : State) (play : Play) (holds : Holds old) (plays : IsPlay count old play new)
     (repaired : play.outcome ≡ Repaired) where
-
   follow_first : Follow old new (known old) (known new)
   follow_first = record {
     ahead = λ q a.
@@ -52,7 +51,6 @@ module _
 
   module _ (before after : ℕ → Option Word) (follow : Follow old new before after) (step : Step)
       (can : CanFollow before (live_equations old) step) (agree : (q : ℕ) (w : Word) → before q ≡ Some w → plays.words q ≡ Some w) where
-
     -- The words at the other slots behind the mark are kept.
     kept_slot :
         new.mark ≤ step.position → (q : ℕ) → Contains (slots step.equation) q → q < new.mark
@@ -69,16 +67,18 @@ module _
         let span = other.span in
         let near : new.mark ≤ q + kept_count = omega (arith, first, last, span, ahead) in
         let some = value_of (before q) (can.others_known q c (λ same. omega (arith, same, ahead, behind))) in
-        let word : get new.kept q ≡ cond (ltb q old.mark) (get old.kept q) (plays.words q) = kept_is count old play new plays q behind near in
-        (⊎_elim
-        (λ below.
-        let v = value_of (get old.kept q) (k.based q at below) in
-        let e : before q ≡ Some v.0 = follow.keeps q v.0 (known_below old q below ∙ v.1) in
-        word ∙ cond-true (ltb q old.mark) (get old.kept q) (plays.words q) (lt-ltb q old.mark below) ∙ v.1 ∙ sym e)
-        (λ past.
-        word ∙ cond-false (ltb q old.mark) (get old.kept q) (plays.words q) (le-ltb q old.mark past)
-        ∙ agree q some.0 some.1 ∙ sym some.1)
-        (cases_lt q old.mark), has_value (before q) some.0 some.1)
+        let word : get new.kept q ≡ cond (ltb q old.mark) (get old.kept q) (plays.words q) = kept_is count old play new plays q behind near in (
+          ⊎_elim
+              (λ below.
+              let v = value_of (get old.kept q) (k.based q at below) in
+              let e : before q ≡ Some v.0 = follow.keeps q v.0 (known_below old q below ∙ v.1) in
+              word ∙ cond-true (ltb q old.mark) (get old.kept q) (plays.words q) (lt-ltb q old.mark below) ∙ v.1 ∙ sym e)
+              (λ past.
+              word ∙ cond-false (ltb q old.mark) (get old.kept q) (plays.words q) (le-ltb q old.mark past)
+              ∙ agree q some.0 some.1 ∙ sym some.1)
+              (cases_lt q old.mark),
+          has_value (before q) some.0 some.1,
+        )
 
     same_slot : new.mark ≤ step.position → (q : ℕ) → Contains (slots step.equation) q → after q ≡ before q
     same_slot ahead q c = ⊎_elim

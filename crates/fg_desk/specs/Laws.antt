@@ -1,5 +1,5 @@
 -- Laws that show the definitions of a desk to be right.
-use Rattle.std.specs.Prelude.{◌≡◌, ◌≢◌, ◌+◌, ◌-◌, ◌*◌, ◌<◌, ◌≤◌, ◌^◌, ◌↔◌, ◌++◌, ℕ, ⊤, nat_le, List, [], ◌∷◌, length, filter, Option, Some, None, IsSome}
+use Rattle.std.specs.Prelude.{◌≡◌, ◌≢◌, ◌+◌, ◌-◌, ◌<◌, ◌≤◌, ◌^◌, ◌↔◌, ◌++◌, ℕ, ⊤, nat_le, List, [], ◌∷◌, length, filter, Option, Some, None}
 use Rattle.std.specs.List.{All, Contains}
 use Rattle.std.specs.FinMap.{get}
 use Rattle.fg_words.specs.declared.Word.{Word}
@@ -90,8 +90,8 @@ SolvedStaysPeeled =
     → play.outcome ≡ Repaired → IsPeeling (known old) (live_equations old) steps
     → IsPeeling (known new) (live_equations new) (filter (λ step. nat_le new.mark step.position) steps)
     × ((position : ℕ) → new.mark ≤ position
-        → end_of (known new) (filter (λ step. nat_le new.mark step.position) steps) position
-        ≡ end_of (known old) steps position)
+    → end_of (known new) (filter (λ step. nat_le new.mark step.position) steps) position
+    ≡ end_of (known old) steps position)
 
 -- Later datagrams change nothing of what was shown and answered before.
 abbrev pub LaterChangesNothing : Type 0
