@@ -1,3 +1,4 @@
+pub mod Bounds
 pub mod Equations
 pub mod Flushing
 pub mod Following
@@ -15,5 +16,6 @@ pub mod Places
 pub mod PlayKeeps
 pub mod Plays
 pub mod Replies
+pub mod RunFacts
 pub mod SlotRange
 pub mod StaysPeeled

@@ -86,7 +86,7 @@ received_at_first old word holds media none =
     record { media = media; ahead = omega (arith, u.0); near = omega (arith, one.0, fits) }
 
 module _ (old : State) (seq : ℕ) where
-  position_at_first : old.top ≡ None → position_on old seq ≡ Some 0
+  pub position_at_first : old.top ≡ None → position_on old seq ≡ Some 0
   position_at_first none =
       ap (λ (t : Option Top). elim t as (λ _. Option ℕ) [ None ↦ Some 0 | Some top ↦ position_of top.position top.seq seq ]) none
 

@@ -33,9 +33,10 @@ record Follow (old new : State) (before after : ℕ → Option Word) : Type 0 wh
 abbrev is_ahead : ℕ → Step → Bool
 is_ahead mark step = leb mark step.position
 
-record Stays (mark : ℕ) (equations : List Equation) (before after : ℕ → Option Word) (steps : List Step) : Type 0 where
+record Stays (mark : ℕ) (equations : List Equation) (start before after : ℕ → Option Word) (steps : List Step) : Type 0 where
   peeling : IsPeeling after equations (filter (is_ahead mark) steps)
   ends : (q : ℕ) → mark ≤ q → end_of after (filter (is_ahead mark) steps) q ≡ end_of before steps q
+  behind : (q : ℕ) → q < mark → end_of after (filter (is_ahead mark) steps) q ≡ start q
 
 module _
     (count : ℕ) (old new : State) (play : Play) (holds : Holds old) (plays : IsPlay count old play new)
@@ -137,8 +138,8 @@ module _
   stays_from :
       (before after : ℕ → Option Word) (steps more : List Step) → Follow old new before after
       → IsPeeling before (live_equations old) (steps ++ more) → end_of before (steps ++ more) ≡ plays.words
-      → Stays new.mark (live_equations new) before after steps
-  stays_from before after [] more follow peeling ends = record { peeling = tt; ends = follow.ahead }
+      → Stays new.mark (live_equations new) (known new) before after steps
+  stays_from before after [] more follow peeling ends = record { peeling = tt; ends = follow.ahead; behind = follow.behind }
   stays_from before after (step ∷ steps) more follow peeling ends = ⊎_elim
       (λ past.
       let rest = stays_from (after_step before step) after steps more
@@ -149,6 +150,7 @@ module _
       record {
         peeling = subst (λ (ss : List Step). IsPeeling after (live_equations new) ss) (sym same) rest.peeling;
         ends = λ q a. ap (λ (ss : List Step). end_of after ss q) same ∙ rest.ends q a;
+        behind = λ q b. ap (λ (ss : List Step). end_of after ss q) same ∙ rest.behind q b;
       })
       (λ ahead.
       let rest = stays_from (after_step before step) (after_step after step) steps more
@@ -160,6 +162,7 @@ module _
         peeling = subst (λ (ss : List Step). IsPeeling after (live_equations new) ss) (sym same)
             (still_follows before after follow step peeling.0 agree ahead, rest.peeling);
         ends = λ q a. ap (λ (ss : List Step). end_of after ss q) same ∙ rest.ends q a;
+        behind = λ q b. ap (λ (ss : List Step). end_of after ss q) same ∙ rest.behind q b;
       })
       (cases_lt step.position new.mark)
     where
@@ -176,4 +179,4 @@ solved_stays_peeled continues reaches count old new play steps holds plays repai
     reaches (known old) (live_equations old) (admissible old orderly) plays.words (solution_to_peel old orderly plays.words solution) (steps ++ more.0) more.1 in
     let stays = stays_from count old new play holds plays repaired (known old) (known new) steps more.0
     (follow_first count old new play holds plays repaired) more.1.peeling ends in
-    (stays.peeling, stays.ends)
+    (stays.peeling, stays.ends, stays.behind)
