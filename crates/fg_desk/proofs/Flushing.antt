@@ -1,12 +1,10 @@
 -- A flush ends, and leaves nothing to be shown.
-use Rattle.std.proofs.Common.{◌≡◌, ◌+◌, ◌-◌, ◌≤◌, ℕ, min, List, [], ◌∷◌, length, refl, sym, ap, subst, ◌∙◌, arith}
+use Rattle.std.proofs.Common.{◌≡◌, ◌+◌, ◌-◌, ◌≤◌, ℕ, min, [], ◌∷◌, length, sym, subst, arith}
 use Rattle.fg_desk.specs.State.{State}
-use Rattle.fg_desk.specs.Play.{Play, IsPlay, IsHighest, IsFlushStep, HasMore}
-use Rattle.fg_desk.specs.Run.{IsFlush}
-use Rattle.fg_desk.specs.Facts.{Holds}
-use Rattle.fg_desk.specs.Laws.{AreFlushSteps, FlushEnds, FlushLeavesNothing}
+use Rattle.fg_desk.specs.Play.{Play, IsHighest, IsFlushStep, HasMore}
+use Rattle.fg_desk.specs.Laws.{FlushEnds, FlushLeavesNothing}
 use Rattle.fg_desk.proofs.Plays.{followed_before}
-use Rattle.fg_desk.proofs.PlayKeeps.{flush_step_keeps}
+use Rattle.fg_desk.proofs.PlayKeeps.{step_holds}
 
 pub one_highest : (desk : State) (one other : ℕ) → IsHighest desk one → IsHighest desk other → one ≡ other
 one_highest desk one other first second =
@@ -38,7 +36,7 @@ flush_ends old new (play ∷ following ∷ plays) highest holds is steps =
     let falls : after ≤ highest = highest_falls old next play highest after step is step'.highest_is in
     let more' : next.mark ≤ after = step'.more in
     let rest : length (following ∷ plays) ≤ after + 1 - next.mark =
-    flush_ends next new (following ∷ plays) after (flush_step_keeps old next play holds step) step'.highest_is steps.2 in
+    flush_ends next new (following ∷ plays) after (step_holds old next play holds step) step'.highest_is steps.2 in
     let least : 1 ≤ min old.window (step.highest + 1 - old.mark) = omega (arith, window, more) in
     let counted : length (play ∷ following ∷ plays) ≡ length (following ∷ plays) + 1 = omega arith in
     omega (arith, rest, falls, more', mark, least, counted, same, more)

@@ -2,11 +2,11 @@
 use Rattle.std.proofs.Common.{◌≡◌, ◌+◌, ◌++◌, ℕ, List, [], ◌∷◌, length, Option, Some, None, refl, sym, ap, subst, ◌∙◌, append_assoc}
 use Rattle.fg_words.specs.declared.Word.{Word}
 use Rattle.fg_desk.specs.declared.reply.Reply.{Reply}
-use Rattle.fg_desk.specs.declared.reply.Reply.TheVariants.{Admitted, Duplicate, Conflict, Late, NotStarted, BeforeStart, Ahead, Crowded}
+use Rattle.fg_desk.specs.declared.reply.Reply.TheVariants.{Admitted}
 use Rattle.fg_desk.specs.State.{State, opening}
-use Rattle.fg_desk.specs.Admission.{Parity, IsAfterMedia, IsAfterParity, AdmitsMedia, AdmitsParity, IsLeastFree, position_on, with_media, with_equation, equation_at}
+use Rattle.fg_desk.specs.Admission.{Parity, IsAfterMedia, IsAfterParity, IsLeastFree, position_on, with_media, with_equation, equation_at}
 use Rattle.fg_desk.specs.Play.{Play, IsPlay}
-use Rattle.fg_desk.specs.Run.{Arrival, carries, protects, refused, ArePlaysDue, Takes, TakesAll, IsFlush, IsRun}
+use Rattle.fg_desk.specs.Run.{Arrival, carries, protects, refused, ArePlaysDue, Takes, TakesAll, IsFlush}
 use Rattle.fg_desk.specs.Laws.{LaterChangesNothing, AreInSuccession, PlaysFollow}
 use Rattle.fg_desk.proofs.Options.{some_and}
 

@@ -1,3 +1,4 @@
+pub mod Bounds
 pub mod Equations
 pub mod Flushing
 pub mod Following
@@ -20,6 +21,7 @@ pub mod RowLoops
 pub mod RowMaps
 pub mod RowPeels
 pub mod RowViews
+pub mod RunFacts
 pub mod SlotRange
 pub mod StaysPeeled
 pub mod TrayPlaces

@@ -1,5 +1,5 @@
 -- A desk has one play of so many positions.
-use Rattle.std.proofs.Common.{◌≡◌, ◌+◌, ◌-◌, ◌<◌, ◌≤◌, ◌&&◌, ℕ, min, cond, ltb, leb, List, length, get_or, Option, Some, None, refl, sym, ap, subst, ◌∙◌, arith}
+use Rattle.std.proofs.Common.{◌≡◌, ◌+◌, ◌-◌, ◌<◌, ◌&&◌, ℕ, min, cond, ltb, leb, List, length, Option, None, refl, sym, ap, subst, ◌∙◌}
 use Rattle.std.proofs.lemmas.List.{same_lists, get_or_default}
 use Rattle.std.specs.Ordering.{nat_cmp}
 use Rattle.std.specs.Cmp.{nat_cmp_total}
@@ -76,14 +76,20 @@ module _
       (λ s. same_options (get new.equations s) (get new'.equations s)
       (λ l is.
       let left = (a.equations s l).0 is in
-      (b.equations s l).1 (left.0, sym same_choice.outcomes ∙ left.1,
-      subst (λ (k : Words). Survives new'.mark k l.equation) same_kept
-      (subst (λ (m : ℕ). Survives m new.kept l.equation) same_mark left.2)))
+      (b.equations s l).1 (
+        left.0,
+        sym same_choice.outcomes ∙ left.1,
+        subst (λ (k : Words). Survives new'.mark k l.equation) same_kept
+            (subst (λ (m : ℕ). Survives m new.kept l.equation) same_mark left.2),
+      ))
       (λ l is.
       let left = (b.equations s l).0 is in
-      (a.equations s l).1 (left.0, same_choice.outcomes ∙ left.1,
-      subst (λ (k : Words). Survives new.mark k l.equation) (sym same_kept)
-      (subst (λ (m : ℕ). Survives m new'.kept l.equation) (sym same_mark) left.2))))
+      (a.equations s l).1 (
+        left.0,
+        same_choice.outcomes ∙ left.1,
+        subst (λ (k : Words). Survives new.mark k l.equation) (sym same_kept)
+            (subst (λ (m : ℕ). Survives m new'.kept l.equation) (sym same_mark) left.2),
+      )))
 
   same_shown : play.shown ≡ play'.shown
   same_shown = same_lists play.shown play'.shown (a.length_is ∙ sym b.length_is) (λ k d within.

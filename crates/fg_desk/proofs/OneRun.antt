@@ -6,11 +6,11 @@ use Rattle.fg_words.specs.declared.Word.{Word}
 use Rattle.fg_words.specs.Word.{IsMedia}
 use Rattle.fg_peel.specs.Laws.{Uniqueness}
 use Rattle.fg_desk.specs.declared.reply.Reply.{Reply}
-use Rattle.fg_desk.specs.declared.reply.Reply.TheVariants.{Admitted, Duplicate, Conflict, Late, NotStarted, BeforeStart, Ahead, Crowded}
+use Rattle.fg_desk.specs.declared.reply.Reply.TheVariants.{Admitted}
 use Rattle.fg_desk.specs.State.{State, opening}
 use Rattle.fg_desk.specs.Admission.{Parity, IsLeastFree, IsAfterMedia, IsAfterParity, AdmitsMedia, AdmitsParity, position_on, with_media, with_equation, equation_at}
-use Rattle.fg_desk.specs.Play.{Play, IsPlay, IsFlushStep, HasMore}
-use Rattle.fg_desk.specs.Run.{Arrival, carries, protects, refused, ArePlaysDue, Takes, TakesAll, IsFlush, IsRun}
+use Rattle.fg_desk.specs.Play.{Play}
+use Rattle.fg_desk.specs.Run.{Arrival, carries, protects, refused, ArePlaysDue, Takes, TakesAll, IsFlush}
 use Rattle.fg_desk.specs.Laws.{IsRead, OneRun}
 use Rattle.fg_desk.proofs.Orderly.{IsOrderly, orderly_opening}
 use Rattle.fg_desk.proofs.OrderlyAdmissions.{orderly_after_media, orderly_after_parity}

@@ -1,5 +1,5 @@
 -- The facts hold at first, and media datagrams keep them.
-use Rattle.std.proofs.Common.{◌≡◌, ◌≢◌, ◌+◌, ◌<◌, ◌≤◌, ℕ, Bool, true, false, cond, ltb, Option, Some, None, IsSomeAnd, MatchOption, refl, sym, ap, subst, ◌∙◌, ⊎_elim, arith}
+use Rattle.std.proofs.Common.{◌≡◌, ◌≢◌, ◌+◌, ◌<◌, ℕ, Bool, true, false, cond, ltb, Option, Some, None, MatchOption, refl, sym, ap, subst, ◌∙◌, ⊎_elim, arith}
 use Rattle.std.proofs.lemmas.Bool.{cases_lt, cases_eq}
 use Rattle.std.proofs.lemmas.Option.{none-some, same_Some}
 use Rattle.std.specs.FinMap.{get, insert, empty}
@@ -7,9 +7,9 @@ use Rattle.fg_words.specs.declared.Word.{Word}
 use Rattle.fg_words.specs.Word.{IsMedia}
 use Rattle.fg_unwrap.specs.Position.{position_of}
 use Rattle.fg_desk.specs.declared.reply.Reply.{Reply}
-use Rattle.fg_desk.specs.declared.reply.Reply.TheVariants.{Admitted, Duplicate, Conflict, Late, NotStarted, BeforeStart, Ahead, Crowded}
-use Rattle.fg_desk.specs.State.{State, Top, Words, opening}
-use Rattle.fg_desk.specs.Admission.{IsDue, IsReplyAt, IsMediaReply, IsAfterMedia, AdmitsMedia, position_on, farther, with_media, counted}
+use Rattle.fg_desk.specs.declared.reply.Reply.TheVariants.{Admitted, Late}
+use Rattle.fg_desk.specs.State.{State, Top, Words}
+use Rattle.fg_desk.specs.Admission.{IsDue, IsReplyAt, IsMediaReply, IsAfterMedia, position_on, farther, with_media, counted}
 use Rattle.fg_desk.specs.Facts.{Holds, IsReceived}
 use Rattle.fg_desk.specs.Laws.{OpeningHolds, MediaKeeps}
 use Rattle.fg_desk.proofs.Options.{none_or_some, some_and, some_and_from, nothing_in_empty, inserted, beside_inserted}
@@ -86,7 +86,7 @@ received_at_first old word holds media none =
     record { media = media; ahead = omega (arith, u.0); near = omega (arith, one.0, fits) }
 
 module _ (old : State) (seq : ℕ) where
-  position_at_first : old.top ≡ None → position_on old seq ≡ Some 0
+  pub position_at_first : old.top ≡ None → position_on old seq ≡ Some 0
   position_at_first none =
       ap (λ (t : Option Top). elim t as (λ _. Option ℕ) [ None ↦ Some 0 | Some top ↦ position_of top.position top.seq seq ]) none
 

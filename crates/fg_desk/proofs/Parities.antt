@@ -1,18 +1,18 @@
 -- Parity datagrams keep the facts.
-use Rattle.std.proofs.Common.{◌≡◌, ◌≢◌, ◌⊎◌, ◌+◌, ◌-◌, ◌%◌, ◌^◌, ◌<◌, ◌≤◌, ℕ, Option, Some, None, IsSome, IsSomeAnd, MatchOption, inl, inr, leb, mod-lt, refl, sym, ap, subst, ◌∙◌, ⊎_elim, arith}
+use Rattle.std.proofs.Common.{◌≡◌, ◌≢◌, ◌+◌, ◌-◌, ◌%◌, ◌^◌, ◌<◌, ◌≤◌, ℕ, Option, Some, None, IsSome, MatchOption, inl, inr, leb, mod-lt, sym, subst, ◌∙◌, ⊎_elim, arith}
 use Rattle.std.specs.Bool.{⊤}
 use Rattle.std.proofs.lemmas.Bool.{cases_lt, cases_eq}
 use Rattle.std.proofs.lemmas.Option.{none-some, same_Some}
 use Rattle.std.specs.List.{Contains}
-use Rattle.std.specs.FinMap.{get, insert, len}
+use Rattle.std.specs.FinMap.{get}
 use Rattle.fg_shape.specs.Shape.{IsShape}
 use Rattle.fg_unwrap.specs.Position.{position_of}
 use Rattle.fg_peel.specs.Equation.{Equation, slots}
 use Rattle.fg_desk.specs.declared.reply.Reply.{Reply}
-use Rattle.fg_desk.specs.declared.reply.Reply.TheVariants.{Admitted, Duplicate, Conflict, Late, NotStarted, BeforeStart, Ahead, Crowded}
+use Rattle.fg_desk.specs.declared.reply.Reply.TheVariants.{Admitted, NotStarted, BeforeStart}
 use Rattle.fg_desk.specs.State.{State, Top, Live, last_slot}
 use Rattle.fg_desk.specs.Contents.{HasRoom}
-use Rattle.fg_desk.specs.Admission.{Parity, IsLate, IsAhead, IsTimely, HasTwin, HaveSameSlots, IsFree, IsLeastFree, IsEquationReply, IsParityReply, IsAfterParity, AdmitsParity, position_on, equation_at, with_equation, live_limit, kept_count}
+use Rattle.fg_desk.specs.Admission.{Parity, IsLate, IsAhead, IsTimely, HasTwin, HaveSameSlots, IsFree, IsLeastFree, IsEquationReply, IsParityReply, IsAfterParity, position_on, equation_at, with_equation, live_limit, kept_count}
 use Rattle.fg_desk.specs.Facts.{Holds, IsLive, AreApart}
 use Rattle.fg_desk.specs.Laws.{ParityKeeps}
 use Rattle.fg_desk.proofs.Options.{none_or_some, some_and, chosen, has_value, inserted, beside_inserted}

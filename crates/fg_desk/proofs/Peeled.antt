@@ -1,13 +1,20 @@
 -- Closure and solutions of a desk are those of peeling.
-use Rattle.std.proofs.Common.{◌≡◌, ◌<◌, ℕ, Option, IsSome, ⊎_elim}
+use Rattle.std.proofs.Common.{◌≡◌, ◌≤◌, List, [], ◌∷◌, Some, sym, ◌∙◌, ℕ, Option, ⊎_elim}
 use Rattle.std.proofs.lemmas.Bool.{cases_lt}
+use Rattle.std.proofs.lemmas.List.Elements.{All-from_recursion}
+use Rattle.std.proofs.lemmas.Option.{none-some}
+use Rattle.std.specs.List.{AllByRecursion}
 use Rattle.fg_words.specs.declared.Word.{Word}
 use Rattle.fg_peel.specs.Closure.{InClosure as Follows, given as follows_given, derived as follows_derived}
+use Rattle.fg_peel.specs.Peeling.{Step, IsPeeling, after_step}
+use Rattle.fg_peel.specs.Laws.{Uniqueness}
 use Rattle.fg_peel.specs.Solution.{IsSolution as Solves}
 use Rattle.fg_desk.specs.State.{State, known, live_equations}
 use Rattle.fg_desk.specs.Solution.{InClosure, IsSolution, given, derived}
-use Rattle.fg_desk.specs.Laws.{ClosureIsPeelings, SolutionsArePeelings}
-use Rattle.fg_desk.proofs.Orderly.{IsOrderly, orderly_from_holds, known_base}
+use Rattle.fg_desk.specs.Laws.{ClosureIsPeelings, SolutionsArePeelings, StepsAreAhead, OneSolution}
+use Rattle.fg_desk.proofs.Options.{value_of}
+use Rattle.fg_desk.proofs.Orderly.{IsOrderly, orderly_from_holds, known_base, admissible}
+use Rattle.fg_desk.proofs.Peelings.{after_step_keeps}
 
 pub closure_to_peel : (desk : State) (position : ℕ) → InClosure desk position → Follows (known desk) (live_equations desk) position
 closure_to_peel desk position (given h) = follows_given h
@@ -45,3 +52,30 @@ closure_is_peelings desk holds position =
 pub solutions_are_peelings : SolutionsArePeelings
 solutions_are_peelings desk holds words =
     (solution_to_peel desk (orderly_from_holds desk holds) words, solution_from_peel desk (orderly_from_holds desk holds) words)
+
+-- A peeling's steps are ahead of the mark, since what is before it and in an equation is known.
+steps_ahead :
+    (desk : State) → IsOrderly desk → (now : ℕ → Option Word)
+    → ((q : ℕ) (w : Word) → known desk q ≡ Some w → now q ≡ Some w)
+    → (steps : List Step) → IsPeeling now (live_equations desk) steps → AllByRecursion (λ step. desk.mark ≤ step.position) steps
+steps_ahead desk orderly now keeps [] peeling = tt
+steps_ahead desk orderly now keeps (step ∷ steps) peeling = (
+  ⊎_elim
+      (λ below.
+      let some = known_base desk orderly step.equation peeling.0.listed step.position peeling.0.slot below in
+      let v = value_of (known desk step.position) some in
+      absurd (none-some v.0 (sym peeling.0.unknown ∙ keeps step.position v.0 v.1)))
+      (λ ahead. ahead)
+      (cases_lt step.position desk.mark),
+  steps_ahead desk orderly (after_step now step) (λ q w is. after_step_keeps now step peeling.0.unknown q w (keeps q w is)) steps peeling.1,
+)
+
+pub steps_are_ahead : StepsAreAhead
+steps_are_ahead desk steps holds peeling = All-from_recursion (λ step. desk.mark ≤ step.position) steps
+    (steps_ahead desk (orderly_from_holds desk holds) (known desk) (λ q w is. is) steps peeling)
+
+pub one_solution : Uniqueness → OneSolution
+one_solution unique desk holds one other a b =
+    let orderly = orderly_from_holds desk holds in
+    unique (known desk) (live_equations desk) (admissible desk orderly) one other
+    (solution_to_peel desk orderly one a) (solution_to_peel desk orderly other b)

@@ -1,12 +1,12 @@
 -- What the steps of a peeling keep, and the sums that they take.
-use Rattle.std.proofs.Common.{◌≡◌, ◌≢◌, ◌==◌, ◌⊎◌, ℕ, Bool, true, false, cond, not, List, [], ◌∷◌, filter, filter_map, Option, Some, None, inl, inr, refl, sym, ap, subst, ◌∙◌, ⊎_elim, eq-eqb, ne_eqb, eqb-true}
-use Rattle.std.proofs.lemmas.Bool.{cases_eq, cond-true, cond-false, eqb-false}
+use Rattle.std.proofs.Common.{◌≡◌, ◌≢◌, ◌==◌, ℕ, Bool, true, false, cond, not, List, [], ◌∷◌, filter_map, Option, Some, None, refl, sym, ap, subst, ◌∙◌, ⊎_elim, eq-eqb, ne_eqb}
+use Rattle.std.proofs.lemmas.Bool.{cond-true, cond-false, eqb-false}
 use Rattle.std.specs.List.{Contains, cons_option}
 use Rattle.fg_words.specs.declared.Word.{Word}
 use Rattle.fg_words.specs.Word.{word_sum, word_xor}
 use Rattle.fg_peel.specs.Equation.{Equation, slots, others}
 use Rattle.fg_peel.specs.Equation.{sum_at}
-use Rattle.fg_peel.specs.Peeling.{Step, CanFollow, IsPeeling, after_step, end_of, given_word}
+use Rattle.fg_peel.specs.Peeling.{Step, IsPeeling, after_step, end_of, given_word}
 use Rattle.fg_desk.proofs.Lists.{Contains-here, Contains-there, Contains-cases, Contains-nil}
 
 -- What is an element of a list without p.

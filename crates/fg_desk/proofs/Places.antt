@@ -1,8 +1,8 @@
 -- Where fewer equations are live than there are places, a place is free.
-use Rattle.std.proofs.Common.{◌≡◌, ◌≢◌, ◌⊎◌, ◌+◌, ◌<◌, ◌≤◌, ℕ, zero, suc, List, [], ◌∷◌, map, length, Option, Some, inl, inr, refl, sym, ap, subst, ◌∙◌, ⊎_elim, arith}
+use Rattle.std.proofs.Common.{◌≡◌, ◌≢◌, ◌⊎◌, ◌+◌, ◌<◌, ℕ, zero, suc, List, [], ◌∷◌, map, length, inl, inr, refl, sym, ap, subst, ◌∙◌, ⊎_elim, arith}
 use Rattle.std.proofs.lemmas.Bool.{cases_eq}
 use Rattle.std.specs.List.{Contains}
-use Rattle.std.specs.FinMap.{get, entries, len, len-entries}
+use Rattle.std.specs.FinMap.{entries, len, len-entries}
 use Rattle.fg_desk.specs.State.{State, Live}
 use Rattle.fg_desk.specs.Admission.{IsFree}
 use Rattle.fg_desk.proofs.Lists.{Contains-here, Contains-there, Contains-cases, Contains-nil, Contains-map}
@@ -62,7 +62,10 @@ length-places (e ∷ es) = ap suc (length-places es)
 pub free_place : (desk : State) (limit : ℕ) → len desk.equations < limit → (place : ℕ) × (place < limit) × IsFree desk place
 free_place desk limit fewer =
     let es = entries desk.equations in
-    let r = left_out (map (λ (e : ℕ × Live). e.1.place) es) limit (omega (arith, length-places es, len-entries desk.equations, fewer)) in
-    (r.0, r.1, λ serial live is same.
-    r.2 (subst (λ (p : ℕ). Contains (map (λ (e : ℕ × Live). e.1.place) es) p) same
-    (Contains-map (λ (e : ℕ × Live). e.1.place) es (serial, live) (entry_of_get desk.equations serial live is))))
+    let r = left_out (map (λ (e : ℕ × Live). e.1.place) es) limit (omega (arith, length-places es, len-entries desk.equations, fewer)) in (
+      r.0,
+      r.1,
+      λ serial live is same.
+          r.2 (subst (λ (p : ℕ). Contains (map (λ (e : ℕ × Live). e.1.place) es) p) same
+          (Contains-map (λ (e : ℕ × Live). e.1.place) es (serial, live) (entry_of_get desk.equations serial live is))),
+    )

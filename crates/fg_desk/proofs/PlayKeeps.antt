@@ -1,11 +1,11 @@
 -- Plays keep the facts.
-use Rattle.std.proofs.Common.{◌≡◌, ◌≢◌, ◌+◌, ◌<◌, ◌≤◌, ℕ, Option, Some, None, IsSome, refl, sym, ap, subst, ◌∙◌, ⊎_elim, arith}
+use Rattle.std.proofs.Common.{◌≡◌, ◌≢◌, ℕ, Option, Some, None, IsSome, sym, ap, subst, ◌∙◌, ⊎_elim, arith}
 use Rattle.std.proofs.lemmas.Bool.{cases_lt}
 use Rattle.std.specs.List.{Contains}
-use Rattle.std.specs.FinMap.{get, empty, entries}
+use Rattle.std.specs.FinMap.{get, empty}
 use Rattle.fg_words.specs.declared.Word.{Word}
 use Rattle.fg_peel.specs.Equation.{Equation}
-use Rattle.fg_desk.specs.State.{State, Top, Live, Words, known, live_equations}
+use Rattle.fg_desk.specs.State.{State, Live, Words, known, live_equations}
 use Rattle.fg_desk.specs.Solution.{InClosure, given, derived}
 use Rattle.fg_desk.specs.Play.{Play, IsPlay, IsFlushStep}
 use Rattle.fg_desk.specs.Facts.{Holds, IsKept, IsReceived, IsLive}
@@ -13,6 +13,7 @@ use Rattle.fg_desk.specs.Laws.{PlayKeeps, FlushStepKeeps, ClosureGainsNothing}
 use Rattle.fg_desk.proofs.Options.{value_of, nothing_in_empty}
 use Rattle.fg_desk.proofs.Equations.{serial_of}
 use Rattle.fg_desk.proofs.Orderly.{orderly_from_holds, known_below, known_ahead}
+use Rattle.fg_desk.proofs.Opened.{counted_holds}
 use Rattle.fg_desk.proofs.Plays.{mark_rises, kept_near, kept_is_media, received_before, followed_before}
 
 module _ (count : ℕ) (old : State) (play : Play) (new : State) (plays : IsPlay count old play new) (holds : Holds old) where
@@ -93,11 +94,15 @@ module _ (desk : State) (kept : desk.kept ≡ empty) (media : desk.media ≡ emp
   nothing_follows position (given some) = nothing_known position some
   nothing_follows position (derived equation listed slot ahead others) = nothing_live equation listed
 
-pub flush_step_keeps : FlushStepKeeps
-flush_step_keeps old new play holds step = play_holds _ old play new step.plays holds
+pub step_holds : (old new : State) (play : Play) → Holds old → IsFlushStep old play new → Holds new
+step_holds old new play holds step = play_holds _ old play new step.plays holds
     (λ none.
     let u = holds.unopened none in
     nothing_follows old u.2 u.1 u.3 step.highest step.highest_is.inside)
+
+pub flush_step_keeps : FlushStepKeeps
+flush_step_keeps old new None holds flushes = subst Holds (sym flushes.1) (counted_holds old holds)
+flush_step_keeps old new (Some play) holds step = step_holds old new play holds step
 
 pub closure_gains_nothing : ClosureGainsNothing
 closure_gains_nothing count old new play plays = followed_before count old play new plays

@@ -1,18 +1,17 @@
 -- What a play leaves.
-use Rattle.std.proofs.Common.{◌≡◌, ◌≢◌, ◌+◌, ◌<◌, ◌≤◌, ◌&&◌, ℕ, Bool, true, false, cond, ltb, leb, Option, Some, None, IsSome, refl, sym, ap, subst, ◌∙◌, ⊎_elim, arith, ltb-true, ltb-false, leb-true, lt-ltb, le-ltb, le-leb}
+use Rattle.std.proofs.Common.{◌≡◌, ◌+◌, ◌<◌, ◌≤◌, ◌&&◌, ℕ, cond, ltb, leb, Option, Some, None, IsSome, sym, ap, subst, ◌∙◌, ⊎_elim, arith, ltb-true, ltb-false, leb-true, lt-ltb, le-ltb, le-leb}
 use Rattle.std.proofs.lemmas.Bool.{cases_lt, and_parts, and_from, cond-true, cond-false}
-use Rattle.std.proofs.lemmas.Option.{none-some}
 use Rattle.std.specs.List.{Contains}
 use Rattle.std.specs.FinMap.{get}
 use Rattle.fg_words.specs.declared.Word.{Word}
 use Rattle.fg_words.specs.Word.{IsMedia}
-use Rattle.fg_peel.specs.Equation.{Equation, slots}
+use Rattle.fg_peel.specs.Equation.{Equation}
 use Rattle.fg_desk.specs.declared.reply.Outcome.{Outcome}
 use Rattle.fg_desk.specs.declared.reply.Outcome.TheVariants.{Repaired, Inconsistent}
-use Rattle.fg_desk.specs.State.{State, Live, known, live_equations, last_slot}
-use Rattle.fg_desk.specs.Admission.{kept_count, counted}
-use Rattle.fg_desk.specs.Solution.{InClosure, IsSolution, given, derived}
-use Rattle.fg_desk.specs.Play.{Play, Decides, Survives, IsPlay}
+use Rattle.fg_desk.specs.State.{State, known, live_equations}
+use Rattle.fg_desk.specs.Admission.{kept_count}
+use Rattle.fg_desk.specs.Solution.{InClosure, given, derived}
+use Rattle.fg_desk.specs.Play.{Play, Decides, IsPlay}
 use Rattle.fg_desk.proofs.Options.{none_or_some, value_of, has_value, chosen, passed_over}
 use Rattle.fg_desk.proofs.Equations.{serial_of, live_at}
 use Rattle.fg_desk.proofs.Orderly.{IsOrderly, known_below, known_ahead, known_media}

@@ -1,15 +1,15 @@
 -- A datagram gets one reply.
-use Rattle.std.proofs.Common.{◌≡◌, ◌≢◌, ◌<◌, ◌≤◌, ℕ, Option, Some, None, IsSomeAnd, MatchOption, refl, sym, ap, subst, ◌∙◌, ⊎_elim, arith}
+use Rattle.std.proofs.Common.{◌≡◌, ◌≢◌, ℕ, Option, Some, None, IsSomeAnd, MatchOption, refl, sym, ap, ◌∙◌, ⊎_elim, arith}
 use Rattle.std.proofs.lemmas.Bool.{cases_eq}
 use Rattle.std.proofs.lemmas.Option.{none-some, same_Some}
-use Rattle.std.specs.FinMap.{get, len}
+use Rattle.std.specs.FinMap.{get}
 use Rattle.fg_words.specs.declared.Word.{Word}
 use Rattle.fg_unwrap.specs.Position.{position_of}
 use Rattle.fg_peel.specs.Equation.{Equation}
 use Rattle.fg_desk.specs.declared.reply.Reply.{Reply}
 use Rattle.fg_desk.specs.declared.reply.Reply.TheVariants.{Admitted, Duplicate, Conflict, Late, NotStarted, BeforeStart, Ahead, Crowded}
 use Rattle.fg_desk.specs.State.{State, Top, Live}
-use Rattle.fg_desk.specs.Admission.{Parity, IsReplyAt, IsMediaReply, IsEquationReply, IsParityReply, HasTwin, HaveSameSlots, equation_at}
+use Rattle.fg_desk.specs.Admission.{Parity, IsReplyAt, IsMediaReply, IsEquationReply, IsParityReply, HasTwin, equation_at}
 use Rattle.fg_desk.proofs.Options.{some_and}
 use Rattle.fg_desk.proofs.Orderly.{IsOrderly}
 

@@ -1,5 +1,5 @@
 -- What a peeling found stays peeled over a repaired play.
-use Rattle.std.proofs.Common.{◌≡◌, ◌≢◌, ◌+◌, ◌++◌, ◌<◌, ◌≤◌, ◌&&◌, ℕ, Bool, true, false, cond, ltb, leb, List, [], ◌∷◌, filter, Option, Some, None, IsSome, refl, sym, ap, subst, ◌∙◌, ⊎_elim, arith, le-leb, lt-ltb, le-ltb}
+use Rattle.std.proofs.Common.{◌≡◌, ◌+◌, ◌++◌, ◌<◌, ◌≤◌, ℕ, Bool, cond, ltb, leb, List, [], ◌∷◌, filter, Option, Some, IsSome, refl, sym, ap, subst, ◌∙◌, ⊎_elim, arith, le-leb, lt-ltb, le-ltb}
 use Rattle.std.proofs.lemmas.Bool.{cases_lt, cases_eq, cond-true, cond-false, lt-leb}
 use Rattle.std.specs.List.{Contains}
 use Rattle.std.specs.FinMap.{get}
@@ -9,7 +9,7 @@ use Rattle.fg_peel.specs.Peeling.{Step, CanFollow, IsPeeling, after_step, end_of
 use Rattle.fg_peel.specs.Laws.{PeelingsContinue, MaximalPeelingsEndAtSolution}
 use Rattle.fg_desk.specs.declared.reply.Outcome.{Outcome}
 use Rattle.fg_desk.specs.declared.reply.Outcome.TheVariants.{Repaired}
-use Rattle.fg_desk.specs.State.{State, Live, known, live_equations, last_slot}
+use Rattle.fg_desk.specs.State.{State, Live, known, live_equations}
 use Rattle.fg_desk.specs.Admission.{kept_count}
 use Rattle.fg_desk.specs.Solution.{IsSolution}
 use Rattle.fg_desk.specs.Play.{Play, Decides, Survives, IsPlay}
@@ -33,14 +33,14 @@ record Follow (old new : State) (before after : ℕ → Option Word) : Type 0 wh
 abbrev is_ahead : ℕ → Step → Bool
 is_ahead mark step = leb mark step.position
 
-record Stays (mark : ℕ) (equations : List Equation) (before after : ℕ → Option Word) (steps : List Step) : Type 0 where
+record Stays (mark : ℕ) (equations : List Equation) (start before after : ℕ → Option Word) (steps : List Step) : Type 0 where
   peeling : IsPeeling after equations (filter (is_ahead mark) steps)
   ends : (q : ℕ) → mark ≤ q → end_of after (filter (is_ahead mark) steps) q ≡ end_of before steps q
+  behind : (q : ℕ) → q < mark → end_of after (filter (is_ahead mark) steps) q ≡ start q
 
 module _
     (count : ℕ) (old new : State) (play : Play) (holds : Holds old) (plays : IsPlay count old play new)
     (repaired : play.outcome ≡ Repaired) where
-
   follow_first : Follow old new (known old) (known new)
   follow_first = record {
     ahead = λ q a.
@@ -52,7 +52,6 @@ module _
 
   module _ (before after : ℕ → Option Word) (follow : Follow old new before after) (step : Step)
       (can : CanFollow before (live_equations old) step) (agree : (q : ℕ) (w : Word) → before q ≡ Some w → plays.words q ≡ Some w) where
-
     -- The words at the other slots behind the mark are kept.
     kept_slot :
         new.mark ≤ step.position → (q : ℕ) → Contains (slots step.equation) q → q < new.mark
@@ -69,16 +68,18 @@ module _
         let span = other.span in
         let near : new.mark ≤ q + kept_count = omega (arith, first, last, span, ahead) in
         let some = value_of (before q) (can.others_known q c (λ same. omega (arith, same, ahead, behind))) in
-        let word : get new.kept q ≡ cond (ltb q old.mark) (get old.kept q) (plays.words q) = kept_is count old play new plays q behind near in
-        (⊎_elim
-        (λ below.
-        let v = value_of (get old.kept q) (k.based q at below) in
-        let e : before q ≡ Some v.0 = follow.keeps q v.0 (known_below old q below ∙ v.1) in
-        word ∙ cond-true (ltb q old.mark) (get old.kept q) (plays.words q) (lt-ltb q old.mark below) ∙ v.1 ∙ sym e)
-        (λ past.
-        word ∙ cond-false (ltb q old.mark) (get old.kept q) (plays.words q) (le-ltb q old.mark past)
-        ∙ agree q some.0 some.1 ∙ sym some.1)
-        (cases_lt q old.mark), has_value (before q) some.0 some.1)
+        let word : get new.kept q ≡ cond (ltb q old.mark) (get old.kept q) (plays.words q) = kept_is count old play new plays q behind near in (
+          ⊎_elim
+              (λ below.
+              let v = value_of (get old.kept q) (k.based q at below) in
+              let e : before q ≡ Some v.0 = follow.keeps q v.0 (known_below old q below ∙ v.1) in
+              word ∙ cond-true (ltb q old.mark) (get old.kept q) (plays.words q) (lt-ltb q old.mark below) ∙ v.1 ∙ sym e)
+              (λ past.
+              word ∙ cond-false (ltb q old.mark) (get old.kept q) (plays.words q) (le-ltb q old.mark past)
+              ∙ agree q some.0 some.1 ∙ sym some.1)
+              (cases_lt q old.mark),
+          has_value (before q) some.0 some.1,
+        )
 
     same_slot : new.mark ≤ step.position → (q : ℕ) → Contains (slots step.equation) q → after q ≡ before q
     same_slot ahead q c = ⊎_elim
@@ -137,8 +138,8 @@ module _
   stays_from :
       (before after : ℕ → Option Word) (steps more : List Step) → Follow old new before after
       → IsPeeling before (live_equations old) (steps ++ more) → end_of before (steps ++ more) ≡ plays.words
-      → Stays new.mark (live_equations new) before after steps
-  stays_from before after [] more follow peeling ends = record { peeling = tt; ends = follow.ahead }
+      → Stays new.mark (live_equations new) (known new) before after steps
+  stays_from before after [] more follow peeling ends = record { peeling = tt; ends = follow.ahead; behind = follow.behind }
   stays_from before after (step ∷ steps) more follow peeling ends = ⊎_elim
       (λ past.
       let rest = stays_from (after_step before step) after steps more
@@ -149,6 +150,7 @@ module _
       record {
         peeling = subst (λ (ss : List Step). IsPeeling after (live_equations new) ss) (sym same) rest.peeling;
         ends = λ q a. ap (λ (ss : List Step). end_of after ss q) same ∙ rest.ends q a;
+        behind = λ q b. ap (λ (ss : List Step). end_of after ss q) same ∙ rest.behind q b;
       })
       (λ ahead.
       let rest = stays_from (after_step before step) (after_step after step) steps more
@@ -160,6 +162,7 @@ module _
         peeling = subst (λ (ss : List Step). IsPeeling after (live_equations new) ss) (sym same)
             (still_follows before after follow step peeling.0 agree ahead, rest.peeling);
         ends = λ q a. ap (λ (ss : List Step). end_of after ss q) same ∙ rest.ends q a;
+        behind = λ q b. ap (λ (ss : List Step). end_of after ss q) same ∙ rest.behind q b;
       })
       (cases_lt step.position new.mark)
     where
@@ -176,4 +179,4 @@ solved_stays_peeled continues reaches count old new play steps holds plays repai
     reaches (known old) (live_equations old) (admissible old orderly) plays.words (solution_to_peel old orderly plays.words solution) (steps ++ more.0) more.1 in
     let stays = stays_from count old new play holds plays repaired (known old) (known new) steps more.0
     (follow_first count old new play holds plays repaired) more.1.peeling ends in
-    (stays.peeling, stays.ends)
+    (stays.peeling, stays.ends, stays.behind)

@@ -1,5 +1,5 @@
 -- Laws that show the definitions of a desk to be right.
-use Rattle.std.specs.Prelude.{◌≡◌, ◌≢◌, ◌+◌, ◌-◌, ◌*◌, ◌<◌, ◌≤◌, ◌^◌, ◌↔◌, ◌++◌, ℕ, ⊤, nat_le, List, [], ◌∷◌, length, filter, Option, Some, None, IsSome}
+use Rattle.std.specs.Prelude.{◌≡◌, ◌≢◌, ◌+◌, ◌-◌, ◌<◌, ◌≤◌, ◌^◌, ◌↔◌, ◌++◌, ℕ, ⊤, nat_le, List, [], ◌∷◌, length, filter, Option, Some, None}
 use Rattle.std.specs.List.{All, Contains}
 use Rattle.std.specs.FinMap.{get}
 use Rattle.fg_words.specs.declared.Word.{Word}
@@ -15,7 +15,7 @@ use Rattle.fg_desk.specs.State.{State, Live, known, live_equations, opening}
 use Rattle.fg_desk.specs.Contents.{HasRoom}
 use Rattle.fg_desk.specs.Solution.{InClosure, IsSolution}
 use Rattle.fg_desk.specs.Admission.{Parity, AdmitsMedia, AdmitsParity, IsDue}
-use Rattle.fg_desk.specs.Play.{Play, IsPlay, IsFlushStep, IsHighest, HasMore}
+use Rattle.fg_desk.specs.Play.{Play, IsPlay, IsFlushStep, IsHighest, HasMore, Flushes}
 use Rattle.fg_desk.specs.Run.{Arrival, carries, protects, refused, TakesAll, IsFlush, IsRun}
 use Rattle.fg_desk.specs.Facts.{Holds}
 
@@ -47,7 +47,7 @@ PlayKeeps =
     (count : ℕ) (old new : State) (play : Play) → Holds old → old.top ≢ None → IsPlay count old play new → Holds new
 
 abbrev pub FlushStepKeeps : Type 0
-FlushStepKeeps = (old new : State) (play : Play) → Holds old → IsFlushStep old play new → Holds new
+FlushStepKeeps = (old new : State) (play : Option Play) → Holds old → Flushes old play new → Holds new
 
 -- On such a desk closure and solutions are those of peeling: the mark makes no difference.
 
@@ -60,6 +60,17 @@ abbrev pub SolutionsArePeelings : Type 0
 SolutionsArePeelings =
     (desk : State) → Holds desk → (words : ℕ → Option Word)
     → IsSolution desk words ↔ peeled.IsSolution (known desk) (live_equations desk) words
+
+-- So no step of a peeling lies before the mark.
+abbrev pub StepsAreAhead : Type 0
+StepsAreAhead =
+    (desk : State) (steps : List Step) → Holds desk → IsPeeling (known desk) (live_equations desk) steps
+    → All (λ step. desk.mark ≤ step.position) steps
+
+-- A desk has at most one solution.
+abbrev pub OneSolution : Type 0
+OneSolution =
+    (desk : State) → Holds desk → (one other : ℕ → Option Word) → IsSolution desk one → IsSolution desk other → one ≡ other
 
 -- What is past the mark after a play followed before it already.
 abbrev pub ClosureGainsNothing : Type 0
@@ -83,15 +94,17 @@ abbrev pub FlushLeavesNothing : Type 0
 FlushLeavesNothing = (old new : State) (plays : List Play) → IsFlush old plays new → ¬ HasMore new
 
 -- A known position ahead stays derivable: what a peeling found before a repaired play is, past the new mark, found by a
--- peeling after it, with the same words.
+-- peeling after it, with the same words. Before the mark it finds nothing.
 abbrev pub SolvedStaysPeeled : Type 0
 SolvedStaysPeeled =
     (count : ℕ) (old new : State) (play : Play) (steps : List Step) → Holds old → IsPlay count old play new
     → play.outcome ≡ Repaired → IsPeeling (known old) (live_equations old) steps
     → IsPeeling (known new) (live_equations new) (filter (λ step. nat_le new.mark step.position) steps)
     × ((position : ℕ) → new.mark ≤ position
-        → end_of (known new) (filter (λ step. nat_le new.mark step.position) steps) position
-        ≡ end_of (known old) steps position)
+    → end_of (known new) (filter (λ step. nat_le new.mark step.position) steps) position
+    ≡ end_of (known old) steps position)
+    × ((position : ℕ) → position < new.mark
+    → end_of (known new) (filter (λ step. nat_le new.mark step.position) steps) position ≡ known new position)
 
 -- Later datagrams change nothing of what was shown and answered before.
 abbrev pub LaterChangesNothing : Type 0
@@ -119,6 +132,31 @@ abbrev pub IsRead : Arrival → Type 0
 IsRead (carries seq word) = (seq < 2 ^ 16) × IsMedia word
 IsRead (protects stream parity) = (parity.base < 2 ^ 16) × IsShape parity.offset parity.count
 IsRead (refused stream) = ⊤
+
+-- Plays that are due before a datagram of this sequence number, so far.
+abbrev pub HavePlayed : State → ℕ → List Play → State → Type 0
+HavePlayed old seq [] new = new ≡ old
+HavePlayed old seq (play ∷ plays) new =
+    IsDue old seq × ((next : State) × IsPlay old.window old play next × HavePlayed next seq plays new)
+
+-- As long as a flow's datagrams are fewer than 2^44, the facts hold all along its run, and there is room: before each
+-- datagram, and between the plays before it.
+abbrev pub RunsStayWithin : Type 0
+RunsStayWithin =
+    (window depth seq : ℕ) (arrivals : List Arrival) (plays due : List Play) (replies : List (Option Reply))
+    (taken new : State)
+    → 1 ≤ window → window ≤ 100 → window ≤ depth → All IsRead arrivals → length arrivals < 2 ^ 44
+    → TakesAll (opening window depth) arrivals plays replies taken → HavePlayed taken seq due new
+    → Holds new × HasRoom new
+
+-- And so they do between the steps of its flush.
+abbrev pub FlushesStayWithin : Type 0
+FlushesStayWithin =
+    (window depth : ℕ) (arrivals : List Arrival) (plays flushed : List Play) (replies : List (Option Reply))
+    (filled new : State)
+    → 1 ≤ window → window ≤ 100 → window ≤ depth → depth ≤ 1000 → All IsRead arrivals → length arrivals < 2 ^ 44
+    → TakesAll (opening window depth) arrivals plays replies filled → AreFlushSteps filled flushed new
+    → Holds new × HasRoom new
 
 -- A flow has one run.
 abbrev pub OneRun : Type 0

@@ -1,9 +1,10 @@
 //! The laws that show the definitions of a desk to be right. Each is the contract of a function that
-//! does nothing, or only calls laws below it.
+//! does nothing, or only calls laws of `fg_peel`.
 
 ghost use Rattle.fg_desk.specs.Laws.{LiveStandUnderSerials, OpeningHolds, MediaKeeps, ParityKeeps, PlayKeeps, FlushStepKeeps};
-ghost use Rattle.fg_desk.specs.Laws.{ClosureIsPeelings, SolutionsArePeelings, ClosureGainsNothing, FlushEnds, FlushLeavesNothing};
-ghost use Rattle.fg_desk.specs.Laws.{LaterChangesNothing, PlaysFollow, SolvedStaysPeeled, OneRun};
+ghost use Rattle.fg_desk.specs.Laws.{ClosureIsPeelings, SolutionsArePeelings, StepsAreAhead, OneSolution};
+ghost use Rattle.fg_desk.specs.Laws.{ClosureGainsNothing, FlushEnds, FlushLeavesNothing, SolvedStaysPeeled};
+ghost use Rattle.fg_desk.specs.Laws.{LaterChangesNothing, PlaysFollow, RunsStayWithin, FlushesStayWithin, OneRun};
 
 use fg_peel::laws::{confluence, peelings_fill_the_closure, uniqueness};
 
@@ -13,7 +14,7 @@ pub fn live_equations()
 {}
 
 /// The facts hold of a new desk, and every call keeps them.
-pub fn facts()
+pub fn facts_are_kept()
     ensures opening { OpeningHolds }
     ensures media { MediaKeeps }
     ensures parity { ParityKeeps }
@@ -21,16 +22,24 @@ pub fn facts()
     ensures flush { FlushStepKeeps }
 {}
 
-/// On each desk of which the facts hold, closure and solutions are those of peeling: the mark makes
-/// no difference.
-pub fn peeling()
+/// On each desk of which the facts hold, closure, solutions and peelings are those of `fg_peel`: the
+/// mark makes no difference.
+pub fn mark_makes_no_difference()
     ensures closure { ClosureIsPeelings }
     ensures solutions { SolutionsArePeelings }
+    ensures steps { StepsAreAhead }
 {}
+
+/// A desk has at most one solution.
+pub fn one_solution()
+    ensures { OneSolution }
+{
+    uniqueness();
+}
 
 /// After a play nothing follows that did not follow before it. So a flush ends, and then nothing is
 /// left to be shown.
-pub fn flushes()
+pub fn flushes_end()
     ensures gains { ClosureGainsNothing }
     ensures ends { FlushEnds }
     ensures leaves { FlushLeavesNothing }
@@ -47,9 +56,16 @@ pub fn solved_stays_peeled()
 
 /// Later datagrams change nothing of what was shown and answered before, and each position is shown
 /// or missing once, in order and without holes.
-pub fn runs()
+pub fn runs_only_add()
     ensures later { LaterChangesNothing }
     ensures follow { PlaysFollow }
+{}
+
+/// As long as a flow's datagrams are fewer than 2^44, the facts hold all along its run, and there is
+/// room.
+pub fn runs_stay_within()
+    ensures taking { RunsStayWithin }
+    ensures flushing { FlushesStayWithin }
 {}
 
 /// A flow has one run.

@@ -1,6 +1,6 @@
 use Rattle.fg_desk.proofs.PlayKeeps.{closure_gains_nothing}
 use Rattle.fg_desk.proofs.Flushing.{flush_ends, flush_leaves_nothing}
-use Rattle.fg_desk.proofs.laws.flushes.Goals as goal
+use Rattle.fg_desk.proofs.laws.flushes_end.Goals as goal
 
 pub returns-clause-gains : goal.returns-clause-gains
 returns-clause-gains c = closure_gains_nothing

@@ -1,7 +1,7 @@
 use Rattle.fg_desk.proofs.Opened.{opening_holds, media_keeps}
 use Rattle.fg_desk.proofs.Parities.{parity_keeps}
 use Rattle.fg_desk.proofs.PlayKeeps.{play_keeps, flush_step_keeps}
-use Rattle.fg_desk.proofs.laws.facts.Goals as goal
+use Rattle.fg_desk.proofs.laws.facts_are_kept.Goals as goal
 
 pub returns-clause-opening : goal.returns-clause-opening
 returns-clause-opening c = opening_holds
