@@ -17,6 +17,12 @@ pub mod Places
 pub mod PlayKeeps
 pub mod Plays
 pub mod Replies
+pub mod RowChanges
+pub mod RowLoops
+pub mod RowMaps
+pub mod RowPeels
+pub mod RowViews
 pub mod RunFacts
 pub mod SlotRange
 pub mod StaysPeeled
+pub mod TrayPlaces

@@ -3,6 +3,8 @@ pub mod Contents
 pub mod Facts
 pub mod Laws
 pub mod Play
+pub mod Row
+pub mod RowEntries
 pub mod Run
 pub mod Solution
 pub mod State

@@ -4,8 +4,7 @@ use Rattle.std.specs.Prelude.{◌≡◌, ◌≢◌, ◌≤◌, ◌↔◌, ℕ, O
 use Rattle.std.specs.List.{Contains}
 use Rattle.fg_words.specs.declared.Word.{Word}
 use Rattle.fg_words.specs.Word.{IsMedia}
-use Rattle.fg_peel.specs.Equation.{Equation, slots}
-use Rattle.fg_peel.specs.Solution.{sum_at}
+use Rattle.fg_peel.specs.Equation.{Equation, slots, sum_at}
 use Rattle.fg_desk.specs.State.{State, known, live_equations}
 
 -- The closure: the least set that has each position with a kept or a received word and, wherever a live equation has

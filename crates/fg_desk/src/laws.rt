@@ -6,7 +6,7 @@ ghost use Rattle.fg_desk.specs.Laws.{ClosureIsPeelings, SolutionsArePeelings, St
 ghost use Rattle.fg_desk.specs.Laws.{ClosureGainsNothing, FlushEnds, FlushLeavesNothing, SolvedStaysPeeled};
 ghost use Rattle.fg_desk.specs.Laws.{LaterChangesNothing, PlaysFollow, RunsStayWithin, FlushesStayWithin, OneRun};
 
-use fg_peel::laws::{confluence, peelings_fill_the_closure, uniqueness};
+use fg_peel::laws::{confluence, peelings_fill_the_closure, peelings_stay, uniqueness};
 
 /// The live equations are those that stand under some serial number.
 pub fn live_equations()
@@ -58,6 +58,7 @@ pub fn solved_stays_peeled()
 {
     peelings_fill_the_closure();
     confluence();
+    peelings_stay();
 }
 
 /// Later datagrams change nothing of what was shown and answered before, and each position is shown

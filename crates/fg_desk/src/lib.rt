@@ -3,5 +3,8 @@
 
 pub mod laws;
 mod reply;
+mod row;
+mod tray;
 
 pub use reply::{Outcome, Reply};
+pub use tray::Tray;

@@ -7,7 +7,7 @@ use Rattle.std.proofs.lemmas.List.{drop_more, drop_all}
 use Rattle.fg_words.specs.declared.Word.{Word}
 use Rattle.fg_words.specs.Word.{zero_word, word_xor, word_sum, HasRoom}
 use Rattle.fg_words.proofs.WordLemmas.{word-ext, word_xor_assoc, word_xor-self, word_xor-zero_same, HasRoom-zero}
-use Rattle.fg_peel.specs.Solution.{sum_at}
+use Rattle.fg_peel.specs.Equation.{sum_at}
 
 -- The word has no more bytes than fit.
 abbrev pub IsShort : Word → Type 0

@@ -4,10 +4,9 @@ use Rattle.std.specs.List.{Contains}
 use Rattle.slab.specs.Slab.{Slab, entries}
 use Rattle.fg_words.specs.declared.Word.{Word}
 use Rattle.fg_peel.specs.declared.Line.{Line}
-use Rattle.fg_peel.specs.Equation.{Equation}
-use Rattle.fg_peel.specs.Laws.{AllComeOut}
+use Rattle.fg_peel.specs.Equation.{Equation, AllComeOut, IsComplete, ComesOut}
 use Rattle.fg_peel.specs.Slots.{equation_of, equations_of, lines_of}
-use Rattle.fg_peel.specs.Verdict.{IsLeast, IsComplete, ComesOut, BreaksAt}
+use Rattle.fg_peel.specs.Verdict.{IsLeast, BreaksAt}
 use Rattle.fg_peel.proofs.Lists.{Contains-cases, Contains-nil}
 use Rattle.fg_peel.proofs.Lines.{lines_in, line_of_equation}
 

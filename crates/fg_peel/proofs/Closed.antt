@@ -5,11 +5,11 @@ use Rattle.slab.specs.Slab.{Slab, entries}
 use Rattle.fg_words.specs.declared.Word.{Word}
 use Rattle.fg_peel.specs.declared.Line.{Line}
 use Rattle.fg_peel.specs.declared.Slot.{Slot}
-use Rattle.fg_peel.specs.declared.recovery.Missing.{Missing}
-use Rattle.fg_peel.specs.declared.recovery.Missing.TheVariants.{Nothing, One, Several}
+use Rattle.fg_peel.specs.declared.row.Missing.{Missing}
+use Rattle.fg_peel.specs.declared.row.Missing.TheVariants.{Nothing, One, Several}
 use Rattle.fg_peel.specs.Equation.{Equation, slots}
-use Rattle.fg_peel.specs.Slots.{equation_of, lines_of, told_from, word_in}
-use Rattle.fg_peel.specs.Recovery.{IsMissing, AllClosed, AllClosedAt, empty_count}
+use Rattle.fg_peel.specs.Slots.{equation_of, lines_of, IsMissing, words_from}
+use Rattle.fg_peel.specs.Recovery.{AllClosed, AllClosedAt, empty_count}
 use Rattle.fg_peel.proofs.Lists.{Contains-cases, Contains-nil, same_or_not}
 use Rattle.fg_peel.proofs.Lines.{lines_in}
 
@@ -89,14 +89,14 @@ follows_first words lines filled old same = inl (refl, refl)
 pub follows_more :
     (start : ℕ) (lines : Slab Line) (filled position : ℕ) (old now after : List Slot) (result : Option ℕ)
     → empty_count now ≤ empty_count old → empty_count after ≤ empty_count now → OnSome result (empty_count after < empty_count now)
-    → IfNone result (AllClosedAt (told_from word_in start now) lines position)
-    → FollowsFrom (told_from word_in start old) lines filled old now (Some position)
-    → FollowsFrom (told_from word_in start old) lines filled old after result
+    → IfNone result (AllClosedAt (words_from start now) lines position)
+    → FollowsFrom (words_from start old) lines filled old now (Some position)
+    → FollowsFrom (words_from start old) lines filled old after result
 follows_more start lines filled position old now after None before fewer some none follows same = ⊎_elim
     (λ first.
     let here : position ≡ filled = (let e : Some position ≡ Some filled = first.0 in cc) in
-    let P : List Slot → Type 0 = λ es. AllClosedAt (told_from word_in start es) lines position in
-    let Q : ℕ → Type 0 = λ p. AllClosedAt (told_from word_in start old) lines p in
+    let P : List Slot → Type 0 = λ es. AllClosedAt (words_from start es) lines position in
+    let Q : ℕ → Type 0 = λ p. AllClosedAt (words_from start old) lines p in
     inr (subst Q here (subst P first.1 none)))
     (λ closed. inr closed)
     (follows (omega (arith, same, before, fewer)))

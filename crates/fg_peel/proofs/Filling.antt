@@ -5,9 +5,8 @@ use Rattle.fg_words.specs.declared.Word.{Word}
 use Rattle.fg_words.specs.Word.{word_xor, HasRoom}
 use Rattle.fg_peel.specs.declared.Slot.{Slot}
 use Rattle.fg_peel.specs.declared.Slot.TheVariants.{Empty, Filled}
-use Rattle.fg_peel.specs.Equation.{others}
-use Rattle.fg_peel.specs.Solution.{sum_at}
-use Rattle.fg_peel.specs.Slots.{word_in, told_from}
+use Rattle.fg_peel.specs.Equation.{others, sum_at}
+use Rattle.fg_peel.specs.Slots.{word_in, words_from}
 use Rattle.fg_peel.specs.Recovery.{with_word, AddsWord}
 use Rattle.fg_peel.proofs.Lists.{others-kept, others-head_dropped}
 use Rattle.fg_peel.proofs.Entries.{told_from-entry}
@@ -19,8 +18,8 @@ module _ (start : ℕ) (old : List Slot) (position : ℕ) (xs : List ℕ) (parit
     pub sum : Word
     pub entry : now ≡ set old (position - start) (Filled sum)
     pub rest :
-        word_xor sum (sum_at (told_from word_in start old) (others position (drop j xs)))
-        ≡ word_xor parity (sum_at (told_from word_in start old) (others position xs))
+        word_xor sum (sum_at (words_from start old) (others position (drop j xs)))
+        ≡ word_xor parity (sum_at (words_from start old) (others position xs))
     pub short : IsShort sum
 
   pub filling_first : HasRoom parity → IsFilling 0 (set old (position - start) (Filled parity))
@@ -36,13 +35,13 @@ module _ (start : ℕ) (old : List Slot) (position : ℕ) (xs : List ℕ) (parit
   -- another slot adds its word
   pub filling_adds :
       (j : ℕ) (now new : List Slot) (word : Word) → j < length xs → position - start < length old → start ≤ position
-      → start ≤ get_or xs j 0 → get_or xs j 0 ≢ position → told_from word_in start old (get_or xs j 0) ≡ Some word
+      → start ≤ get_or xs j 0 → get_or xs j 0 ≢ position → words_from start old (get_or xs j 0) ≡ Some word
       → AddsWord now new (position - start) (get_or xs j 0 - start) → IsFilling j now → IsFilling (j + 1) new
   filling_adds j now new word within inside from from_other differs known adds f =
       let other = get_or xs j 0 in
       let target = position - start in
       let apart : other - start ≢ target = omega arith in
-      let words = told_from word_in start old in
+      let words = words_from start old in
       let cut = drop_more xs j 0 within in
       let kept = others-kept position other (drop (j + 1) xs) differs in
       let here : get_or now target Empty ≡ Filled f.sum =
@@ -64,9 +63,9 @@ module _ (start : ℕ) (old : List Slot) (position : ℕ) (xs : List ℕ) (parit
   -- all slots are done
   pub filling_done :
       (j : ℕ) (now : List Slot) → length xs ≤ j → IsFilling j now
-      → now ≡ set old (position - start) (Filled (word_xor parity (sum_at (told_from word_in start old) (others position xs))))
+      → now ≡ set old (position - start) (Filled (word_xor parity (sum_at (words_from start old) (others position xs))))
   filling_done j now past f =
       let none = drop_all j xs past in
-      let whole : f.sum ≡ word_xor parity (sum_at (told_from word_in start old) (others position xs)) =
+      let whole : f.sum ≡ word_xor parity (sum_at (words_from start old) (others position xs)) =
       sym (xor_zero_short f.sum f.short) ∙ (rw none at f.rest) in
       f.entry ∙ ap (λ (w : Word). set old (position - start) (Filled w)) whole

@@ -5,9 +5,9 @@ use Rattle.std.specs.List.{Contains}
 use Rattle.fg_words.specs.declared.Word.{Word}
 use Rattle.fg_words.specs.Word.{word_xor, HasRoom, IsMedia}
 use Rattle.fg_words.proofs.WordLemmas.{word_xor_comm, word_xor-solve, word_xor-cancel}
-use Rattle.fg_peel.specs.Equation.{Equation, AreAdmissible, slots, others}
+use Rattle.fg_peel.specs.Equation.{Equation, AreAdmissible, slots, others, sum_at}
 use Rattle.fg_peel.specs.Closure.{InClosure, given, derived}
-use Rattle.fg_peel.specs.Solution.{IsSolution, sum_at}
+use Rattle.fg_peel.specs.Solution.{IsSolution}
 use Rattle.fg_peel.specs.Peeling.{Step, CanFollow, IsPeeling, IsMaximal, IsSound, after_step, end_of, given_word}
 use Rattle.fg_peel.proofs.Lists.{others-element, same_or_not}
 use Rattle.fg_peel.proofs.Slots.{slots_distinct}
@@ -103,7 +103,7 @@ module _ (known : ℕ → Option Word) (equations : List Equation) (admissible :
       a.1 ∙ ap Some (turned ∙ ap (λ (x : Word). word_xor step.equation.parity x) (sym same))
 
   -- So every peeling's words are those of the solution.
-  end_agrees :
+  pub end_agrees :
       (words : ℕ → Option Word) → IsSolution known equations words
       → (now : ℕ → Option Word) → ((q : ℕ) (w : Word) → now q ≡ Some w → words q ≡ Some w)
       → (steps : List Step) → IsPeeling now equations steps

@@ -9,11 +9,11 @@ use Rattle.fg_words.specs.declared.Word.{Word}
 use Rattle.fg_peel.specs.declared.Line.{Line}
 use Rattle.fg_peel.specs.declared.Slot.{Slot}
 use Rattle.fg_peel.specs.declared.Slot.TheVariants.{Empty, Media, Solved, Filled}
-use Rattle.fg_peel.specs.declared.recovery.Missing.TheVariants.{One}
+use Rattle.fg_peel.specs.declared.row.Missing.TheVariants.{One}
 use Rattle.fg_peel.specs.Equation.{Equation}
 use Rattle.fg_peel.specs.Peeling.{Step, CanFollow, IsPeeling, after_step, end_of, given_word}
-use Rattle.fg_peel.specs.Slots.{OnlyFills, told_from, word_in, equation_of, FitsFrom}
-use Rattle.fg_peel.specs.Recovery.{IsMissing, Fills, IsPeeledBy, IsPeeled, is_empty, empty_count}
+use Rattle.fg_peel.specs.Slots.{OnlyFills, word_in, equation_of, FitsFrom, IsMissing, words_from}
+use Rattle.fg_peel.specs.Recovery.{Fills, IsPeeledBy, IsPeeled, is_empty, empty_count}
 use Rattle.fg_peel.proofs.Entries.{told_from-entry, told_from-below}
 use Rattle.fg_peel.proofs.Verdicts.{end_of-append, IsPeeling-append}
 use Rattle.fg_peel.proofs.Peelings.{after_step-at, after_step-other}
@@ -63,8 +63,8 @@ module _ (old : List Slot) (at : ℕ) (word : Word) (within : at < length old) (
 -- what the entries tell after a step
 fill-told :
     (start : ℕ) (old : List Slot) (step : Step) → start ≤ step.position → step.position - start < length old
-    → told_from word_in start (set old (step.position - start) (Filled (given_word (told_from word_in start old) step)))
-    ≡ after_step (told_from word_in start old) step
+    → words_from start (set old (step.position - start) (Filled (given_word (words_from start old) step)))
+    ≡ after_step (words_from start old) step
 fill-told start old step from within = fun_ext (λ q. ⊎_elim
     (λ same. rw same (
     told_from-entry word_in start new step.position from
@@ -84,7 +84,7 @@ fill-told start old step from within = fun_ext (λ q. ⊎_elim
     at = step.position - start
 
     words : ℕ → Option Word
-    words = told_from word_in start old
+    words = words_from start old
 
     word : Word
     word = given_word words step
@@ -95,12 +95,12 @@ fill-told start old step from within = fun_ext (λ q. ⊎_elim
 -- one step of a peeling
 pub filled_by :
     (start : ℕ) (equations : List Equation) (line : Line) (position : ℕ) (old new : List Slot) → FitsFrom start (length old) line
-    → Contains equations (equation_of line) → IsMissing (told_from word_in start old) (equation_of line) (One position)
+    → Contains equations (equation_of line) → IsMissing (words_from start old) (equation_of line) (One position)
     → Fills start (equation_of line) position old new
     → IsPeeledBy start equations old new (record { equation = equation_of line; position = position } ∷ [])
 filled_by start equations line position old new fits listed missing fills =
     let step : Step = record { equation = equation_of line; position = position } in
-    let words = told_from word_in start old in
+    let words = words_from start old in
     let room = fits.within position missing.0 in
     let within : position - start < length old = omega (arith, room) in
     let none : get_or old (position - start) Empty ≡ Empty =
@@ -109,7 +109,7 @@ filled_by start equations line position old new fits listed missing fills =
     record { listed = listed; slot = missing.0; unknown = missing.1; others_known = missing.2 } in
     record {
       peeling = (can, tt);
-      end = ap (told_from word_in start) fills ∙ fill-told start old step room.0 within;
+      end = ap (words_from start) fills ∙ fill-told start old step room.0 within;
       fills = rw fills (fill-OnlyFills old (position - start) (given_word words step) within none);
       counts = rw fills (fill-count old (position - start) (given_word words step) within none);
     }
@@ -124,9 +124,9 @@ pub peeled_more :
     (start : ℕ) (equations : List Equation) (old mid new : List Slot) (one other : List Step) → IsPeeledBy start equations old mid one
     → IsPeeledBy start equations mid new other → IsPeeledBy start equations old new (one ++ other)
 peeled_more start equations old mid new one other first second = record {
-  peeling = IsPeeling-append (told_from word_in start old) equations one other first.peeling
+  peeling = IsPeeling-append (words_from start old) equations one other first.peeling
       (let P : (ℕ → Option Word) → Type 0 = λ words. IsPeeling words equations other in subst P first.end second.peeling);
-  end = second.end ∙ ap (λ (words : ℕ → Option Word). end_of words other) first.end ∙ sym (end_of-append (told_from word_in start old) one other);
+  end = second.end ∙ ap (λ (words : ℕ → Option Word). end_of words other) first.end ∙ sym (end_of-append (words_from start old) one other);
   fills = OnlyFills-trans old mid new first.fills second.fills;
   counts = omega (arith, length-append one other, first.counts, second.counts);
 }
@@ -147,8 +147,8 @@ IsPeeled-count start equations old new p = omega (arith, p.1.counts)
 -- the position of a step has a word then
 pub peeled_has :
     (start : ℕ) (equations : List Equation) (old new : List Slot) (step : Step) → IsPeeledBy start equations old new (step ∷ [])
-    → IsSome (told_from word_in start new step.position)
+    → IsSome (words_from start new step.position)
 peeled_has start equations old new step by =
     let P : (ℕ → Option Word) → Type 0 = λ words. IsSome (words step.position) in
-    let after : P (after_step (told_from word_in start old) step) = rw (after_step-at (told_from word_in start old) step) refl in
+    let after : P (after_step (words_from start old) step) = rw (after_step-at (words_from start old) step) refl in
     subst P (sym by.end) after

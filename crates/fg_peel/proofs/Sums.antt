@@ -4,8 +4,7 @@ use Rattle.std.specs.List.{Contains, filter_map, cons_option}
 use Rattle.fg_words.specs.declared.Word.{Word}
 use Rattle.fg_words.specs.Word.{word_xor, word_sum, HasRoom}
 use Rattle.fg_words.proofs.WordLemmas.{word_xor-swap, HasRoom-zero, HasRoom-xor}
-use Rattle.fg_peel.specs.Equation.{others}
-use Rattle.fg_peel.specs.Solution.{sum_at}
+use Rattle.fg_peel.specs.Equation.{others, sum_at}
 use Rattle.fg_peel.proofs.Lists.{Contains-here, Contains-there, Contains-nil, Contains-cases, Distinct, others-dropped, others-kept, same_or_not}
 
 -- Two assignments that agree at a list's positions have the same sum there.

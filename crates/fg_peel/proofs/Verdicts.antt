@@ -3,8 +3,8 @@ use Rattle.std.proofs.Common.{◌≡◌, ◌↔◌, ℕ, List, [], ◌∷◌, �
 use Rattle.std.specs.List.{Contains}
 use Rattle.fg_words.specs.declared.Word.{Word}
 use Rattle.fg_words.specs.Word.{IsMedia}
-use Rattle.fg_peel.specs.Equation.{Equation, AreAdmissible, slots}
-use Rattle.fg_peel.specs.Solution.{IsSolution, sum_at}
+use Rattle.fg_peel.specs.Equation.{Equation, AreAdmissible, slots, sum_at}
+use Rattle.fg_peel.specs.Solution.{IsSolution}
 use Rattle.fg_peel.specs.Peeling.{Step, CanFollow, IsPeeling, IsMaximal, IsSound, after_step, end_of}
 use Rattle.fg_peel.proofs.Peelings.{end_of-keeps, maximal_end}
 use Rattle.fg_peel.proofs.Maximal.{maximal_exists}

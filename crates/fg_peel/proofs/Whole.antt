@@ -9,13 +9,12 @@ use Rattle.fg_peel.specs.declared.Slot.{Slot}
 use Rattle.fg_peel.specs.declared.Slot.TheVariants.{Empty, Media, Solved, Filled}
 use Rattle.fg_peel.specs.declared.Verdict.{Verdict}
 use Rattle.fg_peel.specs.declared.Verdict.TheVariants.{Sound, Unsound, NotMedia}
-use Rattle.fg_peel.specs.Equation.{Equation, AreAdmissible, slots}
+use Rattle.fg_peel.specs.Equation.{Equation, AreAdmissible, slots, AllComeOut, AreMedia, ComesOut}
 use Rattle.fg_peel.specs.Closure.{InClosure}
-use Rattle.fg_peel.specs.Peeling.{IsMaximal, end_of}
+use Rattle.fg_peel.specs.Peeling.{IsMaximal, end_of, EndsPeeling, ArePeeled}
 use Rattle.fg_peel.specs.Solution.{IsSolution}
-use Rattle.fg_peel.specs.Laws.{AllComeOut}
-use Rattle.fg_peel.specs.Slots.{word_in, known_in, recovered_in, told_from, equation_of, equations_of, OnlyFills, EndsPeeling, ArePeeled}
-use Rattle.fg_peel.specs.Verdict.{IsVerdict, AreMedia, ComesOut, TellsSolution}
+use Rattle.fg_peel.specs.Slots.{word_in, known_in, recovered_in, equation_of, equations_of, OnlyFills, words_from, known_from, recovered_from}
+use Rattle.fg_peel.specs.Verdict.{IsVerdict, TellsSolution}
 use Rattle.fg_peel.proofs.Entries.{told_from-entry, told_from-below}
 use Rattle.fg_peel.proofs.Lines.{live_equation}
 use Rattle.fg_peel.proofs.Peelings.{maximal_end, end_of-keeps}
@@ -70,8 +69,8 @@ recovered_word (Solved w) word e = e
 recovered_word (Filled w) word e = e
 
 pub recovered_told :
-    (start : ℕ) (entries : List Slot) (position : ℕ) (word : Word) → told_from recovered_in start entries position ≡ Some word
-    → told_from word_in start entries position ≡ Some word
+    (start : ℕ) (entries : List Slot) (position : ℕ) (word : Word) → recovered_from start entries position ≡ Some word
+    → words_from start entries position ≡ Some word
 recovered_told start entries position word told = ⊎_elim
     (λ below. let e : None ≡ Some word = sym (told_from-below recovered_in start entries position below) ∙ told in absurd (cc))
     (λ above. told_from-entry word_in start entries position above
@@ -79,8 +78,8 @@ recovered_told start entries position word told = ⊎_elim
     (cases_lt position start)
 
 pub recovered_since :
-    (start : ℕ) (old new : List Slot) → OnlyFills old new → (position : ℕ) (word : Word) → told_from known_in start old position ≡ None
-    → told_from word_in start new position ≡ Some word → told_from recovered_in start new position ≡ Some word
+    (start : ℕ) (old new : List Slot) → OnlyFills old new → (position : ℕ) (word : Word) → known_from start old position ≡ None
+    → words_from start new position ≡ Some word → recovered_from start new position ≡ Some word
 recovered_since start old new fills position word unknown told = ⊎_elim
     (λ below. let e : None ≡ Some word = sym (told_from-below word_in start new position below) ∙ told in absurd (cc))
     (λ above. let k = position - start in

@@ -6,8 +6,10 @@ use Rattle.fg_words.specs.declared.Word.{Word}
 use Rattle.fg_words.specs.Word.{IsMedia}
 use Rattle.fg_peel.specs.declared.Slot.{Slot}
 use Rattle.fg_peel.specs.declared.Slot.TheVariants.{Empty, Media, Solved, Filled}
-use Rattle.fg_peel.specs.Slots.{told_from, recovered_in}
-use Rattle.fg_peel.specs.Verdict.{IsLeast, IsNoMedia, AreMedia, RecoversMedia}
+use Rattle.fg_peel.specs.Slots.{recovered_in, recovered_from}
+use Rattle.fg_peel.specs.Verdict.{IsLeast, IsNoMedia}
+use Rattle.fg_peel.specs.Equation.{AreMedia}
+use Rattle.fg_peel.specs.Recovery.{RecoversMedia}
 use Rattle.fg_peel.proofs.Entries.{told_from-entry, told_from-below}
 
 -- the word of an entry that recovers no media word
@@ -22,23 +24,23 @@ wrong_word (Filled w) wrong = (w, refl, one_word w wrong)
 
 module _ (start : ℕ) (entries : List Slot) where
   -- A position with an entry that recovers no wrong word has no wrong word.
-  right_at : (position : ℕ) → start ≤ position → RecoversMedia (get_or entries (position - start) Empty) → IsNoMedia (told_from recovered_in start entries) position → ⊥
+  right_at : (position : ℕ) → start ≤ position → RecoversMedia (get_or entries (position - start) Empty) → IsNoMedia (recovered_from start entries) position → ⊥
   right_at position from right wrong =
       wrong.2 (right wrong.0 (sym (told_from-entry recovered_in start entries position from) ∙ wrong.1))
 
-  right_below : (position : ℕ) → position < start → IsNoMedia (told_from recovered_in start entries) position → ⊥
+  right_below : (position : ℕ) → position < start → IsNoMedia (recovered_from start entries) position → ⊥
   right_below position below wrong =
       let e : None ≡ Some wrong.0 = sym (told_from-below recovered_in start entries position below) ∙ wrong.1 in (cc)
 
   -- the first entry with a wrong word
   pub wrong_first :
       (i : ℕ) → (RecoversMedia (get_or entries i Empty) → ⊥) → ((k : ℕ) → k < i → RecoversMedia (get_or entries k Empty))
-      → IsLeast (IsNoMedia (told_from recovered_in start entries)) (start + i)
+      → IsLeast (IsNoMedia (recovered_from start entries)) (start + i)
   wrong_first i wrong right =
       let w = wrong_word (get_or entries i Empty) wrong in
       let from : start ≤ start + i = omega arith in
       let here : start + i - start ≡ i = omega arith in
-      let told : told_from recovered_in start entries (start + i) ≡ Some w.0 =
+      let told : recovered_from start entries (start + i) ≡ Some w.0 =
       told_from-entry recovered_in start entries (start + i) from ∙ ap (λ k. recovered_in (get_or entries k Empty)) here ∙ w.1 in (
         (w.0, told, w.2),
         λ m other. ⊎_elim
@@ -51,7 +53,7 @@ module _ (start : ℕ) (entries : List Slot) where
       )
 
   -- no entry has a wrong word
-  pub wrong_none : ((k : ℕ) → k < length entries → RecoversMedia (get_or entries k Empty)) → AreMedia (told_from recovered_in start entries)
+  pub wrong_none : ((k : ℕ) → k < length entries → RecoversMedia (get_or entries k Empty)) → AreMedia (recovered_from start entries)
   wrong_none right position word told = ⊎_elim
       (λ below. let e : None ≡ Some word = sym (told_from-below recovered_in start entries position below) ∙ told in absurd (cc))
       (λ above. let here = sym (told_from-entry recovered_in start entries position above) ∙ told in ⊎_elim

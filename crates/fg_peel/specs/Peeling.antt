@@ -4,8 +4,8 @@ use Rattle.std.specs.Prelude.{◌≡◌, ◌≢◌, ◌==◌, ⊤, ℕ, List, []
 use Rattle.std.specs.List.{Contains}
 use Rattle.fg_words.specs.declared.Word.{Word}
 use Rattle.fg_words.specs.Word.{word_xor}
-use Rattle.fg_peel.specs.Equation.{Equation, slots, others}
-use Rattle.fg_peel.specs.Solution.{IsSolution, sum_at}
+use Rattle.fg_peel.specs.Equation.{Equation, slots, others, sum_at}
+use Rattle.fg_peel.specs.Solution.{IsSolution}
 
 -- One equation gives the word at one position.
 pub record Step : Type 0 where
@@ -49,3 +49,12 @@ pub record IsMaximal (known : ℕ → Option Word) (equations : List Equation) (
 -- A peeling is sound where its end is a solution.
 abbrev pub IsSound : (ℕ → Option Word) → List Equation → List Step → Type 0
 IsSound known equations steps = IsSolution known equations (end_of known steps)
+
+-- The words are those that a peeling of the known ones leaves.
+abbrev pub ArePeeled : List Equation → (ℕ → Option Word) → (ℕ → Option Word) → Type 0
+ArePeeled equations known words = (steps : List Step) × IsPeeling known equations steps × (words ≡ end_of known steps)
+
+-- They are the end of a maximal peeling.
+abbrev pub EndsPeeling : List Equation → (ℕ → Option Word) → (ℕ → Option Word) → Type 0
+EndsPeeling equations known words =
+    (steps : List Step) × IsMaximal known equations steps × (words ≡ end_of known steps)

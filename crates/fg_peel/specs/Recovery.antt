@@ -1,27 +1,19 @@
--- What one pass over the lines does: it makes some steps of a peeling.
-use Rattle.std.specs.Prelude.{slice_set, ◌≡◌, ◌≢◌, ◌+◌, ◌-◌, ℕ, List, length, count_by, Bool, true, false, Option, Some, None, IsSome, slice_index_or}
+-- What the private functions do: one pass over the lines makes some steps of a peeling, and a look over the entries
+-- makes the verdict. No public contract cites this file.
+use Rattle.std.specs.Prelude.{slice_set, ◌≡◌, ◌+◌, ◌-◌, ◌++◌, take, drop, ℕ, List, length, count_by, Bool, true, false, Option, Some, None, slice_index_or}
 use Rattle.std.specs.List.{Contains}
 use Rattle.fg_words.specs.declared.Word.{Word}
-use Rattle.fg_words.specs.Word.{word_xor}
+use Rattle.fg_words.specs.Word.{word_xor, IsMedia}
 use Rattle.slab.specs.Slab.{Slab}
 use Rattle.fg_peel.specs.declared.Line.{Line}
 use Rattle.fg_peel.specs.declared.Slot.{Slot}
 use Rattle.fg_peel.specs.declared.Slot.TheVariants.{Empty, Media, Solved, Filled}
-use Rattle.fg_peel.specs.declared.recovery.Missing.{Missing}
-use Rattle.fg_peel.specs.declared.recovery.Missing.TheVariants.{Nothing, One, Several}
-use Rattle.fg_peel.specs.Equation.{Equation, slots}
-use Rattle.fg_peel.specs.Peeling.{Step, IsPeeling, end_of, given_word}
-use Rattle.fg_peel.specs.Slots.{OnlyFills, told_from, word_in, equation_of, lines_of}
-
--- Which slots of an equation have no word: none, just one, or at least two.
-abbrev pub IsMissing : (ℕ → Option Word) → Equation → Missing → Type 0
-IsMissing words equation Nothing = (position : ℕ) → Contains (slots equation) position → IsSome (words position)
-IsMissing words equation (One position) =
-    Contains (slots equation) position × (words position ≡ None)
-    × ((other : ℕ) → Contains (slots equation) other → other ≢ position → IsSome (words other))
-IsMissing words equation Several =
-    (one : ℕ) × (other : ℕ) × Contains (slots equation) one × Contains (slots equation) other × (one ≢ other)
-    × (words one ≡ None) × (words other ≡ None)
+use Rattle.fg_peel.specs.declared.row.Missing.TheVariants.{One}
+use Rattle.fg_peel.specs.declared.Verdict.{Verdict}
+use Rattle.fg_peel.specs.Equation.{Equation, slots, sum_at}
+use Rattle.fg_peel.specs.Peeling.{Step, IsPeeling, EndsPeeling, end_of, given_word}
+use Rattle.fg_peel.specs.Slots.{OnlyFills, IsMissing, words_from, recovered_from, word_in, recovered_in, equation_of, equations_of, lines_of}
+use Rattle.fg_peel.specs.Verdict.{IsVerdict}
 
 -- No line misses just one word: nothing more follows.
 abbrev pub AllClosed : (ℕ → Option Word) → Slab Line → Type 0
@@ -46,8 +38,8 @@ empty_count = count_by is_empty
 
 -- The new entries come from the old ones by steps of a peeling: as many empty entries were filled.
 pub record IsPeeledBy (start : ℕ) (equations : List Equation) (old new : List Slot) (steps : List Step) : Type 0 where
-  pub peeling : IsPeeling (told_from word_in start old) equations steps
-  pub end : told_from word_in start new ≡ end_of (told_from word_in start old) steps
+  pub peeling : IsPeeling (words_from start old) equations steps
+  pub end : words_from start new ≡ end_of (words_from start old) steps
   pub fills : OnlyFills old new
   pub counts : empty_count new + length steps ≡ empty_count old
 
@@ -57,7 +49,7 @@ IsPeeled start equations old new = (steps : List Step) × IsPeeledBy start equat
 -- One step of a peeling, by this equation and for this position.
 abbrev pub Fills : ℕ → Equation → ℕ → List Slot → List Slot → Type 0
 Fills start equation position old new =
-    new ≡ slice_set old (position - start) (Filled (given_word (told_from word_in start old) (record { equation = equation; position = position })))
+    new ≡ slice_set old (position - start) (Filled (given_word (words_from start old) (record { equation = equation; position = position })))
 
 -- An entry whose word stands in it, after another word is added.
 abbrev pub with_word : Slot → Option Word → Slot
@@ -71,3 +63,23 @@ with_word (Solved word) added = Solved word
 abbrev pub AddsWord : List Slot → List Slot → ℕ → ℕ → Type 0
 AddsWord old new target other =
     new ≡ slice_set old target (with_word (slice_index_or old target Empty) (word_in (slice_index_or old other Empty)))
+
+-- A sum has gained the words at the equation's slots.
+abbrev pub AddsWords : (ℕ → Option Word) → Equation → Word → Word → Type 0
+AddsWords words equation old new = new ≡ word_xor old (sum_at words (slots equation))
+
+-- The entry's word, if it was recovered, is a media word.
+abbrev pub RecoversMedia : Slot → Type 0
+RecoversMedia entry = (word : Word) → recovered_in entry ≡ Some word → IsMedia word
+
+-- What peeling leaves of a row of entries, and its verdict: only empty entries have changed, the words are the end of a
+-- maximal peeling, and the verdict is theirs.
+pub record IsPeel (start : ℕ) (lines : Slab Line) (old new : List Slot) (answer : Verdict) : Type 0 where
+  pub fills : OnlyFills old new
+  pub peeling : EndsPeeling (equations_of lines) (words_from start old) (words_from start new)
+  pub verdict : IsVerdict (recovered_from start new) (words_from start new) lines answer
+
+-- The same past entries that stand for no position.
+abbrev pub IsPeelAfter : ℕ → Slab Line → List Slot → List Slot → Verdict → Type 0
+IsPeelAfter below lines old new answer =
+    (rest : List Slot) × (new ≡ take below old ++ rest) × IsPeel 0 lines (drop below old) rest answer

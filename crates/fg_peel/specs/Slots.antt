@@ -1,5 +1,5 @@
 -- A row of entries with the words of successive positions, and the live lines: which words and equations they stand for.
-use Rattle.std.specs.Prelude.{◌≡◌, ◌≢◌, ◌⊎◌, ◌+◌, ◌-◌, ◌<◌, ◌≤◌, ℕ, ℤ, pos, negsuc, List, [], map, length, take, drop, nat_lt, slice_index_or, Option, Some, None, if◌then◌else◌}
+use Rattle.std.specs.Prelude.{◌≡◌, ◌≢◌, ◌⊎◌, ◌+◌, ◌-◌, ◌<◌, ◌≤◌, IsSome, ℕ, ℤ, pos, negsuc, List, [], map, length, take, drop, nat_lt, slice_index_or, Option, Some, None, if◌then◌else◌}
 use Rattle.std.specs.List.{Contains}
 use Rattle.slab.specs.Slab.{Slab, entries}
 use Rattle.fg_words.specs.declared.Word.{Word}
@@ -7,8 +7,9 @@ use Rattle.fg_shape.specs.Shape.{IsShape}
 use Rattle.fg_peel.specs.declared.Slot.{Slot}
 use Rattle.fg_peel.specs.declared.Slot.TheVariants.{Empty, Media, Solved, Filled}
 use Rattle.fg_peel.specs.declared.Line.{Line}
-use Rattle.fg_peel.specs.Equation.{Equation, slots}
-use Rattle.fg_peel.specs.Peeling.{Step, IsPeeling, IsMaximal, end_of}
+use Rattle.fg_peel.specs.Equation.{Equation, slots, IsComplete}
+use Rattle.fg_peel.specs.declared.row.Missing.{Missing}
+use Rattle.fg_peel.specs.declared.row.Missing.TheVariants.{Nothing, One, Several}
 
 -- The word of an entry, if it has one.
 abbrev pub word_in : Slot → Option Word
@@ -51,17 +52,25 @@ abbrev pub told_from : (Slot → Option Word) → ℕ → List Slot → ℕ → 
 told_from tell start entries position =
     (if nat_lt position start then None else tell (slice_index_or entries (position - start) Empty))
 
--- The words at the positions, where the first entry stands for `low`.
+-- The words at the positions, those of them that were received or shown before, and those that equations gave.
+abbrev pub words_from : ℕ → List Slot → ℕ → Option Word
+words_from = told_from word_in
+
+abbrev pub known_from : ℕ → List Slot → ℕ → Option Word
+known_from = told_from known_in
+
+abbrev pub recovered_from : ℕ → List Slot → ℕ → Option Word
+recovered_from = told_from recovered_in
+
+-- The same where the first entry stands for `low`.
 abbrev pub words_at : ℤ → List Slot → ℕ → Option Word
-words_at low entries = told_from word_in (first_position low) (from_first low entries)
+words_at low entries = words_from (first_position low) (from_first low entries)
 
--- Those that were received or shown before.
 abbrev pub known_at : ℤ → List Slot → ℕ → Option Word
-known_at low entries = told_from known_in (first_position low) (from_first low entries)
+known_at low entries = known_from (first_position low) (from_first low entries)
 
--- Those that equations gave.
 abbrev pub recovered_at : ℤ → List Slot → ℕ → Option Word
-recovered_at low entries = told_from recovered_in (first_position low) (from_first low entries)
+recovered_at low entries = recovered_from (first_position low) (from_first low entries)
 
 -- What a line says.
 abbrev pub equation_of : Line → Equation
@@ -80,9 +89,13 @@ pub record FitsFrom (start count : ℕ) (line : Line) : Type 0 where
   pub shape : IsShape line.shape.offset line.shape.na
   pub within : (position : ℕ) → Contains (slots (equation_of line)) position → (start ≤ position) × (position < start + count)
 
--- Each line has such a shape, and an entry for each slot.
+-- Each slot of the line has an entry.
+abbrev pub Fits : ℕ → List Slot → Line → Type 0
+Fits start entries = FitsFrom start (length entries)
+
+-- That is so of each line.
 abbrev pub AllFitFrom : ℕ → List Slot → Slab Line → Type 0
-AllFitFrom start entries lines = (line : Line) → Contains (lines_of lines) line → FitsFrom start (length entries) line
+AllFitFrom start entries lines = (line : Line) → Contains (lines_of lines) line → Fits start entries line
 
 abbrev pub AllFit : ℤ → List Slot → Slab Line → Type 0
 AllFit low entries = AllFitFrom (first_position low) (from_first low entries)
@@ -95,10 +108,12 @@ pub record OnlyFills (old new : List Slot) : Type 0 where
       (k : ℕ) → slice_index_or old k Empty ≡ Empty
       → (slice_index_or new k Empty ≡ Empty) ⊎ ((word : Word) × (slice_index_or new k Empty ≡ Filled word))
 
--- The words at the end are the end of a maximal peeling of those at the start.
-abbrev pub EndsPeeling : List Equation → (ℕ → Option Word) → (ℕ → Option Word) → Type 0
-EndsPeeling equations old new = (steps : List Step) × IsMaximal old equations steps × (new ≡ end_of old steps)
-
--- The words are those that a peeling of the known ones leaves.
-abbrev pub ArePeeled : List Equation → (ℕ → Option Word) → (ℕ → Option Word) → Type 0
-ArePeeled equations known words = (steps : List Step) × IsPeeling known equations steps × (words ≡ end_of known steps)
+-- Which slots of an equation have no word: none, just one, or at least two.
+abbrev pub IsMissing : (ℕ → Option Word) → Equation → Missing → Type 0
+IsMissing words equation Nothing = IsComplete words equation
+IsMissing words equation (One position) =
+    Contains (slots equation) position × (words position ≡ None)
+    × ((other : ℕ) → Contains (slots equation) other → other ≢ position → IsSome (words other))
+IsMissing words equation Several =
+    (one : ℕ) × (other : ℕ) × Contains (slots equation) one × Contains (slots equation) other × (one ≢ other)
+    × (words one ≡ None) × (words other ≡ None)

@@ -1,15 +1,13 @@
 //! The verdict on finished words.
 
-ghost use Rattle.std.specs.Prelude.{◌≡◌, ◌+◌, ◌^◌, ◌<◌, ◌≤◌, ◌↔◌, length, false, IsTrue, IfSome, IfNone, IsSomeAnd};
-ghost use Rattle.fg_words.specs.Word.{HasRoom};
-ghost use Rattle.fg_peel.specs.Laws.{AllComeOut};
-ghost use Rattle.fg_peel.specs.Slots.{word_in, recovered_in, told_from, equation_of, equations_of, FitsFrom, AllFitFrom};
-ghost use Rattle.fg_peel.specs.Verdict.{IsLeast, RecoversMedia, IsNoMedia, AreMedia, IsComplete, ComesOut, AddsWords, BreaksAt, IsVerdict};
+ghost use Rattle.std.specs.Prelude.{◌<◌, ◌≤◌, ◌↔◌, ◌≡◌, false, IsTrue, IfSome, IfNone, IsSomeAnd};
+ghost use Rattle.fg_peel.specs.Equation.{IsComplete, ComesOut, AllComeOut, AreMedia};
+ghost use Rattle.fg_peel.specs.Slots.{words_from, recovered_from, equation_of, equations_of, Fits, AllFitFrom};
+ghost use Rattle.fg_peel.specs.Verdict.{IsLeast, IsNoMedia, BreaksAt, IsVerdict};
+ghost use Rattle.fg_peel.specs.Recovery.{RecoversMedia};
 
-use crate::recovery::{Missing, missing_of};
-use crate::{Line, Slot, Verdict, word_at};
-use fg_shape::slot;
-use fg_words::Word;
+use crate::row::{Missing, Row};
+use crate::{Line, Slot, Verdict};
 use slab::Slab;
 
 /// Whether an entry's word, if it was recovered, is a media word.
@@ -24,82 +22,51 @@ fn recovers_media(slot: &Slot) -> bool
 }
 
 /// The least position whose recovered word is no media word.
-fn first_not_media(start: u64, slots: &[Slot]) -> Option<u64>
-    requires limit { start + length slots.now ≤ 2 ^ 62 }
-    ensures least { IfSome result (IsLeast (IsNoMedia (told_from recovered_in start slots.now))) }
-    ensures none { IfNone result (AreMedia (told_from recovered_in start slots.now)) }
+fn first_not_media(row: &Row<'_>) -> Option<u64>
+    ensures least { IfSome result (IsLeast (IsNoMedia (recovered_from row.now.start row.now.slots.now))) }
+    ensures none { IfNone result (AreMedia (recovered_from row.now.start row.now.slots.now)) }
 {
-    for (i, slot) in slots.iter().enumerate() {
+    for (i, slot) in row.slots.iter().enumerate() {
         if !recovers_media(slot) {
-            return Some(start + i as u64);
+            return Some(row.start + i as u64);
         }
     }
     None
 }
 
-/// Whether the words at a line's slots sum to its parity word. It adds each word once, to a copy of
-/// the parity word.
-fn comes_out(start: u64, slots: &[Slot], line: &Line) -> bool
-    requires line { FitsFrom start (length slots.now) line.now }
-    requires limit { start + length slots.now ≤ 2 ^ 62 }
-    ensures { IsTrue result ↔ ComesOut (told_from word_in start slots.now) (equation_of line.now) }
-{
-    let mut sum = *line.parity.word();
-    add_words(&mut sum, start, slots, line);
-    sum.is_zero()
-}
-
-/// Adds the words at a line's slots to a word.
-fn add_words(sum: &mut Word, start: u64, slots: &[Slot], line: &Line)
-    requires line { FitsFrom start (length slots.now) line.now }
-    requires limit { start + length slots.now ≤ 2 ^ 62 }
-    ensures added { AddsWords (told_from word_in start slots.now) (equation_of line.now) sum.old sum.new }
-    ensures room { HasRoom sum.old }
-{
-    // The proof reads the payload's length off its type here.
-    let _payload = &sum.bytes;
-    for j in 0..line.shape.na {
-        let position = slot(line.base, line.shape, j);
-        if let Some(word) = word_at(start, slots, position) {
-            sum.xor_in(word);
-        }
-    }
-}
-
 /// Whether all slots of a line have words that don't sum to its parity word.
-fn is_broken(start: u64, slots: &[Slot], line: &Line) -> bool
-    requires line { FitsFrom start (length slots.now) line.now }
-    requires limit { start + length slots.now ≤ 2 ^ 62 }
-    ensures complete { IsTrue result → IsComplete (told_from word_in start slots.now) (equation_of line.now) }
-    ensures broken { IsTrue result → ¬ ComesOut (told_from word_in start slots.now) (equation_of line.now) }
-    ensures whole { result ≡ false → IsComplete (told_from word_in start slots.now) (equation_of line.now) → ComesOut (told_from word_in start slots.now) (equation_of line.now) }
+fn is_broken(row: &Row<'_>, line: &Line) -> bool
+    requires { Fits row.now.start row.now.slots.now line.now }
+    ensures complete { IsTrue result → IsComplete (words_from row.now.start row.now.slots.now) (equation_of line.now) }
+    ensures broken { IsTrue result → ¬ ComesOut (words_from row.now.start row.now.slots.now) (equation_of line.now) }
+    ensures whole { result ≡ false → IsComplete (words_from row.now.start row.now.slots.now) (equation_of line.now)
+        → ComesOut (words_from row.now.start row.now.slots.now) (equation_of line.now) }
 {
-    match missing_of(start, slots, line) {
-        Missing::Nothing => !comes_out(start, slots, line),
+    match row.missing(line) {
+        Missing::Nothing => !row.comes_out(line),
         Missing::One(_) | Missing::Several => false,
     }
 }
 
 /// The least place of a line that is broken.
-fn first_broken(start: u64, slots: &[Slot], lines: &Slab<Line>) -> Option<u32>
-    requires lines { AllFitFrom start slots.now lines.now }
-    requires limit { start + length slots.now ≤ 2 ^ 62 }
-    ensures least { IfSome result (IsLeast (BreaksAt (told_from word_in start slots.now) lines.now)) }
-    ensures none { IfNone result (AllComeOut (told_from word_in start slots.now) (equations_of lines.now)) }
+fn first_broken(row: &Row<'_>, lines: &Slab<Line>) -> Option<u32>
+    requires { AllFitFrom row.now.start row.now.slots.now lines.now }
+    ensures least { IfSome result (IsLeast (BreaksAt (words_from row.now.start row.now.slots.now) lines.now)) }
+    ensures none { IfNone result (AllComeOut (words_from row.now.start row.now.slots.now) (equations_of lines.now)) }
 {
     let mut least: Option<u32> = None;
     for (_, line) in lines.iter() {
-        if is_below(line.place, least) && is_broken(start, slots, line) {
+        if is_new_least(line.place, least) && is_broken(row, line) {
             least = Some(line.place);
         }
     }
     least
 }
 
-/// Whether a place is below the least one so far.
-fn is_below(place: u32, least: Option<u32>) -> bool
-    ensures below { IsTrue result → IfSome least (λ other. place < other) }
-    ensures above { result ≡ false → IsSomeAnd least (λ other. other ≤ place) }
+/// Whether a place is less than the least one so far.
+fn is_new_least(place: u32, least: Option<u32>) -> bool
+    ensures less { IsTrue result → IfSome least (λ other. place < other) }
+    ensures not_less { result ≡ false → IsSomeAnd least (λ other. other ≤ place) }
 {
     match least {
         Some(other) => place < other,
@@ -107,16 +74,16 @@ fn is_below(place: u32, least: Option<u32>) -> bool
     }
 }
 
-/// The verdict on the words of a row of entries.
-pub(crate) fn verdict_on(start: u64, slots: &[Slot], lines: &Slab<Line>) -> Verdict
-    requires lines { AllFitFrom start slots.now lines.now }
-    requires limit { start + length slots.now ≤ 2 ^ 62 }
-    ensures { IsVerdict (told_from recovered_in start slots.now) (told_from word_in start slots.now) lines.now result }
+/// The verdict on the words of a row.
+pub(crate) fn verdict_on(row: &Row<'_>, lines: &Slab<Line>) -> Verdict
+    requires { AllFitFrom row.now.start row.now.slots.now lines.now }
+    ensures { IsVerdict (recovered_from row.now.start row.now.slots.now)
+        (words_from row.now.start row.now.slots.now) lines.now result }
 {
-    if let Some(slot) = first_not_media(start, slots) {
+    if let Some(slot) = first_not_media(row) {
         return Verdict::NotMedia { slot };
     }
-    match first_broken(start, slots, lines) {
+    match first_broken(row, lines) {
         Some(place) => Verdict::Unsound { place },
         None => Verdict::Sound,
     }

@@ -4,6 +4,9 @@
 ghost use Rattle.fg_peel.specs.Block.{ThreeLostFollow, TwoPassesFollow, FourInSquareStay, WrongParityIsUnsolvable};
 ghost use Rattle.fg_peel.specs.Laws.{ClosureIsClosed, ClosureIsLeast, ClosureHasTest, ClosureGrows, ClosureIsFinal};
 ghost use Rattle.fg_peel.specs.Laws.{PeelingsStayInClosure, MaximalPeelingsEndAtClosure, MaximalPeelingExists, PeelingsContinue, MaximalPeelingsAreTested};
+ghost use Rattle.fg_peel.specs.Laws.{SettledKeepClosure, SettledKeepSolutions, FoundKeepsClosure, FoundKeepsSolutions};
+ghost use Rattle.fg_peel.specs.Laws.{TruthIsSolvable, SolutionsAreTrue};
+ghost use Rattle.fg_peel.specs.Laws.{PeelingsTakeEquations, PeelingsTakeWords, PeelingsOutlivePlays, PeelingsCarryOver};
 ghost use Rattle.fg_peel.specs.Laws.{Uniqueness, SoundPeelingsAgree, SolutionsAreReached, MaximalPeelingsEndAtSolution, SoundWhereSolvable};
 
 /// The closure is the least closed set: it is closed, contained in every closed set that has a test,
@@ -48,6 +51,37 @@ pub fn confluence()
     ensures reached { SolutionsAreReached }
     ensures same_end { MaximalPeelingsEndAtSolution }
     ensures solvable { SoundWhereSolvable }
+{}
+
+/// Equations that are complete and come out in the known words add nothing: without them the closure
+/// and the solutions are the same.
+pub fn settled_equations_add_nothing()
+    ensures closure { SettledKeepClosure }
+    ensures solutions { SettledKeepSolutions }
+{}
+
+/// What a peeling found may be taken as known: the closure is the same, and, where all that it found
+/// is media words, the solutions are.
+pub fn found_words_may_be_known()
+    ensures closure { FoundKeepsClosure }
+    ensures solutions { FoundKeepsSolutions }
+{}
+
+/// Where the known words are some of a set of true media words with which every equation comes out,
+/// a solution exists, and each has true words alone.
+pub fn true_words_solve()
+    ensures exists { TruthIsSolvable }
+    ensures found { SolutionsAreTrue }
+{}
+
+/// A peeling stays one when more equations come, when words become known that agree with it, and when
+/// a play moves the mark: its other steps then find the same words. What positions, words and
+/// equations may change at once is the last clause.
+pub fn peelings_stay()
+    ensures equations { PeelingsTakeEquations }
+    ensures words { PeelingsTakeWords }
+    ensures play { PeelingsOutlivePlays }
+    ensures carried { PeelingsCarryOver }
 {}
 
 /// The definitions on a block of 4 columns and 4 rows: three lost words follow, and so do four in a

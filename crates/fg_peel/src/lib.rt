@@ -5,8 +5,11 @@
 ghost use Rattle.std.specs.Prelude.{◌≡◌, ◌+◌, ◌^◌, ◌<◌, ◌≤◌, ◌≤ℤ◌, ◌+ℤ◌, ◌↔◌, ℕ, pos, negsuc, length, drop, IsSome, IfSome, IsTrue, Option};
 ghost use Rattle.std.specs.Option.{option_copied};
 ghost use Rattle.fg_peel.specs.Closure.{InClosure};
-ghost use Rattle.fg_peel.specs.Slots.{word_in, told_from, before_first, words_at, known_at, recovered_at, equations_of, AllFit, AllFitFrom, OnlyFills, EndsPeeling, ArePeeled};
-ghost use Rattle.fg_peel.specs.Verdict.{AreMedia, IsVerdict, IsPeel, IsPeelAfter, TellsSolution};
+ghost use Rattle.fg_peel.specs.Equation.{AreMedia};
+ghost use Rattle.fg_peel.specs.Peeling.{ArePeeled, EndsPeeling};
+ghost use Rattle.fg_peel.specs.Slots.{word_in, before_first, words_at, known_at, recovered_at, equations_of, AllFit, AllFitFrom, OnlyFills};
+ghost use Rattle.fg_peel.specs.Verdict.{IsVerdict, TellsSolution};
+ghost use Rattle.fg_peel.specs.Recovery.{IsPeel, IsPeelAfter};
 
 use checks::verdict_on;
 use fg_shape::Shape;
@@ -17,8 +20,11 @@ use slab::Slab;
 mod checks;
 pub mod laws;
 mod recovery;
+mod row;
 #[cfg(test)]
 mod tests;
+
+pub use row::{Missing, Row};
 
 /// What is known of the datagram at one position.
 #[derive(Drop)]
@@ -35,7 +41,7 @@ pub enum Slot {
 
 impl Slot {
     /// The word, if there is one.
-    fn word(&self) -> Option<&Word>
+    pub fn word(&self) -> Option<&Word>
         ensures { option_copied result ≡ word_in self.now }
     {
         match self {
@@ -44,15 +50,6 @@ impl Slot {
             Slot::Filled(word) => Some(word),
         }
     }
-}
-
-/// The word at a position, where the first entry stands for `start`.
-fn word_at(start: u64, slots: &[Slot], position: u64) -> Option<&Word>
-    requires first { start ≤ position }
-    requires last { position < start + length slots.now }
-    ensures { option_copied result ≡ told_from word_in start slots.now position }
-{
-    slots[(position - start) as usize].word()
 }
 
 /// A live equation: the words at its slots sum to its parity word.
@@ -106,7 +103,8 @@ pub fn peel(low: i64, slots: &mut [Slot], lines: &Slab<Line>) -> Verdict
     // Only empty entries change, and the words are then those of exactly the closure.
     ensures fills { OnlyFills slots.old slots.new }
     ensures below { before_first low slots.new ≡ before_first low slots.old }
-    ensures closure { (position : ℕ) → IsSome (words_at low slots.new position) ↔ InClosure (words_at low slots.old) (equations_of lines.now) position }
+    ensures closure { (position : ℕ) → IsSome (words_at low slots.new position)
+        ↔ InClosure (words_at low slots.old) (equations_of lines.now) position }
     ensures peeling { EndsPeeling (equations_of lines.now) (words_at low slots.old) (words_at low slots.new) }
 
     // A recovered word that is no media word counts before an equation that doesn't come out.
@@ -114,7 +112,9 @@ pub fn peel(low: i64, slots: &mut [Slot], lines: &Slab<Line>) -> Verdict
 
     // Where the known words are media words and the recovered ones come from them by a peeling, the
     // verdict tells whether there is a solution, and the words are then it.
-    ensures solution { AreMedia (known_at low slots.old) → ArePeeled (equations_of lines.now) (known_at low slots.old) (words_at low slots.old) → TellsSolution (equations_of lines.now) (known_at low slots.old) (words_at low slots.new) result }
+    ensures solution { AreMedia (known_at low slots.old)
+        → ArePeeled (equations_of lines.now) (known_at low slots.old) (words_at low slots.old)
+        → TellsSolution (equations_of lines.now) (known_at low slots.old) (words_at low slots.new) result }
 {
     if low < 0 {
         let below = slots.len().min(low.unsigned_abs() as usize);
@@ -142,5 +142,5 @@ fn peel_from(start: u64, slots: &mut [Slot], lines: &Slab<Line>) -> Verdict
     ensures { IsPeel start lines.now slots.old slots.new result }
 {
     fill_all(start, slots, lines);
-    verdict_on(start, slots, lines)
+    verdict_on(&Row { start, slots }, lines)
 }

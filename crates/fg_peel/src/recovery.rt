@@ -1,58 +1,25 @@
 //! Filling empty entries from the equations that miss one word.
 
 ghost use Rattle.std.specs.Prelude.{◌≡◌, ◌≢◌, ◌+◌, ◌^◌, ◌<◌, ◌≤◌, length, slice_set, IsTrue, IsSome, None, OnSome, IfSome, IfNone, false};
-ghost use Rattle.fg_words.specs.Word.{HasRoom};
-ghost use Rattle.fg_peel.specs.Slots.{word_in, told_from, equation_of, equations_of, FitsFrom, AllFitFrom};
-ghost use Rattle.fg_peel.specs.Recovery.{IsMissing, Fills, AllClosed, AllClosedAt, empty_count, IsPeeled, with_word, AddsWord};
+ghost use Rattle.fg_peel.specs.Slots.{word_in, words_from, equation_of, equations_of, Fits, AllFitFrom, IsMissing};
+ghost use Rattle.fg_peel.specs.Recovery.{Fills, AllClosed, AllClosedAt, empty_count, IsPeeled, with_word, AddsWord};
 
-use crate::{Line, Slot, word_at};
+use crate::row::{Missing, Row};
+use crate::{Line, Slot};
 use fg_shape::{contains, slot};
 use fg_words::Word;
 use slab::Slab;
 
-/// Which slots of an equation have no word.
-#[derive(Clone, Copy)]
-pub(crate) enum Missing {
-    /// None.
-    Nothing,
-    /// Just the one at this position.
-    One(u64),
-    /// At least two.
-    Several,
-}
-
-/// Which slots of a line have no word. It reads no payload.
-pub(crate) fn missing_of(start: u64, slots: &[Slot], line: &Line) -> Missing
-    requires line { FitsFrom start (length slots.now) line.now }
-    requires limit { start + length slots.now ≤ 2 ^ 62 }
-    ensures { IsMissing (told_from word_in start slots.now) (equation_of line.now) result }
-{
-    let mut found = None;
-    for j in 0..line.shape.na {
-        let position = slot(line.base, line.shape, j);
-        if word_at(start, slots, position).is_none() {
-            if found.is_some() {
-                return Missing::Several;
-            }
-            found = Some(position);
-        }
-    }
-    match found {
-        Some(position) => Missing::One(position),
-        None => Missing::Nothing,
-    }
-}
-
 /// Gives the one slot of a line that has no word its word. The parity word is copied into the entry
 /// once, and the words at the other slots are added to it there.
 fn fill(start: u64, slots: &mut [Slot], line: &Line, position: u64)
-    requires line { FitsFrom start (length slots.old) line.now }
+    requires line { Fits start slots.old line.now }
     requires limit { start + length slots.old ≤ 2 ^ 62 }
-    requires missing { IsMissing (told_from word_in start slots.old) (equation_of line.now) (Missing.One position) }
+    requires missing { IsMissing (words_from start slots.old) (equation_of line.now) (Missing.One position) }
     ensures { Fills start (equation_of line.now) position slots.old slots.new }
 {
     let target = (position - start) as usize;
-    hold(slots, target, line.parity.word());
+    put_copy(slots, target, line.parity.word());
     for j in 0..line.shape.na {
         let other = slot(line.base, line.shape, j);
         if other != position {
@@ -62,13 +29,10 @@ fn fill(start: u64, slots: &mut [Slot], line: &Line, position: u64)
 }
 
 /// Puts a copy of a word into an entry.
-fn hold(slots: &mut [Slot], target: usize, word: &Word)
+fn put_copy(slots: &mut [Slot], target: usize, word: &Word)
     requires { target < length slots.old }
-    ensures entry { slots.new ≡ slice_set slots.old target (Slot.Filled word.now) }
-    ensures room { HasRoom word.now }
+    ensures { slots.new ≡ slice_set slots.old target (Slot.Filled word.now) }
 {
-    // The proof reads the payload's length off its type here.
-    let _payload = &word.bytes;
     slots[target] = Slot::Filled(*word);
 }
 
@@ -104,16 +68,16 @@ fn fill_next(start: u64, slots: &mut [Slot], lines: &Slab<Line>, filled: u64) ->
     requires limit { start + length slots.old ≤ 2 ^ 62 }
     ensures peeled { IsPeeled start (equations_of lines.now) slots.old slots.new }
     ensures fewer { OnSome result (empty_count slots.new < empty_count slots.old) }
-    ensures which { IfSome result (λ position. IsSome (told_from word_in start slots.new position)) }
-    ensures unknown { IfSome result (λ position. told_from word_in start slots.old position ≡ None) }
+    ensures which { IfSome result (λ position. IsSome (words_from start slots.new position)) }
+    ensures unknown { IfSome result (λ position. words_from start slots.old position ≡ None) }
     ensures same { IfNone result (slots.new ≡ slots.old) }
-    ensures none { IfNone result (AllClosedAt (told_from word_in start slots.old) lines.now filled) }
+    ensures none { IfNone result (AllClosedAt (words_from start slots.old) lines.now filled) }
 {
     for (_, line) in lines.iter() {
         if !contains(line.base, line.shape, filled) {
             continue;
         }
-        if let Missing::One(position) = missing_of(start, slots, line) {
+        if let Missing::One(position) = (Row { start, slots }).missing(line) {
             fill(start, slots, line, position);
             return Some(position);
         }
@@ -126,7 +90,7 @@ fn follow(start: u64, slots: &mut [Slot], lines: &Slab<Line>, filled: u64)
     requires lines { AllFitFrom start slots.old lines.now }
     requires limit { start + length slots.old ≤ 2 ^ 62 }
     ensures peeled { IsPeeled start (equations_of lines.now) slots.old slots.new }
-    ensures none { slots.new ≡ slots.old → AllClosedAt (told_from word_in start slots.old) lines.now filled }
+    ensures none { slots.new ≡ slots.old → AllClosedAt (words_from start slots.old) lines.now filled }
 {
     let mut next = Some(filled);
     while let Some(position) = next {
@@ -141,11 +105,11 @@ fn round(start: u64, slots: &mut [Slot], lines: &Slab<Line>) -> bool
     requires limit { start + length slots.old ≤ 2 ^ 62 }
     ensures peeled { IsPeeled start (equations_of lines.now) slots.old slots.new }
     ensures fewer { IsTrue result → empty_count slots.new < empty_count slots.old }
-    ensures closed { result ≡ false → AllClosed (told_from word_in start slots.new) lines.now }
+    ensures closed { result ≡ false → AllClosed (words_from start slots.new) lines.now }
 {
     let mut opened = false;
     for (_, line) in lines.iter() {
-        if let Missing::One(position) = missing_of(start, slots, line) {
+        if let Missing::One(position) = (Row { start, slots }).missing(line) {
             fill(start, slots, line, position);
             follow(start, slots, lines, position);
             opened = true;
@@ -163,7 +127,7 @@ pub(crate) fn fill_all(start: u64, slots: &mut [Slot], lines: &Slab<Line>)
     requires lines { AllFitFrom start slots.old lines.now }
     requires limit { start + length slots.old ≤ 2 ^ 62 }
     ensures peeled { IsPeeled start (equations_of lines.now) slots.old slots.new }
-    ensures closed { AllClosed (told_from word_in start slots.new) lines.now }
+    ensures closed { AllClosed (words_from start slots.new) lines.now }
 {
     while round(start, slots, lines) {}
 }

@@ -1,1 +1,4 @@
+pub mod Laws
+pub mod Layout
+pub mod Limits
 pub mod Shape

@@ -1,6 +1,6 @@
 -- Which media datagrams one parity datagram protects, after the FEC header of SMPTE ST 2022-1: a base, an offset
 -- and a number of datagrams.
-use Rattle.std.specs.Prelude.{◌≡◌, ◌+◌, ◌-◌, ◌*◌, ◌<◌, ◌≤◌, ℕ, List, map, length, slice_index}
+use Rattle.std.specs.Prelude.{◌+◌, ◌-◌, ◌*◌, ◌≤◌, ℕ, List, map}
 use Rattle.std.specs.List.{range_with_len}
 
 -- The protected positions, as a whole list: base, base + offset, base + 2 * offset and so on, `na` of them
@@ -15,18 +15,3 @@ pub record IsShape (offset na : ℕ) : Type 0 where
   pub some_slot : 1 ≤ na
   pub slot_limit : na ≤ 20
   pub span : (na - 1) * offset ≤ 99
-
--- A shape has as many slots as it counts.
-abbrev pub CountsItsSlots : Type 0
-CountsItsSlots = (base offset na : ℕ) → length (slots_of base offset na) ≡ na
-
--- The slot of each number is the base and that many offsets.
-abbrev pub NumbersItsSlots : Type 0
-NumbersItsSlots = (base offset na j : ℕ) → j < na → slice_index (slots_of base offset na) j ≡ base + j * offset
-
--- Different slots of a shape are different positions.
-abbrev pub SlotsDiffer : Type 0
-SlotsDiffer =
-    (base offset na i j : ℕ) → 1 ≤ offset → i < na → j < na
-    → slice_index (slots_of base offset na) i ≡ slice_index (slots_of base offset na) j
-    → i ≡ j

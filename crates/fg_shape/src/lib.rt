@@ -4,7 +4,14 @@
 ghost use Rattle.std.specs.Prelude.{◌≡◌, ◌↔◌, ◌^◌, ◌<◌, ◌≤◌, All, Contains, IsTrue, slice_index};
 ghost use Rattle.fg_shape.specs.Shape.{slots_of, IsShape};
 
+mod encoding;
 pub mod laws;
+mod layouts;
+#[cfg(test)]
+mod tests;
+
+pub use encoding::{Drops, Losses, Settings};
+pub use layouts::{Ends, Layout, LayoutFault};
 
 /// The shape of a parity equation (SMPTE ST 2022-1, the FEC header's Offset and NA fields).
 #[derive(Clone, Copy, PartialEq, Eq)]
@@ -56,35 +63,4 @@ pub fn last(base: u64, shape: Shape) -> u64
     ensures greatest { All (λ slot. slot ≤ result) (slots_of base shape.offset shape.na) }
 {
     base + u64::from(shape.na - 1) * u64::from(shape.offset)
-}
-
-#[cfg(test)]
-mod tests {
-    use super::*;
-    use std::test::Fail;
-
-    // The columns of the staggered layout of five columns and five rows: 0 5 10 15 20, then
-    // 6 11 16 21 26, and so on.
-    #[test]
-    fn staggered_columns(rt: HostRuntime) -> Result<(), Fail> {
-        let column = Shape { offset: 5, na: 5 };
-        assert!(rt; shape_ok(column));
-        assert_eq!(rt; slot(6, column, 3), 21);
-        assert_eq!(rt; last(24, column), 44);
-        assert!(rt; contains(6, column, 26));
-        assert!(rt; !contains(6, column, 25));
-        assert!(rt; !contains(6, column, 31));
-        assert!(rt; !contains(6, column, 1));
-        Ok(())
-    }
-
-    // Twenty slots that lie 5 apart span 95 positions, and such that lie 6 apart too many.
-    #[test]
-    fn limits_of_shapes(rt: HostRuntime) -> Result<(), Fail> {
-        assert!(rt; shape_ok(Shape { offset: 5, na: 20 }));
-        assert!(rt; !shape_ok(Shape { offset: 6, na: 20 }));
-        assert!(rt; !shape_ok(Shape { offset: 0, na: 4 }));
-        assert!(rt; !shape_ok(Shape { offset: 1, na: 21 }));
-        Ok(())
-    }
 }

@@ -1,5 +1,5 @@
 -- The laws of the XOR of words and of their sum.
-use Rattle.std.proofs.Common.{◌≡◌, ℕ, zero, suc, ◌+◌, ◌<◌, List, [], ◌∷◌, ◌++◌, length, replicate, take, drop, get_or, bit_xor, All, set, swap, refl, sym, ap, ⊎_elim, ◌∙◌, arith}
+use Rattle.std.proofs.Common.{◌≡◌, ℕ, zero, suc, ◌+◌, ◌*◌, ◌<◌, ◌≤◌, slice_index, List, [], ◌∷◌, ◌++◌, length, replicate, take, drop, get_or, bit_xor, All, set, swap, refl, sym, ap, ⊎_elim, ◌∙◌, arith}
 use Rattle.std.specs.List.{AllByRecursion}
 use Rattle.std.specs.Int.Bits.{xor_assoc, xor_self, xor_zero_r}
 use Rattle.std.specs.Simd.Lanes.{zip2}
@@ -12,7 +12,7 @@ use Rattle.std.specs.List.Sorted.{IsPermutation}
 use Rattle.std.proofs.lemmas.Grind.{common_steps}
 use Rattle.std.proofs.lemmas.Bool.{cases_eq}
 use Rattle.fg_words.specs.declared.Word.{Word}
-use Rattle.fg_words.specs.Word.{zero_word, word_xor, word_sum, HasRoom}
+use Rattle.fg_words.specs.Word.{zero_word, word_xor, word_sum, HasRoom, IsMedia}
 
 -- Words with equal fields are equal.
 pub word-ext : (a b : Word) → a.pt ≡ b.pt → a.ts ≡ b.ts → a.len ≡ b.len → a.bytes ≡ b.bytes → a ≡ b
@@ -156,3 +156,16 @@ kept ws (d ∷ ds) i j p q h =
 -- The sum doesn't depend on the order of the words.
 pub word_sum-permutation : (ws us : List Word) → All HasRoom ws → IsPermutation ws us → word_sum us ≡ word_sum ws
 word_sum-permutation ws us room moved = (IsPermutation-keeps ws (λ (l : List Word). All HasRoom l × (word_sum l ≡ word_sum ws)) (room, refl) (kept ws) us moved).1
+
+-- A word of whole transport packets is a media word where each of them begins with the sync byte and zeros follow.
+pub media_of_packets :
+    (w : Word) (packets : ℕ) → w.pt ≡ 33 → 1 ≤ packets → packets ≤ 7 → w.len ≡ 188 * packets → HasRoom w
+    → ((i : ℕ) → i < packets → slice_index w.bytes (188 * i) ≡ 0x47) → ((i : ℕ) → w.len ≤ i → slice_index w.bytes i ≡ 0)
+    → IsMedia w
+media_of_packets w packets transport some few whole room synced padded = record {
+  transport = transport;
+  packets = (packets, some, few, whole);
+  room = room;
+  synced = λ i less. synced i (omega (arith, less, whole));
+  padded = padded;
+}

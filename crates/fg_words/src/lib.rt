@@ -13,20 +13,20 @@ mod tests;
 pub use shared::Shared;
 use std::alloc::{AllocError, Global};
 
-/// The payload bytes that a word has room for: seven transport packets of 188 bytes.
-pub const PAYLOAD_LIMIT: usize = 1316;
-
-/// The RTP payload type of MPEG transport packets (RFC 3551).
-const TRANSPORT_TYPE: u8 = 33;
+/// The RTP payload type of an MPEG transport stream (RFC 3551).
+pub const TRANSPORT_TYPE: u8 = 33;
 
 /// The length of a transport packet in bytes (ISO/IEC 13818-1).
-const PACKET_LENGTH: u16 = 188;
+pub const PACKET_LENGTH: usize = 188;
 
-/// The most transport packets that a media datagram carries.
-const PACKETS_LIMIT: u16 = 7;
+/// The most transport packets that a media datagram carries (SMPTE ST 2022-2).
+pub const PACKETS_LIMIT: usize = 7;
 
 /// The first byte of each transport packet (ISO/IEC 13818-1).
-const SYNC_BYTE: u8 = 0x47;
+pub const SYNC_BYTE: u8 = 0x47;
+
+/// The payload bytes that a word has room for: as many transport packets as a media datagram carries.
+pub const PAYLOAD_LIMIT: usize = PACKETS_LIMIT * PACKET_LENGTH;
 
 /// What forward error correction can recover of a media datagram (SMPTE ST 2022-1, the recovery
 /// fields).
@@ -87,15 +87,15 @@ impl Word {
     pub fn is_media(&self) -> bool
         ensures { IsTrue result ↔ IsMedia self.now }
     {
-        let packets = self.len / PACKET_LENGTH;
+        let length = usize::from(self.len);
+        let packets = length / PACKET_LENGTH;
         if self.pt != TRANSPORT_TYPE || packets == 0 || packets > PACKETS_LIMIT {
             return false;
         }
-        if self.len != packets * PACKET_LENGTH {
+        if length != packets * PACKET_LENGTH {
             return false;
         }
-        begins_with_sync(&self.bytes, usize::from(packets))
-            && lanes::is_zero_from(&self.bytes, usize::from(self.len))
+        begins_with_sync(&self.bytes, packets) && lanes::is_zero_from(&self.bytes, length)
     }
 
     /// Puts the word where several owners share it. Answers want of memory alone.
@@ -112,7 +112,7 @@ fn begins_with_sync(bytes: &[u8; PAYLOAD_LIMIT], packets: usize) -> bool
     ensures { IsTrue result ↔ ((i : ℕ) → i < packets → slice_index bytes.now (188 * i) ≡ 0x47) }
 {
     for packet in 0..packets {
-        if bytes[usize::from(PACKET_LENGTH) * packet] != SYNC_BYTE {
+        if bytes[PACKET_LENGTH * packet] != SYNC_BYTE {
             return false;
         }
     }

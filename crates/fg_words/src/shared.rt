@@ -2,6 +2,7 @@
 
 ghost use Rattle.std.specs.Prelude.{◌≡◌, IfOk};
 ghost use Rattle.fg_words.specs.declared.Word.{Word};
+ghost use Rattle.fg_words.specs.Word.{HasRoom};
 ghost use Rattle.std.specs.Arc.{arc_value};
 
 use crate::Word;
@@ -19,6 +20,8 @@ impl Model for Shared {
     ghost Value = { Word };
 
     ghost view = { λ s. arc_value s.word };
+
+    ghost invariant = { λ s. HasRoom (arc_value s.word) };
 }
 
 impl Shared {
@@ -34,7 +37,8 @@ impl Shared {
 
     /// The word.
     pub fn word(&self) -> &Word
-        ensures { result.now ≡ self.now }
+        ensures word { result.now ≡ self.now }
+        ensures room { HasRoom result.now }
     {
         &self.word
     }

@@ -1,8 +1,8 @@
 use Rattle.fg_peel.proofs.Ends.{ends_peeling, peeled_fills}
 use Rattle.fg_peel.proofs.peel_from.Goals as goal
 
-pub verdict_on-requires-clause-lines : goal.verdict_on-requires-clause-lines
-verdict_on-requires-clause-lines c line listed = rw c.fill_all.auto.slots (c.requires.lines line listed)
+pub verdict_on-requires : goal.verdict_on-requires
+verdict_on-requires c line listed = rw c.fill_all.auto.slots (c.requires.lines line listed)
 
 pub returns : goal.returns
 returns c = record {

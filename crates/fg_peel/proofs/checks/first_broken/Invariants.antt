@@ -1,5 +1,5 @@
 use Rattle.std.proofs.Common.{IfSome}
-use Rattle.fg_peel.specs.Slots.{told_from, word_in}
+use Rattle.fg_peel.specs.Slots.{words_from}
 use Rattle.fg_peel.specs.Verdict.{BreaksAt}
 use Rattle.fg_peel.proofs.Lines.{AreLive}
 use Rattle.fg_peel.proofs.Broken.{BrokenBut}
@@ -11,5 +11,5 @@ invariant-loop-line l =
     (goal.iterator-loop-line).can_next l.line-iterator ×
     (goal.iterator-loop-line).is_finite l.line-iterator ×
     AreLive l.lines l.line-iterator ×
-    IfSome l.least (BreaksAt (told_from word_in l.start l.slots) l.lines) ×
-    BrokenBut (told_from word_in l.start l.slots) l.lines l.least l.line-iterator
+    IfSome l.least (BreaksAt (words_from l.row.start l.row.slots.now) l.lines) ×
+    BrokenBut (words_from l.row.start l.row.slots.now) l.lines l.least l.line-iterator

@@ -3,7 +3,7 @@ use Rattle.std.proofs.lemmas.List.Elements.{Contains-get_or}
 use Rattle.fg_shape.proofs.ShapeLemmas.{length-slots_of}
 use Rattle.fg_peel.proofs.Peelings.{some_word}
 use Rattle.fg_peel.specs.Equation.{slots}
-use Rattle.fg_peel.specs.Slots.{word_in, told_from, equation_of}
+use Rattle.fg_peel.specs.Slots.{equation_of, words_from}
 use Rattle.fg_peel.proofs.Entries.{fits_base, fits_slot}
 use Rattle.fg_peel.proofs.Filling.{filling_first, filling_skips, filling_adds, filling_done}
 use Rattle.fg_peel.proofs.recovery.fill.Goals as goal
@@ -12,8 +12,8 @@ use Rattle.fg_peel.proofs.recovery.fill.Goals.{then-other-position, else-other-p
 pub overflow_sub-target : goal.overflow_sub-target
 overflow_sub-target c = (c.requires.line.within c.args.position c.requires.missing.0).0
 
-pub hold-requires : goal.hold-requires
-hold-requires c = omega (arith, c.requires.line.within c.args.position c.requires.missing.0)
+pub put_copy-requires : goal.put_copy-requires
+put_copy-requires c = omega (arith, c.requires.line.within c.args.position c.requires.missing.0)
 
 pub slot-other-requires-clause-base : goal.slot-other-requires-clause-base
 slot-other-requires-clause-base c = fits_base c.args.start (length c.args.slots.now) c.args.line.now c.requires.line c.requires.limit
@@ -23,11 +23,11 @@ overflow_sub-other c =
     omega (arith, c.slot-other.ensures, fits_slot c.args.start (length c.args.slots.now) c.args.line.now c.loop-j.j c.requires.line c.loop-j-test.true)
 
 pub add_word-requires-clause-target : goal.add_word-requires-clause-target
-add_word-requires-clause-target c = omega (arith, c.hold.auto.slots, c.loop-j.auto.slots, c.requires.line.within c.args.position c.requires.missing.0)
+add_word-requires-clause-target c = omega (arith, c.put_copy.auto.slots, c.loop-j.auto.slots, c.requires.line.within c.args.position c.requires.missing.0)
 
 pub add_word-requires-clause-other : goal.add_word-requires-clause-other
 add_word-requires-clause-other c =
-    omega (arith, c.hold.auto.slots, c.loop-j.auto.slots, c.slot-other.ensures, fits_slot c.args.start (length c.args.slots.now) c.args.line.now c.loop-j.j c.requires.line c.loop-j-test.true)
+    omega (arith, c.put_copy.auto.slots, c.loop-j.auto.slots, c.slot-other.ensures, fits_slot c.args.start (length c.args.slots.now) c.args.line.now c.loop-j.j c.requires.line c.loop-j-test.true)
 
 pub add_word-requires-clause-apart : goal.add_word-requires-clause-apart
 add_word-requires-clause-apart c = λ same.
@@ -41,14 +41,14 @@ add_word-requires-clause-apart c = λ same.
 
 pub loop-j-init : goal.loop-j-init
 loop-j-init c =
-    rw (c.hold.ensures.entry, c.word.ensures)
-    (filling_first c.args.start c.args.slots.now c.args.position (slots (equation_of c.args.line.now)) c.args.line.now.parity (rw c.word.ensures at c.hold.ensures.room))
+    rw (c.put_copy.ensures, c.word.ensures.word)
+    (filling_first c.args.start c.args.slots.now c.args.position (slots (equation_of c.args.line.now)) c.args.line.now.parity (rw c.word.ensures.word at c.word.ensures.room))
 
 pub loop-j-preserved : goal.loop-j-preserved
 loop-j-preserved c =
     let xs = slots (equation_of c.args.line.now) in
     let j = c.loop-j.j in
-    let words = told_from word_in c.args.start c.args.slots.now in
+    let words = words_from c.args.start c.args.slots.now in
     let within : j < length xs = omega (arith, length-slots_of c.args.line.now.base c.args.line.now.shape.offset c.args.line.now.shape.na) in
     let from = c.requires.line.within c.args.position c.requires.missing.0 in
     elim c.if-other-position.branch [

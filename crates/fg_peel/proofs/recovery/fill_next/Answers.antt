@@ -1,9 +1,9 @@
 use Rattle.std.proofs.Common.{sym, length, ◌∙◌, refl, ap, arith}
 use Rattle.std.specs.List.{Contains}
-use Rattle.fg_peel.specs.Slots.{lines_of, equations_of, equation_of, FitsFrom, told_from, word_in}
-use Rattle.std.proofs.lemmas.Bool.{false≢true}
+use Rattle.fg_peel.specs.Slots.{lines_of, equations_of, equation_of, FitsFrom, IsMissing, words_from}
 use Rattle.fg_peel.specs.Equation.{slots}
-use Rattle.fg_peel.specs.Recovery.{IsMissing, empty_count}
+use Rattle.fg_peel.specs.Recovery.{empty_count}
+use Rattle.std.proofs.lemmas.Bool.{false≢true}
 use Rattle.fg_peel.proofs.Entries.{fits_base}
 use Rattle.fg_peel.proofs.Closed.{ClosedAtBut, IsClosedLine, closed_at_none, closed_at_more, closed_at_all, closed_unless_one}
 use Rattle.fg_peel.proofs.Lines.{AreLive, all_live, live_first, live_rest, live_equation}
@@ -22,10 +22,10 @@ rest c = live_rest c.args.lines.now c.loop-line.line-iterator (c.in-Some.field-0
 
 closed_after :
     (c : In-Some)
-    → (Contains (slots (equation_of c.in-Some.line.now)) c.args.filled → IsClosedLine (told_from word_in c.args.start c.args.slots.now) (equation_of c.in-Some.line.now))
-    → ClosedAtBut (told_from word_in c.args.start c.args.slots.now) c.args.lines.now c.args.filled c.next.new.self
+    → (Contains (slots (equation_of c.in-Some.line.now)) c.args.filled → IsClosedLine (words_from c.args.start c.args.slots.now) (equation_of c.in-Some.line.now))
+    → ClosedAtBut (words_from c.args.start c.args.slots.now) c.args.lines.now c.args.filled c.next.new.self
 closed_after c closed =
-    closed_at_more (told_from word_in c.args.start c.args.slots.now) c.args.lines.now c.args.filled c.loop-line.line-iterator
+    closed_at_more (words_from c.args.start c.args.slots.now) c.args.lines.now c.args.filled c.loop-line.line-iterator
     (c.in-Some.field-0-0, c.in-Some.line.now) c.next.new.self c.in-Some.ensures.steps closed c.loop-line.invariant.4
 
 pub loop-line-init : goal.loop-line-init
@@ -35,7 +35,7 @@ loop-line-init c =
       tt,
       all_live c.args.lines.now c.into_iter-line-iterator.result whole,
       refl,
-      closed_at_none (told_from word_in c.args.start c.args.slots.now) c.args.lines.now c.args.filled c.into_iter-line-iterator.result whole,
+      closed_at_none (words_from c.args.start c.args.slots.now) c.args.lines.now c.args.filled c.into_iter-line-iterator.result whole,
     )
 
 pub contains-requires-clause-shape : goal.contains-requires-clause-shape
@@ -45,8 +45,8 @@ pub contains-requires-clause-base : goal.contains-requires-clause-base
 contains-requires-clause-base c =
     fits_base c.args.start (length c.loop-line.slots) c.in-Some.line.now (fits (goal.at.contains-requires-clause-base c).In-Some) (rw c.loop-line.auto.slots c.requires.limit)
 
-pub missing_of-requires-clause-line : goal.missing_of-requires-clause-line
-missing_of-requires-clause-line c = fits (goal.at.missing_of-requires-clause-line c).In-Some
+pub missing-requires : goal.missing-requires
+missing-requires c = fits (goal.at.missing-requires c).In-Some
 
 pub fill-requires-clause-line : goal.fill-requires-clause-line
 fill-requires-clause-line c = fits (goal.at.fill-requires-clause-line c).In-Some
@@ -68,9 +68,9 @@ returns-in-One-clause-fewer c =
 pub loop-line-preserved : goal.loop-line-preserved
 loop-line-preserved c =
     let i = (goal.at.loop-line-preserved c).In-Some in
-    let words = told_from word_in c.args.start c.args.slots.now in
-    let missing : IsMissing words (equation_of c.in-Some.line.now) c.missing_of.result = rw c.loop-line.invariant.3 at c.missing_of.ensures in
-    let closed = closed_unless_one words (equation_of c.in-Some.line.now) c.missing_of.result c.in_default.not-One missing in
+    let words = words_from c.args.start c.args.slots.now in
+    let missing : IsMissing words (equation_of c.in-Some.line.now) c.missing.result = rw c.loop-line.invariant.3 at c.missing.ensures in
+    let closed = closed_unless_one words (equation_of c.in-Some.line.now) c.missing.result c.in_default.not-One missing in
     (tt, tt, rest i, c.loop-line.invariant.3, closed_after i (λ _. closed))
 
 pub loop-line-preserved-then-not-contains : goal.loop-line-preserved-then-not-contains
@@ -90,7 +90,7 @@ returns-in-One-clause-unknown c = rw c.loop-line.invariant.3 at c.in-One.ensures
 
 pub returns-clause-none : goal.returns-clause-none
 returns-clause-none c =
-    closed_at_all (told_from word_in c.args.start c.args.slots.now) c.args.lines.now c.args.filled c.loop-line.line-iterator c.in-None.ensures.steps.0 c.loop-line.invariant.4
+    closed_at_all (words_from c.args.start c.args.slots.now) c.args.lines.now c.args.filled c.loop-line.line-iterator c.in-None.ensures.steps.0 c.loop-line.invariant.4
 
 pub returns-clause-peeled : goal.returns-clause-peeled
 returns-clause-peeled c = rw c.loop-line.invariant.3 (IsPeeled-refl c.args.start (equations_of c.args.lines.now) c.args.slots.now)

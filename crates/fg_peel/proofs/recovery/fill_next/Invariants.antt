@@ -1,5 +1,5 @@
 use Rattle.std.proofs.Common.{◌≡◌}
-use Rattle.fg_peel.specs.Slots.{told_from, word_in}
+use Rattle.fg_peel.specs.Slots.{words_from}
 use Rattle.fg_peel.proofs.Closed.{ClosedAtBut}
 use Rattle.fg_peel.proofs.Lines.{AreLive}
 use Rattle.fg_peel.proofs.recovery.fill_next.Given as goal
@@ -11,4 +11,4 @@ invariant-loop-line l =
     (goal.iterator-loop-line).is_finite l.line-iterator ×
     AreLive l.lines l.line-iterator ×
     (l.slots ≡ l.fn.slots) ×
-    ClosedAtBut (told_from word_in l.start l.fn.slots) l.lines l.filled l.line-iterator
+    ClosedAtBut (words_from l.start l.fn.slots) l.lines l.filled l.line-iterator

@@ -1,4 +1,4 @@
-use Rattle.fg_peel.specs.Slots.{equations_of, told_from, word_in}
+use Rattle.fg_peel.specs.Slots.{equations_of, words_from}
 use Rattle.fg_peel.proofs.Steps.{IsPeeled-refl, IsPeeled-trans, IsPeeled-count}
 use Rattle.fg_peel.proofs.Closed.{follows_first, follows_more, follows_last}
 use Rattle.fg_peel.proofs.recovery.follow.Goals as goal
@@ -9,7 +9,7 @@ fill_next-next-requires-clause-lines c line listed = rw c.loop-next.auto.slots (
 pub loop-next-init : goal.loop-next-init
 loop-next-init c = (
   IsPeeled-refl c.args.start (equations_of c.args.lines.now) c.args.slots.now,
-  follows_first (told_from word_in c.args.start c.args.slots.now) c.args.lines.now c.args.filled c.args.slots.now,
+  follows_first (words_from c.args.start c.args.slots.now) c.args.lines.now c.args.filled c.args.slots.now,
 )
 
 pub loop-next-preserved : goal.loop-next-preserved
@@ -24,5 +24,5 @@ loop-next-preserved c =
 
 pub returns-clause-none : goal.returns-clause-none
 returns-clause-none c =
-    follows_last (told_from word_in c.args.start c.args.slots.now) c.args.lines.now c.args.filled c.args.slots.now c.loop-next.slots c.loop-next.next
+    follows_last (words_from c.args.start c.args.slots.now) c.args.lines.now c.args.filled c.args.slots.now c.loop-next.slots c.loop-next.next
     c.in_default.not-Some c.loop-next.invariant.1

@@ -1,6 +1,6 @@
 use Rattle.std.proofs.Common.{length, arith}
 use Rattle.std.specs.List.{Contains}
-use Rattle.fg_peel.specs.Slots.{lines_of, equations_of, equation_of, FitsFrom, told_from, word_in}
+use Rattle.fg_peel.specs.Slots.{lines_of, equations_of, equation_of, FitsFrom, words_from}
 use Rattle.fg_peel.specs.Recovery.{IsPeeled}
 use Rattle.fg_peel.proofs.Lines.{AreLive, live_first, live_rest, live_equation}
 use Rattle.fg_peel.proofs.Steps.{filled_by, IsPeeled-trans, IsPeeled-count}
@@ -17,8 +17,8 @@ fits c = rw c.loop-line.auto.slots (c.requires.lines c.in-Some.line.now (live c)
 rest : (c : In-Some) → AreLive c.args.lines.now c.next.new.self
 rest c = live_rest c.args.lines.now c.loop-line.line-iterator (c.in-Some.field-0-0, c.in-Some.line.now) c.next.new.self c.in-Some.ensures.steps c.loop-line.invariant.2
 
-pub missing_of-requires-clause-line : goal.missing_of-requires-clause-line
-missing_of-requires-clause-line c = fits (goal.at.missing_of-requires-clause-line c).In-Some
+pub missing-requires : goal.missing-requires
+missing-requires c = fits (goal.at.missing-requires c).In-Some
 
 pub fill-requires-clause-line : goal.fill-requires-clause-line
 fill-requires-clause-line c = fits (goal.at.fill-requires-clause-line c).In-Some
@@ -47,8 +47,8 @@ loop-line-preserved-in-One c =
 
 pub loop-line-preserved : goal.loop-line-preserved
 loop-line-preserved c =
-    let words = told_from word_in c.args.start c.loop-line.slots in
-    let closed = closed_unless_one words (equation_of c.in-Some.line.now) c.missing_of.result c.in_default.not-One c.missing_of.ensures in (
+    let words = words_from c.args.start c.loop-line.slots in
+    let closed = closed_unless_one words (equation_of c.in-Some.line.now) c.missing.result c.in_default.not-One c.missing.ensures in (
       tt,
       tt,
       rest (goal.at.loop-line-preserved c).In-Some,
@@ -59,4 +59,4 @@ loop-line-preserved c =
     )
 
 pub returns-clause-closed : goal.returns-clause-closed
-returns-clause-closed c same = closed_all (told_from word_in c.args.start c.loop-line.slots) c.args.lines.now c.loop-line.line-iterator c.in-None.ensures.steps.0 (c.loop-line.invariant.5 same)
+returns-clause-closed c same = closed_all (words_from c.args.start c.loop-line.slots) c.args.lines.now c.loop-line.line-iterator c.in-None.ensures.steps.0 (c.loop-line.invariant.5 same)

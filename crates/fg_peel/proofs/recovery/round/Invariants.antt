@@ -1,5 +1,5 @@
 use Rattle.std.proofs.Common.{◌≡◌, ◌<◌, true, false}
-use Rattle.fg_peel.specs.Slots.{equations_of, told_from, word_in}
+use Rattle.fg_peel.specs.Slots.{equations_of, words_from}
 use Rattle.fg_peel.specs.Recovery.{IsPeeled, empty_count}
 use Rattle.fg_peel.proofs.Lines.{AreLive}
 use Rattle.fg_peel.proofs.Closed.{ClosedBut}
@@ -13,4 +13,4 @@ invariant-loop-line l =
     AreLive l.lines l.line-iterator ×
     IsPeeled l.start (equations_of l.lines) l.fn.slots l.slots ×
     (l.opened ≡ true → empty_count l.slots < empty_count l.fn.slots) ×
-    (l.opened ≡ false → ClosedBut (told_from word_in l.start l.slots) l.lines l.line-iterator)
+    (l.opened ≡ false → ClosedBut (words_from l.start l.slots) l.lines l.line-iterator)

@@ -1,0 +1,96 @@
+//! Trays: what a play shows.
+
+ghost use Rattle.std.specs.Prelude.{◌≡◌, ◌<◌, ◌≤◌, ◌++◌, ◌∷◌, [], length, slice_index_or, IfOk};
+ghost use Rattle.std.specs.Option.{option_copied};
+ghost use Rattle.fg_desk.specs.Play.{nothing_shown};
+
+use fg_words::Word;
+use std::alloc::{AllocError, Global};
+use std::marker::Model;
+
+/// What a play shows at one position.
+#[derive(Clone, Copy)]
+struct Place {
+    word: Option<Word>,
+    repaired: bool,
+}
+
+/// Room for what one play shows, 1.3 kB for each position. It is filled again and again, and takes
+/// memory only where it is made.
+#[derive(Drop)]
+pub struct Tray {
+    places: Vec<Place>,
+    count: usize,
+}
+
+impl Model for Tray {
+    ghost use Rattle.std.specs.Prelude.{◌≤◌, map, take, length};
+    ghost use Rattle.fg_desk.specs.Contents.{Holding};
+    ghost use Rattle.fg_desk.specs.RowEntries.{holding_code};
+
+    ghost Value = { Holding };
+
+    ghost coded = { holding_code };
+
+    ghost view = { λ a. record { window = length a.places.items; shown = map (λ p. record { word = p.word; repaired = p.repaired }) (take a.count a.places.items) } };
+
+    ghost invariant = { λ a. a.count ≤ length a.places.items };
+}
+
+impl Tray {
+    /// A tray with room for this many positions, 1 to 100. Nothing is shown yet.
+    pub fn new(alloc: Global, window: u32) -> Result<Tray, AllocError>
+        requires some { 1 ≤ window }
+        requires limit { window ≤ 100 }
+        ensures { IfOk result (λ tray. tray ≡ record { window = window; shown = [] }) }
+    {
+        let mut places = Vec::with_capacity(alloc, window as usize)?;
+        for _ in 0..window {
+            places.push(Place {
+                word: None,
+                repaired: false,
+            })?;
+        }
+        Ok(Tray { places, count: 0 })
+    }
+
+    /// The word that the last play showed at its position `i`, counted from 0. There is none where it
+    /// showed none, nor past its positions.
+    pub fn word(&self, i: u32) -> Option<&Word>
+        ensures { option_copied result ≡ (slice_index_or self.now.shown i nothing_shown).word }
+    {
+        let i = i as usize;
+        if i < self.count {
+            self.places[i].word.as_ref()
+        } else {
+            None
+        }
+    }
+
+    /// Whether that word was not received, but recovered.
+    pub fn repaired(&self, i: u32) -> bool
+        ensures { result ≡ (slice_index_or self.now.shown i nothing_shown).repaired }
+    {
+        let i = i as usize;
+        i < self.count && self.places[i].repaired
+    }
+
+    /// Takes off what the last play showed.
+    pub(crate) fn clear(&mut self)
+        ensures { self.new ≡ record self.old { shown = [] } }
+    {
+        self.count = 0;
+    }
+
+    /// Shows nothing, or a copy of a word, at the next position.
+    pub(crate) fn show(&mut self, word: Option<&Word>, repaired: bool)
+        requires { length self.old.shown < self.old.window }
+        ensures { self.new ≡ record self.old { shown = self.old.shown ++ record { word = option_copied word.entry; repaired = repaired } ∷ [] } }
+    {
+        self.places[self.count] = Place {
+            word: word.copied(),
+            repaired,
+        };
+        self.count += 1;
+    }
+}

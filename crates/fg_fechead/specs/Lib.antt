@@ -1,0 +1,3 @@
+pub mod FecHeader
+pub mod Laws
+pub mod ParityDatagram

@@ -1,0 +1,8 @@
+//! Laws of the parity datagram. Each is the contract of a function that does nothing.
+
+ghost use Rattle.fg_fechead.specs.Laws.{ReadsOneWay};
+
+/// Bytes are a parity datagram of at most one parity.
+pub fn parity_datagrams_read_one_way()
+    ensures { ReadsOneWay }
+{}

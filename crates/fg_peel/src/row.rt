@@ -1,0 +1,111 @@
+//! A row of entries, and what it tells of a line.
+
+ghost use Rattle.std.specs.Prelude.{◌≡◌, ◌+◌, ◌^◌, ◌<◌, ◌≤◌, ◌≤ℤ◌, ◌+ℤ◌, ◌↔◌, pos, length, IsTrue};
+ghost use Rattle.std.specs.Option.{option_copied};
+
+use crate::{Line, Slot};
+use fg_shape::slot;
+use fg_words::Word;
+
+/// Which slots of a line have no word.
+#[derive(Clone, Copy, Debug, PartialEq, Eq)]
+pub enum Missing {
+    /// None: the line is complete.
+    Nothing,
+    /// Just the one at this position, so its word follows.
+    One(u64),
+    /// At least two.
+    Several,
+}
+
+/// Entries for successive positions.
+#[derive(Clone, Copy)]
+pub struct Row<'a> {
+    /// The position of the first entry.
+    pub start: u64,
+    /// The entries.
+    pub slots: &'a [Slot],
+    pub ghost limit: { start + length slots.now ≤ 2 ^ 62 },
+}
+
+impl<'a> Row<'a> {
+    ghost use Rattle.fg_words.specs.Word.{HasRoom};
+    ghost use Rattle.fg_peel.specs.Slots.{first_position, from_first, words_from, equation_of, Fits, IsMissing};
+    ghost use Rattle.fg_peel.specs.Equation.{ComesOut};
+    ghost use Rattle.fg_peel.specs.Recovery.{AddsWords};
+
+    /// The row of the positions from 0 on, where the first entry stands for position `low`. Entries for
+    /// positions below 0 are left out.
+    pub fn new(low: i64, slots: &'a [Slot]) -> Row<'a>
+        requires { (low +ℤ pos (length slots.now)) ≤ℤ pos (2 ^ 62) }
+        ensures start { result.start ≡ first_position low }
+        ensures slots { result.slots.now ≡ from_first low slots.now }
+    {
+        if low < 0 {
+            let below = slots.len().min(low.unsigned_abs() as usize);
+            let (_, slots) = slots.split_at(below);
+            Row { start: 0, slots }
+        } else {
+            Row {
+                start: low as u64,
+                slots,
+            }
+        }
+    }
+
+    /// The word at a position.
+    pub fn word(&self, position: u64) -> Option<&'a Word>
+        requires first { self.now.start ≤ position }
+        requires last { position < self.now.start + length self.now.slots.now }
+        ensures { option_copied result ≡ words_from self.now.start self.now.slots.now position }
+    {
+        let slots = self.slots;
+        slots[(position - self.start) as usize].word()
+    }
+
+    /// Which slots of a line have no word. It reads no payload.
+    pub fn missing(&self, line: &Line) -> Missing
+        requires { Fits self.now.start self.now.slots.now line.now }
+        ensures { IsMissing (words_from self.now.start self.now.slots.now) (equation_of line.now) result }
+    {
+        let mut found = None;
+        for j in 0..line.shape.na {
+            let position = slot(line.base, line.shape, j);
+            if self.word(position).is_none() {
+                if found.is_some() {
+                    return Missing::Several;
+                }
+                found = Some(position);
+            }
+        }
+        match found {
+            Some(position) => Missing::One(position),
+            None => Missing::Nothing,
+        }
+    }
+
+    /// Whether the words at a line's slots sum to its parity word. A slot without a word adds nothing.
+    /// Each payload is read once.
+    pub fn comes_out(&self, line: &Line) -> bool
+        requires { Fits self.now.start self.now.slots.now line.now }
+        ensures { IsTrue result ↔ ComesOut (words_from self.now.start self.now.slots.now) (equation_of line.now) }
+    {
+        let mut sum = *line.parity.word();
+        self.add_words(&mut sum, line);
+        sum.is_zero()
+    }
+
+    /// Adds the words at a line's slots to a word.
+    fn add_words(&self, sum: &mut Word, line: &Line)
+        requires line { Fits self.now.start self.now.slots.now line.now }
+        requires room { HasRoom sum.old }
+        ensures { AddsWords (words_from self.now.start self.now.slots.now) (equation_of line.now) sum.old sum.new }
+    {
+        for j in 0..line.shape.na {
+            let position = slot(line.base, line.shape, j);
+            if let Some(word) = self.word(position) {
+                sum.xor_in(word);
+            }
+        }
+    }
+}
