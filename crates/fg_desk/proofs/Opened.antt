@@ -103,7 +103,7 @@ module _ (old : State) (seq : ℕ) where
       (cases_lt position (old.mark + old.depth))
 
 -- The reply at a position that is told.
-media_reply_at :
+pub media_reply_at :
     (old : State) (seq position : ℕ) (word : Word) (reply : Reply) (top : Top) → old.top ≡ Some top
     → position_of top.position top.seq seq ≡ Some position → IsMediaReply old seq word reply → IsReplyAt old position word reply
 media_reply_at old seq position word reply top is at replies =

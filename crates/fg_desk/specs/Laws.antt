@@ -1,5 +1,5 @@
 -- Laws that show the definitions of a desk to be right.
-use Rattle.std.specs.Prelude.{◌≡◌, ◌≢◌, ◌+◌, ◌-◌, ◌<◌, ◌≤◌, ◌^◌, ◌↔◌, ◌++◌, ℕ, ⊤, nat_le, List, [], ◌∷◌, length, filter, Option, Some, None}
+use Rattle.std.specs.Prelude.{◌≡◌, ◌⊎◌, ◌==◌, if◌then◌else◌, ◌≢◌, ◌+◌, ◌-◌, ◌<◌, ◌≤◌, ◌^◌, ◌↔◌, ◌++◌, ℕ, ⊤, nat_le, List, [], ◌∷◌, length, filter, Option, Some, None}
 use Rattle.std.specs.List.{All, Contains}
 use Rattle.std.specs.FinMap.{get}
 use Rattle.fg_words.specs.declared.Word.{Word}
@@ -10,11 +10,12 @@ use Rattle.fg_peel.specs.Peeling.{Step, IsPeeling, end_of}
 use Rattle.fg_peel.specs.Closure as peel
 use Rattle.fg_peel.specs.Solution as peeled
 use Rattle.fg_desk.specs.declared.reply.Reply.{Reply}
+use Rattle.fg_desk.specs.declared.reply.Reply.TheVariants.{Admitted}
 use Rattle.fg_desk.specs.declared.reply.Outcome.TheVariants.{Repaired}
 use Rattle.fg_desk.specs.State.{State, Live, known, live_equations, opening}
 use Rattle.fg_desk.specs.Contents.{HasRoom}
 use Rattle.fg_desk.specs.Solution.{InClosure, IsSolution}
-use Rattle.fg_desk.specs.Admission.{Parity, AdmitsMedia, AdmitsParity, IsDue}
+use Rattle.fg_desk.specs.Admission.{Parity, AdmitsMedia, AdmitsParity, IsDue, position_on, equation_at}
 use Rattle.fg_desk.specs.Play.{Play, IsPlay, IsFlushStep, IsHighest, HasMore, Flushes}
 use Rattle.fg_desk.specs.Run.{Arrival, carries, protects, refused, TakesAll, IsFlush, IsRun}
 use Rattle.fg_desk.specs.Facts.{Holds}
@@ -48,6 +49,26 @@ PlayKeeps =
 
 abbrev pub FlushStepKeeps : Type 0
 FlushStepKeeps = (old new : State) (play : Option Play) → Holds old → Flushes old play new → Holds new
+
+-- A media datagram that is admitted adds its word to the known ones, at a position past what is played that had
+-- none, and nothing else.
+abbrev pub MediaAdds : Type 0
+MediaAdds =
+    (old new : State) (seq : ℕ) (word : Word) → Holds old → AdmitsMedia old seq word Admitted new
+    → (position : ℕ) × (position_on old seq ≡ Some position) × (old.mark ≤ position)
+    × (known old position ≡ None)
+    × ((other : ℕ) → known new other ≡ (if other == position then Some word else known old other))
+    × (live_equations new ≡ live_equations old)
+
+-- A parity datagram that is admitted adds its equation to the live ones, and nothing else.
+abbrev pub ParityAdds : Type 0
+ParityAdds =
+    (old new : State) (parity : Parity) → Holds old → AdmitsParity old parity Admitted new
+    → (position : ℕ) × (position_on old parity.base ≡ Some position)
+    × ((equation : Equation)
+    → Contains (live_equations new) equation
+    ↔ (Contains (live_equations old) equation ⊎ (equation ≡ equation_at position parity)))
+    × (known new ≡ known old)
 
 -- On such a desk closure and solutions are those of peeling: the mark makes no difference.
 
@@ -86,7 +107,7 @@ AreFlushSteps old (play ∷ plays) new = (next : State) × IsFlushStep old play 
 -- A flush ends: there are no more steps than positions up to the highest that follows.
 abbrev pub FlushEnds : Type 0
 FlushEnds =
-    (old new : State) (plays : List Play) (highest : ℕ) → Holds old → IsHighest old highest
+    (old new : State) (plays : List Play) (highest : ℕ) → 1 ≤ old.window → IsHighest old highest
     → AreFlushSteps old plays new → length plays ≤ highest + 1 - old.mark
 
 -- And after it nothing that follows is left to be shown.

@@ -1,12 +1,12 @@
 //! The laws that show the definitions of a desk to be right. Each is the contract of a function that
 //! does nothing, or only calls laws of `fg_peel`.
 
-ghost use Rattle.fg_desk.specs.Laws.{LiveStandUnderSerials, OpeningHolds, MediaKeeps, ParityKeeps, PlayKeeps, FlushStepKeeps};
+ghost use Rattle.fg_desk.specs.Laws.{LiveStandUnderSerials, OpeningHolds, MediaKeeps, ParityKeeps, PlayKeeps, FlushStepKeeps, MediaAdds, ParityAdds};
 ghost use Rattle.fg_desk.specs.Laws.{ClosureIsPeelings, SolutionsArePeelings, StepsAreAhead, OneSolution};
 ghost use Rattle.fg_desk.specs.Laws.{ClosureGainsNothing, FlushEnds, FlushLeavesNothing, SolvedStaysPeeled};
 ghost use Rattle.fg_desk.specs.Laws.{LaterChangesNothing, PlaysFollow, RunsStayWithin, FlushesStayWithin, OneRun};
 
-use fg_peel::laws::{confluence, peelings_fill_the_closure, uniqueness};
+use fg_peel::laws::{confluence, peelings_fill_the_closure, peelings_stay, uniqueness};
 
 /// The live equations are those that stand under some serial number.
 pub fn live_equations()
@@ -20,6 +20,12 @@ pub fn facts_are_kept()
     ensures parity { ParityKeeps }
     ensures play { PlayKeeps }
     ensures flush { FlushStepKeeps }
+{}
+
+/// What is admitted is known or live from then on, and nothing else changes in what is known and live.
+pub fn admissions_add()
+    ensures media { MediaAdds }
+    ensures parity { ParityAdds }
 {}
 
 /// On each desk of which the facts hold, closure, solutions and peelings are those of `fg_peel`: the
@@ -52,6 +58,7 @@ pub fn solved_stays_peeled()
 {
     peelings_fill_the_closure();
     confluence();
+    peelings_stay();
 }
 
 /// Later datagrams change nothing of what was shown and answered before, and each position is shown
