@@ -206,6 +206,7 @@ kept_lies mark entries q some =
 
 pub is_row : (mark : ℕ) (entries : List Slot) → AreEntries mark entries → IsRow (row_of mark entries)
 is_row mark entries are = record {
+  limit = omega (arith, are.some, are.limit);
   kept = λ q some. kept_lies mark entries q (some_along _ _ (get-kept mark entries q) some);
   media = λ q some. lies_ahead received_in mark entries refl are q _ (get-media mark entries q) some;
   cached = λ q some. lies_ahead found_in mark entries refl are q _ (get-cached mark entries q) some;
