@@ -8,3 +8,4 @@ pub mod RowEntries
 pub mod Run
 pub mod Solution
 pub mod State
+pub mod TrayPlaces
