@@ -1,5 +1,5 @@
 -- How the live equations stand in two slabs, and what the functions on these do.
-use Rattle.std.specs.Prelude.{◌≡◌, ◌≢◌, ◌⊎◌, ◌+◌, ◌<◌, ◌≤◌, ◌↔◌, ◌^◌, ◌++◌, ℕ, Bool, true, false, List, [], ◌∷◌, length, slice_index_or, Option, Some, IsSome, IsTrue, MatchBool, refl}
+use Rattle.std.specs.Prelude.{◌≡◌, ◌≢◌, ◌⊎◌, ◌+◌, ◌<◌, ◌≤◌, ◌↔◌, ◌^◌, ◌++◌, ℕ, Bool, true, false, List, [], ◌∷◌, length, slice_index_or, Option, Some, IsSome, MatchBool, refl}
 use Rattle.std.specs.Coded.{Coded, code_by, coded×, coded_ℕ}
 use Rattle.std.specs.List.{Contains}
 use Rattle.std.specs.Ordering.{nat_cmp}
@@ -80,18 +80,20 @@ pub record AreSound (open_lines settled_lines : Slab Line) (places : List Bool) 
   pub open_room : live_limit ≤ open_lines.capacity
   pub settled_room : live_limit ≤ settled_lines.capacity
 
--- A pass moves those lines that go from one slab to another.
-pub record Moves (Goes : Line → Type 0) (source target source' target' : Slab Line) : Type 0 where
-  pub left : (line : Line) → Holds source' line ↔ (Holds source line × (¬ Goes line))
-  pub gone : (line : Line) → Holds target' line ↔ (Holds target line ⊎ (Holds source line × Goes line))
+-- A pass moves those lines that go from one slab to another. The others stay.
+pub record Moves (IsLeft IsGone : Line → Type 0) (source target source' target' : Slab Line) : Type 0 where
+  pub left : (line : Line) → Holds source' line → Holds source line × IsLeft line
+  pub gone : (line : Line) → Holds target' line → Holds target line ⊎ (Holds source line × IsGone line)
+  pub every : (line : Line) → Stands source target line → Stands source' target' line
+  pub kept : (line : Line) → Holds target line → Holds target' line
   pub each : (number : Line → ℕ) → IsOneEach number source target → IsOneEach number source' target'
   pub count : slab_len source' + slab_len target' ≡ slab_len source + slab_len target
   pub source_capacity : source'.capacity ≡ source.capacity
   pub target_capacity : target'.capacity ≡ target.capacity
 
--- Those lines go that are complete in these words, or those that aren't.
-abbrev pub Goes : (ℕ → Option Word) → Bool → Line → Type 0
-Goes words complete line =
+-- The line is complete in these words, or it isn't.
+abbrev pub IsCompleteAs : Bool → (ℕ → Option Word) → Line → Type 0
+IsCompleteAs complete words line =
     MatchBool complete (IsComplete words (equation_of line)) (¬ IsComplete words (equation_of line))
 
 -- The words below the mark are kept at the slots of an equation.

@@ -1,6 +1,6 @@
 //! The live equations.
 
-ghost use Rattle.std.specs.Prelude.{◌≡◌, ◌+◌, ◌↔◌, ◌<◌, ◌≤◌, ◌^◌, ℕ, false, length, slice_index_or, Some, None, IsTrue, IsSome, IfOk, IfSome, IfNone};
+ghost use Rattle.std.specs.Prelude.{◌≡◌, ◌+◌, ◌↔◌, ◌<◌, ◌≤◌, ◌^◌, ℕ, false, not, length, slice_index_or, Some, None, IsTrue, IsSome, IfOk, IfSome, IfNone};
 ghost use Rattle.std.specs.FinMap.{get, insert, len};
 ghost use Rattle.std.specs.FinSet as set;
 ghost use Rattle.slab.specs.Slab as slabs;
@@ -11,7 +11,7 @@ ghost use Rattle.fg_peel.specs.Slots.{equation_of};
 ghost use Rattle.fg_desk.specs.Play.{Survives};
 ghost use Rattle.fg_desk.specs.Row.{row_words};
 ghost use Rattle.fg_desk.specs.Lines.{no_lines, AreLines, AreOpen, HasSlots, IsFreePlace, IsLeastFreePlace, IsLiveLine, Settles, Reopens, SettledAreBased, Retires};
-ghost use Rattle.fg_desk.specs.LinesInside.{Holds, IsTaken, AreWithin, Moves, Goes, IsBased, Drops};
+ghost use Rattle.fg_desk.specs.LinesInside.{Holds, IsTaken, AreWithin, Moves, IsCompleteAs, IsBased, Drops};
 
 use crate::row::Row;
 use fg_peel::Line;
@@ -211,7 +211,8 @@ fn first_free(places: &[bool]) -> usize
 fn move_lines(source: &mut Slab<Line>, target: &mut Slab<Line>, row: &Row, complete: bool)
     requires within { AreWithin source.old }
     requires room { slab_len source.old + slab_len target.old ≤ target.old.capacity }
-    ensures { Moves (Goes (row_words row.now) complete) source.old target.old source.new target.new }
+    ensures { Moves (IsCompleteAs (not complete) (row_words row.now)) (IsCompleteAs complete (row_words row.now))
+        source.old target.old source.new target.new }
 {
     for key in 0..source.capacity() {
         if goes(source, key, row, complete) {
@@ -224,8 +225,10 @@ fn move_lines(source: &mut Slab<Line>, target: &mut Slab<Line>, row: &Row, compl
 /// Whether there is a line under a key that is complete in the row, or one that isn't.
 fn goes(lines: &Slab<Line>, key: usize, row: &Row, complete: bool) -> bool
     requires { AreWithin lines.now }
-    ensures { IsTrue result ↔ ((line : LiveLine) × (slabs.get lines.now key ≡ Some line)
-        × Goes (row_words row.now) complete line) }
+    ensures goes { IsTrue result → (line : LiveLine) × (slabs.get lines.now key ≡ Some line)
+        × IsCompleteAs complete (row_words row.now) line }
+    ensures stays { result ≡ false → (line : LiveLine) → slabs.get lines.now key ≡ Some line
+        → IsCompleteAs (not complete) (row_words row.now) line }
 {
     match lines.get(key) {
         Some(line) => row.is_complete(line) == complete,
@@ -238,8 +241,6 @@ fn goes(lines: &Slab<Line>, key: usize, row: &Row, complete: bool) -> bool
 fn drop_lines(lines: &mut Slab<Line>, places: &mut [bool], row: &Row, based: bool)
     requires within { AreWithin lines.old }
     requires places { length places.old ≡ 512 }
-    requires apart { (key key' : ℕ) (one other : LiveLine) → slabs.get lines.old key ≡ Some one
-        → slabs.get lines.old key' ≡ Some other → one.place ≡ other.place → key ≡ key' }
     requires based { IsTrue based → (line : LiveLine) → Holds lines.old line
         → IsBased row.now.mark row.now.kept (equation_of line) }
     ensures { Drops (λ line. Survives row.now.mark row.now.kept (equation_of line))
@@ -263,11 +264,30 @@ fn retired_place(lines: &Slab<Line>, key: usize, row: &Row, based: bool) -> Opti
     ensures none { IfNone result ((line : LiveLine) → slabs.get lines.now key ≡ Some line
         → Survives row.now.mark row.now.kept (equation_of line)) }
 {
-    let line = lines.get(key)?;
-    if last(line.base, line.shape) >= row.mark() && (based || is_based(line, row)) {
-        return None;
+    match lines.get(key) {
+        Some(line) => {
+            if survives(line, row, based) {
+                None
+            } else {
+                Some(line.place)
+            }
+        }
+        None => None,
     }
-    Some(line.place)
+}
+
+/// Whether a line survives a play up to the row's mark. `based` tells that the words below the mark are
+/// kept at its slots.
+fn survives(line: &Line, row: &Row, based: bool) -> bool
+    requires shape { IsShape line.now.shape.offset line.now.shape.na }
+    requires base { line.now.base ≤ 2 ^ 62 }
+    requires based { IsTrue based → IsBased row.now.mark row.now.kept (equation_of line.now) }
+    ensures { IsTrue result ↔ Survives row.now.mark row.now.kept (equation_of line.now) }
+{
+    if last(line.base, line.shape) < row.mark() {
+        return false;
+    }
+    based || is_based(line, row)
 }
 
 /// Whether the words below the row's mark are kept at all slots of a line.
