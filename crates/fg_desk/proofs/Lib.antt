@@ -3,6 +3,11 @@ pub mod Bounds
 pub mod Equations
 pub mod Flushing
 pub mod Following
+pub mod LinesCalls
+pub mod LinesLists
+pub mod LinesMoves
+pub mod LinesSearch
+pub mod LinesViews
 pub mod Lists
 pub mod OnePlay
 pub mod OneRun

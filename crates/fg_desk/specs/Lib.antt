@@ -2,6 +2,8 @@ pub mod Admission
 pub mod Contents
 pub mod Facts
 pub mod Laws
+pub mod Lines
+pub mod LinesInside
 pub mod Play
 pub mod Row
 pub mod RowEntries

@@ -8,7 +8,7 @@ use Rattle.slab.specs.Slab.{Slab}
 use Rattle.fg_words.specs.declared.Word.{Word}
 use Rattle.fg_shape.specs.Shape.{IsShape}
 use Rattle.fg_peel.specs.declared.Line.{Line}
-use Rattle.fg_peel.specs.Equation.{IsComplete}
+use Rattle.fg_peel.specs.Equation.{slots, IsComplete}
 use Rattle.fg_peel.specs.Slots.{equation_of, lines_of}
 use Rattle.fg_desk.specs.State.{Live, Words}
 use Rattle.fg_desk.specs.Admission.{live_limit}
@@ -56,7 +56,7 @@ pub record Settles (words : ℕ → Option Word) (old new : LinesState) : Type 0
   pub settled :
       (serial : ℕ) → IsTrue (set.contains new.settled serial)
       ↔ (IsTrue (set.contains old.settled serial)
-        ⊎ ((live : Live) × (get old.live serial ≡ Some live) × IsComplete words live.equation))
+      ⊎ ((live : Live) × (get old.live serial ≡ Some live) × IsComplete words live.equation))
 
 -- The same equations are live, and those are settled that were and are complete in these words.
 pub record Reopens (words : ℕ → Option Word) (old new : LinesState) : Type 0 where
@@ -64,7 +64,13 @@ pub record Reopens (words : ℕ → Option Word) (old new : LinesState) : Type 0
   pub settled :
       (serial : ℕ) → IsTrue (set.contains new.settled serial)
       ↔ (IsTrue (set.contains old.settled serial)
-        × ((live : Live) × (get old.live serial ≡ Some live) × IsComplete words live.equation))
+      × ((live : Live) × (get old.live serial ≡ Some live) × IsComplete words live.equation))
+
+-- The words below the mark are kept at the slots of each settled equation.
+abbrev pub SettledAreBased : ℕ → Words → LinesState → Type 0
+SettledAreBased mark kept lines =
+    (serial : ℕ) (live : Live) → IsTrue (set.contains lines.settled serial) → get lines.live serial ≡ Some live
+    → (slot : ℕ) → Contains (slots live.equation) slot → slot < mark → IsSome (get kept slot)
 
 -- Those equations stay live that survive a play up to this mark, and those of them stay settled that were.
 pub record Retires (mark : ℕ) (kept : Words) (old new : LinesState) : Type 0 where
@@ -78,7 +84,9 @@ pub record Retires (mark : ℕ) (kept : Words) (old new : LinesState) : Type 0 w
 -- What is true of the equations of every such value.
 pub record AreLines (lines : LinesState) : Type 0 where
   pub few : len lines.live ≤ live_limit
-  pub shape : (serial : ℕ) (live : Live) → get lines.live serial ≡ Some live → IsShape live.equation.offset live.equation.count
+  pub shape :
+      (serial : ℕ) (live : Live) → get lines.live serial ≡ Some live
+      → IsShape live.equation.offset live.equation.count
   pub base : (serial : ℕ) (live : Live) → get lines.live serial ≡ Some live → live.equation.base ≤ 2 ^ 62
   pub place : (serial : ℕ) (live : Live) → get lines.live serial ≡ Some live → live.place < live_limit
   pub apart :
