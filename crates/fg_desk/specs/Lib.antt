@@ -1,9 +1,11 @@
 pub mod Admission
 pub mod Contents
 pub mod Facts
+pub mod Inside
 pub mod Laws
 pub mod Lines
 pub mod LinesInside
+pub mod Parts
 pub mod Play
 pub mod Row
 pub mod RowEntries

@@ -1,11 +1,13 @@
 //! A desk: one flow's window state.
 #![tactic(auto)]
 
+mod desk;
 pub mod laws;
 mod lines;
 mod reply;
 mod row;
 mod tray;
 
+pub use desk::Desk;
 pub use reply::{Outcome, Reply};
 pub use tray::Tray;
