@@ -1,4 +1,5 @@
-pub mod Adding
+pub mod Added
+pub mod AdmissionsAdd
 pub mod Bounds
 pub mod Equations
 pub mod Flushing
