@@ -4,6 +4,7 @@ pub mod Bounds
 pub mod Equations
 pub mod Flushing
 pub mod Following
+pub mod Joining
 pub mod Lists
 pub mod OnePlay
 pub mod OneRun
