@@ -1,8 +1,8 @@
--- A flush ends, and leaves nothing to be shown.
+-- A flush ends.
 use Rattle.std.proofs.Common.{◌≡◌, ap, ◌+◌, ◌-◌, ◌≤◌, ℕ, min, [], ◌∷◌, length, sym, subst, arith}
 use Rattle.fg_desk.specs.State.{State}
 use Rattle.fg_desk.specs.Play.{Play, IsHighest, IsFlushStep, HasMore}
-use Rattle.fg_desk.specs.Laws.{FlushEnds, FlushLeavesNothing}
+use Rattle.fg_desk.specs.Laws.{FlushEnds}
 use Rattle.fg_desk.proofs.Plays.{followed_before}
 
 pub one_highest : (desk : State) (one other : ℕ) → IsHighest desk one → IsHighest desk other → one ≡ other
@@ -39,7 +39,3 @@ flush_ends old new (play ∷ following ∷ plays) highest window is steps =
     let least : 1 ≤ min old.window (step.highest + 1 - old.mark) = omega (arith, window, more) in
     let counted : length (play ∷ following ∷ plays) ≡ length (following ∷ plays) + 1 = omega arith in
     omega (arith, rest, falls, more', mark, least, counted, same, more)
-
-pub flush_leaves_nothing : FlushLeavesNothing
-flush_leaves_nothing old new [] flush = subst (λ (s : State). ¬ HasMore s) (sym flush.1) flush.0
-flush_leaves_nothing old new (play ∷ plays) flush = flush_leaves_nothing flush.0 new plays flush.2

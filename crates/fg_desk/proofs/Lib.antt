@@ -1,4 +1,5 @@
-pub mod Adding
+pub mod Added
+pub mod AdmissionsAdd
 pub mod Bounds
 pub mod Equations
 pub mod Flushing
@@ -8,6 +9,7 @@ pub mod LinesLists
 pub mod LinesMoves
 pub mod LinesSearch
 pub mod LinesViews
+pub mod Joining
 pub mod Lists
 pub mod OnePlay
 pub mod OneRun

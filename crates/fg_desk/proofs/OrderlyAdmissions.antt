@@ -1,5 +1,5 @@
 -- Admissions leave a desk orderly.
-use Rattle.std.proofs.Common.{◌≡◌, ◌≢◌, ◌<◌, ◌≤◌, ℕ, Some, IsSome, sym, subst, ◌∙◌, ⊎_elim}
+use Rattle.std.proofs.Common.{◌≡◌, ◌<◌, ◌≤◌, ℕ, IsSome, sym, subst, ◌∙◌, ⊎_elim}
 use Rattle.std.proofs.lemmas.Bool.{cases_eq}
 use Rattle.std.proofs.lemmas.Option.{same_Some}
 use Rattle.std.specs.List.{Contains}
@@ -12,8 +12,9 @@ use Rattle.fg_desk.specs.declared.reply.Reply.TheVariants.{Admitted}
 use Rattle.fg_desk.specs.State.{State, Live}
 use Rattle.fg_desk.specs.Admission.{Parity, HaveSameSlots, HasTwin, IsLate, IsLeastFree, IsAfterMedia, IsAfterParity, IsParityReply, position_on, with_media, with_equation, equation_at, counted}
 use Rattle.fg_desk.proofs.Options.{some_and, inserted, beside_inserted}
+use Rattle.fg_desk.proofs.Added.{added_or_old, apart_with_added, flip_slots, no_twin_apart}
 use Rattle.fg_desk.proofs.Orderly.{IsOrderly}
-use Rattle.fg_desk.proofs.Parities.{is_admitted, based_unless_late, flip_slots}
+use Rattle.fg_desk.proofs.Parities.{is_admitted, based_unless_late}
 
 orderly_counted : (old : State) → IsOrderly old → IsOrderly (counted old)
 orderly_counted old orderly = record {
@@ -44,56 +45,21 @@ orderly_after_media old new seq word Admitted orderly media after =
     subst IsOrderly (sym a.2) (orderly_with_media old seq a.0 word orderly media)
 orderly_after_media old new seq word reply orderly media after = subst IsOrderly (sym after) (orderly_counted old orderly)
 
-module _ (old : State) (place : ℕ) (equation : Equation) (orderly : IsOrderly old) where
-  -- What stands there now is the new equation, or stood there before.
-  added_or_old :
-      (P : Live → Type 0) (s : ℕ) (l : Live) → get (with_equation old place equation).equations s ≡ Some l
-      → P (record { place = place; equation = equation }) → (get old.equations s ≡ Some l → P l) → P l
-  added_or_old P s l is added before = ⊎_elim
-      (λ here. subst P (same_Some (record { place = place; equation = equation }) l
-      (sym (inserted old.equations old.admitted (record { place = place; equation = equation }) s here) ∙ is)) added)
-      (λ beside. before (sym (beside_inserted old.equations old.admitted (record { place = place; equation = equation }) s beside) ∙ is))
-      (cases_eq s old.admitted)
-
-  no_twin_apart :
-      ¬ HasTwin old equation (λ _. Unit {0}) → (s : ℕ) (l : Live) → get old.equations s ≡ Some l → ¬ HaveSameSlots l.equation equation
-  no_twin_apart no_twin s l is same = no_twin (s, l, is, same, tt)
-
-  apart_with_equation :
-      ¬ HasTwin old equation (λ _. Unit {0}) → (s t : ℕ) (one other : Live)
-      → get (with_equation old place equation).equations s ≡ Some one
-      → get (with_equation old place equation).equations t ≡ Some other → s ≢ t → ¬ HaveSameSlots one.equation other.equation
-  apart_with_equation no_twin s t one other is is' differ same = ⊎_elim
-      (λ here. ⊎_elim
-      (λ here'. differ (here ∙ sym here'))
-      (λ beside'.
-      let first : record { place = place; equation = equation } ≡ one = same_Some (record { place = place; equation = equation }) one
-      (sym (inserted old.equations old.admitted (record { place = place; equation = equation }) s here) ∙ is) in
-      no_twin_apart no_twin t other (sym (beside_inserted old.equations old.admitted (record { place = place; equation = equation }) t beside') ∙ is')
-      (flip_slots equation other.equation (subst (λ (v : Live). HaveSameSlots v.equation other.equation) (sym first) same)))
-      (cases_eq t old.admitted))
-      (λ beside. ⊎_elim
-      (λ here'.
-      let second : record { place = place; equation = equation } ≡ other = same_Some (record { place = place; equation = equation }) other
-      (sym (inserted old.equations old.admitted (record { place = place; equation = equation }) t here') ∙ is') in
-      no_twin_apart no_twin s one (sym (beside_inserted old.equations old.admitted (record { place = place; equation = equation }) s beside) ∙ is)
-      (subst (λ (v : Live). HaveSameSlots one.equation v.equation) (sym second) same))
-      (λ beside'. orderly.apart s t one other
-      (sym (beside_inserted old.equations old.admitted (record { place = place; equation = equation }) s beside) ∙ is)
-      (sym (beside_inserted old.equations old.admitted (record { place = place; equation = equation }) t beside') ∙ is') differ same)
-      (cases_eq t old.admitted))
-      (cases_eq s old.admitted)
-
-  orderly_with_equation : ¬ IsLate old equation → ¬ HasTwin old equation (λ _. Unit {0}) → 1 ≤ equation.offset → IsOrderly (with_equation old place equation)
-  orderly_with_equation not_late no_twin some_offset = record {
-    kept = orderly.kept;
-    media = orderly.media;
-    some_offset = λ s l is. added_or_old (λ (v : Live). 1 ≤ v.equation.offset) s l is some_offset (orderly.some_offset s l);
-    based = λ s l is. added_or_old
-        (λ (v : Live). (slot : ℕ) → Contains (slots v.equation) slot → slot < old.mark → IsSome (get old.kept slot)) s l is
-        (based_unless_late old equation not_late) (orderly.based s l);
-    apart = apart_with_equation no_twin;
-  }
+orderly_with_equation :
+    (old : State) (place : ℕ) (equation : Equation) → IsOrderly old → ¬ IsLate old equation
+    → ¬ HasTwin old equation (λ _. Unit {0}) → 1 ≤ equation.offset → IsOrderly (with_equation old place equation)
+orderly_with_equation old place equation orderly not_late no_twin some_offset = record {
+  kept = orderly.kept;
+  media = orderly.media;
+  some_offset = λ s l is. added_or_old old place equation (λ (v : Live). 1 ≤ v.equation.offset) s l is
+      (λ here. some_offset) (orderly.some_offset s l);
+  based = λ s l is. added_or_old old place equation
+      (λ (v : Live). (slot : ℕ) → Contains (slots v.equation) slot → slot < old.mark → IsSome (get old.kept slot)) s l is
+      (λ here. based_unless_late old equation not_late) (orderly.based s l);
+  apart = apart_with_added old place equation (λ (one other : Live). ¬ HaveSameSlots one.equation other.equation)
+      (no_twin_apart old equation no_twin)
+      (λ s l is same. no_twin_apart old equation no_twin s l is (flip_slots equation l.equation same)) orderly.apart;
+}
 
 pub orderly_after_parity :
     (old new : State) (parity : Parity) (reply : Reply) → IsOrderly old → 1 ≤ parity.offset → IsParityReply old parity reply

@@ -1,7 +1,7 @@
 -- Parity datagrams keep the facts.
 use Rattle.std.proofs.Common.{◌≡◌, ◌≢◌, ◌+◌, ◌-◌, ◌%◌, ◌^◌, ◌<◌, ◌≤◌, ℕ, Option, Some, None, IsSome, MatchOption, inl, inr, leb, mod-lt, sym, subst, ◌∙◌, ⊎_elim, arith}
 use Rattle.std.specs.Bool.{⊤}
-use Rattle.std.proofs.lemmas.Bool.{cases_lt, cases_eq}
+use Rattle.std.proofs.lemmas.Bool.{cases_lt}
 use Rattle.std.proofs.lemmas.Option.{none-some, same_Some}
 use Rattle.std.specs.List.{Contains}
 use Rattle.std.specs.FinMap.{get}
@@ -12,10 +12,11 @@ use Rattle.fg_desk.specs.declared.reply.Reply.{Reply}
 use Rattle.fg_desk.specs.declared.reply.Reply.TheVariants.{Admitted, NotStarted, BeforeStart}
 use Rattle.fg_desk.specs.State.{State, Top, Live, last_slot}
 use Rattle.fg_desk.specs.Contents.{HasRoom}
-use Rattle.fg_desk.specs.Admission.{Parity, IsLate, IsAhead, IsTimely, HasTwin, HaveSameSlots, IsFree, IsLeastFree, IsEquationReply, IsParityReply, IsAfterParity, position_on, equation_at, with_equation, live_limit, kept_count}
+use Rattle.fg_desk.specs.Admission.{Parity, IsLate, IsAhead, IsTimely, HasTwin, IsFree, IsLeastFree, IsEquationReply, IsParityReply, IsAfterParity, position_on, equation_at, with_equation, live_limit, kept_count}
 use Rattle.fg_desk.specs.Facts.{Holds, IsLive, AreApart}
 use Rattle.fg_desk.specs.Laws.{ParityKeeps}
-use Rattle.fg_desk.proofs.Options.{none_or_some, some_and, chosen, has_value, inserted, beside_inserted}
+use Rattle.fg_desk.proofs.Options.{none_or_some, some_and, chosen, has_value}
+use Rattle.fg_desk.proofs.Added.{added, added_or_old, apart_with_added, flip_slots, no_twin_apart}
 use Rattle.fg_desk.proofs.Opened.{counted_holds, position_after}
 use Rattle.fg_desk.proofs.Places.{free_place}
 
@@ -49,9 +50,6 @@ near_unless_ahead old equation not_ahead = ⊎_elim
     (λ far. absurd (not_ahead far))
     (cases_lt (last_slot equation) (old.mark + old.depth + kept_count))
 
-pub flip_slots : (one other : Equation) → HaveSameSlots one other → HaveSameSlots other one
-flip_slots one other same = record { base = sym same.base; offset = sym same.offset; count = sym same.count }
-
 -- What is said of an admitted equation.
 record IsNew (old : State) (place : ℕ) (equation : Equation) : Type 0 where
   shape : IsShape equation.offset equation.count
@@ -61,14 +59,14 @@ record IsNew (old : State) (place : ℕ) (equation : Equation) : Type 0 where
   placed : place < live_limit
   free : IsFree old place
 
+flip_apart : (one other : Live) → AreApart one other → AreApart other one
+flip_apart one other apart = record {
+  places = λ same. apart.places (sym same);
+  slots = λ same. apart.slots (flip_slots other.equation one.equation same);
+}
+
 module _ (old : State) (place : ℕ) (equation : Equation) (holds : Holds old) (is_new : IsNew old place equation) where
-  added : Live
-  added = record { place = place; equation = equation }
-
-  new : State
-  new = with_equation old place equation
-
-  added_is_live : IsLive (with_equation old place equation) old.admitted (record { place = place; equation = equation })
+  added_is_live : IsLive (with_equation old place equation) old.admitted (added place equation)
   added_is_live = record {
     shape = is_new.shape;
     base = is_new.base_limit;
@@ -92,16 +90,10 @@ module _ (old : State) (place : ℕ) (equation : Equation) (holds : Holds old) (
         placed = k.placed;
       }
 
-  apart_from_added : (serial : ℕ) (live : Live) → get old.equations serial ≡ Some live → AreApart live (record { place = place; equation = equation })
+  apart_from_added : (serial : ℕ) (live : Live) → get old.equations serial ≡ Some live → AreApart live (added place equation)
   apart_from_added serial live is = record {
     places = is_new.free serial live is;
-    slots = λ same. is_new.no_twin (serial, live, is, same, tt);
-  }
-
-  flip_apart : (one other : Live) → AreApart one other → AreApart other one
-  flip_apart one other apart = record {
-    places = λ same. apart.places (sym same);
-    slots = λ same. apart.slots (flip_slots other.equation one.equation same);
+    slots = no_twin_apart old equation is_new.no_twin serial live is;
   }
 
   with_equation_holds : old.top ≢ None → Holds (with_equation old place equation)
@@ -110,41 +102,13 @@ module _ (old : State) (place : ℕ) (equation : Equation) (holds : Holds old) (
     depth = holds.depth;
     kept = λ p w is. (let k = holds.kept p w is in record { media = k.media; below = k.below; near = k.near });
     media = λ p w is. (let k = holds.media p w is in record { media = k.media; ahead = k.ahead; near = k.near });
-    live = λ s l is. ⊎_elim
-        (λ here.
-        let same : record { place = place; equation = equation } ≡ l =
-        same_Some (record { place = place; equation = equation }) l (sym (inserted old.equations old.admitted (record { place = place; equation = equation }) s here) ∙ is) in
-        let at : IsLive (with_equation old place equation) s (record { place = place; equation = equation }) =
-        subst (λ (n : ℕ). IsLive (with_equation old place equation) n (record { place = place; equation = equation })) (sym here) added_is_live in
-        subst (λ (v : Live). IsLive (with_equation old place equation) s v) same at)
-        (λ beside. stays_live s l (holds.live s l (sym (beside_inserted old.equations old.admitted (record { place = place; equation = equation }) s beside) ∙ is)))
-        (cases_eq s old.admitted);
-    apart = all_apart;
+    live = λ s l is. added_or_old old place equation (IsLive (with_equation old place equation) s) s l is
+        (λ here. subst (λ (n : ℕ). IsLive (with_equation old place equation) n (added place equation)) (sym here) added_is_live)
+        (λ was. stays_live s l (holds.live s l was));
+    apart = apart_with_added old place equation AreApart apart_from_added
+        (λ s l is. flip_apart l (added place equation) (apart_from_added s l is)) holds.apart;
     unopened = λ none. absurd (opened none);
   }
-    where
-      at_added : (s : ℕ) (l : Live) → s ≡ old.admitted → get (with_equation old place equation).equations s ≡ Some l
-          → record { place = place; equation = equation } ≡ l
-      at_added s l here is =
-          same_Some (record { place = place; equation = equation }) l (sym (inserted old.equations old.admitted (record { place = place; equation = equation }) s here) ∙ is)
-
-      at_old : (s : ℕ) (l : Live) → s ≢ old.admitted → get (with_equation old place equation).equations s ≡ Some l → get old.equations s ≡ Some l
-      at_old s l beside is = sym (beside_inserted old.equations old.admitted (record { place = place; equation = equation }) s beside) ∙ is
-
-      all_apart :
-          (s t : ℕ) (one other : Live) → get (with_equation old place equation).equations s ≡ Some one
-          → get (with_equation old place equation).equations t ≡ Some other → s ≢ t → AreApart one other
-      all_apart s t one other is is' differ = ⊎_elim
-          (λ here. ⊎_elim
-          (λ here'. absurd (differ (here ∙ sym here')))
-          (λ beside'. subst (λ (v : Live). AreApart v other) (at_added s one here is)
-          (flip_apart other (record { place = place; equation = equation }) (apart_from_added t other (at_old t other beside' is'))))
-          (cases_eq t old.admitted))
-          (λ beside. ⊎_elim
-          (λ here'. subst (λ (v : Live). AreApart one v) (at_added t other here' is') (apart_from_added s one (at_old s one beside is)))
-          (λ beside'. holds.apart s t one other (at_old s one beside is) (at_old t other beside' is') differ)
-          (cases_eq t old.admitted))
-          (cases_eq s old.admitted)
 
 -- What an admitted parity datagram says: there is a top, and its base has a position, with the equation's reply.
 pub record IsAdmitted (old : State) (parity : Parity) (position : ℕ) : Type 0 where

@@ -23,6 +23,7 @@ use Rattle.fg_desk.proofs.Opened.{opening_holds, media_keeps}
 use Rattle.fg_desk.proofs.Parities.{parity_keeps}
 use Rattle.fg_desk.proofs.Plays.{followed_before}
 use Rattle.fg_desk.proofs.PlayKeeps.{play_keeps, step_holds}
+use Rattle.fg_desk.proofs.Joining.{plays_due_end}
 use Rattle.fg_desk.proofs.Bounds.{Within, within_opening, within_next, within_play, within_media, within_parity, room_below, room_within}
 
 -- A desk after so many datagrams of a run.
@@ -49,21 +50,12 @@ reached_played deep most old seq (play ∷ plays) new r played =
     })
     played.1.2
 
--- All plays that are due are plays due so far, after which none is.
-due_are_played :
-    (old : State) (seq : ℕ) (plays : List Play) (new : State) → ArePlaysDue old seq plays new
-    → HavePlayed old seq plays new × (¬ IsDue new seq)
-due_are_played old seq [] new due = (due.1, subst (λ (s : State). ¬ IsDue s seq) (sym due.1) due.0)
-due_are_played old seq (play ∷ plays) new due =
-    let rest = due_are_played due.1.0 seq plays new due.1.2 in
-    ((due.0, (due.1.0, due.1.1, rest.0)), rest.1)
-
 reached_taken :
     (deep most : ℕ) (old : State) (arrival : Arrival) (plays : List Play) (reply : Option Reply) (new : State) → most < 2 ^ 44
     → IsReached deep most most old → IsRead arrival → Takes old arrival plays reply new → IsReached deep (most + 1) (most + 1) new
 reached_taken deep most old (carries seq word) plays None new few r read takes = absurd takes
 reached_taken deep most old (carries seq word) plays (Some reply) new few r read takes =
-    let played = due_are_played old seq plays takes.0 takes.1 in
+    let played = (plays_due_end old takes.0 seq plays).0 takes.1 in
     let due = reached_played deep most old seq plays takes.0 (reached_next deep most old r) played.0 in
     record {
       holds = media_keeps takes.0 new seq word reply due.holds read.1 played.1 takes.2;

@@ -1,16 +1,16 @@
 -- What a peeling found stays peeled over a repaired play.
-use Rattle.std.proofs.Common.{◌≡◌, ◌+◌, ◌<◌, ◌≤◌, ℕ, cond, ltb, List, Option, Some, IsSome, sym, ap, subst, ◌∙◌, ⊎_elim, arith, lt-ltb, le-ltb}
+use Rattle.std.proofs.Common.{◌≡◌, ◌+◌, ◌<◌, ◌≤◌, ℕ, cond, ltb, Option, Some, IsSome, sym, subst, ◌∙◌, ⊎_elim, arith, lt-ltb, le-ltb}
 use Rattle.std.proofs.lemmas.Bool.{cases_lt, cond-true, cond-false}
 use Rattle.std.proofs.lemmas.Option.{same_Some}
 use Rattle.std.specs.List.{Contains}
 use Rattle.std.specs.FinMap.{get}
 use Rattle.fg_words.specs.declared.Word.{Word}
 use Rattle.fg_peel.specs.Equation.{Equation, slots, Keeps}
-use Rattle.fg_peel.specs.Peeling.{Step, IsPeeling, end_of}
+use Rattle.fg_peel.specs.Peeling.{end_of}
 use Rattle.fg_peel.specs.Laws.{PeelingsContinue, MaximalPeelingsEndAtSolution, PeelingsOutlivePlays, ReachesPast, IsPlayed}
 use Rattle.fg_desk.specs.declared.reply.Outcome.{Outcome}
 use Rattle.fg_desk.specs.declared.reply.Outcome.TheVariants.{Repaired}
-use Rattle.fg_desk.specs.State.{State, Live, known, live_equations}
+use Rattle.fg_desk.specs.State.{State, known, live_equations}
 use Rattle.fg_desk.specs.Admission.{kept_count}
 use Rattle.fg_desk.specs.Solution.{IsSolution}
 use Rattle.fg_desk.specs.Play.{Play, Decides, IsPlay}
@@ -71,11 +71,15 @@ module _
       let last = (slot_is_near r.1.equation reaching.0 k.shape far).last in
       let ahead = reaching.2 in
       subst (λ (e : Equation). Contains (live_equations new) e) r.3
-      (live_at new r.0 r.1 ((plays.equations r.0 r.1).1 (r.2, repaired, record {
-        reaches = omega (arith, last, ahead);
-        based = λ q c behind. subst (λ (o : Option Word). IsSome o) (known_below new q behind)
-            (based q (subst (λ (e : Equation). Contains (slots e) q) r.3 c) behind);
-      })))
+      (live_at new r.0 r.1 ((plays.equations r.0 r.1).1 (
+        r.2,
+        repaired,
+        record {
+          reaches = omega (arith, last, ahead);
+          based = λ q c behind. subst (λ (o : Option Word). IsSome o) (known_below new q behind)
+              (based q (subst (λ (e : Equation). Contains (slots e) q) r.3 c) behind);
+        },
+      )))
 
   is_played : IsPlayed new.mark (known old) (known new) end (live_equations old) (live_equations new)
   is_played = record {

@@ -17,7 +17,7 @@ use Rattle.fg_desk.specs.Contents.{HasRoom}
 use Rattle.fg_desk.specs.Solution.{InClosure, IsSolution}
 use Rattle.fg_desk.specs.Admission.{Parity, AdmitsMedia, AdmitsParity, IsDue, position_on, equation_at}
 use Rattle.fg_desk.specs.Play.{Play, IsPlay, IsFlushStep, IsHighest, HasMore, Flushes}
-use Rattle.fg_desk.specs.Run.{Arrival, carries, protects, refused, TakesAll, IsFlush, IsRun}
+use Rattle.fg_desk.specs.Run.{Arrival, carries, protects, refused, ArePlaysDue, TakesAll, IsFlush, IsRun}
 use Rattle.fg_desk.specs.Facts.{Holds}
 
 -- The live equations are those that stand under some serial number.
@@ -110,9 +110,10 @@ FlushEnds =
     (old new : State) (plays : List Play) (highest : ℕ) → 1 ≤ old.window → IsHighest old highest
     → AreFlushSteps old plays new → length plays ≤ highest + 1 - old.mark
 
--- And after it nothing that follows is left to be shown.
-abbrev pub FlushLeavesNothing : Type 0
-FlushLeavesNothing = (old new : State) (plays : List Play) → IsFlush old plays new → ¬ HasMore new
+-- A flush is steps after which nothing that follows is left to be shown.
+abbrev pub FlushStepsEnd : Type 0
+FlushStepsEnd =
+    (old new : State) (plays : List Play) → IsFlush old plays new ↔ (AreFlushSteps old plays new × (¬ HasMore new))
 
 -- A known position ahead stays derivable: what a peeling found before a repaired play is, past the new mark, found by a
 -- peeling after it, with the same words. Before the mark it finds nothing.
@@ -137,6 +138,36 @@ LaterChangesNothing =
     × TakesAll old earlier before first between × TakesAll between later after second new
     × (plays ≡ before ++ after) × (replies ≡ first ++ second)
 
+-- And what is taken one after another is a run of both.
+abbrev pub TakingsJoin : Type 0
+TakingsJoin =
+    (old between new : State) (earlier later : List Arrival) (before after : List Play)
+    (first second : List (Option Reply))
+    → TakesAll old earlier before first between → TakesAll between later after second new
+    → TakesAll old (earlier ++ later) (before ++ after) (first ++ second) new
+
+-- Plays that are due before a datagram of this sequence number, so far.
+abbrev pub HavePlayed : State → ℕ → List Play → State → Type 0
+HavePlayed old seq [] new = new ≡ old
+HavePlayed old seq (play ∷ plays) new =
+    IsDue old seq × ((next : State) × IsPlay old.window old play next × HavePlayed next seq plays new)
+
+abbrev pub PlaysDueJoin : Type 0
+PlaysDueJoin =
+    (old between new : State) (seq : ℕ) (before after : List Play)
+    → HavePlayed old seq before between → HavePlayed between seq after new → HavePlayed old seq (before ++ after) new
+
+-- They are all that are due where then none is.
+abbrev pub PlaysDueEnd : Type 0
+PlaysDueEnd =
+    (old new : State) (seq : ℕ) (plays : List Play)
+    → ArePlaysDue old seq plays new ↔ (HavePlayed old seq plays new × (¬ IsDue new seq))
+
+abbrev pub FlushStepsJoin : Type 0
+FlushStepsJoin =
+    (old between new : State) (before after : List Play)
+    → AreFlushSteps old before between → AreFlushSteps between after new → AreFlushSteps old (before ++ after) new
+
 -- Each play begins where the one before ends.
 abbrev pub AreInSuccession : ℕ → List Play → Type 0
 AreInSuccession first [] = ⊤
@@ -153,12 +184,6 @@ abbrev pub IsRead : Arrival → Type 0
 IsRead (carries seq word) = (seq < 2 ^ 16) × IsMedia word
 IsRead (protects stream parity) = (parity.base < 2 ^ 16) × IsShape parity.offset parity.count
 IsRead (refused stream) = ⊤
-
--- Plays that are due before a datagram of this sequence number, so far.
-abbrev pub HavePlayed : State → ℕ → List Play → State → Type 0
-HavePlayed old seq [] new = new ≡ old
-HavePlayed old seq (play ∷ plays) new =
-    IsDue old seq × ((next : State) × IsPlay old.window old play next × HavePlayed next seq plays new)
 
 -- As long as a flow's datagrams are fewer than 2^44, the facts hold all along its run, and there is room: before each
 -- datagram, and between the plays before it.
@@ -179,7 +204,7 @@ FlushesStayWithin =
     → TakesAll (opening window depth) arrivals plays replies filled → AreFlushSteps filled flushed new
     → Holds new × HasRoom new
 
--- A flow has one run.
+-- A flow has one run: two of the same datagrams are the same.
 abbrev pub OneRun : Type 0
 OneRun =
     (window depth : ℕ) (arrivals : List Arrival) (plays plays' : List Play) (replies replies' : List (Option Reply))

@@ -3,8 +3,8 @@
 
 ghost use Rattle.fg_desk.specs.Laws.{LiveStandUnderSerials, OpeningHolds, MediaKeeps, ParityKeeps, PlayKeeps, FlushStepKeeps, MediaAdds, ParityAdds};
 ghost use Rattle.fg_desk.specs.Laws.{ClosureIsPeelings, SolutionsArePeelings, StepsAreAhead, OneSolution};
-ghost use Rattle.fg_desk.specs.Laws.{ClosureGainsNothing, FlushEnds, FlushLeavesNothing, SolvedStaysPeeled};
-ghost use Rattle.fg_desk.specs.Laws.{LaterChangesNothing, PlaysFollow, RunsStayWithin, FlushesStayWithin, OneRun};
+ghost use Rattle.fg_desk.specs.Laws.{ClosureGainsNothing, FlushEnds, FlushStepsJoin, FlushStepsEnd, SolvedStaysPeeled};
+ghost use Rattle.fg_desk.specs.Laws.{LaterChangesNothing, TakingsJoin, PlaysDueJoin, PlaysDueEnd, PlaysFollow, RunsStayWithin, FlushesStayWithin, OneRun};
 
 use fg_peel::laws::{confluence, peelings_fill_the_closure, peelings_stay, uniqueness};
 
@@ -48,7 +48,8 @@ pub fn one_solution()
 pub fn flushes_end()
     ensures gains { ClosureGainsNothing }
     ensures ends { FlushEnds }
-    ensures leaves { FlushLeavesNothing }
+    ensures joined { FlushStepsJoin }
+    ensures nothing_left { FlushStepsEnd }
 {}
 
 /// What a peeling found before a repaired play is, past the new mark, found by a peeling after it, with
@@ -68,6 +69,13 @@ pub fn runs_only_add()
     ensures follow { PlaysFollow }
 {}
 
+/// A run can be told datagram by datagram, and the plays before one of them play by play.
+pub fn runs_join()
+    ensures takings { TakingsJoin }
+    ensures plays { PlaysDueJoin }
+    ensures all_due { PlaysDueEnd }
+{}
+
 /// As long as a flow's datagrams are fewer than 2^44, the facts hold all along its run, and there is
 /// room.
 pub fn runs_stay_within()
@@ -75,7 +83,7 @@ pub fn runs_stay_within()
     ensures flushing { FlushesStayWithin }
 {}
 
-/// A flow has one run.
+/// A flow has one run: two of the same datagrams are the same.
 pub fn one_run()
     ensures { OneRun }
 {

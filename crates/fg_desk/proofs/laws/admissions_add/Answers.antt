@@ -1,4 +1,4 @@
-use Rattle.fg_desk.proofs.Adding.{media_adds, parity_adds}
+use Rattle.fg_desk.proofs.AdmissionsAdd.{media_adds, parity_adds}
 use Rattle.fg_desk.proofs.laws.admissions_add.Goals as goal
 
 pub returns-clause-media : goal.returns-clause-media

@@ -13,6 +13,7 @@ use Rattle.fg_desk.specs.Admission.{IsLeastFree, position_on, with_media, with_e
 use Rattle.fg_desk.specs.Facts.{Holds}
 use Rattle.fg_desk.specs.Laws.{MediaAdds, ParityAdds}
 use Rattle.fg_desk.proofs.Options.{none_or_some, some_and, inserted, beside_inserted, nothing_in_empty}
+use Rattle.fg_desk.proofs.Added.{added, at_added, beside_added, added_or_old}
 use Rattle.fg_desk.proofs.Equations.{serial_of, live_at}
 use Rattle.fg_desk.proofs.Orderly.{known_below, known_ahead}
 use Rattle.fg_desk.proofs.Opened.{position_at_first, position_after, media_reply_at}
@@ -75,15 +76,10 @@ module _ (old : State) (place : ℕ) (equation : Equation) (holds : Holds old) w
       → Contains (live_equations old) e ⊎ (e ≡ equation)
   was_or_is_added e listed =
       let r = serial_of (with_equation old place equation) e listed in
-      ⊎_elim
-      (λ here.
-      let same : record { place = place; equation = equation } ≡ r.1 =
-      same_Some (record { place = place; equation = equation }) r.1
-      (sym (inserted old.equations old.admitted (record { place = place; equation = equation }) r.0 here) ∙ r.2) in
-      inr (sym r.3 ∙ sym (ap (λ (l : Live). l.equation) same)))
-      (λ beside. inl (subst (λ (x : Equation). Contains (live_equations old) x) r.3
-      (live_at old r.0 r.1 (sym (beside_inserted old.equations old.admitted (record { place = place; equation = equation }) r.0 beside) ∙ r.2))))
-      (cases_eq r.0 old.admitted)
+      let either : Contains (live_equations old) r.1.equation ⊎ (r.1.equation ≡ equation) =
+      added_or_old old place equation (λ (l : Live). Contains (live_equations old) l.equation ⊎ (l.equation ≡ equation)) r.0 r.1 r.2
+      (λ here. inr refl) (λ was. inl (live_at old r.0 r.1 was)) in
+      subst (λ (x : Equation). Contains (live_equations old) x ⊎ (x ≡ equation)) r.3 either
 
   stays_listed : (e : Equation) → Contains (live_equations old) e → Contains (live_equations (with_equation old place equation)) e
   stays_listed e listed =
@@ -91,11 +87,11 @@ module _ (old : State) (place : ℕ) (equation : Equation) (holds : Holds old) w
       let numbered = (holds.live r.0 r.1 r.2).numbered in
       subst (λ (x : Equation). Contains (live_equations (with_equation old place equation)) x) r.3
       (live_at (with_equation old place equation) r.0 r.1
-      (beside_inserted old.equations old.admitted (record { place = place; equation = equation }) r.0 (λ same. omega (arith, same, numbered)) ∙ r.2))
+      (beside_added old place equation r.0 (λ same. omega (arith, same, numbered)) ∙ r.2))
 
   is_listed : Contains (live_equations (with_equation old place equation)) equation
-  is_listed = live_at (with_equation old place equation) old.admitted (record { place = place; equation = equation })
-      (inserted old.equations old.admitted (record { place = place; equation = equation }) old.admitted refl)
+  is_listed =
+      live_at (with_equation old place equation) old.admitted (added place equation) (at_added old place equation old.admitted refl)
 
 pub parity_adds : ParityAdds
 parity_adds old new parity holds admits =
