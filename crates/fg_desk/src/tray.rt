@@ -9,7 +9,8 @@ use fg_words::Word;
 use std::alloc::{AllocError, Global};
 use std::marker::Model;
 
-/// What a play shows at one position. The word is written in place, and counts where `has_word` says so.
+/// What a play shows at one position. The word is written in place, and counts where `has_word`
+/// says so.
 #[derive(Clone, Copy)]
 struct Place {
     has_word: bool,
@@ -85,8 +86,8 @@ impl Tray {
         Ok(Tray { places, count: 0 })
     }
 
-    /// The word that the last play showed at its position `i`, counted from 0. There is none where it
-    /// showed none, nor past its positions.
+    /// The word that the last play showed at its position `i`, counted from 0. There is none where
+    /// it showed none, nor past its positions.
     pub fn word(&self, i: u32) -> Option<&Word>
         ensures { option_copied result ≡ (slice_index_or self.now.shown i nothing_shown).word }
     {
