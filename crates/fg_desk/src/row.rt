@@ -114,7 +114,8 @@ impl Row {
     /// The greatest position with a word, at the mark or past it.
     pub(crate) fn highest(&self) -> Option<u64>
         ensures some { IfSome result (IsHighestWord self.now) }
-        ensures none { IfNone result ((position : ℕ) → self.now.mark ≤ position → row_words self.now position ≡ None) }
+        ensures none { IfNone result ((position : ℕ) → self.now.mark ≤ position
+            → row_words self.now position ≡ None) }
     {
         match last_word(&self.slots) {
             Some(last) => Some(self.mark + (last - KEPT) as u64),
@@ -145,9 +146,12 @@ impl Row {
         requires within { AllLieIn self.old lines.now }
         requires media { AreMedia (row_words self.old) }
         ensures rest { self.new ≡ record self.old { cached = self.new.cached } }
-        ensures peeling { EndsPeeling (equations_of lines.now) (row_words self.old) (row_words self.new) }
-        ensures solved { IsTrue result → IsSolution (row_words self.old) (equations_of lines.now) (row_words self.new) }
-        ensures solvable { (solution : ℕ → Option Word) → IsSolution (row_words self.old) (equations_of lines.now) solution
+        ensures peeling { EndsPeeling (equations_of lines.now)
+            (row_words self.old) (row_words self.new) }
+        ensures solved { IsTrue result
+            → IsSolution (row_words self.old) (equations_of lines.now) (row_words self.new) }
+        ensures solvable { (solution : ℕ → Option Word)
+            → IsSolution (row_words self.old) (equations_of lines.now) solution
             → IsTrue result × (row_words self.new ≡ solution) }
     {
         recover_words(self.mark, &mut self.slots, lines)
@@ -292,7 +296,8 @@ fn show_entries(slots: &[Slot], count: u32, tray: &mut Tray)
 fn shift_down(slots: &mut [Slot], count: usize)
     requires some { 1 ≤ count }
     requires within { count ≤ length slots.old }
-    ensures { (k : ℕ) → slice_index_or slots.new k Slot.Empty ≡ slice_index_or slots.old (k + count) Slot.Empty }
+    ensures { (k : ℕ) → slice_index_or slots.new k Slot.Empty
+        ≡ slice_index_or slots.old (k + count) Slot.Empty }
 {
     let rest = slots.len() - count;
     take_later(slots, count, rest);

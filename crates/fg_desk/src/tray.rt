@@ -32,7 +32,8 @@ impl Place {
 
     /// Shows nothing, or a copy of a word.
     fn show(&mut self, word: Option<&Word>, repaired: bool)
-        ensures { shown_of self.new ≡ record { word = option_copied word.entry; repaired = repaired } }
+        ensures { shown_of self.new
+            ≡ record { word = option_copied word.entry; repaired = repaired } }
     {
         self.repaired = repaired;
         self.has_word = word.is_some();
@@ -118,7 +119,8 @@ impl Tray {
     pub(crate) fn show(&mut self, word: Option<&Word>, repaired: bool)
         requires { length self.old.shown < self.old.window }
         ensures { self.new ≡ record self.old {
-          shown = self.old.shown ++ record { word = option_copied word.entry; repaired = repaired } ∷ [];
+          shown = self.old.shown
+              ++ record { word = option_copied word.entry; repaired = repaired } ∷ [];
         } }
     {
         self.places[self.count].show(word, repaired);
