@@ -323,7 +323,7 @@ fn take_entry(slot: &mut Slot, other: &mut Slot)
     ensures { slot.new ≡ other.old }
 {
     match other {
-        Slot::Empty => *slot = Slot::Empty,
+        Slot::Empty => clear_entry(slot),
         Slot::Media(later) => {
             if let Slot::Media(share) = slot {
                 mem::swap(share, later);
@@ -345,6 +345,16 @@ fn take_share(slot: &mut Slot, other: &mut Slot)
     }
 }
 
+/// Empties an entry. One that is empty is left alone, since a write costs as much as a word.
+fn clear_entry(slot: &mut Slot)
+    ensures { slot.new ≡ Slot.Empty }
+{
+    match slot {
+        Slot::Empty => {}
+        _ => *slot = Slot::Empty,
+    }
+}
+
 /// Empties the entries from this one on.
 fn empty_from(slots: &mut [Slot], first: usize)
     ensures below { (k : ℕ) → k < first
@@ -352,6 +362,6 @@ fn empty_from(slots: &mut [Slot], first: usize)
     ensures above { (k : ℕ) → first ≤ k → slice_index_or slots.new k Slot.Empty ≡ Slot.Empty }
 {
     for i in first..slots.len() {
-        slots[i] = Slot::Empty;
+        clear_entry(&mut slots[i]);
     }
 }
