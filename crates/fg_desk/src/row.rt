@@ -23,11 +23,12 @@ use std::mem;
 /// How many positions before the mark have entries.
 const KEPT: usize = 100;
 
-/// The entries of the 100 positions before the mark and of those from the mark on. An entry is 1.3 kB.
+/// The entries of the 100 positions before the mark and of those from the mark on. An entry is
+/// 1.3 kB.
 ///
-/// Before the mark an entry has the share of a kept word, or a kept word that stands alone. From the
-/// mark on it has the share of a received word, or a word that was found ahead of its play. Entries
-/// for positions below 0 are empty.
+/// Before the mark an entry has the share of a kept word, or a kept word that stands alone. From
+/// the mark on it has the share of a received word, or a word that was found ahead of its play.
+/// Entries for positions below 0 are empty.
 #[derive(Drop)]
 pub(crate) struct Row {
     mark: u64,
@@ -113,7 +114,8 @@ impl Row {
     /// The greatest position with a word, at the mark or past it.
     pub(crate) fn highest(&self) -> Option<u64>
         ensures some { IfSome result (IsHighestWord self.now) }
-        ensures none { IfNone result ((position : ℕ) → self.now.mark ≤ position → row_words self.now position ≡ None) }
+        ensures none { IfNone result ((position : ℕ) → self.now.mark ≤ position
+            → row_words self.now position ≡ None) }
     {
         match last_word(&self.slots) {
             Some(last) => Some(self.mark + (last - KEPT) as u64),
@@ -138,15 +140,19 @@ impl Row {
         forget_filled(&mut self.slots);
     }
 
-    /// Finds each word that follows from the row's words and the lines, and tells whether they have a
-    /// solution. The words are then that solution.
+    /// Finds each word that follows from the row's words and the lines, and tells whether they have
+    /// a solution. The words are then that solution.
     pub(crate) fn recover(&mut self, lines: &Slab<Line>) -> bool
         requires within { AllLieIn self.old lines.now }
         requires media { AreMedia (row_words self.old) }
         ensures rest { self.new ≡ record self.old { cached = self.new.cached } }
-        ensures peeling { EndsPeeling (equations_of lines.now) (row_words self.old) (row_words self.new) }
-        ensures solved { IsTrue result → IsSolution (row_words self.old) (equations_of lines.now) (row_words self.new) }
-        ensures solvable { (solution : ℕ → Option Word) → IsSolution (row_words self.old) (equations_of lines.now) solution → IsTrue result × (row_words self.new ≡ solution) }
+        ensures peeling { EndsPeeling (equations_of lines.now)
+            (row_words self.old) (row_words self.new) }
+        ensures solved { IsTrue result
+            → IsSolution (row_words self.old) (equations_of lines.now) (row_words self.new) }
+        ensures solvable { (solution : ℕ → Option Word)
+            → IsSolution (row_words self.old) (equations_of lines.now) solution
+            → IsTrue result × (row_words self.new ≡ solution) }
     {
         recover_words(self.mark, &mut self.slots, lines)
     }
@@ -285,12 +291,13 @@ fn show_entries(slots: &[Slot], count: u32, tray: &mut Tray)
     }
 }
 
-/// Moves each entry to the place `count` before it. The first `count` entries go, and the last ones are
-/// then empty.
+/// Moves each entry to the place `count` before it. The first `count` entries go, and the last ones
+/// are then empty.
 fn shift_down(slots: &mut [Slot], count: usize)
     requires some { 1 ≤ count }
     requires within { count ≤ length slots.old }
-    ensures { (k : ℕ) → slice_index_or slots.new k Slot.Empty ≡ slice_index_or slots.old (k + count) Slot.Empty }
+    ensures { (k : ℕ) → slice_index_or slots.new k Slot.Empty
+        ≡ slice_index_or slots.old (k + count) Slot.Empty }
 {
     let rest = slots.len() - count;
     take_later(slots, count, rest);
@@ -301,7 +308,8 @@ fn shift_down(slots: &mut [Slot], count: usize)
 fn take_later(slots: &mut [Slot], count: usize, rest: usize)
     requires some { 1 ≤ count }
     requires within { rest + count ≤ length slots.old }
-    ensures { (k : ℕ) → k < rest → slice_index_or slots.new k Slot.Empty ≡ slice_index_or slots.old (k + count) Slot.Empty }
+    ensures { (k : ℕ) → k < rest
+        → slice_index_or slots.new k Slot.Empty ≡ slice_index_or slots.old (k + count) Slot.Empty }
 {
     for i in 0..rest {
         let (front, back) = slots.split_at_mut(i + count);
@@ -309,13 +317,13 @@ fn take_later(slots: &mut [Slot], count: usize, rest: usize)
     }
 }
 
-/// Puts into an entry what another has, which is then to be written anew. A word that has a share is
-/// moved as the share.
+/// Puts into an entry what another has, which is then to be written anew. A word that has a share
+/// is moved as the share.
 fn take_entry(slot: &mut Slot, other: &mut Slot)
     ensures { slot.new ≡ other.old }
 {
     match other {
-        Slot::Empty => *slot = Slot::Empty,
+        Slot::Empty => clear_entry(slot),
         Slot::Media(later) => {
             if let Slot::Media(share) = slot {
                 mem::swap(share, later);
@@ -337,12 +345,23 @@ fn take_share(slot: &mut Slot, other: &mut Slot)
     }
 }
 
+/// Empties an entry. One that is empty is left alone, since a write costs as much as a word.
+fn clear_entry(slot: &mut Slot)
+    ensures { slot.new ≡ Slot.Empty }
+{
+    match slot {
+        Slot::Empty => {}
+        _ => *slot = Slot::Empty,
+    }
+}
+
 /// Empties the entries from this one on.
 fn empty_from(slots: &mut [Slot], first: usize)
-    ensures below { (k : ℕ) → k < first → slice_index_or slots.new k Slot.Empty ≡ slice_index_or slots.old k Slot.Empty }
+    ensures below { (k : ℕ) → k < first
+        → slice_index_or slots.new k Slot.Empty ≡ slice_index_or slots.old k Slot.Empty }
     ensures above { (k : ℕ) → first ≤ k → slice_index_or slots.new k Slot.Empty ≡ Slot.Empty }
 {
     for i in first..slots.len() {
-        slots[i] = Slot::Empty;
+        clear_entry(&mut slots[i]);
     }
 }

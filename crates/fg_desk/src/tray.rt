@@ -9,7 +9,8 @@ use fg_words::Word;
 use std::alloc::{AllocError, Global};
 use std::marker::Model;
 
-/// What a play shows at one position. The word is written in place, and counts where `has_word` says so.
+/// What a play shows at one position. The word is written in place, and counts where `has_word`
+/// says so.
 #[derive(Clone, Copy)]
 struct Place {
     has_word: bool,
@@ -31,7 +32,8 @@ impl Place {
 
     /// Shows nothing, or a copy of a word.
     fn show(&mut self, word: Option<&Word>, repaired: bool)
-        ensures { shown_of self.new ≡ record { word = option_copied word.entry; repaired = repaired } }
+        ensures { shown_of self.new
+            ≡ record { word = option_copied word.entry; repaired = repaired } }
     {
         self.repaired = repaired;
         self.has_word = word.is_some();
@@ -85,8 +87,8 @@ impl Tray {
         Ok(Tray { places, count: 0 })
     }
 
-    /// The word that the last play showed at its position `i`, counted from 0. There is none where it
-    /// showed none, nor past its positions.
+    /// The word that the last play showed at its position `i`, counted from 0. There is none where
+    /// it showed none, nor past its positions.
     pub fn word(&self, i: u32) -> Option<&Word>
         ensures { option_copied result ≡ (slice_index_or self.now.shown i nothing_shown).word }
     {
@@ -117,7 +119,8 @@ impl Tray {
     pub(crate) fn show(&mut self, word: Option<&Word>, repaired: bool)
         requires { length self.old.shown < self.old.window }
         ensures { self.new ≡ record self.old {
-          shown = self.old.shown ++ record { word = option_copied word.entry; repaired = repaired } ∷ [];
+          shown = self.old.shown
+              ++ record { word = option_copied word.entry; repaired = repaired } ∷ [];
         } }
     {
         self.places[self.count].show(word, repaired);
