@@ -14,6 +14,8 @@ use slab::Slab;
 
 /// Gives the one slot of a line that has no word its word. The parity word is copied into the entry
 /// once, and the words at the other slots are added to it there.
+// A copy of a word on the way must not stand in the frames of `visit`, of which a chain has many.
+#[inline(never)]
 fn fill(start: u64, slots: &mut [Slot], line: &Line, position: u64)
     requires line { Fits start slots.old line.now }
     requires limit { start + length slots.old ≤ 2 ^ 62 }

@@ -371,6 +371,48 @@ fn entries_from_a_later_position_on(rt: HostRuntime) -> Result<(), Fail> {
     Ok(())
 }
 
+/// Lines of two neighbouring positions each, by rising position, of media words stamped with theirs.
+fn chain_lines(alloc: Global) -> Result<Slab<Line>, AllocError> {
+    let mut lines = Slab::new(alloc);
+    for i in 0..99u32 {
+        let mut parity = media(i);
+        parity.xor_in(&media(i + 1));
+        let line = Line {
+            base: u64::from(i),
+            shape: Shape { offset: 1, na: 2 },
+            parity: parity.share(alloc)?,
+            serial: u64::from(i),
+            place: i,
+        };
+        let _key = lines.insert(line)?;
+    }
+    Ok(lines)
+}
+
+/// A hundred entries of which the last alone has a word.
+fn chain_row(alloc: Global) -> Result<Vec<Slot>, AllocError> {
+    let mut slots = Vec::new(alloc);
+    for _ in 0..99 {
+        slots.push(Slot::Empty)?;
+    }
+    slots.push(Slot::Media(media(99).share(alloc)?))?;
+    Ok(slots)
+}
+
+#[test]
+fn chain_that_opens_from_its_last_line(rt: HostRuntime) -> Result<(), Fail> {
+    let mut slots = chain_row(rt.alloc())?;
+    let lines = chain_lines(rt.alloc())?;
+    assert!(rt; peel_block(&rt, &mut slots, &lines) == Verdict::Sound);
+    for (i, slot) in slots.iter().enumerate() {
+        assert!(rt;
+            i >= 99 || is_filled_with(slot, &media(i as u32 % 100)),
+            "position {i}"
+        );
+    }
+    Ok(())
+}
+
 /// An equation on timestamps alone: the slots as bits, and the sum.
 #[derive(Clone, Copy)]
 struct Plain {
