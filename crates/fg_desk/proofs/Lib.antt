@@ -4,12 +4,12 @@ pub mod Bounds
 pub mod Equations
 pub mod Flushing
 pub mod Following
+pub mod Joining
 pub mod LinesCalls
 pub mod LinesLists
 pub mod LinesMoves
 pub mod LinesSearch
 pub mod LinesViews
-pub mod Joining
 pub mod Lists
 pub mod OnePlay
 pub mod OneRun
