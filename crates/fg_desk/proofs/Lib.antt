@@ -3,6 +3,7 @@ pub mod Equations
 pub mod Flushing
 pub mod Following
 pub mod LinesCalls
+pub mod LinesInserts
 pub mod LinesLists
 pub mod LinesMoves
 pub mod LinesSearch
