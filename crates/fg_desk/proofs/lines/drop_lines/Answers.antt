@@ -31,7 +31,10 @@ loop-key-preserved c =
           omega (arith, p, n, same)) in
           let next = drops_one Stays key old c.loop-key.lines places c.loop-key.places c.loop-key.invariant w.remove.new.self found.0
               found.1 found.3 within w.remove.ensures.updates w.remove.ensures.len w.remove.ensures.capacity in
-          ?)
+          let set_at : set c.loop-key.places found.0.place false ≡ c.match-retired_place.places =
+          ap (λ (p : ℕ). set c.loop-key.places p false) found.2 ∙ sym w.places-is in
+          subst (λ (s : Slab Line). Q s c.match-retired_place.places) (sym w.lines-is)
+          (subst (λ (ps : List Bool). Q w.remove.new.self ps) set_at next))
       | in_default w ↦
           (let next = drops_passed Stays key old c.loop-key.lines places c.loop-key.places c.loop-key.invariant w.in_default.ensures.none in
           subst (λ (s : Slab Line). Q s c.match-retired_place.places) (sym w.lines-is)
