@@ -6,6 +6,7 @@ pub mod Flushing
 pub mod Following
 pub mod Joining
 pub mod LinesCalls
+pub mod LinesInserts
 pub mod LinesLists
 pub mod LinesMoves
 pub mod LinesSearch

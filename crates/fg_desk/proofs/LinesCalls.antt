@@ -1,19 +1,26 @@
 -- What the calls tell of the live equations, and what they leave.
-use Rattle.std.proofs.Common.{◌≡◌, ◌≢◌, ◌⊎◌, ◌+◌, ◌<◌, ◌≤◌, ◌↔◌, ℕ, Bool, true, false, not, List, [], length, get_or, Option, Some, None, IsSome, IsTrue, MatchBool, inl, inr, refl, sym, ap, subst, ◌∙◌, ⊎_elim, arith}
+use Rattle.std.proofs.Common.{◌≡◌, ◌≢◌, ◌⊎◌, ◌+◌, ◌-◌, ◌*◌, ◌<◌, ◌≤◌, ◌↔◌, ℕ, Bool, true, false, not, List, [], ◌∷◌, map as map_list, length, get_or, Option, Some, None, IsSome, IsTrue, MatchBool, inl, inr, refl, sym, ap, subst, ◌∙◌, ⊎_elim, arith}
 use Rattle.std.proofs.lemmas.Bool.{false≢true}
 use Rattle.std.proofs.lemmas.Option.{none-some}
 use Rattle.std.proofs.Math.Bool.{beq}
+use Rattle.std.specs.List.{All, Contains}
+use Rattle.std.proofs.lemmas.List.FromFn.{get_or-map-range_with_len}
 use Rattle.std.specs.FinMap as map
 use Rattle.std.specs.FinSet as set
-use Rattle.slab.specs.Slab.{Slab, get, slab_len}
+use Rattle.slab.specs.Slab.{Slab, get, slab_len, entries}
+use Rattle.slab.proofs.SlabLemmas.{length-entries}
+use Rattle.fg_shape.specs.Shape.{IsShape}
 use Rattle.fg_peel.specs.declared.Line.{Line}
 use Rattle.fg_peel.specs.Slots.{lines_of, equation_of}
-use Rattle.fg_peel.specs.Equation.{IsComplete}
+use Rattle.fg_peel.specs.Equation.{Equation, slots, IsComplete}
 use Rattle.fg_words.specs.declared.Word.{Word}
-use Rattle.fg_desk.specs.State.{Live, Words}
+use Rattle.fg_desk.specs.State.{Live, Words, last_slot}
 use Rattle.fg_desk.specs.Play.{Survives}
 use Rattle.fg_desk.specs.Lines.{LinesState, AreLines, AreOpen, IsLiveLine, Settles, Reopens, Retires, SettledAreBased, IsFreePlace, live_of}
 use Rattle.fg_desk.specs.LinesInside.{state_of, Holds, Stands, IsOneEach, IsWithin, AreWithin, IsTaken, AreSound, Moves, IsCompleteAs, IsBased, Drops}
+use Rattle.fg_desk.proofs.Lists.{Contains-here, Contains-nil}
+use Rattle.fg_desk.proofs.RowLoops.{length-slots_of}
+use Rattle.fg_desk.proofs.SlotRange.{slot_is_near}
 use Rattle.fg_desk.proofs.Options.{has_value, value_of}
 use Rattle.fg_desk.proofs.LinesViews.{serial_of, place_of, held, listed, same_held, live_standing, count_live, standing_of, settled_of, settled_here, live_under, settled_under, not_settled, live_is, same_live, swapped, fewer_each}
 
@@ -307,3 +314,77 @@ stays_of true true P h e = absurd (false≢true (sym e))
 stays_of true false P h e = h.0 refl
 stays_of false true P h e = λ p. absurd (false≢true (h.1 p))
 stays_of false false P h e = absurd (false≢true (sym e))
+
+-- what a search in both slabs tells
+module _ (first second : Slab Line) (places : List Bool) (sound : AreSound first second places) (IsSought : Line → Type 0) where
+  pub found_first : (line : Line) → Holds first line × IsSought line → IsLiveLine (state_of first second) line × IsSought line
+  found_first line found = (live_standing first second sound.serials line (inl found.0), found.1)
+
+  pub found_second : (line : Line) → Holds second line × IsSought line → IsLiveLine (state_of first second) line × IsSought line
+  found_second line found = (live_standing first second sound.serials line (inr found.0), found.1)
+
+  pub found_none :
+      ((line : Line) → Holds first line → IsSought line → ⊥) → ((line : Line) → Holds second line → IsSought line → ⊥)
+      → (line : Line) → IsLiveLine (state_of first second) line → IsSought line → ⊥
+  found_none none none' line is =
+      ⊎_elim (λ a. none line a) (λ b. none' line b) (stands_live first second places sound line is)
+
+-- all are settled exactly where the first slab has none
+module _ (first second : Slab Line) (places : List Bool) (sound : AreSound first second places) where
+  pub all_settled :
+      entries first ≡ [] → (serial : ℕ) → IsSome (map.get (state_of first second).live serial)
+      → set.contains (state_of first second).settled serial ≡ true
+  all_settled none serial some =
+      let v = value_of (map.get (state_of first second).live serial) some in
+      let r = standing_of first second serial v.0 v.1 in
+      ⊎_elim
+      (λ a.
+      let c : Contains (lines_of first) r.0 = listed first r.0 a in
+      let nothing : Contains [] r.0 =
+      subst (λ (es : List (ℕ × Line)). Contains (map_list (λ (x : ℕ × Line). x.1) es) r.0) none c in
+      absurd (Contains-nil r.0 nothing))
+      (λ b. settled_under first second r.0 b serial r.2)
+      r.1
+
+  pub none_is_open :
+      ((serial : ℕ) → IsSome (map.get (state_of first second).live serial)
+        → set.contains (state_of first second).settled serial ≡ true)
+      → (line : Line) → Holds first line → ⊥
+  none_is_open all line h =
+      let live = live_standing first second sound.serials line (inl h) in
+      let t = all line.serial (has_value (map.get (state_of first second).live line.serial) (live_of line) live) in
+      let e : false ≡ true = sym (not_settled first second sound.serials line h) ∙ t in absurd (cc)
+
+  -- the slab has no line exactly where it counts none
+  pub open_counts :
+      ((line : Line) → Holds first line → ⊥) → slab_len first ≡ 0
+  open_counts none =
+      go (entries first) refl
+      where
+        go : (es : List (ℕ × Line)) → es ≡ entries first → slab_len first ≡ 0
+        go [] e = sym (length-entries first) ∙ sym (ap length e)
+        go (entry ∷ rest) e =
+            let c : Contains (lines_of first) entry.1 = rw (← e) (Contains-here entry.1 (map_list (λ (x : ℕ × Line). x.1) rest)) in
+            absurd (none entry.1 (held first entry.1 c))
+
+  pub counts_none : slab_len first ≡ 0 → entries first ≡ []
+  counts_none zero = go (entries first) (length-entries first ∙ zero)
+    where
+      go : (es : List (ℕ × Line)) → length es ≡ 0 → es ≡ []
+      go [] e = refl
+      go (entry ∷ rest) e = absurd (omega (arith, e))
+
+-- the greatest slot of an equation
+pub last_is :
+    (equation : Equation) (last : ℕ) → IsShape equation.offset equation.count → Contains (slots equation) last
+    → All (λ slot. slot ≤ last) (slots equation) → last ≡ last_slot equation
+last_is equation last shape c greatest =
+    let some = shape.some_slot in
+    let within : equation.count - 1 < equation.count = omega arith in
+    let less : equation.count - 1 < length (slots equation) =
+    omega (arith, length-slots_of equation.base equation.offset equation.count) in
+    let above : get_or (slots equation) (equation.count - 1) 0 ≤ last = greatest (equation.count - 1) 0 less in
+    let at : get_or (slots equation) (equation.count - 1) 0 ≡ last_slot equation =
+    get_or-map-range_with_len (λ j. equation.base + j * equation.offset) 0 equation.count (equation.count - 1) (equation.count - 1) 0 within (omega arith) in
+    let near = (slot_is_near equation last shape c).last in
+    omega (arith, above, at, near)

@@ -161,7 +161,7 @@ impl Lines {
     {
         self.open.clear();
         self.settled.clear();
-        self.places.fill(false);
+        free_all(&mut self.places);
     }
 }
 
@@ -205,6 +205,15 @@ fn first_free(places: &[bool]) -> usize
         }
     }
     places.len()
+}
+
+/// Frees all places.
+fn free_all(places: &mut [bool])
+    ensures { (place : ℕ) → slice_index_or places.new place false ≡ false }
+{
+    for i in 0..places.len() {
+        places[i] = false;
+    }
 }
 
 /// Moves those lines from one slab to another that are complete in the row, or those that aren't.
