@@ -1,6 +1,8 @@
 pub mod Added
 pub mod AdmissionsAdd
 pub mod Bounds
+pub mod DeskOpened
+pub mod DeskWords
 pub mod Equations
 pub mod Flushing
 pub mod Following

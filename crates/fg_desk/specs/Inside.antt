@@ -1,10 +1,12 @@
 -- What a desk is made of, and what holds of its parts. No public contract cites it.
-use Rattle.std.specs.Prelude.{◌≡◌, ◌+◌, ◌<◌, ◌≤◌, ◌^◌, ℕ, Option, Some, IsTrue, refl}
+use Rattle.std.specs.Prelude.{◌≡◌, ◌⊎◌, ◌+◌, ◌-◌, ◌*◌, ◌<◌, ◌≤◌, ◌^◌, ℕ, Option, Some, None, IsTrue, refl}
+use Rattle.std.specs.List.{Contains}
 use Rattle.std.specs.Coded.{Coded, code_by, coded×, coded_ℕ, coded_option}
 use Rattle.std.specs.Ordering.{nat_cmp}
 use Rattle.std.specs.FinMap as map
 use Rattle.std.specs.FinMap.{get}
 use Rattle.std.specs.FinSet as set
+use Rattle.fg_shape.specs.Shape.{slots_of}
 use Rattle.fg_peel.specs.Equation.{AreMedia, IsSettled}
 use Rattle.fg_peel.specs.Peeling.{ArePeeled}
 use Rattle.fg_desk.specs.State.{State, Top, Live, Words, known, live_equations}
@@ -91,3 +93,9 @@ pub record AreSound (parts : Parts) : Type 0 where
   pub admitted_limit : parts.admitted ≤ parts.calls
   pub calls_limit : parts.calls ≤ 2 ^ 62
   pub epoch_limit : parts.epoch ≤ parts.calls
+
+-- An equation of this base and shape comes too late. Its parity word is of no account.
+abbrev pub IsLateAt : State → ℕ → ℕ → ℕ → Type 0
+IsLateAt desk base offset count =
+    (base + (count - 1) * offset < desk.mark)
+    ⊎ ((slot : ℕ) × Contains (slots_of base offset count) slot × (slot < desk.mark) × (get desk.kept slot ≡ None))

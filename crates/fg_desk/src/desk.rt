@@ -1,6 +1,6 @@
 //! A desk: which datagrams are admitted, when a window plays, what it shows, and what is kept.
 
-ghost use Rattle.std.specs.Prelude.{◌≡◌, ◌↔◌, ◌<◌, ◌≤◌, ℕ, length, Option, Some, None, IsTrue, IsSome, IfOk, IfSome, IfNone, option_map};
+ghost use Rattle.std.specs.Prelude.{◌≡◌, ◌≢◌, ◌↔◌, ◌<◌, ◌≤◌, ℕ, length, Option, Some, None, IsTrue, IsSome, IfOk, IfSome, IfNone, option_map};
 ghost use Rattle.std.specs.Option.{option_copied};
 ghost use Rattle.std.specs.FinMap.{get, len};
 ghost use Rattle.fg_words.specs.Word.{IsMedia};
@@ -10,8 +10,9 @@ ghost use Rattle.fg_desk.specs.State.{known, Top as TopState, Live};
 ghost use Rattle.fg_desk.specs.Facts.{Holds};
 ghost use Rattle.fg_desk.specs.Lines.{live_of};
 ghost use Rattle.fg_desk.specs.Contents.{opened, HasRoom, shared_at, IsBareAfter, epoch_after};
-ghost use Rattle.fg_desk.specs.Admission.{IsDue, AdmitsMedia, AdmitsParity};
+ghost use Rattle.fg_desk.specs.Admission.{IsDue, IsReplyAt, IsEquationReply, AdmitsMedia, AdmitsParity};
 ghost use Rattle.fg_desk.specs.Play.{IsPlay, Flushes};
+ghost use Rattle.fg_desk.specs.Inside.{IsLateAt};
 
 use crate::lines::Lines;
 use crate::reply::{Outcome, Reply};
@@ -23,6 +24,18 @@ use fg_unwrap::position;
 use fg_words::{Shared, Word};
 use std::alloc::{AllocError, Global};
 use std::marker::Model;
+
+/// How many positions before the mark have kept words.
+const KEPT: u64 = 100;
+
+/// How many equations may be live.
+const LIVE_LIMIT: usize = 512;
+
+/// The mark and the farthest position are below this where a desk may change.
+const POSITIONS: u64 = 1 << 61;
+
+/// Fewer calls than this were made where a desk may change.
+const CALLS: u64 = 1 << 62;
 
 /// The farthest datagram of a flow: its position and its sequence number.
 #[derive(Clone, Copy)]
@@ -115,5 +128,130 @@ impl Desk {
         ensures { option_copied result ≡ shared_at self.now slot }
     {
         self.row.share(slot)
+    }
+
+    /// The position and the sequence number of the farthest media datagram. None before the first one.
+    pub fn top(&self) -> Option<(u64, u16)>
+        ensures { option_map (λ top. record { position = top.0; seq = top.1 }) result ≡ self.now.state.top }
+    {
+        match self.top {
+            Some(top) => Some((top.position, top.seq)),
+            None => None,
+        }
+    }
+
+    /// The live equation at a place. None exactly where no live equation has it.
+    pub fn line(&self, place: u32) -> Option<&Line>
+        ensures some { IfSome result (λ line. (get self.now.state.equations line.now.serial ≡ Some (live_of line.now)) × (line.now.place ≡ place)) }
+        ensures none { IfNone result ((serial : ℕ) (live : Live) → get self.now.state.equations serial ≡ Some live → live.place ≢ place) }
+    {
+        self.lines.at(place)
+    }
+
+    /// Whether the desk may change: the mark and the farthest position are below 2^61, and fewer than
+    /// 2^62 calls were made that may change it.
+    pub fn room(&self) -> bool
+        ensures room { IsTrue result ↔ HasRoom self.now.state }
+        ensures facts { Holds self.now.state }
+    {
+        let top_has_room = match self.top {
+            Some(top) => top.position < POSITIONS,
+            None => true,
+        };
+        top_has_room && self.row.mark() < POSITIONS && self.calls < CALLS
+    }
+
+    /// Whether a play is due before a datagram of this sequence number is admitted: it lies the depth
+    /// past the mark, or farther.
+    pub fn due(&self, seq: u16) -> bool
+        ensures { IsTrue result ↔ IsDue self.now.state seq }
+    {
+        let Some(top) = self.top else {
+            return false;
+        };
+        match position(top.position, top.seq, seq) {
+            Some(position) => position >= self.row.mark() + u64::from(self.depth),
+            None => false,
+        }
+    }
+
+    /// Admits a parity datagram's equation, or says why not. `base` is the sequence number of its base.
+    ///
+    /// The share is dropped with every reply but `Admitted`.
+    pub fn admit_parity(&mut self, base: u16, shape: Shape, share: Shared) -> Reply
+        requires room { HasRoom self.old.state }
+        requires shape { IsShape shape.offset shape.na }
+        ensures state { AdmitsParity self.old.state
+            (record { base = base; offset = shape.offset; count = shape.na; word = share }) result self.new.state }
+        ensures rest { self.new ≡ record self.old { state = self.new.state } }
+    {
+        self.calls += 1;
+        let Some(top) = self.top else {
+            return Reply::NotStarted;
+        };
+        let Some(base) = position(top.position, top.seq, base) else {
+            return Reply::BeforeStart;
+        };
+        match self.equation_reply(base, shape, share.word()) {
+            Reply::Admitted => {
+                self.lines.insert(base, shape, share, self.admitted);
+                self.admitted += 1;
+                Reply::Admitted
+            }
+            reply => reply,
+        }
+    }
+
+    /// The reply to an equation.
+    fn equation_reply(&self, base: u64, shape: Shape, parity: &Word) -> Reply
+        requires base { base ≤ 2 ^ 62 }
+        requires shape { IsShape shape.offset shape.na }
+        ensures { IsEquationReply self.now.state
+            (record { base = base; offset = shape.offset; count = shape.na; parity = parity.now }) result }
+    {
+        if self.is_late(base, shape) {
+            return Reply::Late;
+        }
+        if last(base, shape) >= self.row.mark() + u64::from(self.depth) + KEPT {
+            return Reply::Ahead;
+        }
+        match self.lines.find(base, shape) {
+            Some(line) if line.parity.word().same(parity) => Reply::Duplicate,
+            Some(_) => Reply::Conflict,
+            None if self.lines.count() >= LIVE_LIMIT => Reply::Crowded,
+            None => Reply::Admitted,
+        }
+    }
+
+    /// Whether all slots of an equation are played, or the word at one that is played isn't kept.
+    fn is_late(&self, base: u64, shape: Shape) -> bool
+        requires base { base ≤ 2 ^ 62 }
+        requires shape { IsShape shape.offset shape.na }
+        ensures { IsTrue result ↔ IsLateAt self.now.state base shape.offset shape.na }
+    {
+        if last(base, shape) < self.row.mark() {
+            return true;
+        }
+        for j in 0..shape.na {
+            let slot = slot(base, shape, j);
+            if slot < self.row.mark() && self.row.word(slot).is_none() {
+                return true;
+            }
+        }
+        false
+    }
+
+    /// The reply to a word that comes for a position.
+    fn reply_at(&self, position: u64, word: &Word) -> Reply
+        ensures { IsReplyAt self.now.state position word.now result }
+    {
+        if position < self.row.mark() {
+            return Reply::Late;
+        }
+        match self.row.word(position) {
+            None => Reply::Admitted,
+            Some(other) if other.same(word) => Reply::Duplicate,
+            Some(_) => Reply::Conflict,
+        }
     }
 }
