@@ -1,13 +1,12 @@
 -- What the calls tell of the live equations, and what they leave.
-use Rattle.std.proofs.Common.{◌≡◌, ◌≢◌, ◌⊎◌, ◌+◌, ◌-◌, ◌*◌, ◌<◌, ◌≤◌, ◌↔◌, ℕ, Bool, true, false, not, List, [], ◌∷◌, map as map_list, length, get_or, Option, Some, None, IsSome, IsTrue, MatchBool, inl, inr, refl, sym, ap, subst, ◌∙◌, ⊎_elim, arith}
+use Rattle.std.proofs.Common.{◌≡◌, ◌+◌, ◌-◌, ◌*◌, ◌<◌, ◌≤◌, ◌↔◌, ℕ, Bool, true, false, not, List, [], ◌∷◌, map as map_list, length, get_or, Option, Some, IsSome, IsTrue, MatchBool, inl, inr, refl, sym, ap, subst, ◌∙◌, ⊎_elim, arith}
 use Rattle.std.proofs.lemmas.Bool.{false≢true}
-use Rattle.std.proofs.lemmas.Option.{none-some}
 use Rattle.std.proofs.Math.Bool.{beq}
 use Rattle.std.specs.List.{All, Contains}
 use Rattle.std.proofs.lemmas.List.FromFn.{get_or-map-range_with_len}
 use Rattle.std.specs.FinMap as map
 use Rattle.std.specs.FinSet as set
-use Rattle.slab.specs.Slab.{Slab, get, slab_len, entries}
+use Rattle.slab.specs.Slab.{Slab, slab_len, entries}
 use Rattle.slab.proofs.SlabLemmas.{length-entries}
 use Rattle.fg_shape.specs.Shape.{IsShape}
 use Rattle.fg_peel.specs.declared.Line.{Line}
@@ -16,8 +15,8 @@ use Rattle.fg_peel.specs.Equation.{Equation, slots, IsComplete}
 use Rattle.fg_words.specs.declared.Word.{Word}
 use Rattle.fg_desk.specs.State.{Live, Words, last_slot}
 use Rattle.fg_desk.specs.Play.{Survives}
-use Rattle.fg_desk.specs.Lines.{LinesState, AreLines, AreOpen, IsLiveLine, Settles, Reopens, Retires, SettledAreBased, IsFreePlace, live_of}
-use Rattle.fg_desk.specs.LinesInside.{state_of, Holds, Stands, IsOneEach, IsWithin, AreWithin, IsTaken, AreSound, Moves, IsCompleteAs, IsBased, Drops}
+use Rattle.fg_desk.specs.Lines.{AreLines, AreOpen, IsLiveLine, Settles, Reopens, Retires, SettledAreBased, IsFreePlace, live_of}
+use Rattle.fg_desk.specs.LinesInside.{state_of, Holds, Stands, IsOneEach, IsWithin, AreSound, Moves, IsCompleteAs, IsBased, Drops}
 use Rattle.fg_desk.proofs.Lists.{Contains-here, Contains-nil}
 use Rattle.fg_desk.proofs.RowLoops.{length-slots_of}
 use Rattle.fg_desk.proofs.SlotRange.{slot_is_near}
@@ -348,7 +347,7 @@ module _ (first second : Slab Line) (places : List Bool) (sound : AreSound first
 
   pub none_is_open :
       ((serial : ℕ) → IsSome (map.get (state_of first second).live serial)
-        → set.contains (state_of first second).settled serial ≡ true)
+      → set.contains (state_of first second).settled serial ≡ true)
       → (line : Line) → Holds first line → ⊥
   none_is_open all line h =
       let live = live_standing first second sound.serials line (inl h) in
@@ -360,12 +359,12 @@ module _ (first second : Slab Line) (places : List Bool) (sound : AreSound first
       ((line : Line) → Holds first line → ⊥) → slab_len first ≡ 0
   open_counts none =
       go (entries first) refl
-      where
-        go : (es : List (ℕ × Line)) → es ≡ entries first → slab_len first ≡ 0
-        go [] e = sym (length-entries first) ∙ sym (ap length e)
-        go (entry ∷ rest) e =
-            let c : Contains (lines_of first) entry.1 = rw (← e) (Contains-here entry.1 (map_list (λ (x : ℕ × Line). x.1) rest)) in
-            absurd (none entry.1 (held first entry.1 c))
+    where
+      go : (es : List (ℕ × Line)) → es ≡ entries first → slab_len first ≡ 0
+      go [] e = sym (length-entries first) ∙ sym (ap length e)
+      go (entry ∷ rest) e =
+          let c : Contains (lines_of first) entry.1 = rw (← e) (Contains-here entry.1 (map_list (λ (x : ℕ × Line). x.1) rest)) in
+          absurd (none entry.1 (held first entry.1 c))
 
   pub counts_none : slab_len first ≡ 0 → entries first ≡ []
   counts_none zero = go (entries first) (length-entries first ∙ zero)

@@ -1,21 +1,20 @@
 -- One more line, and none.
-use Rattle.std.proofs.Common.{◌≡◌, ◌≢◌, ◌⊎◌, ◌+◌, ◌<◌, ◌≤◌, ◌++◌, ℕ, Bool, true, false, List, [], length, get_or, set, Option, Some, None, IsSome, IsTrue, inl, inr, refl, sym, ap, subst, ◌∙◌, ⊎_elim, arith}
+use Rattle.std.proofs.Common.{◌≡◌, ◌≢◌, ◌⊎◌, ◌+◌, ◌<◌, ◌≤◌, ◌++◌, ℕ, Bool, true, false, List, [], length, get_or, set, Option, Some, None, inl, inr, refl, sym, ap, subst, ◌∙◌, ⊎_elim, arith}
 use Rattle.std.proofs.lemmas.Bool.{cases_eq, cases_lt}
 use Rattle.std.proofs.lemmas.List.{get_or-set_same, get_or-set_other, length-set}
 use Rattle.std.proofs.lemmas.Option.{none-some}
 use Rattle.std.specs.Cmp.{nat_cmp_total}
 use Rattle.std.specs.FinMap as map
-use Rattle.std.specs.FinSet as set
 use Rattle.slab.specs.Slab.{Slab, get, slab_len, Updates}
 use Rattle.fg_peel.specs.declared.Line.{Line}
 use Rattle.fg_desk.specs.State.{State, Live, opening}
 use Rattle.fg_desk.specs.Admission.{live_limit}
 use Rattle.fg_desk.specs.Lines.{LinesState, no_lines, IsFreePlace, IsLeastFreePlace, live_of}
-use Rattle.fg_desk.specs.LinesInside.{live_in, serials_in, state_of, Holds, Stands, IsWithin, IsTaken, AreSound}
-use Rattle.fg_desk.proofs.Options.{same_options, value_of, inserted, beside_inserted}
+use Rattle.fg_desk.specs.LinesInside.{live_in, serials_in, state_of, Stands, IsWithin, IsTaken, AreSound}
+use Rattle.fg_desk.proofs.Options.{same_options, inserted, beside_inserted}
 use Rattle.fg_desk.proofs.Places.{free_place}
 use Rattle.fg_desk.proofs.LinesLists.{lines_from}
-use Rattle.fg_desk.proofs.LinesViews.{serial_of, place_of, live_standing, count_live, standing_of, settled_here, live_under, swapped}
+use Rattle.fg_desk.proofs.LinesViews.{serial_of, place_of, live_standing, count_live, standing_of, live_under}
 use Rattle.fg_desk.proofs.LinesMoves.{is_or_was, held_after, one_more_each}
 use Rattle.fg_desk.proofs.LinesCalls.{free_place_of}
 

@@ -1,5 +1,5 @@
 -- What two slabs of lines are seen as: the live equations by serial number.
-use Rattle.std.proofs.Common.{◌≡◌, ◌≢◌, ◌⊎◌, ◌+◌, ◌<◌, ◌++◌, ◌||◌, ℕ, zero, suc, Bool, true, false, List, [], ◌∷◌, map, length, get_or, count_by, Option, Some, None, is_some, cond, inl, inr, refl, sym, ap, subst, ◌∙◌, ⊎_elim, eq-eqb, ne_eqb, arith}
+use Rattle.std.proofs.Common.{◌≡◌, ◌≢◌, ◌⊎◌, ◌+◌, ◌++◌, ◌||◌, ℕ, zero, suc, Bool, true, false, List, [], ◌∷◌, map, length, get_or, count_by, Option, Some, None, is_some, inl, inr, refl, sym, ap, subst, ◌∙◌, ⊎_elim, eq-eqb, ne_eqb, arith}
 use Rattle.std.proofs.lemmas.Bool.{cases_eq, cond-false}
 use Rattle.std.proofs.lemmas.List.{length-map}
 use Rattle.std.proofs.lemmas.List.Elements.{Contains-append_cases}
@@ -147,7 +147,7 @@ listed_slot first (Some x ∷ rest) (suc i) line is =
 pub apart_slots :
     (first : ℕ) (slots : List (Option Line))
     → ((i j : ℕ) (one other : Line) → get_or slots i None ≡ Some one → get_or slots j None ≡ Some other
-      → one.serial ≡ other.serial → i ≡ j)
+    → one.serial ≡ other.serial → i ≡ j)
     → AreApart (lines_from first slots)
 apart_slots first [] each = tt
 apart_slots first (None ∷ rest) each =

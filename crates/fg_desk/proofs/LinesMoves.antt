@@ -1,12 +1,12 @@
 -- Lines that are put in, moved and dropped.
-use Rattle.std.proofs.Common.{◌≡◌, ◌≢◌, ◌⊎◌, ◌+◌, ◌<◌, ◌≤◌, ◌↔◌, ℕ, Bool, true, false, List, length, get_or, set, Option, Some, None, inl, inr, refl, sym, ap, subst, ◌∙◌, ⊎_elim, arith}
+use Rattle.std.proofs.Common.{◌≡◌, ◌≢◌, ◌⊎◌, ◌+◌, ◌<◌, ◌≤◌, ℕ, Bool, true, false, List, length, set, Option, Some, None, inl, inr, refl, sym, ap, subst, ◌∙◌, ⊎_elim, arith}
 use Rattle.std.proofs.lemmas.Bool.{cases_eq, cases_lt}
 use Rattle.std.proofs.lemmas.List.{get_or_past, get_or-set_same, get_or-set_other, length-set}
 use Rattle.std.proofs.lemmas.Option.{none-some}
 use Rattle.slab.specs.Slab.{Slab, get, slab_len, Updates}
 use Rattle.fg_peel.specs.declared.Line.{Line}
-use Rattle.fg_desk.specs.LinesInside.{Holds, Stands, IsOneEach, AreWithin, IsTaken, Moves, Drops}
-use Rattle.fg_desk.proofs.LinesViews.{one_value, same_held, swapped}
+use Rattle.fg_desk.specs.LinesInside.{Holds, Stands, IsOneEach, IsTaken, Moves, Drops}
+use Rattle.fg_desk.proofs.LinesViews.{one_value, swapped}
 
 -- a line under another key stays, and what is found after a change was there or is new
 pub held_still :
@@ -75,11 +75,11 @@ moved_each number first second first' second' key key' line at out into each =
     } in
     let fresh : (other : Line) → Stands second first' other → number other ≢ number line =
     λ other stands same. ⊎_elim
-        (λ b. each.apart key b.0 line other at b.1 (sym same))
-        (λ a.
-        let was = was_held first first' key out a.0 other a.1 in
-        was.0 (each.in_first a.0 key other line was.1 at same))
-        stands in
+    (λ b. each.apart key b.0 line other at b.1 (sym same))
+    (λ a.
+    let was = was_held first first' key out a.0 other a.1 in
+    was.0 (each.in_first a.0 key other line was.1 at same))
+    stands in
     swapped number second' first' (one_more_each number second first' second' key' line into fresh (swapped number first' second without))
 
 -- A pass that moves lines has come to a key.
@@ -278,12 +278,12 @@ module _ (Stays : Line → Type 0) (key : ℕ) (old new : Slab Line) (places pla
   drops_all past =
       let stay : (k : ℕ) (line : Line) → get new k ≡ Some line → (get old k ≡ Some line) × Stays line =
       λ k line is.
-          let was = below.left k line is in
-          let within : k < key = ⊎_elim
-          (λ less. less)
-          (λ above. absurd (none-some line (sym (get_or_past old.slots k None (omega (arith, above))) ∙ was.0)))
-          (cases_lt k key) in
-          (was.0, was.1 within) in
+      let was = below.left k line is in
+      let within : k < key = ⊎_elim
+      (λ less. less)
+      (λ above. absurd (none-some line (sym (get_or_past old.slots k None (omega (arith, above))) ∙ was.0)))
+      (cases_lt k key) in
+      (was.0, was.1 within) in
       record {
         left = λ k line. (λ is. stay k line is, λ h. below.stays k line h.0 h.1);
         freed = λ place. (

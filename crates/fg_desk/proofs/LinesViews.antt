@@ -1,21 +1,19 @@
 -- A line stands in one of the two slabs exactly where it is live under its serial number, and in the second exactly where
 -- its number is one of the settled.
-use Rattle.std.proofs.Common.{◌≡◌, ◌≢◌, ◌⊎◌, ◌+◌, ◌<◌, ◌≤◌, ◌++◌, ◌↔◌, ℕ, Bool, true, false, List, length, Option, Some, None, IsSome, IsTrue, is_some, inl, inr, refl, sym, ap, subst, ◌∙◌, ⊎_elim, arith}
+use Rattle.std.proofs.Common.{◌≡◌, ◌+◌, ◌++◌, ℕ, Bool, true, false, List, length, Option, Some, inl, inr, refl, sym, ap, subst, ◌∙◌, ⊎_elim}
 use Rattle.std.proofs.lemmas.List.{length-append}
 use Rattle.std.proofs.lemmas.List.Elements.{Contains-append_left, Contains-append_right, Contains-append_cases}
-use Rattle.std.proofs.lemmas.Option.{none-some}
 use Rattle.std.specs.List.{Contains}
 use Rattle.std.specs.Cmp.{nat_cmp_total}
-use Rattle.std.specs.Ordering.{nat_cmp}
 use Rattle.std.specs.FinMap as map
 use Rattle.std.specs.FinSet as set
 use Rattle.slab.specs.Slab.{Slab, get, slab_len}
 use Rattle.fg_peel.specs.declared.Line.{Line}
 use Rattle.fg_peel.specs.Slots.{lines_of}
 use Rattle.fg_desk.specs.State.{Live}
-use Rattle.fg_desk.specs.Lines.{LinesState, IsLiveLine, AreOpen, live_of}
-use Rattle.fg_desk.specs.LinesInside.{live_in, serials_in, state_of, Holds, Stands, IsOneEach}
-use Rattle.fg_desk.proofs.Options.{same_options, has_value, value_of}
+use Rattle.fg_desk.specs.Lines.{IsLiveLine, live_of}
+use Rattle.fg_desk.specs.LinesInside.{state_of, Holds, Stands, IsOneEach}
+use Rattle.fg_desk.proofs.Options.{same_options}
 use Rattle.fg_desk.proofs.LinesLists.{AreApart, AreApart-joined, line_of, live_here, len-live_in, line_of_serial, serial_here, slot_of, listed_slot, apart_slots, length-lines_from}
 
 abbrev pub serial_of : Line → ℕ
@@ -38,7 +36,7 @@ one_value o one other is is' = let e : Some one ≡ Some other = sym is ∙ is' 
 pub same_held :
     (lines : Slab Line) (number : Line → ℕ)
     → ((key key' : ℕ) (one other : Line) → get lines key ≡ Some one → get lines key' ≡ Some other
-      → number one ≡ number other → key ≡ key')
+    → number one ≡ number other → key ≡ key')
     → (one other : Line) → Holds lines one → Holds lines other → number one ≡ number other → one ≡ other
 same_held lines number each one other a b same =
     let key : a.0 ≡ b.0 = each a.0 b.0 one other a.1 b.1 same in

@@ -38,7 +38,7 @@ AreOpen lines open_lines =
     (line : Line) → Contains (lines_of open_lines) line
     ↔ (IsLiveLine lines line × (set.contains lines.settled line.serial ≡ false))
 
--- A live line of this base and shape, or of this place.
+-- A line of this base and shape.
 abbrev pub HasSlots : ℕ → ℕ → ℕ → Line → Type 0
 HasSlots base offset count line = (line.base ≡ base) × (line.shape.offset ≡ offset) × (line.shape.na ≡ count)
 

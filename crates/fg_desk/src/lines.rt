@@ -22,7 +22,7 @@ use std::alloc::{AllocError, Global};
 use std::marker::Model;
 
 /// How many equations may be live.
-const LIVE_LIMIT: usize = 512;
+pub(crate) const LIVE_LIMIT: usize = 512;
 
 /// The live equations in two groups. A settled one is complete and known to come out, so peeling
 /// needn't look at it again; the others are open.

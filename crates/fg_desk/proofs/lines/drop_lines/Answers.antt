@@ -1,5 +1,5 @@
 use Rattle.std.proofs.Common.{◌≡◌, ◌≤◌, ◌<◌, ◌+◌, ℕ, Bool, List, false, length, set, subst, sym, ap, ◌∙◌, arith}
-use Rattle.slab.specs.Slab.{Slab, get}
+use Rattle.slab.specs.Slab.{Slab}
 use Rattle.fg_peel.specs.declared.Line.{Line}
 use Rattle.fg_peel.specs.Slots.{equation_of}
 use Rattle.fg_desk.specs.Play.{Survives}
@@ -30,7 +30,7 @@ loop-key-preserved c =
           let same = c.loop-key.auto.places in
           omega (arith, p, n, same)) in
           let next = drops_one Stays key old c.loop-key.lines places c.loop-key.places c.loop-key.invariant w.remove.new.self found.0
-              found.1 found.3 within w.remove.ensures.updates w.remove.ensures.len w.remove.ensures.capacity in
+          found.1 found.3 within w.remove.ensures.updates w.remove.ensures.len w.remove.ensures.capacity in
           let set_at : set c.loop-key.places found.0.place false ≡ c.match-retired_place.places =
           ap (λ (p : ℕ). set c.loop-key.places p false) found.2 ∙ sym w.places-is in
           subst (λ (s : Slab Line). Q s c.match-retired_place.places) (sym w.lines-is)

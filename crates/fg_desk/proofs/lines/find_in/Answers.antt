@@ -1,14 +1,17 @@
-use Rattle.std.proofs.Common.{◌≡◌, ◌⊎◌, ℕ, ◌∙◌}
+use Rattle.std.proofs.Common.{ℕ, ◌∙◌}
 use Rattle.fg_desk.specs.Lines.{HasSlots}
 use Rattle.fg_peel.specs.declared.Line.{Line}
-use Rattle.fg_desk.proofs.LinesSearch.{search_begins, search_first, search_goes_on, search_ends}
+use Rattle.fg_desk.proofs.LinesSearch.{search_begins, search_goes_on, search_ends}
 use Rattle.fg_desk.proofs.lines.find_in.Goals as goal
 use Rattle.fg_desk.proofs.lines.find_in.Goals.{else-line-base-via-then-line-base+then-line-shape+else-line-shape-2, else-line-base-via-then-line-base+else-line-shape, else-line-base-via-else-line-base}
 
 pub loop-line-init : goal.loop-line-init
-loop-line-init c =
-    (tt, tt, search_begins (HasSlots c.args.base c.args.shape.offset c.args.shape.na) c.args.lines.now c.into_iter-line-iterator.result
-    (c.into_iter-line-iterator.ensures.into_iter_gives ∙ c.iter-line-items.ensures.rest))
+loop-line-init c = (
+  tt,
+  tt,
+  search_begins (HasSlots c.args.base c.args.shape.offset c.args.shape.na) c.args.lines.now c.into_iter-line-iterator.result
+      (c.into_iter-line-iterator.ensures.into_iter_gives ∙ c.iter-line-items.ensures.rest),
+)
 
 pub loop-line-preserved : goal.loop-line-preserved
 loop-line-preserved c =
@@ -18,8 +21,7 @@ loop-line-preserved c =
       | else-line-base-via-then-line-base+else-line-shape w ↦ w.if-line-shape.false same.1
       | else-line-base-via-else-line-base w ↦ w.if-line-base.false same.0
     ] in
-    let entry : ℕ × Line = (c.in-Some.field-0-0, c.in-Some.line.now) in
-    (
+    let entry : ℕ × Line = (c.in-Some.field-0-0, c.in-Some.line.now) in (
       tt,
       tt,
       search_goes_on (HasSlots c.args.base c.args.shape.offset c.args.shape.na) c.args.lines.now c.loop-line.line-iterator entry c.next.new.self c.in-Some.ensures.steps unlike

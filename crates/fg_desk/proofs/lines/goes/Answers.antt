@@ -1,7 +1,6 @@
-use Rattle.std.proofs.Common.{ℕ, ◌∙◌, sym, subst, not}
+use Rattle.std.proofs.Common.{sym, subst, not}
 use Rattle.fg_peel.specs.Slots.{equation_of}
 use Rattle.fg_peel.specs.Equation.{IsComplete}
-use Rattle.fg_peel.specs.declared.Line.{Line}
 use Rattle.slab.specs.Slab.{get}
 use Rattle.fg_desk.specs.Row.{row_words}
 use Rattle.fg_desk.specs.LinesInside.{IsCompleteAs}

@@ -26,8 +26,7 @@ pub returns : goal.returns
 returns c =
     let line = c.args.line.now in
     let row = c.args.row.now in
-    let xs = slots_of line.base line.shape.offset line.shape.na in
-    (
+    let xs = slots_of line.base line.shape.offset line.shape.na in (
       λ _ slot member below.
           (let same : get_or xs member.0 0 ≡ slot = get_or_default xs member.0 0 slot member.1 ∙ member.2 in
           let less : member.0 < c.loop-j.j =

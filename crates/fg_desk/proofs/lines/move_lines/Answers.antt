@@ -1,4 +1,4 @@
-use Rattle.std.proofs.Common.{◌≡◌, ◌≤◌, ◌+◌, length, not, subst, sym, ap, ◌∙◌, arith}
+use Rattle.std.proofs.Common.{◌≤◌, ◌+◌, length, not, subst, sym, arith}
 use Rattle.slab.specs.Slab.{Slab, get}
 use Rattle.fg_peel.specs.declared.Line.{Line}
 use Rattle.fg_desk.specs.Row.{row_words}
@@ -25,15 +25,15 @@ loop-key-preserved c =
           let same = one_value (get c.loop-key.source c.loop-key.key) found.0 w.remove-line.result found.1 w.remove-line.ensures.value in
           let goes = subst IsGone same found.2 in
           let next = moves_one IsLeft IsGone c.loop-key.key source target c.loop-key.source c.loop-key.target c.loop-key.invariant
-              w.remove-line.new.self w.insert_reserved.new.self w.insert_reserved.result w.remove-line.result
-              w.remove-line.ensures.value goes w.remove-line.ensures.updates w.remove-line.ensures.len
-              w.remove-line.ensures.capacity w.insert_reserved.ensures.was_vacant w.insert_reserved.ensures.updates
-              w.insert_reserved.ensures.len w.insert_reserved.ensures.capacity in
+          w.remove-line.new.self w.insert_reserved.new.self w.insert_reserved.result w.remove-line.result
+          w.remove-line.ensures.value goes w.remove-line.ensures.updates w.remove-line.ensures.len
+          w.remove-line.ensures.capacity w.insert_reserved.ensures.was_vacant w.insert_reserved.ensures.updates
+          w.insert_reserved.ensures.len w.insert_reserved.ensures.capacity in
           subst (λ (s : Slab Line). Q s c.if-goes.target) (sym w.source-is)
           (subst (λ (t : Slab Line). Q w.remove-line.new.self t) (sym w.target-is) next))
       | else-goes w ↦
           (let next = moves_passed IsLeft IsGone c.loop-key.key source target c.loop-key.source c.loop-key.target c.loop-key.invariant
-              (c.goes.ensures.stays w.if-goes.false) in
+          (c.goes.ensures.stays w.if-goes.false) in
           subst (λ (s : Slab Line). Q s c.if-goes.target) (sym w.source-is)
           (subst (λ (t : Slab Line). Q c.loop-key.source t) (sym w.target-is) next))
     ]

@@ -3,7 +3,7 @@ use Rattle.fg_desk.specs.Lines.{LinesState, IsLiveLine, IsFreePlace}
 use Rattle.fg_peel.specs.declared.Line.{Line}
 use Rattle.slab.specs.Slab.{Slab}
 use Rattle.fg_desk.specs.LinesInside.{Holds}
-use Rattle.fg_desk.proofs.LinesCalls.{found_first, found_second, found_none, free_place_of}
+use Rattle.fg_desk.proofs.LinesCalls.{found_first, found_second, free_place_of}
 use Rattle.fg_desk.proofs.lines.Lines.at.Goals as goal
 
 pub returns-in-Some-clause-some : goal.returns-in-Some-clause-some

@@ -1,6 +1,5 @@
-use Rattle.std.proofs.Common.{◌≡◌, ◌≤◌, ℕ, List, Bool, length, get_or, false, ap, sym, ◌∙◌, subst, vec_len, arith}
+use Rattle.std.proofs.Common.{◌≡◌, ◌≤◌, List, Bool, length, ap, sym, ◌∙◌, subst, vec_len, arith}
 use Rattle.std.proofs.lemmas.List.{with_items_is}
-use Rattle.std.specs.Vec.{with_items}
 use Rattle.fg_desk.specs.LinesInside.{AreSound}
 use Rattle.fg_desk.proofs.LinesInserts.{none_is, none_sound}
 use Rattle.fg_desk.proofs.lines.Lines.clear.Goals as goal

@@ -1,4 +1,4 @@
-use Rattle.std.proofs.Common.{◌≡◌, ◌+◌, ap, subst, sym, ◌∙◌, arith}
+use Rattle.std.proofs.Common.{ap, subst, arith}
 use Rattle.std.specs.FinMap.{len}
 use Rattle.fg_desk.specs.Lines.{LinesState, AreLines}
 use Rattle.fg_desk.proofs.LinesCalls.{are_lines}

@@ -1,4 +1,4 @@
-use Rattle.std.proofs.Common.{◌≡◌, Option, Some, None, Bor, IfSome, IfNone, subst}
+use Rattle.std.proofs.Common.{Option, Some, None, Bor, IfSome, IfNone, subst}
 use Rattle.fg_desk.specs.Lines.{LinesState, IsLiveLine, HasSlots}
 use Rattle.fg_peel.specs.declared.Line.{Line}
 use Rattle.slab.specs.Slab.{Slab}

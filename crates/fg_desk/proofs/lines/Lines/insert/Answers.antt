@@ -1,4 +1,4 @@
-use Rattle.std.proofs.Common.{◌≡◌, ◌<◌, ◌+◌, ◌≤◌, ℕ, List, Bool, Option, None, false, get_or, ap, sym, ◌∙◌, subst, arith}
+use Rattle.std.proofs.Common.{◌≡◌, ◌<◌, ℕ, List, Bool, None, false, get_or, ap, sym, ◌∙◌, subst, arith}
 use Rattle.std.specs.FinMap.{get, len, insert}
 use Rattle.fg_peel.specs.declared.Line.{Line}
 use Rattle.fg_desk.specs.Lines.{LinesState, IsLeastFreePlace}
@@ -72,8 +72,7 @@ returns c =
     let is =
     insert_is c.self.inside.open c.self.inside.settled c.self.inside.places.items c.self.invariant
     c.insert_reserved.new.self c.insert_reserved.result (line_of d) e.was_vacant e.updates e.len e.capacity (is_within d) (fresh d)
-    (free d) (fewer d) in
-    (
+    (free d) (fewer d) in (
       c.first_free-place.result,
       subst (λ (s : LinesState). IsLeastFreePlace s c.first_free-place.result) c.self.view_is least,
       is

@@ -1,10 +1,9 @@
-use Rattle.std.proofs.Common.{◌≡◌, ◌==◌, ◌↔◌, ℕ, IsSome, IsTrue, true, subst, sym, ap, ◌∙◌}
+use Rattle.std.proofs.Common.{◌↔◌, ℕ, IsSome, IsTrue, subst, sym, ◌∙◌}
 use Rattle.std.proofs.lemmas.Bool.Decides.{Decides-eqb}
 use Rattle.std.specs.FinMap.{get}
 use Rattle.std.specs.FinSet as set
 use Rattle.slab.specs.Slab.{slab_len}
 use Rattle.fg_desk.specs.Lines.{LinesState}
-use Rattle.fg_desk.specs.LinesInside.{state_of}
 use Rattle.fg_desk.proofs.LinesCalls.{all_settled, none_is_open, open_counts, counts_none}
 use Rattle.fg_desk.proofs.lines.Lines.none_open.Goals as goal
 
@@ -15,7 +14,7 @@ returns c =
     let places = c.self.inside.places.items in
     let sound = c.self.invariant in
     let P : LinesState → Type 0 = λ s. IsTrue c.is_empty.result
-        ↔ ((serial : ℕ) → IsSome (get s.live serial) → IsTrue (set.contains s.settled serial)) in
+    ↔ ((serial : ℕ) → IsSome (get s.live serial) → IsTrue (set.contains s.settled serial)) in
     subst P c.self.view_is (
       λ is.
           all_settled first second places sound

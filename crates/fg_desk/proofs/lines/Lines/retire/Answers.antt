@@ -1,4 +1,4 @@
-use Rattle.std.proofs.Common.{◌≡◌, ℕ, List, Bool, length, ap, sym, ◌∙◌, subst, vec_len, arith}
+use Rattle.std.proofs.Common.{◌≡◌, List, Bool, length, sym, ◌∙◌, subst, vec_len, arith}
 use Rattle.std.proofs.lemmas.List.{with_items_is}
 use Rattle.std.specs.Vec.{with_items}
 use Rattle.fg_peel.specs.Slots.{equation_of}
@@ -22,7 +22,7 @@ module _ (c : After-drop_lines-2) where
   one =
       subst
       (λ (ps : List Bool). Drops (λ line. Survives c.args.row.now.mark c.args.row.now.kept (equation_of line))
-          c.self.inside.open c.drop_lines.new.lines ps c.drop_lines.new.places)
+      c.self.inside.open c.drop_lines.new.lines ps c.drop_lines.new.places)
       c.deref_mut.ensures.value c.drop_lines.ensures
 
   full : length c.drop_lines.new.places ≡ vec_len c.self.inside.places
@@ -37,7 +37,7 @@ module _ (c : After-drop_lines-2) where
   two =
       subst
       (λ (ps : List Bool). Drops (λ line. Survives c.args.row.now.mark c.args.row.now.kept (equation_of line))
-          c.self.inside.settled c.drop_lines-2.new.lines ps c.drop_lines-2.new.places)
+      c.self.inside.settled c.drop_lines-2.new.lines ps c.drop_lines-2.new.places)
       between c.drop_lines-2.ensures
 
   full' : length c.drop_lines-2.new.places ≡ vec_len (with_items c.self.inside.places c.drop_lines.new.places)
@@ -58,7 +58,7 @@ returns c =
     let new = c.drop_lines-2.new.places in
     subst
     (λ (s : LinesState). Retires c.args.row.now.mark c.args.row.now.kept s
-        (state_of c.drop_lines.new.lines c.drop_lines-2.new.lines))
+    (state_of c.drop_lines.new.lines c.drop_lines-2.new.lines))
     c.self.view_is
     (retires c.self.inside.open c.self.inside.settled c.self.inside.places.items c.self.invariant c.args.row.now.mark
     c.args.row.now.kept c.drop_lines.new.lines c.drop_lines-2.new.lines c.drop_lines.new.places new (one d) (two d))
