@@ -1,5 +1,5 @@
 -- What a row of entries is seen as.
-use Rattle.std.proofs.Common.{◌≡◌, ◌+◌, ◌-◌, ◌<◌, ◌≤◌, ℕ, Bool, true, false, IsSome, List, length, get_or, Option, None, nat_lt, if◌then◌else◌, cond, refl, sym, ap, ◌∙◌, ⊎_elim, subst, arith}
+use Rattle.std.proofs.Common.{◌≡◌, ◌+◌, ◌-◌, ◌<◌, ◌≤◌, ℕ, Bool, true, false, IsSome, List, length, get_or, Option, Some, None, nat_cmp, nat_lt, if◌then◌else◌, cond, refl, sym, ap, ◌∙◌, ⊎_elim, subst, arith}
 use Rattle.std.proofs.lemmas.Bool.{cases_lt}
 use Rattle.std.proofs.lemmas.List.{get_or_past}
 use Rattle.std.specs.Cmp.{nat_cmp_total}
@@ -9,6 +9,7 @@ use Rattle.fg_words.specs.declared.Word.{Word}
 use Rattle.fg_peel.specs.declared.Slot.{Slot}
 use Rattle.fg_peel.specs.declared.Slot.TheVariants.{Empty, Media, Solved, Filled}
 use Rattle.fg_peel.specs.Slots.{word_in}
+use Rattle.fg_desk.specs.State.{Words}
 use Rattle.fg_desk.specs.Row.{RowState, either, row_words, row_known, row_shared, IsRow}
 use Rattle.fg_desk.specs.RowEntries.{entry_at, received_in, found_in, is_alone, kept_at, received_at, found_at, bare_at, row_of, AreEntries}
 use Rattle.fg_desk.proofs.RowMaps.{if-less, if-not_less, get-words_below, contains-positions_below}
@@ -236,3 +237,24 @@ row_shared-ahead row is q from = go (set.contains row.bare q) refl
 
 pub row_words-before : (row : RowState) (q : ℕ) → q < row.mark → row_words row q ≡ row_known row q
 row_words-before row q before = if-less q row.mark _ _ before ∙ sym (if-less q row.mark _ _ before)
+
+-- the words of a row as a play states them: kept before the mark, and else the row's
+pub row_words-play :
+    (row : RowState) (q : ℕ) → row_words row q ≡ (if nat_lt q row.mark then map.get row.kept q else row_words row q)
+row_words-play row q =
+    ⊎_elim
+    (λ before. if-less q row.mark _ _ before ∙ sym (if-less q row.mark _ (row_words row q) before))
+    (λ from. sym (if-not_less q row.mark (map.get row.kept q) _ from))
+    (cases_lt q row.mark)
+
+-- where no word was found ahead, they are those received
+either-none : (word : Option Word) → either word None ≡ word
+either-none None = refl
+either-none (Some word) = refl
+
+pub row_words-received :
+    (row : RowState) (q : ℕ) → row.cached ≡ map.empty → row.mark ≤ q → row_words row q ≡ map.get row.media q
+row_words-received row q none from =
+    if-not_less q row.mark _ _ from
+    ∙ ap (λ (m : Words). either (map.get row.media q) (map.get m q)) none
+    ∙ ap (either (map.get row.media q)) (map.get-empty nat_cmp q) ∙ either-none (map.get row.media q)
