@@ -1,5 +1,5 @@
 -- How the live equations stand in two slabs, and what the functions on these do.
-use Rattle.std.specs.Prelude.{◌≡◌, ◌≢◌, ◌⊎◌, ◌+◌, ◌<◌, ◌≤◌, ◌↔◌, ◌^◌, ◌++◌, ℕ, Bool, true, false, List, [], ◌∷◌, length, slice_index_or, Option, Some, IsSome, MatchBool, refl}
+use Rattle.std.specs.Prelude.{◌≡◌, ◌≢◌, ◌⊎◌, ◌+◌, ◌<◌, ◌≤◌, ◌↔◌, ◌^◌, ◌++◌, ℕ, Bool, true, false, List, [], ◌∷◌, length, slice_index_or, Option, Some, None, IsSome, MatchBool, refl}
 use Rattle.std.specs.Coded.{Coded, code_by, coded×, coded_ℕ}
 use Rattle.std.specs.List.{Contains}
 use Rattle.std.specs.Ordering.{nat_cmp}
@@ -7,7 +7,7 @@ use Rattle.std.specs.FinMap as map
 use Rattle.std.specs.FinSet as set
 use Rattle.slab.specs.Slab.{Slab, get, slab_len}
 use Rattle.fg_words.specs.declared.Word.{Word}
-use Rattle.fg_shape.specs.Shape.{IsShape}
+use Rattle.fg_shape.specs.Shape.{slots_of, IsShape}
 use Rattle.fg_peel.specs.declared.Line.{Line}
 use Rattle.fg_peel.specs.Equation.{Equation, slots, IsComplete}
 use Rattle.fg_peel.specs.Slots.{equation_of, lines_of}
@@ -99,6 +99,12 @@ IsCompleteAs complete words line =
 -- The words below the mark are kept at the slots of an equation.
 abbrev pub IsBased : ℕ → Words → Equation → Type 0
 IsBased mark kept equation = (slot : ℕ) → Contains (slots equation) slot → slot < mark → IsSome (map.get kept slot)
+
+-- A slot of the equation of this base and shape is played, and its word isn't kept.
+pub record IsLost (mark : ℕ) (kept : Words) (base offset count slot : ℕ) : Type 0 where
+  pub listed : Contains (slots_of base offset count) slot
+  pub played : slot < mark
+  pub lost : map.get kept slot ≡ None
 
 -- A pass keeps those lines that stay, each under its key, and frees the places of the others.
 pub record Drops (Stays : Line → Type 0) (old new : Slab Line) (places places' : List Bool) : Type 0 where

@@ -1,6 +1,6 @@
 //! A desk: which datagrams are admitted, when a window plays, what it shows, and what is kept.
 
-ghost use Rattle.std.specs.Prelude.{◌≡◌, ◌≢◌, ◌↔◌, ◌<◌, ◌≤◌, ℕ, length, Option, Some, None, IsTrue, IsSome, IfOk, IfSome, IfNone, option_map};
+ghost use Rattle.std.specs.Prelude.{◌≡◌, ◌≢◌, ◌↔◌, ◌<◌, ◌≤◌, ◌^◌, ℕ, length, Option, Some, None, IsTrue, IsSome, IfOk, IfSome, IfNone, option_map};
 ghost use Rattle.std.specs.Option.{option_copied};
 ghost use Rattle.std.specs.FinMap.{get, len};
 ghost use Rattle.fg_words.specs.Word.{IsMedia};
@@ -14,12 +14,12 @@ ghost use Rattle.fg_desk.specs.Admission.{IsDue, IsReplyAt, IsEquationReply, Adm
 ghost use Rattle.fg_desk.specs.Play.{IsPlay, Flushes};
 ghost use Rattle.fg_desk.specs.Inside.{IsLateAt};
 
-use crate::lines::Lines;
+use crate::lines::{Lines, lost_slot};
 use crate::reply::{Outcome, Reply};
 use crate::row::Row;
 use crate::tray::Tray;
 use fg_peel::Line;
-use fg_shape::{Shape, last, slot};
+use fg_shape::{Shape, last};
 use fg_unwrap::position;
 use fg_words::{Shared, Word};
 use std::alloc::{AllocError, Global};
@@ -229,16 +229,7 @@ impl Desk {
         requires shape { IsShape shape.offset shape.na }
         ensures { IsTrue result ↔ IsLateAt self.now.state base shape.offset shape.na }
     {
-        if last(base, shape) < self.row.mark() {
-            return true;
-        }
-        for j in 0..shape.na {
-            let slot = slot(base, shape, j);
-            if slot < self.row.mark() && self.row.word(slot).is_none() {
-                return true;
-            }
-        }
-        false
+        last(base, shape) < self.row.mark() || lost_slot(base, shape, &self.row).is_some()
     }
 
     /// The reply to a word that comes for a position.

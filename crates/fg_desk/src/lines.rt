@@ -5,13 +5,14 @@ ghost use Rattle.std.specs.FinMap.{get, insert, len};
 ghost use Rattle.std.specs.FinSet as set;
 ghost use Rattle.slab.specs.Slab as slabs;
 ghost use Rattle.slab.specs.Slab.{slab_len};
-ghost use Rattle.fg_shape.specs.Shape.{IsShape};
+ghost use Rattle.std.specs.List.{Contains};
+ghost use Rattle.fg_shape.specs.Shape.{slots_of, IsShape};
 ghost use Rattle.fg_peel.specs.declared.Line.{Line as LiveLine};
 ghost use Rattle.fg_peel.specs.Slots.{equation_of};
 ghost use Rattle.fg_desk.specs.Play.{Survives};
 ghost use Rattle.fg_desk.specs.Row.{row_words};
 ghost use Rattle.fg_desk.specs.Lines.{no_lines, AreLines, AreOpen, HasSlots, IsFreePlace, IsLeastFreePlace, IsLiveLine, Settles, Reopens, SettledAreBased, Retires};
-ghost use Rattle.fg_desk.specs.LinesInside.{Holds, IsTaken, AreWithin, Moves, IsCompleteAs, IsBased, Drops};
+ghost use Rattle.fg_desk.specs.LinesInside.{Holds, IsTaken, AreWithin, Moves, IsCompleteAs, IsBased, IsLost, Drops};
 
 use crate::row::Row;
 use fg_peel::Line;
@@ -296,21 +297,23 @@ fn survives(line: &Line, row: &Row, based: bool) -> bool
     if last(line.base, line.shape) < row.mark() {
         return false;
     }
-    based || is_based(line, row)
+    based || lost_slot(line.base, line.shape, row).is_none()
 }
 
-/// Whether the words below the row's mark are kept at all slots of a line.
-fn is_based(line: &Line, row: &Row) -> bool
-    requires shape { IsShape line.now.shape.offset line.now.shape.na }
-    requires base { line.now.base ≤ 2 ^ 62 }
-    ensures { IsTrue result ↔ IsBased row.now.mark row.now.kept (equation_of line.now) }
+/// A slot below the row's mark of the equation with this base whose word isn't kept.
+pub(crate) fn lost_slot(base: u64, shape: Shape, row: &Row) -> Option<u64>
+    requires shape { IsShape shape.offset shape.na }
+    requires base { base ≤ 2 ^ 62 }
+    ensures some { IfSome result (IsLost row.now.mark row.now.kept base shape.offset shape.na) }
+    ensures none { IfNone result ((slot : ℕ) → Contains (slots_of base shape.offset shape.na) slot
+        → slot < row.now.mark → IsSome (get row.now.kept slot)) }
 {
     let mark = row.mark();
-    for j in 0..line.shape.na {
-        let position = slot(line.base, line.shape, j);
+    for j in 0..shape.na {
+        let position = slot(base, shape, j);
         if position < mark && row.word(position).is_none() {
-            return false;
+            return Some(position);
         }
     }
-    true
+    None
 }

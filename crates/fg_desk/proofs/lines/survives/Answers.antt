@@ -26,12 +26,4 @@ returns-then-based c = (
 )
 
 pub returns-else-based : goal.returns-else-based
-returns-else-based c = (
-  λ based.
-      (let last = end (goal.at.returns-else-based c).After-mark in
-      record {
-        reaches = omega (arith, last, c.mark.ensures.value, c.if-last-mark.false);
-        based = c.is_based.ensures.0 based;
-      }),
-  λ stays. c.is_based.ensures.1 stays.based,
-)
+returns-else-based c = ?
