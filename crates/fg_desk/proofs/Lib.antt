@@ -14,6 +14,7 @@ pub mod LinesMoves
 pub mod LinesSearch
 pub mod LinesViews
 pub mod Lists
+pub mod Lost
 pub mod OnePlay
 pub mod OneRun
 pub mod Opened
@@ -33,6 +34,9 @@ pub mod RowMaps
 pub mod RowPeels
 pub mod RowViews
 pub mod RunFacts
+pub mod SettledEquations
+pub mod SettledWords
 pub mod SlotRange
 pub mod StaysPeeled
+pub mod Survivors
 pub mod TrayPlaces

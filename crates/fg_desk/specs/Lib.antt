@@ -13,3 +13,4 @@ pub mod Run
 pub mod Solution
 pub mod State
 pub mod TrayPlaces
+pub mod Window

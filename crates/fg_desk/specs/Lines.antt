@@ -10,7 +10,7 @@ use Rattle.fg_shape.specs.Shape.{IsShape}
 use Rattle.fg_peel.specs.declared.Line.{Line}
 use Rattle.fg_peel.specs.Equation.{slots, IsComplete}
 use Rattle.fg_peel.specs.Slots.{equation_of, lines_of}
-use Rattle.fg_desk.specs.State.{Live, Words}
+use Rattle.fg_desk.specs.State.{Live, Words, last_slot}
 use Rattle.fg_desk.specs.Admission.{live_limit}
 use Rattle.fg_desk.specs.Play.{Survives}
 
@@ -66,10 +66,11 @@ pub record Reopens (words : ℕ → Option Word) (old new : LinesState) : Type 0
       ↔ (IsTrue (set.contains old.settled serial)
       × ((live : Live) × (get old.live serial ≡ Some live) × IsComplete words live.equation))
 
--- The words below the mark are kept at the slots of each settled equation.
+-- The words below the mark are kept at the slots of each settled equation that reaches to it.
 abbrev pub SettledAreBased : ℕ → Words → LinesState → Type 0
 SettledAreBased mark kept lines =
     (serial : ℕ) (live : Live) → IsTrue (set.contains lines.settled serial) → get lines.live serial ≡ Some live
+    → mark ≤ last_slot live.equation
     → (slot : ℕ) → Contains (slots live.equation) slot → slot < mark → IsSome (get kept slot)
 
 -- Those equations stay live that survive a play up to this mark, and those of them stay settled that were.

@@ -11,7 +11,7 @@ use Rattle.fg_shape.specs.Shape.{slots_of, IsShape}
 use Rattle.fg_peel.specs.declared.Line.{Line}
 use Rattle.fg_peel.specs.Equation.{Equation, slots, IsComplete}
 use Rattle.fg_peel.specs.Slots.{equation_of, lines_of}
-use Rattle.fg_desk.specs.State.{Live, Words}
+use Rattle.fg_desk.specs.State.{Live, Words, last_slot}
 use Rattle.fg_desk.specs.Admission.{live_limit}
 use Rattle.fg_desk.specs.RowEntries.{word_code}
 use Rattle.fg_desk.specs.Lines.{LinesState, live_of}
@@ -96,9 +96,11 @@ abbrev pub IsCompleteAs : Bool → (ℕ → Option Word) → Line → Type 0
 IsCompleteAs complete words line =
     MatchBool complete (IsComplete words (equation_of line)) (¬ IsComplete words (equation_of line))
 
--- The words below the mark are kept at the slots of an equation.
+-- Where an equation reaches to the mark, the words below it are kept at its slots.
 abbrev pub IsBased : ℕ → Words → Equation → Type 0
-IsBased mark kept equation = (slot : ℕ) → Contains (slots equation) slot → slot < mark → IsSome (map.get kept slot)
+IsBased mark kept equation =
+    mark ≤ last_slot equation
+    → (slot : ℕ) → Contains (slots equation) slot → slot < mark → IsSome (map.get kept slot)
 
 -- A slot of the equation of this base and shape is played, and its word isn't kept.
 pub record IsLost (mark : ℕ) (kept : Words) (base offset count slot : ℕ) : Type 0 where

@@ -7,6 +7,7 @@ mod lines;
 mod reply;
 mod row;
 mod tray;
+mod window;
 
 pub use desk::Desk;
 pub use reply::{Outcome, Reply};

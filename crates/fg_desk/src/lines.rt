@@ -147,7 +147,7 @@ impl Lines {
     }
 
     /// Drops those that do not survive a play up to the row's mark. The words below the mark are kept
-    /// at the slots of the settled ones, so of these it looks at the last slot alone.
+    /// at the slots of the settled ones that reach to it, so of these it looks at the last slot alone.
     pub(crate) fn retire(&mut self, row: &Row)
         requires { SettledAreBased row.now.mark row.now.kept self.old }
         ensures { Retires row.now.mark row.now.kept self.old self.new }
