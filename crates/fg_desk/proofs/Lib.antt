@@ -1,7 +1,11 @@
 pub mod Added
 pub mod AdmissionsAdd
+pub mod Advancing
 pub mod Bounds
 pub mod DeskOpened
+pub mod DeskPlayed
+pub mod DeskPlays
+pub mod DeskRecovers
 pub mod DeskWords
 pub mod Equations
 pub mod Flushing
