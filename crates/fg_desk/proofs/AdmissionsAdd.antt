@@ -18,7 +18,7 @@ use Rattle.fg_desk.proofs.Equations.{serial_of, live_at}
 use Rattle.fg_desk.proofs.Orderly.{known_below, known_ahead}
 use Rattle.fg_desk.proofs.Opened.{position_at_first, position_after, media_reply_at}
 
-known_with_media :
+pub known_with_media :
     (old : State) (seq position : ℕ) (word : Word) → old.mark ≤ position → (other : ℕ)
     → known (with_media old seq position word) other ≡ cond (other == position) (Some word) (known old other)
 known_with_media old seq position word ahead other = ⊎_elim

@@ -2,9 +2,11 @@ pub mod Added
 pub mod AdmissionsAdd
 pub mod Advancing
 pub mod Bounds
+pub mod DeskFlushes
 pub mod DeskOpened
 pub mod DeskPlayed
 pub mod DeskPlays
+pub mod DeskReceives
 pub mod DeskRecovers
 pub mod DeskWords
 pub mod Equations
@@ -36,6 +38,7 @@ pub mod RowChanges
 pub mod RowLoops
 pub mod RowMaps
 pub mod RowPeels
+pub mod RowReceives
 pub mod RowViews
 pub mod RunFacts
 pub mod SettledEquations

@@ -297,11 +297,13 @@ impl Desk {
         found_words_may_be_known();
         peelings_fill_the_closure();
         solved_stays_peeled();
-        let first = self.row.mark();
         let solved = recover(&mut self.row, &self.lines);
+        let first = self.row.mark();
         self.calls += 1;
-        let highest = self.row.highest()?;
-        let count = (highest - first + 1).min(u64::from(self.window)) as u32;
+        let Some(highest) = self.row.highest() else {
+            return None;
+        };
+        let count = u64::from(self.window).min(highest + 1 - first) as u32;
         let verdict = close(&mut self.row, &mut self.lines, solved, count, tray);
         self.epoch = next_epoch(self.epoch, verdict);
         Some(Played {
