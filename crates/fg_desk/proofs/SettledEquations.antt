@@ -1,0 +1,131 @@
+-- What settled equations add to a peeling: nothing.
+use Rattle.std.proofs.Common.{◌≡◌, ◌⊎◌, ◌↔◌, ℕ, Bool, true, false, List, [], Option, Some, None, IsSome, IsTrue, inl, inr, refl, sym, ap, subst, ◌∙◌, ⊎_elim}
+use Rattle.std.proofs.lemmas.Option.{none-some}
+use Rattle.std.specs.List.{Contains}
+use Rattle.std.specs.FinMap.{get}
+use Rattle.std.specs.FinSet as set
+use Rattle.slab.specs.Slab.{Slab}
+use Rattle.fg_words.specs.declared.Word.{Word}
+use Rattle.fg_peel.specs.declared.Line.{Line}
+use Rattle.fg_peel.specs.Slots.{lines_of, equation_of, equations_of}
+use Rattle.fg_peel.specs.Equation.{Equation, Keeps, IsComplete, IsSettled, slots}
+use Rattle.fg_peel.specs.Closure.{InClosure, given, derived}
+use Rattle.fg_peel.specs.Solution.{IsSolution}
+use Rattle.fg_peel.specs.Peeling.{Step, CanFollow, IsMaximal, IsPeeling, EndsPeeling, end_of}
+use Rattle.fg_peel.specs.Laws.{AddsSettled, PeelingsTakeEquations, PeelingsKeepWords}
+use Rattle.fg_desk.specs.State.{State, Live, opening, live_equations}
+use Rattle.fg_desk.specs.Lines.{LinesState, AreOpen, IsLiveLine, live_of}
+use Rattle.fg_desk.specs.Window.{EachSettled, equations_in}
+use Rattle.fg_desk.proofs.Equations.{serial_of, live_at}
+use Rattle.fg_desk.proofs.Lists.{Contains-nil, Contains-map, Contains-from_map}
+use Rattle.fg_desk.proofs.Options.{value_of, has_value}
+
+-- No step follows of an equation that is complete already.
+no_step_of_complete :
+    (known end : ℕ → Option Word) (equations : List Equation) (step : Step) → Keeps known end → IsComplete known step.equation
+    → CanFollow end equations step → ⊥
+no_step_of_complete known end equations step keeps complete can =
+    let v = value_of (known step.position) (complete step.position can.slot) in
+    none-some v.0 (sym can.unknown ∙ keeps step.position v.0 v.1)
+
+pub ends_with_settled :
+    PeelingsTakeEquations → PeelingsKeepWords → (known words : ℕ → Option Word) (few many : List Equation)
+    → AddsSettled known few many → EndsPeeling few known words → EndsPeeling many known words
+ends_with_settled takes keep known words few many adds ends = (
+  ends.0,
+  record {
+    peeling = takes known few many ends.0 adds.listed ends.1.peeling;
+    no_more = λ step can. ⊎_elim
+        (λ was. ends.1.no_more step (record {
+          listed = was;
+          slot = can.slot;
+          unknown = can.unknown;
+          others_known = can.others_known;
+        }))
+        (λ settled. no_step_of_complete known (end_of known ends.0) many step
+        (keep known few ends.0 ends.1.peeling) settled.0 can)
+        (adds.settled step.equation can.listed);
+  },
+  ends.2,
+)
+
+-- Without equations nothing follows.
+follows_of_none : (known : ℕ → Option Word) (position : ℕ) → InClosure known [] position → IsSome (known position)
+follows_of_none known position (given some) = some
+follows_of_none known position (derived equation listed slot others) = absurd (Contains-nil equation listed)
+
+pub solution_of_none : (known : ℕ → Option Word) → IsSolution known [] known
+solution_of_none known = record {
+  domain = λ p. (λ some. given some, follows_of_none known p);
+  keeps = λ q w is. is;
+  media = λ q w none is. absurd (none-some w (sym none ∙ is));
+  sums = λ equation listed. absurd (Contains-nil equation listed);
+}
+
+pub ends_of_none : (known : ℕ → Option Word) → EndsPeeling [] known known
+ends_of_none known = ([], record { peeling = tt; no_more = λ step can. Contains-nil step.equation can.listed }, refl)
+
+-- A desk of which these are the live equations.
+abbrev pub desk_of : LinesState → State
+desk_of lines = record (opening 0 0) { equations = lines.live }
+
+pub serial_in : (lines : LinesState) (equation : Equation) → Contains (equations_in lines) equation
+    → (serial : ℕ) × (live : Live) × (get lines.live serial ≡ Some live) × (live.equation ≡ equation)
+serial_in lines equation c = serial_of (desk_of lines) equation c
+
+pub live_in_at : (lines : LinesState) (serial : ℕ) (live : Live) → get lines.live serial ≡ Some live → Contains (equations_in lines) live.equation
+live_in_at lines serial live is = live_at (desk_of lines) serial live is
+
+-- Where all are settled, they add nothing to none.
+pub all_add_nothing :
+    (lines : LinesState) (known : ℕ → Option Word) → EachSettled lines (IsSettled known)
+    → ((serial : ℕ) → IsSome (get lines.live serial) → IsTrue (set.contains lines.settled serial))
+    → AddsSettled known [] (equations_in lines)
+all_add_nothing lines known settled all = record {
+  listed = λ equation c. absurd (Contains-nil equation c);
+  settled = λ equation c.
+      (let r = serial_in lines equation c in
+      inr (subst (λ (e : Equation). IsSettled known e) r.3
+      (settled r.0 r.1 r.2 (all r.0 (has_value (get lines.live r.0) r.1 r.2)))));
+}
+
+abbrev line_with : ℕ → Live → Line
+line_with serial live = record {
+  base = live.equation.base;
+  shape = record { offset = live.equation.offset; na = live.equation.count };
+  parity = live.equation.parity;
+  serial = serial;
+  place = live.place;
+}
+
+-- A line of the open ones is live.
+pub open_is_live :
+    (lines : LinesState) (open_lines : Slab Line) → AreOpen lines open_lines → (line : Line) → Contains (lines_of open_lines) line
+    → get lines.live line.serial ≡ Some (live_of line)
+open_is_live lines open_lines are line c = ((are line).0 c).0
+
+-- Settled ones add nothing to the open ones.
+pub settled_add_nothing :
+    (lines : LinesState) (open_lines : Slab Line) (known : ℕ → Option Word) → AreOpen lines open_lines
+    → EachSettled lines (IsSettled known) → AddsSettled known (equations_of open_lines) (equations_in lines)
+settled_add_nothing lines open_lines known are settled = record {
+  listed = λ equation c.
+      (let r = Contains-from_map equation_of (lines_of open_lines) equation c in
+      subst (λ (e : Equation). Contains (equations_in lines) e) r.2
+      (live_in_at lines r.0.serial (live_of r.0) (open_is_live lines open_lines are r.0 r.1)));
+  settled = λ equation c.
+      (let r = serial_in lines equation c in
+      go equation r (set.contains lines.settled r.0) refl);
+}
+  where
+    go :
+        (equation : Equation)
+        (r : (serial : ℕ) × (live : Live) × (get lines.live serial ≡ Some live) × (live.equation ≡ equation))
+        (b : Bool) → set.contains lines.settled r.0 ≡ b
+        → Contains (equations_of open_lines) equation ⊎ IsSettled known equation
+    go equation r true is = inr (subst (λ (e : Equation). IsSettled known e) r.3 (settled r.0 r.1 r.2 is))
+    go equation r false is =
+        let line = line_with r.0 r.1 in
+        let there : Contains (lines_of open_lines) line = (are line).1 (r.2, is) in
+        inl (subst (λ (e : Equation). Contains (equations_of open_lines) e) r.3
+        (Contains-map equation_of (lines_of open_lines) line there))

@@ -1,0 +1,45 @@
+use Rattle.std.proofs.Common.{Option, Some, None, Bor, IfSome, IfNone, subst}
+use Rattle.fg_desk.specs.Lines.{LinesState, IsLiveLine, HasSlots}
+use Rattle.fg_peel.specs.declared.Line.{Line}
+use Rattle.slab.specs.Slab.{Slab}
+use Rattle.fg_desk.specs.LinesInside.{Holds}
+use Rattle.fg_desk.proofs.LinesCalls.{found_first, found_second, found_none}
+use Rattle.fg_desk.proofs.lines.Lines.find.Goals as goal
+
+pub returns-in-Some-clause-some : goal.returns-in-Some-clause-some
+returns-in-Some-clause-some c =
+    let IsSought : Line → Type 0 = (HasSlots c.args.base c.args.shape.offset c.args.shape.na) in
+    let line = c.in-Some.line.now in
+    subst (λ (s : LinesState). IsLiveLine s line × IsSought line) c.self.view_is
+    (found_first c.self.inside.open c.self.inside.settled c.self.inside.places.items c.self.invariant IsSought line c.in-Some.ensures.some)
+
+told_some :
+    (IsSought IsTold : Line → Type 0) (lines : Slab Line) (found : Option (Bor Line))
+    → ((line : Line) → Holds lines line × IsSought line → IsTold line)
+    → IfSome found (λ (line : Bor Line). Holds lines line.now × IsSought line.now) → IfSome found (λ (line : Bor Line). IsTold line.now)
+told_some IsSought IsTold lines None f h = h
+told_some IsSought IsTold lines (Some line) f h = f line.now h
+
+told_none : (P Q : Type 0) (found : Option (Bor Line)) → (P → Q) → IfNone found P → IfNone found Q
+told_none P Q None f h = f h
+told_none P Q (Some line) f h = h
+
+pub returns-in-None-clause-some : goal.returns-in-None-clause-some
+returns-in-None-clause-some c =
+    let IsSought : Line → Type 0 = (HasSlots c.args.base c.args.shape.offset c.args.shape.na) in
+    told_some IsSought (λ (line : Line). IsLiveLine c.args.self.now line × IsSought line) c.self.inside.settled
+    c.find_in-in-None.result
+    (λ line found.
+    subst (λ (s : LinesState). IsLiveLine s line × IsSought line) c.self.view_is
+    (found_second c.self.inside.open c.self.inside.settled c.self.inside.places.items c.self.invariant IsSought line found))
+    c.find_in-in-None.ensures.some
+
+pub returns-in-None-clause-none : goal.returns-in-None-clause-none
+returns-in-None-clause-none c =
+    let IsSought : Line → Type 0 = (HasSlots c.args.base c.args.shape.offset c.args.shape.na) in
+    told_none ((line : Line) → Holds c.self.inside.settled line → IsSought line → ⊥)
+    ((line : Line) → IsLiveLine c.args.self.now line → IsSought line → ⊥) c.find_in-in-None.result
+    (λ none.
+    subst (λ (s : LinesState). (line : Line) → IsLiveLine s line → IsSought line → ⊥) c.self.view_is
+    (found_none c.self.inside.open c.self.inside.settled c.self.inside.places.items c.self.invariant IsSought c.in-None.ensures.none none))
+    c.find_in-in-None.ensures.none

@@ -1,0 +1,101 @@
+-- What a desk is made of, and what holds of its parts. No public contract cites it.
+use Rattle.std.specs.Prelude.{◌≡◌, ◌⊎◌, ◌+◌, ◌-◌, ◌*◌, ◌<◌, ◌≤◌, ◌^◌, ℕ, Option, Some, None, IsTrue, refl}
+use Rattle.std.specs.List.{Contains}
+use Rattle.std.specs.Coded.{Coded, code_by, coded×, coded_ℕ, coded_option}
+use Rattle.std.specs.Ordering.{nat_cmp}
+use Rattle.std.specs.FinMap as map
+use Rattle.std.specs.FinMap.{get}
+use Rattle.std.specs.FinSet as set
+use Rattle.fg_shape.specs.Shape.{slots_of}
+use Rattle.fg_peel.specs.Equation.{AreMedia, IsSettled}
+use Rattle.fg_peel.specs.Peeling.{ArePeeled}
+use Rattle.fg_desk.specs.State.{State, Top, Live, Words, known, live_equations}
+use Rattle.fg_desk.specs.Facts.{Holds}
+use Rattle.fg_desk.specs.Contents.{Contents}
+use Rattle.fg_desk.specs.Row.{RowState, row_words}
+use Rattle.fg_desk.specs.RowEntries.{words_code}
+use Rattle.fg_desk.specs.Lines.{LinesState}
+use Rattle.fg_desk.specs.LinesInside.{live_code}
+
+-- How contents are told apart.
+abbrev pub top_code : Coded Top
+top_code = code_by (ℕ × ℕ) (coded× coded_ℕ coded_ℕ) (λ t. (t.position, t.seq)) (λ p. record { position = p.0; seq = p.1 }) (λ _. refl)
+
+abbrev pub contents_code : Coded Contents
+contents_code =
+    code_by (ℕ × (ℕ × (Option Top × (ℕ × (Words × (Words × (map.FinMap nat_cmp Live × (ℕ × (ℕ × (set.FinSet nat_cmp × ℕ))))))))))
+    (coded× coded_ℕ (coded× coded_ℕ (coded× (coded_option top_code) (coded× coded_ℕ (coded× words_code (coded× words_code
+    (coded× (map.code coded_ℕ live_code) (coded× coded_ℕ (coded× coded_ℕ (coded× (set.code coded_ℕ) coded_ℕ))))))))))
+    (λ c. (c.state.window, (c.state.depth, (c.state.top, (c.state.mark, (c.state.kept, (c.state.media, (c.state.equations,
+    (c.state.admitted, (c.state.calls, (c.bare, c.epoch)))))))))))
+    (λ p. record {
+      state = record {
+        window = p.0;
+        depth = p.1.0;
+        top = p.1.1.0;
+        mark = p.1.1.1.0;
+        kept = p.1.1.1.1.0;
+        media = p.1.1.1.1.1.0;
+        equations = p.1.1.1.1.1.1.0;
+        admitted = p.1.1.1.1.1.1.1.0;
+        calls = p.1.1.1.1.1.1.1.1.0;
+      };
+      bare = p.1.1.1.1.1.1.1.1.1.0;
+      epoch = p.1.1.1.1.1.1.1.1.1.1;
+    })
+    (λ _. refl)
+
+-- The parts of a desk.
+pub record Parts : Type 0 where
+  pub window : ℕ
+  pub depth : ℕ
+  pub top : Option Top
+  pub row : RowState
+  pub lines : LinesState
+  pub admitted : ℕ
+  pub calls : ℕ
+  pub epoch : ℕ
+
+-- The state that they make.
+abbrev pub state_of : Parts → State
+state_of parts = record {
+  window = parts.window;
+  depth = parts.depth;
+  top = parts.top;
+  mark = parts.row.mark;
+  kept = parts.row.kept;
+  media = parts.row.media;
+  equations = parts.lines.live;
+  admitted = parts.admitted;
+  calls = parts.calls;
+}
+
+abbrev pub contents_of : Parts → Contents
+contents_of parts = record { state = state_of parts; bare = parts.row.bare; epoch = parts.epoch }
+
+-- A settled equation is complete in the row's words, and comes out.
+abbrev pub SettledComeOut : Parts → Type 0
+SettledComeOut parts =
+    (serial : ℕ) (live : Live) → get parts.lines.live serial ≡ Some live
+    → IsTrue (set.contains parts.lines.settled serial) → IsSettled (row_words parts.row) live.equation
+
+-- What holds of the parts between calls.
+pub record AreSound (parts : Parts) : Type 0 where
+  pub facts : Holds (state_of parts)
+  pub depth_limit : parts.depth ≤ 1000
+  pub reach : parts.row.reach ≡ parts.depth + 100
+  -- The words of the row are media words, and those found ahead of their play come from a peeling of the others.
+  pub media : AreMedia (row_words parts.row)
+  pub peeled : ArePeeled (live_equations (state_of parts)) (known (state_of parts)) (row_words parts.row)
+  pub settled : SettledComeOut parts
+  pub mark_limit : parts.row.mark < 2 ^ 61 + 200
+  pub top_limit : (top : Top) → parts.top ≡ Some top → top.position < 2 ^ 61 + 2 ^ 16
+  pub admitted_limit : parts.admitted ≤ parts.calls
+  pub calls_limit : parts.calls ≤ 2 ^ 62
+  pub epoch_limit : parts.epoch ≤ parts.calls
+
+-- An equation of this base and shape comes too late. Its parity word is of no account.
+abbrev pub IsLateAt : State → ℕ → ℕ → ℕ → Type 0
+IsLateAt desk base offset count =
+    (base + (count - 1) * offset < desk.mark)
+    ⊎ ((slot : ℕ) × Contains (slots_of base offset count) slot × (slot < desk.mark) × (get desk.kept slot ≡ None))

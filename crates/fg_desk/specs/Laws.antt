@@ -1,0 +1,212 @@
+-- Laws that show the definitions of a desk to be right.
+use Rattle.std.specs.Prelude.{◌≡◌, ◌⊎◌, ◌==◌, if◌then◌else◌, ◌≢◌, ◌+◌, ◌-◌, ◌<◌, ◌≤◌, ◌^◌, ◌↔◌, ◌++◌, ℕ, ⊤, nat_le, List, [], ◌∷◌, length, filter, Option, Some, None}
+use Rattle.std.specs.List.{All, Contains}
+use Rattle.std.specs.FinMap.{get}
+use Rattle.fg_words.specs.declared.Word.{Word}
+use Rattle.fg_words.specs.Word.{IsMedia}
+use Rattle.fg_shape.specs.Shape.{IsShape}
+use Rattle.fg_peel.specs.Equation.{Equation}
+use Rattle.fg_peel.specs.Peeling.{Step, IsPeeling, end_of}
+use Rattle.fg_peel.specs.Closure as peel
+use Rattle.fg_peel.specs.Solution as peeled
+use Rattle.fg_desk.specs.declared.reply.Reply.{Reply}
+use Rattle.fg_desk.specs.declared.reply.Reply.TheVariants.{Admitted}
+use Rattle.fg_desk.specs.declared.reply.Outcome.TheVariants.{Repaired}
+use Rattle.fg_desk.specs.State.{State, Live, known, live_equations, opening}
+use Rattle.fg_desk.specs.Contents.{HasRoom}
+use Rattle.fg_desk.specs.Solution.{InClosure, IsSolution}
+use Rattle.fg_desk.specs.Admission.{Parity, AdmitsMedia, AdmitsParity, IsDue, position_on, equation_at}
+use Rattle.fg_desk.specs.Play.{Play, IsPlay, IsFlushStep, IsHighest, HasMore, Flushes}
+use Rattle.fg_desk.specs.Run.{Arrival, carries, protects, refused, ArePlaysDue, TakesAll, IsFlush, IsRun}
+use Rattle.fg_desk.specs.Facts.{Holds}
+
+-- The live equations are those that stand under some serial number.
+abbrev pub LiveStandUnderSerials : Type 0
+LiveStandUnderSerials =
+    (desk : State) (equation : Equation)
+    → Contains (live_equations desk) equation
+    ↔ ((serial : ℕ) × (live : Live) × (get desk.equations serial ≡ Some live) × (live.equation ≡ equation))
+
+-- The facts hold at first, and every call keeps them.
+
+abbrev pub OpeningHolds : Type 0
+OpeningHolds =
+    (window depth : ℕ) → 1 ≤ window → window ≤ 100 → window ≤ depth → Holds (opening window depth)
+
+abbrev pub MediaKeeps : Type 0
+MediaKeeps =
+    (old new : State) (seq : ℕ) (word : Word) (reply : Reply) → Holds old → IsMedia word → ¬ IsDue old seq
+    → AdmitsMedia old seq word reply new → Holds new
+
+abbrev pub ParityKeeps : Type 0
+ParityKeeps =
+    (old new : State) (parity : Parity) (reply : Reply) → Holds old → HasRoom old
+    → IsShape parity.offset parity.count → AdmitsParity old parity reply new → Holds new
+
+abbrev pub PlayKeeps : Type 0
+PlayKeeps =
+    (count : ℕ) (old new : State) (play : Play) → Holds old → old.top ≢ None → IsPlay count old play new → Holds new
+
+abbrev pub FlushStepKeeps : Type 0
+FlushStepKeeps = (old new : State) (play : Option Play) → Holds old → Flushes old play new → Holds new
+
+-- A media datagram that is admitted adds its word to the known ones, at a position past what is played that had
+-- none, and nothing else.
+abbrev pub MediaAdds : Type 0
+MediaAdds =
+    (old new : State) (seq : ℕ) (word : Word) → Holds old → AdmitsMedia old seq word Admitted new
+    → (position : ℕ) × (position_on old seq ≡ Some position) × (old.mark ≤ position)
+    × (known old position ≡ None)
+    × ((other : ℕ) → known new other ≡ (if other == position then Some word else known old other))
+    × (live_equations new ≡ live_equations old)
+
+-- A parity datagram that is admitted adds its equation to the live ones, and nothing else.
+abbrev pub ParityAdds : Type 0
+ParityAdds =
+    (old new : State) (parity : Parity) → Holds old → AdmitsParity old parity Admitted new
+    → (position : ℕ) × (position_on old parity.base ≡ Some position)
+    × ((equation : Equation)
+    → Contains (live_equations new) equation
+    ↔ (Contains (live_equations old) equation ⊎ (equation ≡ equation_at position parity)))
+    × (known new ≡ known old)
+
+-- On such a desk closure and solutions are those of peeling: the mark makes no difference.
+
+abbrev pub ClosureIsPeelings : Type 0
+ClosureIsPeelings =
+    (desk : State) → Holds desk → (position : ℕ)
+    → InClosure desk position ↔ peel.InClosure (known desk) (live_equations desk) position
+
+abbrev pub SolutionsArePeelings : Type 0
+SolutionsArePeelings =
+    (desk : State) → Holds desk → (words : ℕ → Option Word)
+    → IsSolution desk words ↔ peeled.IsSolution (known desk) (live_equations desk) words
+
+-- So no step of a peeling lies before the mark.
+abbrev pub StepsAreAhead : Type 0
+StepsAreAhead =
+    (desk : State) (steps : List Step) → Holds desk → IsPeeling (known desk) (live_equations desk) steps
+    → All (λ step. desk.mark ≤ step.position) steps
+
+-- A desk has at most one solution.
+abbrev pub OneSolution : Type 0
+OneSolution =
+    (desk : State) → Holds desk → (one other : ℕ → Option Word) → IsSolution desk one → IsSolution desk other → one ≡ other
+
+-- What is past the mark after a play followed before it already.
+abbrev pub ClosureGainsNothing : Type 0
+ClosureGainsNothing =
+    (count : ℕ) (old new : State) (play : Play) → IsPlay count old play new
+    → (position : ℕ) → InClosure new position → InClosure old position
+
+-- Flush steps one after another.
+abbrev pub AreFlushSteps : State → List Play → State → Type 0
+AreFlushSteps old [] new = new ≡ old
+AreFlushSteps old (play ∷ plays) new = (next : State) × IsFlushStep old play next × AreFlushSteps next plays new
+
+-- A flush ends: there are no more steps than positions up to the highest that follows.
+abbrev pub FlushEnds : Type 0
+FlushEnds =
+    (old new : State) (plays : List Play) (highest : ℕ) → 1 ≤ old.window → IsHighest old highest
+    → AreFlushSteps old plays new → length plays ≤ highest + 1 - old.mark
+
+-- A flush is steps after which nothing that follows is left to be shown.
+abbrev pub FlushStepsEnd : Type 0
+FlushStepsEnd =
+    (old new : State) (plays : List Play) → IsFlush old plays new ↔ (AreFlushSteps old plays new × (¬ HasMore new))
+
+-- A known position ahead stays derivable: what a peeling found before a repaired play is, past the new mark, found by a
+-- peeling after it, with the same words. Before the mark it finds nothing.
+abbrev pub SolvedStaysPeeled : Type 0
+SolvedStaysPeeled =
+    (count : ℕ) (old new : State) (play : Play) (steps : List Step) → Holds old → IsPlay count old play new
+    → play.outcome ≡ Repaired → IsPeeling (known old) (live_equations old) steps
+    → IsPeeling (known new) (live_equations new) (filter (λ step. nat_le new.mark step.position) steps)
+    × ((position : ℕ) → new.mark ≤ position
+    → end_of (known new) (filter (λ step. nat_le new.mark step.position) steps) position
+    ≡ end_of (known old) steps position)
+    × ((position : ℕ) → position < new.mark
+    → end_of (known new) (filter (λ step. nat_le new.mark step.position) steps) position ≡ known new position)
+
+-- Later datagrams change nothing of what was shown and answered before.
+abbrev pub LaterChangesNothing : Type 0
+LaterChangesNothing =
+    (old new : State) (earlier later : List Arrival) (plays : List Play) (replies : List (Option Reply))
+    → TakesAll old (earlier ++ later) plays replies new
+    → (between : State) × (before : List Play) × (after : List Play)
+    × (first : List (Option Reply)) × (second : List (Option Reply))
+    × TakesAll old earlier before first between × TakesAll between later after second new
+    × (plays ≡ before ++ after) × (replies ≡ first ++ second)
+
+-- And what is taken one after another is a run of both.
+abbrev pub TakingsJoin : Type 0
+TakingsJoin =
+    (old between new : State) (earlier later : List Arrival) (before after : List Play)
+    (first second : List (Option Reply))
+    → TakesAll old earlier before first between → TakesAll between later after second new
+    → TakesAll old (earlier ++ later) (before ++ after) (first ++ second) new
+
+-- Plays that are due before a datagram of this sequence number, so far.
+abbrev pub HavePlayed : State → ℕ → List Play → State → Type 0
+HavePlayed old seq [] new = new ≡ old
+HavePlayed old seq (play ∷ plays) new =
+    IsDue old seq × ((next : State) × IsPlay old.window old play next × HavePlayed next seq plays new)
+
+abbrev pub PlaysDueJoin : Type 0
+PlaysDueJoin =
+    (old between new : State) (seq : ℕ) (before after : List Play)
+    → HavePlayed old seq before between → HavePlayed between seq after new → HavePlayed old seq (before ++ after) new
+
+-- They are all that are due where then none is.
+abbrev pub PlaysDueEnd : Type 0
+PlaysDueEnd =
+    (old new : State) (seq : ℕ) (plays : List Play)
+    → ArePlaysDue old seq plays new ↔ (HavePlayed old seq plays new × (¬ IsDue new seq))
+
+abbrev pub FlushStepsJoin : Type 0
+FlushStepsJoin =
+    (old between new : State) (before after : List Play)
+    → AreFlushSteps old before between → AreFlushSteps between after new → AreFlushSteps old (before ++ after) new
+
+-- Each play begins where the one before ends.
+abbrev pub AreInSuccession : ℕ → List Play → Type 0
+AreInSuccession first [] = ⊤
+AreInSuccession first (play ∷ plays) = (play.first ≡ first) × AreInSuccession (first + length play.shown) plays
+
+-- So each position is shown or missing once, in order and without holes.
+abbrev pub PlaysFollow : Type 0
+PlaysFollow =
+    (window depth : ℕ) (arrivals : List Arrival) (plays : List Play) (replies : List (Option Reply))
+    → IsRun window depth arrivals plays replies → AreInSuccession 0 plays
+
+-- Datagrams as the readers give them: media words, and shapes that are read.
+abbrev pub IsRead : Arrival → Type 0
+IsRead (carries seq word) = (seq < 2 ^ 16) × IsMedia word
+IsRead (protects stream parity) = (parity.base < 2 ^ 16) × IsShape parity.offset parity.count
+IsRead (refused stream) = ⊤
+
+-- As long as a flow's datagrams are fewer than 2^44, the facts hold all along its run, and there is room: before each
+-- datagram, and between the plays before it.
+abbrev pub RunsStayWithin : Type 0
+RunsStayWithin =
+    (window depth seq : ℕ) (arrivals : List Arrival) (plays due : List Play) (replies : List (Option Reply))
+    (taken new : State)
+    → 1 ≤ window → window ≤ 100 → window ≤ depth → All IsRead arrivals → length arrivals < 2 ^ 44
+    → TakesAll (opening window depth) arrivals plays replies taken → HavePlayed taken seq due new
+    → Holds new × HasRoom new
+
+-- And so they do between the steps of its flush.
+abbrev pub FlushesStayWithin : Type 0
+FlushesStayWithin =
+    (window depth : ℕ) (arrivals : List Arrival) (plays flushed : List Play) (replies : List (Option Reply))
+    (filled new : State)
+    → 1 ≤ window → window ≤ 100 → window ≤ depth → depth ≤ 1000 → All IsRead arrivals → length arrivals < 2 ^ 44
+    → TakesAll (opening window depth) arrivals plays replies filled → AreFlushSteps filled flushed new
+    → Holds new × HasRoom new
+
+-- A flow has one run: two of the same datagrams are the same.
+abbrev pub OneRun : Type 0
+OneRun =
+    (window depth : ℕ) (arrivals : List Arrival) (plays plays' : List Play) (replies replies' : List (Option Reply))
+    → All IsRead arrivals → IsRun window depth arrivals plays replies → IsRun window depth arrivals plays' replies'
+    → (plays ≡ plays') × (replies ≡ replies')

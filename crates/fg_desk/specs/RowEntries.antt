@@ -1,0 +1,171 @@
+-- A row of entries, the first of which stands for 100 positions before the mark, and what it is seen as.
+use Rattle.std.specs.Prelude.{◌≡◌, ◌≢◌, ◌+◌, ◌-◌, ◌<◌, ◌≤◌, ◌^◌, ℕ, zero, suc, Bool, true, false, List, length, nat_lt, slice_index_or, Option, Some, None, IsSome, IsTrue, is_some, not, ◌&&◌, refl, if◌then◌else◌}
+use Rattle.std.specs.Ordering.{nat_cmp}
+use Rattle.std.specs.Coded.{Coded, code_by, coded×, coded_ℕ, coded_bool, coded_list, coded_option}
+use Rattle.std.specs.FinMap as map
+use Rattle.std.specs.FinSet as set
+use Rattle.fg_words.specs.declared.Word.{Word}
+use Rattle.fg_peel.specs.declared.Slot.{Slot}
+use Rattle.fg_peel.specs.declared.Slot.TheVariants.{Empty, Media, Solved, Filled}
+use Rattle.slab.specs.Slab.{Slab}
+use Rattle.fg_peel.specs.declared.Line.{Line}
+use Rattle.fg_peel.specs.Closure.{InClosure}
+use Rattle.fg_peel.specs.Solution.{IsSolution}
+use Rattle.fg_peel.specs.Peeling.{EndsPeeling}
+use Rattle.fg_peel.specs.Slots.{word_in, equations_of, OnlyFills}
+use Rattle.fg_desk.specs.State.{Words}
+use Rattle.fg_desk.specs.Admission.{kept_count}
+use Rattle.fg_desk.specs.Contents.{Holding}
+use Rattle.fg_desk.specs.Play.{Shown, nothing_shown}
+use Rattle.fg_desk.specs.Row.{RowState}
+
+-- The entry of a position.
+abbrev pub entry_at : ℕ → List Slot → ℕ → Slot
+entry_at mark entries position =
+    (if nat_lt (position + kept_count) mark then Empty else slice_index_or entries (position + kept_count - mark) Empty)
+
+-- The word of an entry that was received, and of one that was found.
+abbrev pub received_in : Slot → Option Word
+received_in Empty = None
+received_in (Media word) = Some word
+received_in (Solved word) = None
+received_in (Filled word) = None
+
+abbrev pub found_in : Slot → Option Word
+found_in Empty = None
+found_in (Media word) = None
+found_in (Solved word) = None
+found_in (Filled word) = Some word
+
+-- The entry's word stands there alone.
+abbrev pub is_alone : Slot → Bool
+is_alone Empty = false
+is_alone (Media word) = false
+is_alone (Solved word) = false
+is_alone (Filled word) = true
+
+-- The words that a function gives at the positions below a limit, as a map.
+unfoldable pub words_below : ℕ → (ℕ → Option Word) → Words
+words_below zero words = map.empty
+words_below (suc n) words =
+    elim (words n) as (λ _. Words) [ None ↦ words_below n words | Some word ↦ map.insert (words_below n words) n word ]
+
+-- The positions below a limit that pass a test, as a set.
+unfoldable pub positions_below : ℕ → (ℕ → Bool) → set.FinSet nat_cmp
+positions_below zero test = set.empty
+positions_below (suc n) test =
+    (if test n then set.insert (positions_below n test) n else positions_below n test)
+
+-- What entries have at the positions below the mark, and at it and past it.
+abbrev pub kept_at : ℕ → List Slot → ℕ → Option Word
+kept_at mark entries position = (if nat_lt position mark then word_in (entry_at mark entries position) else None)
+
+abbrev pub received_at : ℕ → List Slot → ℕ → Option Word
+received_at mark entries position =
+    (if nat_lt position mark then None else received_in (entry_at mark entries position))
+
+abbrev pub found_at : ℕ → List Slot → ℕ → Option Word
+found_at mark entries position = (if nat_lt position mark then None else found_in (entry_at mark entries position))
+
+abbrev pub bare_at : ℕ → List Slot → ℕ → Bool
+bare_at mark entries position = (if nat_lt position mark then is_alone (entry_at mark entries position) else false)
+
+-- A row of entries as contracts see it.
+abbrev pub row_of : ℕ → List Slot → RowState
+row_of mark entries = record {
+  mark = mark;
+  reach = length entries - kept_count;
+  kept = words_below mark (kept_at mark entries);
+  media = words_below (mark + length entries) (received_at mark entries);
+  cached = words_below (mark + length entries) (found_at mark entries);
+  bare = positions_below mark (bare_at mark entries);
+}
+
+-- What is true of the entries: there is one for each of the 100 positions before the mark, those for positions below 0
+-- are empty, and equations gave no word to be seen by others.
+pub record AreEntries (mark : ℕ) (entries : List Slot) : Type 0 where
+  pub some : kept_count ≤ length entries
+  pub limit : mark + length entries ≤ 2 ^ 62
+  pub below : (i : ℕ) → mark + i < kept_count → slice_index_or entries i Empty ≡ Empty
+  pub own : (i : ℕ) (word : Word) → slice_index_or entries i Empty ≢ Solved word
+
+-- The words of the entries by position.
+abbrev pub words_of : ℕ → List Slot → ℕ → Option Word
+words_of mark entries position = word_in (entry_at mark entries position)
+
+-- What peeling leaves of the entries, and whether there is a solution.
+pub record Recovers (mark : ℕ) (lines : Slab Line) (old new : List Slot) (answer : Bool) : Type 0 where
+  pub fills : OnlyFills old new
+  pub below : (i : ℕ) → mark + i < kept_count → slice_index_or new i Empty ≡ slice_index_or old i Empty
+  pub peeling : EndsPeeling (equations_of lines) (words_of mark old) (words_of mark new)
+  pub inside :
+      (position : ℕ) → IsSome (words_of mark new position)
+      → InClosure (words_of mark old) (equations_of lines) position
+  pub solved : IsTrue answer → IsSolution (words_of mark old) (equations_of lines) (words_of mark new)
+  pub solvable :
+      (solution : ℕ → Option Word) → IsSolution (words_of mark old) (equations_of lines) solution
+      → IsTrue answer × (words_of mark new ≡ solution)
+
+-- What an entry shows.
+abbrev pub shown_in : Slot → Shown
+shown_in entry = record {
+  word = word_in entry;
+  repaired = is_some (word_in entry) && not (is_some (received_in entry));
+}
+
+-- What the first entries from the mark on show.
+pub record ShowsEntries (entries : List Slot) (count : ℕ) (shown : List Shown) : Type 0 where
+  pub length_is : length shown ≡ count
+  pub each :
+      (i : ℕ) → i < count
+      → slice_index_or shown i nothing_shown ≡ shown_in (slice_index_or entries (kept_count + i) Empty)
+
+-- An entry without a found word.
+abbrev pub forgotten : Slot → Slot
+forgotten Empty = Empty
+forgotten (Media word) = Media word
+forgotten (Solved word) = Solved word
+forgotten (Filled word) = Empty
+
+-- Found words are gone from the entries at the mark and past it.
+abbrev pub ForgetsFound : List Slot → List Slot → Type 0
+ForgetsFound old new =
+    (i : ℕ) → slice_index_or new i Empty
+    ≡ (if nat_lt i kept_count then slice_index_or old i Empty else forgotten (slice_index_or old i Empty))
+
+-- The last entry with a word, at the mark or past it.
+abbrev pub HasNoWordFrom : List Slot → ℕ → Type 0
+HasNoWordFrom entries first = (i : ℕ) → first ≤ i → word_in (slice_index_or entries i Empty) ≡ None
+
+pub record IsLastWord (entries : List Slot) (last : ℕ) : Type 0 where
+  pub ahead : kept_count ≤ last
+  pub within : last < length entries
+  pub word : IsSome (word_in (slice_index_or entries last Empty))
+  pub none_later : HasNoWordFrom entries (last + 1)
+
+-- How these values are told apart.
+abbrev pub word_code : Coded Word
+word_code =
+    code_by (ℕ × (ℕ × (ℕ × List ℕ))) (coded× coded_ℕ (coded× coded_ℕ (coded× coded_ℕ (coded_list coded_ℕ))))
+    (λ w. (w.pt, (w.ts, (w.len, w.bytes)))) (λ p. record { pt = p.0; ts = p.1.0; len = p.1.1.0; bytes = p.1.1.1 }) (λ _. refl)
+
+abbrev pub words_code : Coded Words
+words_code = map.code coded_ℕ word_code
+
+abbrev pub row_code : Coded RowState
+row_code =
+    code_by (ℕ × (ℕ × (Words × (Words × (Words × set.FinSet nat_cmp)))))
+    (coded× coded_ℕ (coded× coded_ℕ (coded× words_code (coded× words_code (coded× words_code (set.code coded_ℕ))))))
+    (λ r. (r.mark, (r.reach, (r.kept, (r.media, (r.cached, r.bare))))))
+    (λ p. record { mark = p.0; reach = p.1.0; kept = p.1.1.0; media = p.1.1.1.0; cached = p.1.1.1.1.0; bare = p.1.1.1.1.1 })
+    (λ _. refl)
+
+abbrev pub shown_code : Coded Shown
+shown_code =
+    code_by (Option Word × Bool) (coded× (coded_option word_code) coded_bool)
+    (λ s. (s.word, s.repaired)) (λ p. record { word = p.0; repaired = p.1 }) (λ _. refl)
+
+abbrev pub holding_code : Coded Holding
+holding_code =
+    code_by (ℕ × List Shown) (coded× coded_ℕ (coded_list shown_code))
+    (λ h. (h.window, h.shown)) (λ p. record { window = p.0; shown = p.1 }) (λ _. refl)

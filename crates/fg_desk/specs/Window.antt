@@ -1,0 +1,83 @@
+-- What the row and the live equations do together. No public contract cites it.
+use Rattle.std.specs.Prelude.{◌≡◌, ◌⊎◌, ◌↔◌, ◌+◌, ◌<◌, ◌≤◌, ℕ, List, map, Bool, Option, Some, IsSome, IsSomeAnd, IsTrue, false, ◌≢◌}
+use Rattle.std.specs.List.{Contains}
+use Rattle.std.specs.FinMap.{get, entries, empty}
+use Rattle.std.specs.FinSet as set
+use Rattle.fg_words.specs.declared.Word.{Word}
+use Rattle.fg_shape.specs.Shape.{IsShape}
+use Rattle.fg_peel.specs.Equation.{Equation, slots, IsComplete, AreMedia, IsSettled}
+use Rattle.fg_peel.specs.Peeling.{EndsPeeling}
+use Rattle.fg_peel.specs.Solution.{IsSolution}
+use Rattle.fg_desk.specs.declared.reply.Outcome.{Outcome}
+use Rattle.fg_desk.specs.declared.reply.Outcome.TheVariants.{Repaired, Inconsistent}
+use Rattle.fg_desk.specs.State.{Live, Words}
+use Rattle.fg_desk.specs.Play.{Shown, Survives}
+use Rattle.fg_desk.specs.Row.{RowState, row_words, receives, Shows, Advances}
+use Rattle.fg_desk.specs.Lines.{LinesState, no_lines, Reopens}
+
+-- What the live equations say.
+abbrev pub equations_in : LinesState → List Equation
+equations_in lines = map (λ entry. entry.1.equation) (entries lines.live)
+
+-- An equation can be asked of the row: its slots lie below the row's end, and those below the mark have words.
+pub record IsInRow (row : RowState) (equation : Equation) : Type 0 where
+  pub shape : IsShape equation.offset equation.count
+  pub near : (position : ℕ) → Contains (slots equation) position → position < row.mark + row.reach
+  pub based :
+      (position : ℕ) → Contains (slots equation) position → position < row.mark → IsSome (get row.kept position)
+
+-- That is so of each live equation.
+abbrev pub AreInRow : RowState → LinesState → Type 0
+AreInRow row lines = (serial : ℕ) (live : Live) → get lines.live serial ≡ Some live → IsInRow row live.equation
+
+-- This holds of each settled equation.
+abbrev pub EachSettled : LinesState → (Equation → Type 0) → Type 0
+EachSettled lines P =
+    (serial : ℕ) (live : Live) → get lines.live serial ≡ Some live → IsTrue (set.contains lines.settled serial)
+    → P live.equation
+
+-- The row has each word that follows from its words and the equations, and the answer tells whether they have a
+-- solution. The row's words are then that solution.
+pub record IsRecovered (equations : List Equation) (old new : RowState) (answer : Bool) : Type 0 where
+  pub rest : new ≡ record old { cached = new.cached }
+  pub peeling : EndsPeeling equations (row_words old) (row_words new)
+  pub solved : IsTrue answer → IsSolution (row_words old) equations (row_words new)
+  pub solvable : (solution : ℕ → Option Word) → IsSolution (row_words old) equations solution → IsTrue answer
+
+-- Those equations stay live that survive a play up to this mark. Each of them that is then settled is complete in these
+-- words.
+pub record Keeps (words : ℕ → Option Word) (mark : ℕ) (kept : Words) (old new : LinesState) : Type 0 where
+  pub live :
+      (serial : ℕ) (live : Live) → (get new.live serial ≡ Some live)
+      ↔ ((get old.live serial ≡ Some live) × Survives mark kept live.equation)
+  pub settled : EachSettled new (IsComplete words)
+
+-- The row shows `count` positions, and the mark moves past them.
+pub record Passes (count : ℕ) (old new : RowState) (shown : List Shown) : Type 0 where
+  pub shows : Shows old count shown
+  pub advances : Advances count old new
+
+-- The row without the words that were found ahead of their play.
+abbrev pub without_found : RowState → RowState
+without_found row = record row { cached = empty }
+
+-- A play of `count` positions with this outcome.
+abbrev pub Closes : Outcome → ℕ → RowState → LinesState → RowState → LinesState → List Shown → Type 0
+Closes Repaired count old lines new left shown =
+    Passes count old new shown × Keeps (row_words old) new.mark new.kept lines left
+Closes Inconsistent count old lines new left shown = Passes count (without_found old) new shown × (left ≡ no_lines)
+
+-- A word is received where none or the same one was found ahead.
+pub record TakesWord (position : ℕ) (word : Word) (row new : RowState) (lines left : LinesState) : Type 0 where
+  pub agrees : (found : Word) → row_words row position ≡ Some found → found ≡ word
+  pub row_is : new ≡ receives row position word
+  pub lines_are : left ≡ lines
+
+-- A word is received, and each word that was found ahead is forgotten.
+pub record TakesAnew (position : ℕ) (word : Word) (row new : RowState) (lines left : LinesState) : Type 0 where
+  pub row_is : new ≡ receives (without_found row) position word
+  pub lines_are : Reopens (row_words (without_found row)) lines left
+
+-- There is a word and it is another one.
+abbrev pub IsOther : Option Word → Word → Bool → Type 0
+IsOther found word answer = (IsTrue answer → IsSomeAnd found (λ other. other ≢ word)) × (answer ≡ false → (other : Word) → found ≡ Some other → other ≡ word)

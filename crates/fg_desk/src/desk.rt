@@ -1,0 +1,415 @@
+//! A desk: which datagrams are admitted, when a window plays, what it shows, and what is kept.
+
+ghost use Rattle.std.specs.Prelude.{◌≡◌, ◌≢◌, ◌+◌, ◌↔◌, ◌<◌, ◌≤◌, ◌^◌, ℕ, length, Option, Some, None, IsTrue, IsSome, IfOk, IfSome, IfNone, option_map};
+ghost use Rattle.std.specs.Option.{option_copied};
+ghost use Rattle.std.specs.FinMap.{get, len};
+ghost use Rattle.fg_words.specs.Word.{IsMedia};
+ghost use Rattle.fg_shape.specs.Shape.{IsShape};
+ghost use Rattle.fg_peel.specs.declared.Line.{Line as LiveLine};
+ghost use Rattle.fg_desk.specs.State.{known, Top as TopState, Live};
+ghost use Rattle.fg_desk.specs.Facts.{Holds};
+ghost use Rattle.fg_desk.specs.Lines.{live_of};
+ghost use Rattle.fg_desk.specs.Contents.{opened, HasRoom, shared_at, IsBareAfter, epoch_after};
+ghost use Rattle.fg_desk.specs.Admission.{IsDue, IsReplyAt, IsEquationReply, IsLeastFree, AdmitsMedia, AdmitsParity, farther as farther_top, with_media, with_equation};
+ghost use Rattle.fg_desk.specs.Play.{IsPlay, Flushes};
+ghost use Rattle.fg_desk.specs.Inside.{IsLateAt};
+ghost use Rattle.fg_desk.specs.Parts.{top_of};
+
+use crate::laws::solved_stays_peeled;
+use crate::lines::{Lines, lost_slot};
+use crate::reply::{Outcome, Reply};
+use crate::row::Row;
+use crate::tray::Tray;
+use crate::window::{close, receive, recover};
+use fg_peel::Line;
+use fg_peel::laws::{found_words_may_be_known, peelings_fill_the_closure, peelings_stay};
+use fg_shape::{Shape, last};
+use fg_unwrap::position;
+use fg_words::{Shared, Word};
+use std::alloc::{AllocError, Global};
+use std::marker::Model;
+
+/// How many positions before the mark have kept words.
+const KEPT: u64 = 100;
+
+/// How many equations may be live.
+const LIVE_LIMIT: usize = 512;
+
+/// The mark and the farthest position are below this where a desk may change.
+const POSITIONS: u64 = 1 << 61;
+
+/// Fewer calls than this were made where a desk may change.
+const CALLS: u64 = 1 << 62;
+
+/// The farthest datagram of a flow: its position and its sequence number.
+#[derive(Clone, Copy)]
+struct Farthest {
+    position: u64,
+    seq: u16,
+}
+
+/// One flow's window state.
+#[derive(Drop)]
+pub struct Desk {
+    window: u32,
+    depth: u32,
+    top: Option<Farthest>,
+    row: Row,
+    lines: Lines,
+    admitted: u64,
+    calls: u64,
+    epoch: u64,
+}
+
+/// A play: which positions it closed, and its outcome. The tray has the words.
+#[derive(Clone, Copy, Debug, PartialEq, Eq)]
+pub struct Played {
+    /// The first position that was played.
+    pub first: u64,
+    /// How many positions were.
+    pub count: u32,
+    /// What the words are.
+    pub verdict: Outcome,
+}
+
+impl Model for Desk {
+    ghost use Rattle.fg_desk.specs.Contents.{Contents};
+    ghost use Rattle.fg_desk.specs.Inside.{contents_code};
+
+    ghost Value = { Contents };
+
+    ghost coded = { contents_code };
+
+    ghost use Rattle.fg_desk.specs.Inside.{contents_of, AreSound};
+    ghost use Rattle.fg_desk.specs.Parts.{parts_of};
+
+    ghost view = { λ a. contents_of (parts_of a) };
+
+    ghost invariant = { λ a. AreSound (parts_of a) };
+}
+
+impl Desk {
+    /// An empty desk whose plays close `window` positions, and for which a play is due where a
+    /// datagram lies `depth` positions past the mark.
+    ///
+    /// All its memory is taken here.
+    pub fn new(alloc: Global, window: u32, depth: u32) -> Result<Desk, AllocError>
+        requires window { (1 ≤ window) × (window ≤ 100) }
+        requires depth { (window ≤ depth) × (depth ≤ 1000) }
+        ensures { IfOk result (λ desk. desk ≡ opened window depth) }
+    {
+        Ok(Desk {
+            window,
+            depth,
+            top: None,
+            row: Row::new(alloc, depth)?,
+            lines: Lines::new(alloc)?,
+            admitted: 0,
+            calls: 0,
+            epoch: 0,
+        })
+    }
+
+    /// The first position that isn't played yet.
+    pub fn mark(&self) -> u64
+        ensures { result ≡ self.now.state.mark }
+    {
+        self.row.mark()
+    }
+
+    /// How many plays were inconsistent.
+    pub fn epoch(&self) -> u64
+        ensures { result ≡ self.now.epoch }
+    {
+        self.epoch
+    }
+
+    /// How many equations are live.
+    pub fn live(&self) -> u32
+        ensures { result ≡ len self.now.state.equations }
+    {
+        self.lines.count() as u32
+    }
+
+    /// The word known at a position: kept or received. None exactly where none is known.
+    pub fn word(&self, slot: u64) -> Option<&Word>
+        ensures { option_copied result ≡ known self.now.state slot }
+    {
+        self.row.word(slot)
+    }
+
+    /// The share of the word known at a position. None exactly where none is known or it stands alone.
+    pub fn share(&self, slot: u64) -> Option<&Shared>
+        ensures { option_copied result ≡ shared_at self.now slot }
+    {
+        self.row.share(slot)
+    }
+
+    /// The position and the sequence number of the farthest media datagram. None before the first one.
+    pub fn top(&self) -> Option<(u64, u16)>
+        ensures { option_map (λ top. record { position = top.0; seq = top.1 }) result ≡ self.now.state.top }
+    {
+        match self.top {
+            Some(top) => Some((top.position, top.seq)),
+            None => None,
+        }
+    }
+
+    /// The live equation at a place. None exactly where no live equation has it.
+    pub fn line(&self, place: u32) -> Option<&Line>
+        ensures some { IfSome result (λ line. (get self.now.state.equations line.now.serial ≡ Some (live_of line.now)) × (line.now.place ≡ place)) }
+        ensures none { IfNone result ((serial : ℕ) (live : Live) → get self.now.state.equations serial ≡ Some live → live.place ≢ place) }
+    {
+        self.lines.at(place)
+    }
+
+    /// Whether the desk may change: the mark and the farthest position are below 2^61, and fewer than
+    /// 2^62 calls were made that may change it.
+    pub fn room(&self) -> bool
+        ensures room { IsTrue result ↔ HasRoom self.now.state }
+        ensures facts { Holds self.now.state }
+    {
+        let top_has_room = match self.top {
+            Some(top) => top.position < POSITIONS,
+            None => true,
+        };
+        top_has_room && self.row.mark() < POSITIONS && self.calls < CALLS
+    }
+
+    /// Whether a play is due before a datagram of this sequence number is admitted: it lies the depth
+    /// past the mark, or farther.
+    pub fn due(&self, seq: u16) -> bool
+        ensures { IsTrue result ↔ IsDue self.now.state seq }
+    {
+        let Some(top) = self.top else {
+            return false;
+        };
+        match position(top.position, top.seq, seq) {
+            Some(position) => position >= self.row.mark() + u64::from(self.depth),
+            None => false,
+        }
+    }
+
+    /// Admits a media datagram, or says why not.
+    ///
+    /// The share is dropped with every reply but `Admitted`.
+    pub fn admit_media(&mut self, seq: u16, share: Shared) -> Reply
+        requires room { HasRoom self.old.state }
+        requires not_due { ¬ IsDue self.old.state seq }
+        requires media { IsMedia share }
+        ensures state { AdmitsMedia self.old.state seq share result self.new.state }
+        ensures rest { self.new ≡ record self.old { state = self.new.state } }
+    {
+        let Some(top) = self.top else {
+            self.take(0, seq, share);
+            return Reply::Admitted;
+        };
+        let Some(position) = position(top.position, top.seq, seq) else {
+            self.calls += 1;
+            return Reply::Late;
+        };
+        match self.reply_at(position, share.word()) {
+            Reply::Admitted => {
+                self.take(position, seq, share);
+                Reply::Admitted
+            }
+            reply => {
+                self.calls += 1;
+                reply
+            }
+        }
+    }
+
+    /// Admits a parity datagram's equation, or says why not. `base` is the sequence number of its base.
+    ///
+    /// The share is dropped with every reply but `Admitted`.
+    pub fn admit_parity(&mut self, base: u16, shape: Shape, share: Shared) -> Reply
+        requires room { HasRoom self.old.state }
+        requires shape { IsShape shape.offset shape.na }
+        ensures state { AdmitsParity self.old.state
+            (record { base = base; offset = shape.offset; count = shape.na; word = share }) result self.new.state }
+        ensures rest { self.new ≡ record self.old { state = self.new.state } }
+    {
+        let Some(top) = self.top else {
+            self.calls += 1;
+            return Reply::NotStarted;
+        };
+        let Some(base) = position(top.position, top.seq, base) else {
+            self.calls += 1;
+            return Reply::BeforeStart;
+        };
+        match self.equation_reply(base, shape, share.word()) {
+            Reply::Admitted => {
+                self.add(base, shape, share);
+                Reply::Admitted
+            }
+            reply => {
+                self.calls += 1;
+                reply
+            }
+        }
+    }
+
+    /// Plays a window.
+    ///
+    /// The tray then has the words, and which of them were repaired.
+    pub fn play(&mut self, tray: &mut Tray) -> Played
+        requires room { HasRoom self.old.state }
+        requires started { IsSome self.old.state.top }
+        requires tray { self.old.state.window ≤ tray.old.window }
+        ensures play { IsPlay self.old.state.window self.old.state
+            (record { first = result.first; shown = tray.new.shown; outcome = result.verdict }) self.new.state }
+        ensures count { result.count ≡ length tray.new.shown }
+        ensures tray { tray.new.window ≡ tray.old.window }
+        ensures bare { IsBareAfter self.old self.new }
+        ensures epoch { self.new.epoch ≡ epoch_after self.old.epoch result.verdict }
+    {
+        found_words_may_be_known();
+        peelings_fill_the_closure();
+        solved_stays_peeled();
+        let first = self.row.mark();
+        let solved = recover(&mut self.row, &self.lines);
+        let verdict = close(&mut self.row, &mut self.lines, solved, self.window, tray);
+        self.calls += 1;
+        self.epoch = next_epoch(self.epoch, verdict);
+        Played {
+            first,
+            count: self.window,
+            verdict,
+        }
+    }
+
+    /// Plays up to the highest position that has a word or follows, and at most a window. None where
+    /// none is left to be played: then the tray is as it was.
+    pub fn flush_step(&mut self, tray: &mut Tray) -> Option<Played>
+        requires room { HasRoom self.old.state }
+        requires tray { self.old.state.window ≤ tray.old.window }
+        ensures flushes { Flushes self.old.state (option_map (λ played. record {
+            first = played.first;
+            shown = tray.new.shown;
+            outcome = played.verdict;
+        }) result) self.new.state }
+        ensures some { IfSome result (λ played. (played.count ≡ length tray.new.shown)
+            × IsBareAfter self.old self.new × (self.new.epoch ≡ epoch_after self.old.epoch played.verdict)) }
+        ensures none { IfNone result ((self.new ≡ record self.old { state = self.new.state }) × (tray.new ≡ tray.old)) }
+        ensures tray { tray.new.window ≡ tray.old.window }
+    {
+        found_words_may_be_known();
+        peelings_fill_the_closure();
+        solved_stays_peeled();
+        let solved = recover(&mut self.row, &self.lines);
+        let first = self.row.mark();
+        self.calls += 1;
+        let Some(highest) = self.row.highest() else {
+            return None;
+        };
+        let count = u64::from(self.window).min(highest + 1 - first) as u32;
+        let verdict = close(&mut self.row, &mut self.lines, solved, count, tray);
+        self.epoch = next_epoch(self.epoch, verdict);
+        Some(Played {
+            first,
+            count,
+            verdict,
+        })
+    }
+
+    /// Takes a word in at a position that has none.
+    fn take(&mut self, position: u64, seq: u16, share: Shared)
+        requires ahead { self.old.state.mark ≤ position }
+        requires near { position < self.old.state.mark + self.old.state.depth }
+        requires none { get self.old.state.media position ≡ None }
+        requires media { IsMedia share }
+        requires limit { position < 2 ^ 61 + 2 ^ 16 }
+        requires calls { self.old.state.calls < 2 ^ 62 }
+        ensures { self.new ≡ record self.old { state = with_media self.old.state seq position share } }
+    {
+        peelings_stay();
+        receive(&mut self.row, &mut self.lines, position, share);
+        self.top = Some(farther(self.top, Farthest { position, seq }));
+        self.calls += 1;
+    }
+
+    /// Adds an equation to the live ones.
+    fn add(&mut self, base: u64, shape: Shape, share: Shared)
+        requires shape { IsShape shape.offset shape.na }
+        requires base { base ≤ 2 ^ 62 }
+        requires started { IsSome self.old.state.top }
+        requires admitted { IsEquationReply self.old.state
+            (record { base = base; offset = shape.offset; count = shape.na; parity = share }) Reply.Admitted }
+        requires calls { self.old.state.calls < 2 ^ 62 }
+        ensures { (place : ℕ) × IsLeastFree self.old.state place × (self.new ≡ record self.old {
+            state = with_equation self.old.state place
+                (record { base = base; offset = shape.offset; count = shape.na; parity = share });
+        }) }
+    {
+        peelings_stay();
+        self.lines.insert(base, shape, share, self.admitted);
+        self.admitted += 1;
+        self.calls += 1;
+    }
+
+    /// The reply to an equation.
+    fn equation_reply(&self, base: u64, shape: Shape, parity: &Word) -> Reply
+        requires base { base ≤ 2 ^ 62 }
+        requires shape { IsShape shape.offset shape.na }
+        ensures { IsEquationReply self.now.state
+            (record { base = base; offset = shape.offset; count = shape.na; parity = parity.now }) result }
+    {
+        if self.is_late(base, shape) {
+            return Reply::Late;
+        }
+        if last(base, shape) >= self.row.mark() + u64::from(self.depth) + KEPT {
+            return Reply::Ahead;
+        }
+        match self.lines.find(base, shape) {
+            Some(line) if line.parity.word().same(parity) => Reply::Duplicate,
+            Some(_) => Reply::Conflict,
+            None if self.lines.count() >= LIVE_LIMIT => Reply::Crowded,
+            None => Reply::Admitted,
+        }
+    }
+
+    /// Whether all slots of an equation are played, or the word at one that is played isn't kept.
+    fn is_late(&self, base: u64, shape: Shape) -> bool
+        requires base { base ≤ 2 ^ 62 }
+        requires shape { IsShape shape.offset shape.na }
+        ensures { IsTrue result ↔ IsLateAt self.now.state base shape.offset shape.na }
+    {
+        last(base, shape) < self.row.mark() || lost_slot(base, shape, &self.row).is_some()
+    }
+
+    /// The reply to a word that comes for a position.
+    fn reply_at(&self, position: u64, word: &Word) -> Reply
+        ensures { IsReplyAt self.now.state position word.now result }
+    {
+        if position < self.row.mark() {
+            return Reply::Late;
+        }
+        match self.row.word(position) {
+            None => Reply::Admitted,
+            Some(other) if other.same(word) => Reply::Duplicate,
+            Some(_) => Reply::Conflict,
+        }
+    }
+}
+
+/// The farther of two datagrams.
+fn farther(top: Option<Farthest>, new: Farthest) -> Farthest
+    ensures { Some (top_of result) ≡ farther_top (option_map top_of top) (top_of new) }
+{
+    match top {
+        Some(top) if top.position >= new.position => top,
+        _ => new,
+    }
+}
+
+/// The epoch after a play.
+fn next_epoch(epoch: u64, verdict: Outcome) -> u64
+    requires { epoch ≤ 2 ^ 62 }
+    ensures { result ≡ epoch_after epoch verdict }
+{
+    match verdict {
+        Outcome::Repaired => epoch,
+        Outcome::Inconsistent => epoch + 1,
+    }
+}

@@ -1,0 +1,14 @@
+//! A desk: one flow's window state.
+#![tactic(auto)]
+
+mod desk;
+pub mod laws;
+mod lines;
+mod reply;
+mod row;
+mod tray;
+mod window;
+
+pub use desk::{Desk, Played};
+pub use reply::{Outcome, Reply};
+pub use tray::Tray;

@@ -1,0 +1,367 @@
+//! The row of entries around the mark.
+
+ghost use Rattle.std.specs.Prelude.{◌≡◌, ◌+◌, ◌<◌, ◌≤◌, ◌^◌, ◌↔◌, ◌++◌, ◌∷◌, [], ℕ, pos, ◌-ℤ◌, length, slice_index_or, unwrap_or, Option, None, IsSome, IsTrue, IfOk, IfSome, IfNone};
+ghost use Rattle.std.specs.Option.{option_copied};
+ghost use Rattle.std.specs.FinMap.{empty};
+ghost use Rattle.fg_shape.specs.Shape.{IsShape};
+ghost use Rattle.fg_peel.specs.Solution.{IsSolution};
+ghost use Rattle.fg_peel.specs.Equation.{AreMedia, IsComplete};
+ghost use Rattle.fg_peel.specs.Peeling.{EndsPeeling};
+ghost use Rattle.fg_peel.specs.Slots.{word_in, equation_of, equations_of};
+ghost use Rattle.fg_desk.specs.Row.{opened_row, row_words, row_known, row_shared, IsRow, receives, AllLieIn, IsHighestWord, Shows, Advances};
+ghost use Rattle.fg_desk.specs.RowEntries.{entry_at, words_of, row_of, received_in, shown_in, AreEntries, Recovers, ShowsEntries, IsLastWord, HasNoWordFrom, ForgetsFound};
+
+use crate::tray::Tray;
+use fg_peel::{Line, Slot, Verdict, peel};
+use fg_shape::slot;
+use fg_words::{Shared, Word};
+use slab::Slab;
+use std::alloc::{AllocError, Global};
+use std::marker::Model;
+use std::mem;
+
+/// How many positions before the mark have entries.
+const KEPT: usize = 100;
+
+/// The entries of the 100 positions before the mark and of those from the mark on. An entry is
+/// 1.3 kB.
+///
+/// Before the mark an entry has the share of a kept word, or a kept word that stands alone. From
+/// the mark on it has the share of a received word, or a word that was found ahead of its play.
+/// Entries for positions below 0 are empty.
+#[derive(Drop)]
+pub(crate) struct Row {
+    mark: u64,
+    slots: Vec<Slot>,
+}
+
+impl Model for Row {
+    ghost use Rattle.fg_desk.specs.Row.{RowState};
+    ghost use Rattle.fg_desk.specs.RowEntries.{row_code, row_of, AreEntries};
+
+    ghost Value = { RowState };
+
+    ghost coded = { row_code };
+
+    ghost view = { λ a. row_of a.mark a.slots.items };
+
+    ghost invariant = { λ a. AreEntries a.mark a.slots.items };
+}
+
+impl Row {
+    /// A row that reaches 100 positions past the depth. All its memory is taken here.
+    pub(crate) fn new(alloc: Global, depth: u32) -> Result<Row, AllocError>
+        requires { depth ≤ 1000 }
+        ensures { IfOk result (λ row. row ≡ opened_row (depth + 100)) }
+    {
+        let count = KEPT + depth as usize + 100;
+        let mut slots = Vec::with_capacity(alloc, count)?;
+        for _ in 0..count {
+            slots.push(Slot::Empty)?;
+        }
+        Ok(Row { mark: 0, slots })
+    }
+
+    /// The first position that isn't played yet.
+    pub(crate) fn mark(&self) -> u64
+        ensures value { result ≡ self.now.mark }
+        ensures facts { IsRow self.now }
+    {
+        self.mark
+    }
+
+    /// The word that is kept or was received at a position.
+    pub(crate) fn word(&self, position: u64) -> Option<&Word>
+        ensures { option_copied result ≡ row_known self.now position }
+    {
+        if position < self.mark {
+            return self.any_word(position);
+        }
+        match self.share(position) {
+            Some(share) => Some(share.word()),
+            None => None,
+        }
+    }
+
+    /// The share of that word, where there is one.
+    pub(crate) fn share(&self, position: u64) -> Option<&Shared>
+        ensures { option_copied result ≡ row_shared self.now position }
+    {
+        share_at(self.mark, &self.slots, position)
+    }
+
+    /// The word at a position, also where it was found ahead of its play.
+    pub(crate) fn any_word(&self, position: u64) -> Option<&Word>
+        ensures { option_copied result ≡ row_words self.now position }
+    {
+        word_at(self.mark, &self.slots, position)
+    }
+
+    /// Whether all slots of a line have words.
+    pub(crate) fn is_complete(&self, line: &Line) -> bool
+        requires shape { IsShape line.now.shape.offset line.now.shape.na }
+        requires base { line.now.base ≤ 2 ^ 62 }
+        ensures { IsTrue result ↔ IsComplete (row_words self.now) (equation_of line.now) }
+    {
+        for j in 0..line.shape.na {
+            if self.any_word(slot(line.base, line.shape, j)).is_none() {
+                return false;
+            }
+        }
+        true
+    }
+
+    /// The greatest position with a word, at the mark or past it.
+    pub(crate) fn highest(&self) -> Option<u64>
+        ensures some { IfSome result (IsHighestWord self.now) }
+        ensures none { IfNone result ((position : ℕ) → self.now.mark ≤ position
+            → row_words self.now position ≡ None) }
+    {
+        match last_word(&self.slots) {
+            Some(last) => Some(self.mark + (last - KEPT) as u64),
+            None => None,
+        }
+    }
+
+    /// Puts a received word at a position. A word that was found there goes.
+    pub(crate) fn put_media(&mut self, position: u64, share: Shared)
+        requires ahead { self.old.mark ≤ position }
+        requires near { position < self.old.mark + self.old.reach }
+        ensures { self.new ≡ receives self.old position share }
+    {
+        let index = (position - self.mark) as usize + KEPT;
+        self.slots[index] = Slot::Media(share);
+    }
+
+    /// Forgets each word that was found ahead of its play.
+    pub(crate) fn forget_cached(&mut self)
+        ensures { self.new ≡ record self.old { cached = empty } }
+    {
+        forget_filled(&mut self.slots);
+    }
+
+    /// Finds each word that follows from the row's words and the lines, and tells whether they have
+    /// a solution. The words are then that solution.
+    pub(crate) fn recover(&mut self, lines: &Slab<Line>) -> bool
+        requires within { AllLieIn self.old lines.now }
+        requires media { AreMedia (row_words self.old) }
+        ensures rest { self.new ≡ record self.old { cached = self.new.cached } }
+        ensures peeling { EndsPeeling (equations_of lines.now)
+            (row_words self.old) (row_words self.new) }
+        ensures solved { IsTrue result
+            → IsSolution (row_words self.old) (equations_of lines.now) (row_words self.new) }
+        ensures solvable { (solution : ℕ → Option Word)
+            → IsSolution (row_words self.old) (equations_of lines.now) solution
+            → IsTrue result × (row_words self.new ≡ solution) }
+    {
+        recover_words(self.mark, &mut self.slots, lines)
+    }
+
+    /// Copies the words at the first positions from the mark on to a tray.
+    pub(crate) fn show(&self, count: u32, tray: &mut Tray)
+        requires room { count ≤ tray.old.window }
+        requires near { count ≤ self.now.reach }
+        ensures shows { Shows self.now count tray.new.shown }
+        ensures window { tray.new.window ≡ tray.old.window }
+    {
+        show_entries(&self.slots, count, tray);
+    }
+
+    /// Moves the mark on. What is played stays as long as it is kept.
+    pub(crate) fn advance(&mut self, count: u32)
+        requires some { 1 ≤ count }
+        requires near { count ≤ self.old.reach }
+        requires limit { self.old.mark + count + self.old.reach + 100 ≤ 2 ^ 62 }
+        ensures { Advances count self.old self.new }
+    {
+        shift_down(&mut self.slots, count as usize);
+        self.mark += u64::from(count);
+    }
+}
+
+/// The entry of a position, where the row has one.
+fn entry(mark: u64, slots: &[Slot], position: u64) -> Option<&Slot>
+    requires { mark + length slots.now ≤ 2 ^ 62 }
+    ensures { unwrap_or (option_copied result) Slot.Empty ≡ entry_at mark slots.now position }
+{
+    let index = position.checked_add(KEPT as u64)?.checked_sub(mark)?;
+    slots.get(index as usize)
+}
+
+/// The word at a position.
+fn word_at(mark: u64, slots: &[Slot], position: u64) -> Option<&Word>
+    requires { mark + length slots.now ≤ 2 ^ 62 }
+    ensures { option_copied result ≡ word_in (entry_at mark slots.now position) }
+{
+    match entry(mark, slots, position) {
+        Some(slot) => slot.word(),
+        None => None,
+    }
+}
+
+/// The share at a position.
+fn share_at(mark: u64, slots: &[Slot], position: u64) -> Option<&Shared>
+    requires { mark + length slots.now ≤ 2 ^ 62 }
+    ensures { option_copied result ≡ received_in (entry_at mark slots.now position) }
+{
+    match entry(mark, slots, position) {
+        Some(slot) => share_of(slot),
+        None => None,
+    }
+}
+
+/// The share of an entry that has a kept or a received word.
+fn share_of(slot: &Slot) -> Option<&Shared>
+    ensures { option_copied result ≡ received_in slot.now }
+{
+    match slot {
+        Slot::Media(share) => Some(share),
+        Slot::Empty | Slot::Solved(_) | Slot::Filled(_) => None,
+    }
+}
+
+/// The position of the first entry.
+fn low_of(mark: u64) -> i64
+    requires { mark ≤ 2 ^ 62 }
+    ensures { result ≡ (pos mark -ℤ pos 100) }
+{
+    mark as i64 - KEPT as i64
+}
+
+/// Peels the entries, and tells whether there is a solution.
+fn recover_words(mark: u64, slots: &mut [Slot], lines: &Slab<Line>) -> bool
+    requires entries { AreEntries mark slots.old }
+    requires within { AllLieIn (row_of mark slots.old) lines.now }
+    requires media { AreMedia (words_of mark slots.old) }
+    ensures { Recovers mark lines.now slots.old slots.new result }
+{
+    match peel(low_of(mark), slots, lines) {
+        Verdict::Sound => true,
+        _ => false,
+    }
+}
+
+/// The last entry with a word, from the mark on.
+fn last_word(slots: &[Slot]) -> Option<usize>
+    ensures some { IfSome result (IsLastWord slots.now) }
+    ensures none { IfNone result (HasNoWordFrom slots.now KEPT) }
+{
+    for i in (KEPT..slots.len()).rev() {
+        if slots[i].word().is_some() {
+            return Some(i);
+        }
+    }
+    None
+}
+
+/// Empties each entry from the mark on that has a word of its own.
+fn forget_filled(slots: &mut [Slot])
+    ensures { ForgetsFound slots.old slots.new }
+{
+    for i in KEPT..slots.len() {
+        if let Slot::Filled(_) = slots[i] {
+            slots[i] = Slot::Empty;
+        }
+    }
+}
+
+/// Shows the word of an entry at a tray's next position.
+fn show_entry(slot: &Slot, tray: &mut Tray)
+    requires { length tray.old.shown < tray.old.window }
+    ensures { tray.new ≡ record tray.old { shown = tray.old.shown ++ shown_in slot.now ∷ [] } }
+{
+    match slot {
+        Slot::Empty => tray.show(None, false),
+        Slot::Media(share) => tray.show(Some(share.word()), false),
+        Slot::Solved(share) => tray.show(Some(share.word()), true),
+        Slot::Filled(word) => tray.show(Some(word), true),
+    }
+}
+
+/// Shows the first `count` entries from the mark on.
+fn show_entries(slots: &[Slot], count: u32, tray: &mut Tray)
+    requires room { count ≤ tray.old.window }
+    requires within { KEPT + count ≤ length slots.now }
+    ensures shows { ShowsEntries slots.now count tray.new.shown }
+    ensures window { tray.new.window ≡ tray.old.window }
+{
+    tray.clear();
+    for i in 0..count {
+        show_entry(&slots[KEPT + i as usize], tray);
+    }
+}
+
+/// Moves each entry to the place `count` before it. The first `count` entries go, and the last ones
+/// are then empty.
+fn shift_down(slots: &mut [Slot], count: usize)
+    requires some { 1 ≤ count }
+    requires within { count ≤ length slots.old }
+    ensures { (k : ℕ) → slice_index_or slots.new k Slot.Empty
+        ≡ slice_index_or slots.old (k + count) Slot.Empty }
+{
+    let rest = slots.len() - count;
+    take_later(slots, count, rest);
+    empty_from(slots, rest);
+}
+
+/// Moves what the entries `count` places later have to each of the first `rest` entries.
+fn take_later(slots: &mut [Slot], count: usize, rest: usize)
+    requires some { 1 ≤ count }
+    requires within { rest + count ≤ length slots.old }
+    ensures { (k : ℕ) → k < rest
+        → slice_index_or slots.new k Slot.Empty ≡ slice_index_or slots.old (k + count) Slot.Empty }
+{
+    for i in 0..rest {
+        let (front, back) = slots.split_at_mut(i + count);
+        take_entry(&mut front[i], &mut back[0]);
+    }
+}
+
+/// Puts into an entry what another has, which is then to be written anew. A word that has a share
+/// is moved as the share.
+fn take_entry(slot: &mut Slot, other: &mut Slot)
+    ensures { slot.new ≡ other.old }
+{
+    match other {
+        Slot::Empty => clear_entry(slot),
+        Slot::Media(later) => {
+            if let Slot::Media(share) = slot {
+                mem::swap(share, later);
+            } else {
+                take_share(slot, other);
+            }
+        }
+        Slot::Solved(_) | Slot::Filled(_) => mem::swap(slot, other),
+    }
+}
+
+/// Moves the share of an entry to another one. Nothing else of the entry is copied.
+fn take_share(slot: &mut Slot, other: &mut Slot)
+    requires { IsSome (received_in other.old) }
+    ensures { slot.new ≡ other.old }
+{
+    if let Slot::Media(share) = mem::replace(other, Slot::Empty) {
+        *slot = Slot::Media(share);
+    }
+}
+
+/// Empties an entry. One that is empty is left alone, since a write costs as much as a word.
+fn clear_entry(slot: &mut Slot)
+    ensures { slot.new ≡ Slot.Empty }
+{
+    match slot {
+        Slot::Empty => {}
+        _ => *slot = Slot::Empty,
+    }
+}
+
+/// Empties the entries from this one on.
+fn empty_from(slots: &mut [Slot], first: usize)
+    ensures below { (k : ℕ) → k < first
+        → slice_index_or slots.new k Slot.Empty ≡ slice_index_or slots.old k Slot.Empty }
+    ensures above { (k : ℕ) → first ≤ k → slice_index_or slots.new k Slot.Empty ≡ Slot.Empty }
+{
+    for i in first..slots.len() {
+        clear_entry(&mut slots[i]);
+    }
+}

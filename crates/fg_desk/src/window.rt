@@ -1,0 +1,112 @@
+//! What the row and the live equations do together.
+
+ghost use Rattle.std.specs.Prelude.{◌≡◌, ◌⊎◌, ◌+◌, ◌<◌, ◌≤◌, ◌^◌, ◌↔◌, length, IsTrue};
+ghost use Rattle.fg_peel.specs.Equation.{AreMedia, IsComplete, IsSettled};
+ghost use Rattle.fg_desk.specs.declared.reply.Outcome.{Outcome as OutcomeValue};
+ghost use Rattle.fg_desk.specs.Row.{row_words};
+ghost use Rattle.fg_desk.specs.Lines.{no_lines};
+ghost use Rattle.fg_desk.specs.Window.{equations_in, AreInRow, EachSettled, IsRecovered, Keeps, Passes, Closes, TakesWord, TakesAnew, IsOther, without_found};
+
+use crate::lines::Lines;
+use crate::reply::Outcome;
+use crate::row::Row;
+use crate::tray::Tray;
+use fg_peel::laws::{peelings_fill_the_closure, peelings_stay, settled_equations_add_nothing};
+use fg_words::Shared;
+
+/// Finds each word that follows from the row's words and the live equations, and tells whether they
+/// have a solution.
+pub(crate) fn recover(row: &mut Row, lines: &Lines) -> bool
+    requires within { AreInRow row.old lines.now }
+    requires media { AreMedia (row_words row.old) }
+    requires settled { EachSettled lines.now (IsSettled (row_words row.old)) }
+    ensures { IsRecovered (equations_in lines.now) row.old row.new result }
+{
+    settled_equations_add_nothing();
+    peelings_fill_the_closure();
+    peelings_stay();
+    if lines.none_open() {
+        return true;
+    }
+    row.recover(lines.open())
+}
+
+/// Plays the first `count` positions. `solved` tells that the row's words are a solution.
+pub(crate) fn close(row: &mut Row, lines: &mut Lines, solved: bool, count: u32, tray: &mut Tray) -> Outcome
+    requires some { 1 ≤ count }
+    requires room { count ≤ tray.old.window }
+    requires near { count ≤ row.old.reach }
+    requires limit { row.old.mark + count + row.old.reach + 100 ≤ 2 ^ 62 }
+    requires within { AreInRow row.old lines.old }
+    requires settled { EachSettled lines.old (IsComplete (row_words row.old)) }
+    ensures closes { Closes result count row.old lines.old row.new lines.new tray.new.shown }
+    ensures outcome { (result ≡ Outcome.Repaired) ↔ IsTrue solved }
+    ensures window { tray.new.window ≡ tray.old.window }
+{
+    if solved {
+        show_repaired(row, lines, count, tray);
+        Outcome::Repaired
+    } else {
+        show_received(row, lines, count, tray);
+        Outcome::Inconsistent
+    }
+}
+
+/// Shows the row's words at the first `count` positions. Those equations stay live that survive.
+fn show_repaired(row: &mut Row, lines: &mut Lines, count: u32, tray: &mut Tray)
+    requires some { 1 ≤ count }
+    requires room { count ≤ tray.old.window }
+    requires near { count ≤ row.old.reach }
+    requires limit { row.old.mark + count + row.old.reach + 100 ≤ 2 ^ 62 }
+    requires within { AreInRow row.old lines.old }
+    requires settled { EachSettled lines.old (IsComplete (row_words row.old)) }
+    ensures passes { Passes count row.old row.new tray.new.shown }
+    ensures lines { Keeps (row_words row.old) row.new.mark row.new.kept lines.old lines.new }
+    ensures window { tray.new.window ≡ tray.old.window }
+{
+    lines.settle(row);
+    row.show(count, tray);
+    row.advance(count);
+    lines.retire(row);
+}
+
+/// Shows the received words at the first `count` positions. No equation stays live.
+fn show_received(row: &mut Row, lines: &mut Lines, count: u32, tray: &mut Tray)
+    requires some { 1 ≤ count }
+    requires room { count ≤ tray.old.window }
+    requires near { count ≤ row.old.reach }
+    requires limit { row.old.mark + count + row.old.reach + 100 ≤ 2 ^ 62 }
+    ensures passes { Passes count (without_found row.old) row.new tray.new.shown }
+    ensures lines { lines.new ≡ no_lines }
+    ensures window { tray.new.window ≡ tray.old.window }
+{
+    row.forget_cached();
+    lines.clear();
+    row.show(count, tray);
+    row.advance(count);
+}
+
+/// Takes a word in at a position. Where another word was found there ahead of its play, nothing that
+/// was found is right any more.
+pub(crate) fn receive(row: &mut Row, lines: &mut Lines, position: u64, share: Shared)
+    requires ahead { row.old.mark ≤ position }
+    requires near { position < row.old.mark + row.old.reach }
+    ensures { TakesWord position share row.old row.new lines.old lines.new
+        ⊎ TakesAnew position share row.old row.new lines.old lines.new }
+{
+    if is_other(row, position, &share) {
+        row.forget_cached();
+        lines.reopen(row);
+    }
+    row.put_media(position, share);
+}
+
+/// Whether the row has another word at a position.
+fn is_other(row: &Row, position: u64, share: &Shared) -> bool
+    ensures { IsOther (row_words row.now position) share.now result }
+{
+    match row.any_word(position) {
+        Some(found) => !found.same(share.word()),
+        None => false,
+    }
+}
