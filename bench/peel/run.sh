@@ -7,7 +7,7 @@ here=$(cd "$(dirname "$0")" && pwd)
 top=$(cd "$here/../.." && pwd)
 work=$(mktemp -d)
 trap 'rm -rf "$work"' EXIT
-mkdir -p "$work/crates/peel_times/src" "$work/crates/peel_times/proofs/lines_fit"
+mkdir -p "$work/crates/peel_times/src" "$work/crates/peel_times/proofs"
 for crate in fg_words fg_shape fg_peel; do
     tar -C "$top/crates" --exclude=out --exclude=must-fail -cf - "$crate" | tar -C "$work/crates" -xf -
 done
@@ -16,9 +16,9 @@ echo 'peel_times: fg_words fg_shape fg_peel slab' >> "$work/crates.txt"
 cp "$top/HANDLES" "$work/"
 cp "$here/program.txt" "$work/crates/peel_times/src/main.rt"
 # The walk through the lines is proved as in the peeler's own tests.
-for part in Invariants Answers; do
-    sed 's/fg_peel\.proofs\.tests\.lines_fit/peel_times.proofs.lines_fit/' \
-        "$top/crates/fg_peel/proofs/tests/lines_fit/$part.antt" > "$work/crates/peel_times/proofs/lines_fit/$part.antt"
+for name in line_fits lines_fit; do
+    cp -r "$top/crates/fg_peel/proofs/tests/$name" "$work/crates/peel_times/proofs/"
+    sed -i "s/fg_peel\.proofs\.tests\.$name/peel_times.proofs.$name/" "$work/crates/peel_times/proofs/$name"/*.antt
 done
 cd "$work/crates/peel_times"
 rt run

@@ -5,6 +5,11 @@ pub mod Equations
 pub mod Flushing
 pub mod Following
 pub mod Joining
+pub mod LinesCalls
+pub mod LinesLists
+pub mod LinesMoves
+pub mod LinesSearch
+pub mod LinesViews
 pub mod Lists
 pub mod OnePlay
 pub mod OneRun
@@ -14,7 +19,6 @@ pub mod Orderly
 pub mod OrderlyAdmissions
 pub mod Parities
 pub mod Peeled
-pub mod Peelings
 pub mod Places
 pub mod PlayKeeps
 pub mod Plays

@@ -1,7 +1,7 @@
 -- What a change of the entries does to a row.
-use Rattle.std.proofs.Common.{◌≡◌, ◌≢◌, ◌⊎◌, ◌+◌, ◌-◌, ◌<◌, ◌≤◌, ◌^◌, ℕ, Bool, true, false, ◌&&◌, not, is_some, IsSome, List, length, get_or, set, Option, Some, None, nat_lt, nat_le, if◌then◌else◌, cond, refl, sym, ap, ◌∙◌, ⊎_elim, subst, arith}
+use Rattle.std.proofs.Common.{◌≡◌, ◌≢◌, ◌+◌, ◌-◌, ◌<◌, ◌≤◌, ◌^◌, ℕ, true, false, ◌&&◌, not, is_some, List, length, get_or, set, Option, None, nat_lt, nat_le, if◌then◌else◌, cond, refl, sym, ap, ◌∙◌, ⊎_elim, arith}
 use Rattle.std.proofs.lemmas.Bool.{cases_lt, cases_eq, le-leb, lt-leb, lt-ltb, le-ltb}
-use Rattle.std.proofs.lemmas.List.{get_or_past, get_or-set_same, get_or-set_other, length-set}
+use Rattle.std.proofs.lemmas.List.{get_or-set_same, get_or-set_other, length-set}
 use Rattle.std.specs.Ordering.{nat_cmp}
 use Rattle.std.specs.FinMap as map
 use Rattle.std.specs.FinSet as set
@@ -9,11 +9,11 @@ use Rattle.fg_words.specs.declared.Word.{Word}
 use Rattle.fg_peel.specs.declared.Slot.{Slot}
 use Rattle.fg_peel.specs.declared.Slot.TheVariants.{Empty, Media, Solved, Filled}
 use Rattle.fg_peel.specs.Slots.{word_in}
-use Rattle.fg_desk.specs.Play.{Shown, nothing_shown}
-use Rattle.fg_desk.specs.Row.{RowState, row_words, row_shows, receives, Shows, Advances, IsHighestWord, opened_row}
-use Rattle.fg_desk.specs.RowEntries.{entry_at, received_in, found_in, is_alone, kept_at, received_at, found_at, bare_at, row_of, AreEntries, forgotten, ForgetsFound, shown_in, ShowsEntries, HasNoWordFrom, IsLastWord}
+use Rattle.fg_desk.specs.Play.{Shown}
+use Rattle.fg_desk.specs.Row.{row_words, receives, Shows, Advances, IsHighestWord, opened_row}
+use Rattle.fg_desk.specs.RowEntries.{entry_at, received_in, found_in, is_alone, row_of, AreEntries, forgotten, ForgetsFound, ShowsEntries, HasNoWordFrom, IsLastWord}
 use Rattle.fg_desk.proofs.RowMaps.{if-less, if-not_less, get-insert_same, get-insert_other, get-remove_same, get-remove_other}
-use Rattle.fg_desk.proofs.RowViews.{entry_at-row, entry_at-before, entry_at-past, get-kept, get-media, get-cached, contains-bare, same_row, row_words-entry, entry_own, none_not_some, some_along}
+use Rattle.fg_desk.proofs.RowViews.{entry_at-row, entry_at-before, get-kept, get-media, get-cached, contains-bare, same_row, row_words-entry, entry_own, none_not_some, some_along}
 
 -- A word was received.
 module _ (mark : ℕ) (entries : List Slot) (q : ℕ) (word : Word) (are : AreEntries mark entries) (ahead : mark ≤ q) (near : q < mark + (length entries - 100)) where
@@ -222,122 +222,122 @@ module _
     (mark count : ℕ) (old new : List Slot) (are : AreEntries mark old) (size : length new ≡ length old)
     (shifts : (k : ℕ) → get_or new k Empty ≡ get_or old (k + count) Empty)
     (limit : mark + count + length old ≤ 2 ^ 62)
-    where
+  where
+    shifted : (p : ℕ) → mark + count ≤ p + 100 → entry_at (mark + count) new p ≡ entry_at mark old p
+    shifted p from =
+        let index : p + 100 - (mark + count) + count ≡ p + 100 - mark = omega arith in
+        let up : mark ≤ p + 100 = omega arith in
+        entry_at-row (mark + count) new p from ∙ shifts (p + 100 - (mark + count)) ∙ ap (λ k. get_or old k Empty) index
+        ∙ sym (entry_at-row mark old p up)
 
-  shifted : (p : ℕ) → mark + count ≤ p + 100 → entry_at (mark + count) new p ≡ entry_at mark old p
-  shifted p from =
-      let index : p + 100 - (mark + count) + count ≡ p + 100 - mark = omega arith in
-      let up : mark ≤ p + 100 = omega arith in
-      entry_at-row (mark + count) new p from ∙ shifts (p + 100 - (mark + count)) ∙ ap (λ k. get_or old k Empty) index
-      ∙ sym (entry_at-row mark old p up)
+    pub shifted_are : AreEntries (mark + count) new
+    shifted_are = record {
+      some = omega (arith, are.some, size);
+      limit = omega (arith, limit, size);
+      below = λ i less. shifts i ∙ are.below (i + count) (omega (arith, less));
+      own = λ i word is. are.own (i + count) word (sym (shifts i) ∙ is);
+    }
 
-  pub shifted_are : AreEntries (mark + count) new
-  shifted_are = record {
-    some = omega (arith, are.some, size);
-    limit = omega (arith, limit, size);
-    below = λ i less. shifts i ∙ are.below (i + count) (omega (arith, less));
-    own = λ i word is. are.own (i + count) word (sym (shifts i) ∙ is);
-  }
+    kept_after :
+        (p : ℕ) → map.get (row_of (mark + count) new).kept p
+        ≡ (if nat_lt p (mark + count) && nat_le (mark + count) (p + 100) then row_words (row_of mark old) p else None)
+    kept_after p =
+        let b = nat_le (mark + count) (p + 100) in
+        let words = row_words (row_of mark old) p in
+        get-kept (mark + count) new p
+        ∙ ⊎_elim
+        (λ before.
+        if-less p (mark + count) _ None before
+        ∙ ⊎_elim
+        (λ far.
+        ap word_in (entry_at-before (mark + count) new p far)
+        ∙ sym (ap (λ c. cond (c && b) words None) (lt_is p before) ∙ ap (λ c. cond c words None) (lt-leb (mark + count) (p + 100) far)))
+        (λ near.
+        ap word_in (shifted p near) ∙ sym (row_words-entry mark old are p)
+        ∙ sym (ap (λ c. cond (c && b) words None) (lt_is p before) ∙ ap (λ c. cond c words None) (le-leb (mark + count) (p + 100) near)))
+        (cases_lt (p + 100) (mark + count)))
+        (λ from. if-not_less p (mark + count) _ None from ∙ sym (ap (λ c. cond (c && b) words None) (ge_is p from)))
+        (cases_lt p (mark + count))
+      where
+        lt_is : (p : ℕ) → p < mark + count → nat_lt p (mark + count) ≡ true
+        lt_is p before = lt-ltb p (mark + count) before
 
-  kept_after :
-      (p : ℕ) → map.get (row_of (mark + count) new).kept p
-      ≡ (if nat_lt p (mark + count) && nat_le (mark + count) (p + 100) then row_words (row_of mark old) p else None)
-  kept_after p =
-      let b = nat_le (mark + count) (p + 100) in
-      let words = row_words (row_of mark old) p in
-      get-kept (mark + count) new p
-      ∙ ⊎_elim
-      (λ before.
-      if-less p (mark + count) _ None before
-      ∙ ⊎_elim
-      (λ far.
-      ap word_in (entry_at-before (mark + count) new p far)
-      ∙ sym (ap (λ c. cond (c && b) words None) (lt_is p before) ∙ ap (λ c. cond c words None) (lt-leb (mark + count) (p + 100) far)))
-      (λ near.
-      ap word_in (shifted p near) ∙ sym (row_words-entry mark old are p)
-      ∙ sym (ap (λ c. cond (c && b) words None) (lt_is p before) ∙ ap (λ c. cond c words None) (le-leb (mark + count) (p + 100) near)))
-      (cases_lt (p + 100) (mark + count)))
-      (λ from. if-not_less p (mark + count) _ None from ∙ sym (ap (λ c. cond (c && b) words None) (ge_is p from)))
-      (cases_lt p (mark + count))
-    where
-      lt_is : (p : ℕ) → p < mark + count → nat_lt p (mark + count) ≡ true
-      lt_is p before = lt-ltb p (mark + count) before
-      ge_is : (p : ℕ) → mark + count ≤ p → nat_lt p (mark + count) ≡ false
-      ge_is p from = le-ltb p (mark + count) from
+        ge_is : (p : ℕ) → mark + count ≤ p → nat_lt p (mark + count) ≡ false
+        ge_is p from = le-ltb p (mark + count) from
 
-  ahead_after :
-      (f : Slot → Option Word) (p : ℕ)
-      → (if nat_lt p (mark + count) then None else f (entry_at (mark + count) new p))
-      ≡ (if nat_lt p (mark + count) then None else (if nat_lt p mark then None else f (entry_at mark old p)))
-  ahead_after f p =
-      ⊎_elim
-      (λ before. if-less p (mark + count) None _ before ∙ sym (if-less p (mark + count) None _ before))
-      (λ from.
-      let up : mark + count ≤ p + 100 = omega arith in
-      let past : mark ≤ p = omega arith in
-      if-not_less p (mark + count) None _ from ∙ ap f (shifted p up)
-      ∙ sym (if-not_less p (mark + count) None _ from ∙ if-not_less p mark None _ past))
-      (cases_lt p (mark + count))
+    ahead_after :
+        (f : Slot → Option Word) (p : ℕ)
+        → (if nat_lt p (mark + count) then None else f (entry_at (mark + count) new p))
+        ≡ (if nat_lt p (mark + count) then None else (if nat_lt p mark then None else f (entry_at mark old p)))
+    ahead_after f p =
+        ⊎_elim
+        (λ before. if-less p (mark + count) None _ before ∙ sym (if-less p (mark + count) None _ before))
+        (λ from.
+        let up : mark + count ≤ p + 100 = omega arith in
+        let past : mark ≤ p = omega arith in
+        if-not_less p (mark + count) None _ from ∙ ap f (shifted p up)
+        ∙ sym (if-not_less p (mark + count) None _ from ∙ if-not_less p mark None _ past))
+        (cases_lt p (mark + count))
 
-  -- the kept word, and whether it stands alone, at a position that was played
-  bare_near :
-      (p : ℕ) → p < mark + count → mark + count ≤ p + 100
-      → set.contains (row_of (mark + count) new).bare p
-      ≡ (is_some (map.get (row_of (mark + count) new).kept p)
+    -- the kept word, and whether it stands alone, at a position that was played
+    bare_near :
+        (p : ℕ) → p < mark + count → mark + count ≤ p + 100
+        → set.contains (row_of (mark + count) new).bare p
+        ≡ (is_some (map.get (row_of (mark + count) new).kept p)
         && (if nat_lt p mark then set.contains (row_of mark old).bare p else not (is_some (map.get (row_of mark old).media p))))
-  bare_near p before near =
-      let e = entry_at mark old p in
-      let r = (if nat_lt p mark then set.contains (row_of mark old).bare p else not (is_some (map.get (row_of mark old).media p))) in
-      let kept : map.get (row_of (mark + count) new).kept p ≡ word_in e =
-      get-kept (mark + count) new p ∙ if-less p (mark + count) _ None before ∙ ap word_in (shifted p near) in
-      contains-bare (mark + count) new p ∙ if-less p (mark + count) _ false before ∙ ap is_alone (shifted p near)
-      ∙ ⊎_elim
-      (λ low.
-      let is : r ≡ is_alone e =
-      if-less p mark _ _ low ∙ contains-bare mark old p ∙ if-less p mark _ false low in
-      alone_is e ∙ ap (λ b. is_some (word_in e) && b) (sym is))
-      (λ high.
-      let is : r ≡ not (is_some (received_in e)) =
-      if-not_less p mark _ _ high ∙ ap (λ o. not (is_some o)) (get-media mark old p ∙ if-not_less p mark None _ high) in
-      alone_not_received e (entry_own mark old are p) ∙ ap (λ b. is_some (word_in e) && b) (sym is))
-      (cases_lt p mark)
-      ∙ ap (λ o. is_some o && r) (sym kept)
+    bare_near p before near =
+        let e = entry_at mark old p in
+        let r = (if nat_lt p mark then set.contains (row_of mark old).bare p else not (is_some (map.get (row_of mark old).media p))) in
+        let kept : map.get (row_of (mark + count) new).kept p ≡ word_in e =
+        get-kept (mark + count) new p ∙ if-less p (mark + count) _ None before ∙ ap word_in (shifted p near) in
+        contains-bare (mark + count) new p ∙ if-less p (mark + count) _ false before ∙ ap is_alone (shifted p near)
+        ∙ ⊎_elim
+        (λ low.
+        let is : r ≡ is_alone e =
+        if-less p mark _ _ low ∙ contains-bare mark old p ∙ if-less p mark _ false low in
+        alone_is e ∙ ap (λ b. is_some (word_in e) && b) (sym is))
+        (λ high.
+        let is : r ≡ not (is_some (received_in e)) =
+        if-not_less p mark _ _ high ∙ ap (λ o. not (is_some o)) (get-media mark old p ∙ if-not_less p mark None _ high) in
+        alone_not_received e (entry_own mark old are p) ∙ ap (λ b. is_some (word_in e) && b) (sym is))
+        (cases_lt p mark)
+        ∙ ap (λ o. is_some o && r) (sym kept)
 
-  bare_after :
-      (p : ℕ) → set.contains (row_of (mark + count) new).bare p
-      ≡ (is_some (map.get (row_of (mark + count) new).kept p)
+    bare_after :
+        (p : ℕ) → set.contains (row_of (mark + count) new).bare p
+        ≡ (is_some (map.get (row_of (mark + count) new).kept p)
         && (if nat_lt p mark then set.contains (row_of mark old).bare p else not (is_some (map.get (row_of mark old).media p))))
-  bare_after p =
-      let r = (if nat_lt p mark then set.contains (row_of mark old).bare p else not (is_some (map.get (row_of mark old).media p))) in
-      ⊎_elim
-      (λ before.
-      ⊎_elim
-      (λ far.
-      let kept : map.get (row_of (mark + count) new).kept p ≡ None =
-      get-kept (mark + count) new p ∙ if-less p (mark + count) _ None before ∙ ap word_in (entry_at-before (mark + count) new p far) in
-      contains-bare (mark + count) new p ∙ if-less p (mark + count) _ false before
-      ∙ ap is_alone (entry_at-before (mark + count) new p far) ∙ ap (λ o. is_some o && r) (sym kept))
-      (λ near. bare_near p before near)
-      (cases_lt (p + 100) (mark + count)))
-      (λ from.
-      let kept : map.get (row_of (mark + count) new).kept p ≡ None =
-      get-kept (mark + count) new p ∙ if-not_less p (mark + count) _ None from in
-      contains-bare (mark + count) new p ∙ if-not_less p (mark + count) _ false from ∙ ap (λ o. is_some o && r) (sym kept))
-      (cases_lt p (mark + count))
+    bare_after p =
+        let r = (if nat_lt p mark then set.contains (row_of mark old).bare p else not (is_some (map.get (row_of mark old).media p))) in
+        ⊎_elim
+        (λ before.
+        ⊎_elim
+        (λ far.
+        let kept : map.get (row_of (mark + count) new).kept p ≡ None =
+        get-kept (mark + count) new p ∙ if-less p (mark + count) _ None before ∙ ap word_in (entry_at-before (mark + count) new p far) in
+        contains-bare (mark + count) new p ∙ if-less p (mark + count) _ false before
+        ∙ ap is_alone (entry_at-before (mark + count) new p far) ∙ ap (λ o. is_some o && r) (sym kept))
+        (λ near. bare_near p before near)
+        (cases_lt (p + 100) (mark + count)))
+        (λ from.
+        let kept : map.get (row_of (mark + count) new).kept p ≡ None =
+        get-kept (mark + count) new p ∙ if-not_less p (mark + count) _ None from in
+        contains-bare (mark + count) new p ∙ if-not_less p (mark + count) _ false from ∙ ap (λ o. is_some o && r) (sym kept))
+        (cases_lt p (mark + count))
 
-  pub shifted_row : Advances count (row_of mark old) (row_of (mark + count) new)
-  shifted_row = record {
-    mark = refl;
-    reach = ap (λ n. n - 100) size;
-    kept = kept_after;
-    media = λ p.
-        (get-media (mark + count) new p ∙ ahead_after received_in p
-        ∙ ap (λ o. cond (nat_lt p (mark + count)) None o) (sym (get-media mark old p)));
-    cached = λ p.
-        (get-cached (mark + count) new p ∙ ahead_after found_in p
-        ∙ ap (λ o. cond (nat_lt p (mark + count)) None o) (sym (get-cached mark old p)));
-    bare = bare_after;
-  }
+    pub shifted_row : Advances count (row_of mark old) (row_of (mark + count) new)
+    shifted_row = record {
+      mark = refl;
+      reach = ap (λ n. n - 100) size;
+      kept = kept_after;
+      media = λ p.
+          (get-media (mark + count) new p ∙ ahead_after received_in p
+          ∙ ap (λ o. cond (nat_lt p (mark + count)) None o) (sym (get-media mark old p)));
+      cached = λ p.
+          (get-cached (mark + count) new p ∙ ahead_after found_in p
+          ∙ ap (λ o. cond (nat_lt p (mark + count)) None o) (sym (get-cached mark old p)));
+      bare = bare_after;
+    }
 
 -- What the row shows.
 pub shown_row :

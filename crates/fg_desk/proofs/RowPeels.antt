@@ -1,12 +1,10 @@
 -- What peeling leaves of a row of entries.
-use Rattle.std.proofs.Common.{◌≡◌, ◌≢◌, ◌⊎◌, ◌+◌, ◌-◌, ◌<◌, ◌≤◌, ℕ, zero, suc, ℤ, pos, negsuc, ◌-ℤ◌, Bool, true, false, IsSome, IsTrue, List, [], ◌∷◌, length, map, take, drop, get_or, Option, Some, None, inl, inr, refl, sym, ap, ◌∙◌, ⊎_elim, subst, arith}
+use Rattle.std.proofs.Common.{◌≡◌, ◌≢◌, ◌⊎◌, ◌+◌, ◌-◌, ◌<◌, ◌≤◌, ℕ, zero, suc, ℤ, pos, negsuc, ◌-ℤ◌, Bool, false, IsSome, IsTrue, List, [], ◌∷◌, length, map, get_or, Option, None, inl, inr, refl, sym, ap, ◌∙◌, ⊎_elim, subst, arith}
 use Rattle.std.proofs.Math.Path.{fun_ext}
 use Rattle.std.proofs.lemmas.Bool.{cases_lt}
 use Rattle.std.proofs.lemmas.Int.{ints}
 use Rattle.std.proofs.lemmas.List.{length-drop, get_or-drop, get_or-take}
 use Rattle.std.specs.List.{Contains}
-use Rattle.std.specs.FinMap as map
-use Rattle.std.specs.FinSet as set
 use Rattle.slab.specs.Slab.{Slab}
 use Rattle.fg_words.specs.declared.Word.{Word}
 use Rattle.fg_peel.specs.declared.Slot.{Slot}
@@ -21,9 +19,9 @@ use Rattle.fg_peel.specs.Solution.{IsSolution}
 use Rattle.fg_peel.specs.Slots.{word_in, known_in, told_from, first_position, from_first, before_first, words_at, known_at, equation_of, equations_of, lines_of, AllFit, OnlyFills}
 use Rattle.fg_peel.specs.Verdict.{TellsSolution}
 use Rattle.fg_desk.specs.Row.{RowState, row_words, LiesIn, AllLieIn}
-use Rattle.fg_desk.specs.RowEntries.{entry_at, words_of, received_in, found_in, is_alone, row_of, AreEntries, Recovers}
+use Rattle.fg_desk.specs.RowEntries.{entry_at, words_of, received_in, is_alone, row_of, AreEntries, Recovers}
 use Rattle.fg_desk.proofs.RowMaps.{if-less, if-not_less}
-use Rattle.fg_desk.proofs.RowViews.{entry_at-row, entry_at-before, get-kept, get-media, get-cached, contains-bare, same_row, row_words-entry, entry_own, none_not_some, some_along, kept_lies}
+use Rattle.fg_desk.proofs.RowViews.{entry_at-row, entry_at-before, get-kept, get-media, contains-bare, same_row, row_words-entry, entry_own, none_not_some, some_along, kept_lies}
 
 -- The first entry stands for the position 100 before the mark.
 abbrev pub IsLow : ℕ → ℤ → Type 0
@@ -118,47 +116,46 @@ below_low mark (negsuc n) old new is same i less =
 module _
     (mark : ℕ) (low : ℤ) (lines : Slab Line) (old new : List Slot) (verdict : Verdict) (answer : Bool)
     (is : IsLow mark low) (are : AreEntries mark old) (media : AreMedia (words_of mark old))
-    where
+  where
+    media_low : AreMedia (known_at low old)
+    media_low = let P : (ℕ → Option Word) → Type 0 = λ w. AreMedia w in subst P (sym (known_low mark low old is are)) media
 
-  media_low : AreMedia (known_at low old)
-  media_low = let P : (ℕ → Option Word) → Type 0 = λ w. AreMedia w in subst P (sym (known_low mark low old is are)) media
+    peeled_low : ArePeeled (equations_of lines) (known_at low old) (words_at low old)
+    peeled_low = ([], tt, words_low mark low old is ∙ sym (known_low mark low old is are))
 
-  peeled_low : ArePeeled (equations_of lines) (known_at low old) (words_at low old)
-  peeled_low = ([], tt, words_low mark low old is ∙ sym (known_low mark low old is are))
-
-  pub recovers :
-      OnlyFills old new → before_first low new ≡ before_first low old
-      → ((q : ℕ) → IsSome (words_at low new q) → InClosure (words_at low old) (equations_of lines) q)
-      → EndsPeeling (equations_of lines) (words_at low old) (words_at low new)
-      → (AreMedia (known_at low old) → ArePeeled (equations_of lines) (known_at low old) (words_at low old)
+    pub recovers :
+        OnlyFills old new → before_first low new ≡ before_first low old
+        → ((q : ℕ) → IsSome (words_at low new q) → InClosure (words_at low old) (equations_of lines) q)
+        → EndsPeeling (equations_of lines) (words_at low old) (words_at low new)
+        → (AreMedia (known_at low old) → ArePeeled (equations_of lines) (known_at low old) (words_at low old)
         → TellsSolution (equations_of lines) (known_at low old) (words_at low new) verdict)
-      → (IsTrue answer → verdict ≡ Sound) → (verdict ≡ Sound → IsTrue answer) → Recovers mark lines old new answer
-  recovers fills below inside peeling solution if_sound sound_if =
-      let E = equations_of lines in
-      let one = words_low mark low old is in
-      let two = words_low mark low new is in
-      let three = known_low mark low old is are in
-      let tells = solution media_low peeled_low in
-      record {
-        fills = fills;
-        below = below_low mark low old new is below;
-        peeling =
-            (let P : (ℕ → Option Word) → Type 0 = λ w. EndsPeeling E w (words_of mark new) in
-            let Q : (ℕ → Option Word) → Type 0 = λ w. EndsPeeling E (words_at low old) w in
-            subst P one (subst Q two peeling));
-        inside = λ q some.
-            (let P : (ℕ → Option Word) → Type 0 = λ w. InClosure w E q in
-            let Q : (ℕ → Option Word) → Type 0 = λ w. IsSome (w q) in
-            subst P one (inside q (subst Q (sym two) some)));
-        solved = λ true'.
-            (let P : (ℕ → Option Word) → Type 0 = λ w. IsSolution w E (words_of mark new) in
-            let Q : (ℕ → Option Word) → Type 0 = λ w. IsSolution (known_at low old) E w in
-            subst P three (subst Q two (tells.sound (if_sound true'))));
-        solvable = λ solution solves.
-            (let P : (ℕ → Option Word) → Type 0 = λ w. IsSolution w E solution in
-            let all = tells.complete solution (subst P (sym three) solves) in
-            (sound_if all.0, sym two ∙ all.1));
-      }
+        → (IsTrue answer → verdict ≡ Sound) → (verdict ≡ Sound → IsTrue answer) → Recovers mark lines old new answer
+    recovers fills below inside peeling solution if_sound sound_if =
+        let E = equations_of lines in
+        let one = words_low mark low old is in
+        let two = words_low mark low new is in
+        let three = known_low mark low old is are in
+        let tells = solution media_low peeled_low in
+        record {
+          fills = fills;
+          below = below_low mark low old new is below;
+          peeling =
+              (let P : (ℕ → Option Word) → Type 0 = λ w. EndsPeeling E w (words_of mark new) in
+              let Q : (ℕ → Option Word) → Type 0 = λ w. EndsPeeling E (words_at low old) w in
+              subst P one (subst Q two peeling));
+          inside = λ q some.
+              (let P : (ℕ → Option Word) → Type 0 = λ w. InClosure w E q in
+              let Q : (ℕ → Option Word) → Type 0 = λ w. IsSome (w q) in
+              subst P one (inside q (subst Q (sym two) some)));
+          solved = λ true'.
+              (let P : (ℕ → Option Word) → Type 0 = λ w. IsSolution w E (words_of mark new) in
+              let Q : (ℕ → Option Word) → Type 0 = λ w. IsSolution (known_at low old) E w in
+              subst P three (subst Q two (tells.sound (if_sound true'))));
+          solvable = λ solution solves.
+              (let P : (ℕ → Option Word) → Type 0 = λ w. IsSolution w E solution in
+              let all = tells.complete solution (subst P (sym three) solves) in
+              (sound_if all.0, sym two ∙ all.1));
+        }
 
 -- an equation is that of a line
 Contains-head : {X : Type 0} (x : X) (xs : List X) (y : X) → Contains (x ∷ xs) y → (y ≡ x) ⊎ Contains xs y
@@ -186,103 +183,102 @@ empty_or (Filled word) = inr (λ is. (cc))
 module _
     (mark : ℕ) (lines : Slab Line) (old new : List Slot) (answer : Bool) (are : AreEntries mark old)
     (within : AllLieIn (row_of mark old) lines) (r : Recovers mark lines old new answer)
-    where
+  where
+    -- an entry is the same, or an empty one was filled
+    Same : Slot → Slot → Type 0
+    Same one other = (other ≡ one) ⊎ ((one ≡ Empty) × ((word : Word) × (other ≡ Filled word)))
 
-  -- an entry is the same, or an empty one was filled
-  Same : Slot → Slot → Type 0
-  Same one other = (other ≡ one) ⊎ ((one ≡ Empty) × ((word : Word) × (other ≡ Filled word)))
+    pub recovered_are : AreEntries mark new
+    recovered_are = record {
+      some = omega (arith, are.some, r.fills.count);
+      limit = omega (arith, are.limit, r.fills.count);
+      below = λ i less. r.below i less ∙ are.below i less;
+      own = λ i word solved.
+          ⊎_elim
+          (λ none.
+          ⊎_elim
+          (λ still. let e : Empty ≡ Solved word = sym still ∙ solved in (cc))
+          (λ filled. let e : Filled filled.0 ≡ Solved word = sym filled.1 ∙ solved in (cc))
+          (r.fills.filled i none))
+          (λ some. are.own i word (sym (r.fills.kept i some) ∙ solved))
+          (empty_or (get_or old i Empty));
+    }
 
-  pub recovered_are : AreEntries mark new
-  recovered_are = record {
-    some = omega (arith, are.some, r.fills.count);
-    limit = omega (arith, are.limit, r.fills.count);
-    below = λ i less. r.below i less ∙ are.below i less;
-    own = λ i word solved.
+    same_at :
+        (p : ℕ) → (entry_at mark new p ≡ entry_at mark old p)
+        ⊎ ((entry_at mark old p ≡ Empty) × ((word : Word) × (entry_at mark new p ≡ Filled word)))
+    same_at p =
+        ⊎_elim
+        (λ before. inl (entry_at-before mark new p before ∙ sym (entry_at-before mark old p before)))
+        (λ from.
+        let one = entry_at-row mark old p from in
+        let two = entry_at-row mark new p from in
         ⊎_elim
         (λ none.
         ⊎_elim
-        (λ still. let e : Empty ≡ Solved word = sym still ∙ solved in (cc))
-        (λ filled. let e : Filled filled.0 ≡ Solved word = sym filled.1 ∙ solved in (cc))
-        (r.fills.filled i none))
-        (λ some. are.own i word (sym (r.fills.kept i some) ∙ solved))
-        (empty_or (get_or old i Empty));
-  }
+        (λ still. inl (two ∙ still ∙ sym none ∙ sym one))
+        (λ filled. inr (one ∙ none, (filled.0, two ∙ filled.1)))
+        (r.fills.filled (p + 100 - mark) none))
+        (λ some. inl (two ∙ r.fills.kept (p + 100 - mark) some ∙ sym one))
+        (empty_or (get_or old (p + 100 - mark) Empty)))
+        (cases_lt (p + 100) mark)
 
-  same_at :
-      (p : ℕ) → (entry_at mark new p ≡ entry_at mark old p)
-      ⊎ ((entry_at mark old p ≡ Empty) × ((word : Word) × (entry_at mark new p ≡ Filled word)))
-  same_at p =
-      ⊎_elim
-      (λ before. inl (entry_at-before mark new p before ∙ sym (entry_at-before mark old p before)))
-      (λ from.
-      let one = entry_at-row mark old p from in
-      let two = entry_at-row mark new p from in
-      ⊎_elim
-      (λ none.
-      ⊎_elim
-      (λ still. inl (two ∙ still ∙ sym none ∙ sym one))
-      (λ filled. inr (one ∙ none, (filled.0, two ∙ filled.1)))
-      (r.fills.filled (p + 100 - mark) none))
-      (λ some. inl (two ∙ r.fills.kept (p + 100 - mark) some ∙ sym one))
-      (empty_or (get_or old (p + 100 - mark) Empty)))
-      (cases_lt (p + 100) mark)
+    -- a position before the mark that is in the closure had a word
+    based_word :
+        (equation : Equation) (q : ℕ) → Contains (equations_of lines) equation → Contains (slots equation) q → q < mark
+        → IsSome (words_of mark old q)
+    based_word equation q listed in_line low =
+        let line = from_map equation_of (lines_of lines) equation listed in
+        let P : Equation → Type 0 = λ e. Contains (slots e) q in
+        let kept = (within line.0 line.1).based q (subst P line.2 in_line) low in
+        some_along _ _ (get-kept mark old q ∙ if-less q mark _ None low) kept
 
-  -- a position before the mark that is in the closure had a word
-  based_word :
-      (equation : Equation) (q : ℕ) → Contains (equations_of lines) equation → Contains (slots equation) q → q < mark
-      → IsSome (words_of mark old q)
-  based_word equation q listed in_line low =
-      let line = from_map equation_of (lines_of lines) equation listed in
-      let P : Equation → Type 0 = λ e. Contains (slots e) q in
-      let kept = (within line.0 line.1).based q (subst P line.2 in_line) low in
-      some_along _ _ (get-kept mark old q ∙ if-less q mark _ None low) kept
+    had_word : {p : ℕ} → InClosure (words_of mark old) (equations_of lines) p → p < mark → IsSome (words_of mark old p)
+    had_word (given some) low = some
+    had_word (derived equation listed in_line others) low = based_word equation _ listed in_line low
 
-  had_word : {p : ℕ} → InClosure (words_of mark old) (equations_of lines) p → p < mark → IsSome (words_of mark old p)
-  had_word (given some) low = some
-  had_word (derived equation listed in_line others) low = based_word equation _ listed in_line low
+    same_before : (p : ℕ) → p < mark → entry_at mark new p ≡ entry_at mark old p
+    same_before p before =
+        ⊎_elim
+        (λ same. same)
+        (λ filled.
+        let some : IsSome (words_of mark new p) = some_along _ _ (sym (ap word_in filled.1.1)) refl in
+        absurd (none_not_some (words_of mark old p) (ap word_in filled.0) (had_word (r.inside p some) before)))
+        (same_at p)
 
-  same_before : (p : ℕ) → p < mark → entry_at mark new p ≡ entry_at mark old p
-  same_before p before =
-      ⊎_elim
-      (λ same. same)
-      (λ filled.
-      let some : IsSome (words_of mark new p) = some_along _ _ (sym (ap word_in filled.1.1)) refl in
-      absurd (none_not_some (words_of mark old p) (ap word_in filled.0) (had_word (r.inside p some) before)))
-      (same_at p)
+    same_received : (p : ℕ) → received_in (entry_at mark new p) ≡ received_in (entry_at mark old p)
+    same_received p =
+        ⊎_elim
+        (λ same. ap received_in same)
+        (λ filled. ap received_in filled.1.1 ∙ sym (ap received_in filled.0))
+        (same_at p)
 
-  same_received : (p : ℕ) → received_in (entry_at mark new p) ≡ received_in (entry_at mark old p)
-  same_received p =
-      ⊎_elim
-      (λ same. ap received_in same)
-      (λ filled. ap received_in filled.1.1 ∙ sym (ap received_in filled.0))
-      (same_at p)
-
-  pub recovered_row : row_of mark new ≡ record (row_of mark old) { cached = (row_of mark new).cached }
-  recovered_row =
-      same_row (row_of mark new) (record (row_of mark old) { cached = (row_of mark new).cached }) refl
-      (ap (λ n. n - 100) r.fills.count)
-      (λ p.
-      get-kept mark new p
-      ∙ ⊎_elim
-      (λ before. if-less p mark _ None before ∙ ap word_in (same_before p before) ∙ sym (if-less p mark _ None before))
-      (λ from. if-not_less p mark _ None from ∙ sym (if-not_less p mark _ None from))
-      (cases_lt p mark)
-      ∙ sym (get-kept mark old p))
-      (λ p.
-      get-media mark new p
-      ∙ ⊎_elim
-      (λ before. if-less p mark None _ before ∙ sym (if-less p mark None _ before))
-      (λ from. if-not_less p mark None _ from ∙ same_received p ∙ sym (if-not_less p mark None _ from))
-      (cases_lt p mark)
-      ∙ sym (get-media mark old p))
-      (λ p. refl)
-      (λ p.
-      contains-bare mark new p
-      ∙ ⊎_elim
-      (λ before. if-less p mark _ false before ∙ ap is_alone (same_before p before) ∙ sym (if-less p mark _ false before))
-      (λ from. if-not_less p mark _ false from ∙ sym (if-not_less p mark _ false from))
-      (cases_lt p mark)
-      ∙ sym (contains-bare mark old p))
+    pub recovered_row : row_of mark new ≡ record (row_of mark old) { cached = (row_of mark new).cached }
+    recovered_row =
+        same_row (row_of mark new) (record (row_of mark old) { cached = (row_of mark new).cached }) refl
+        (ap (λ n. n - 100) r.fills.count)
+        (λ p.
+        get-kept mark new p
+        ∙ ⊎_elim
+        (λ before. if-less p mark _ None before ∙ ap word_in (same_before p before) ∙ sym (if-less p mark _ None before))
+        (λ from. if-not_less p mark _ None from ∙ sym (if-not_less p mark _ None from))
+        (cases_lt p mark)
+        ∙ sym (get-kept mark old p))
+        (λ p.
+        get-media mark new p
+        ∙ ⊎_elim
+        (λ before. if-less p mark None _ before ∙ sym (if-less p mark None _ before))
+        (λ from. if-not_less p mark None _ from ∙ same_received p ∙ sym (if-not_less p mark None _ from))
+        (cases_lt p mark)
+        ∙ sym (get-media mark old p))
+        (λ p. refl)
+        (λ p.
+        contains-bare mark new p
+        ∙ ⊎_elim
+        (λ before. if-less p mark _ false before ∙ ap is_alone (same_before p before) ∙ sym (if-less p mark _ false before))
+        (λ from. if-not_less p mark _ false from ∙ sym (if-not_less p mark _ false from))
+        (cases_lt p mark)
+        ∙ sym (contains-bare mark old p))
 
 pub row_words-of :
     (mark : ℕ) (entries : List Slot) → AreEntries mark entries → row_words (row_of mark entries) ≡ words_of mark entries

@@ -1,18 +1,14 @@
 -- What a row of entries is seen as.
-use Rattle.std.proofs.Common.{◌≡◌, ◌⊎◌, ◌+◌, ◌-◌, ◌<◌, ◌≤◌, ℕ, Bool, true, false, is_some, IsSome, IsTrue, List, length, get_or, Option, Some, None, nat_lt, if◌then◌else◌, cond, refl, sym, ap, ◌∙◌, ⊎_elim, subst, arith}
+use Rattle.std.proofs.Common.{◌≡◌, ◌+◌, ◌-◌, ◌<◌, ◌≤◌, ℕ, Bool, true, false, IsSome, List, length, get_or, Option, None, nat_lt, if◌then◌else◌, cond, refl, sym, ap, ◌∙◌, ⊎_elim, subst, arith}
 use Rattle.std.proofs.lemmas.Bool.{cases_lt}
 use Rattle.std.proofs.lemmas.List.{get_or_past}
-use Rattle.std.proofs.Math.Path.{fun_ext}
 use Rattle.std.specs.Cmp.{nat_cmp_total}
-use Rattle.std.specs.Ordering.{nat_cmp}
 use Rattle.std.specs.FinMap as map
 use Rattle.std.specs.FinSet as set
 use Rattle.fg_words.specs.declared.Word.{Word}
 use Rattle.fg_peel.specs.declared.Slot.{Slot}
 use Rattle.fg_peel.specs.declared.Slot.TheVariants.{Empty, Media, Solved, Filled}
 use Rattle.fg_peel.specs.Slots.{word_in}
-use Rattle.fg_desk.specs.State.{Words}
-use Rattle.fg_desk.specs.Admission.{kept_count}
 use Rattle.fg_desk.specs.Row.{RowState, either, row_words, row_known, row_shared, IsRow}
 use Rattle.fg_desk.specs.RowEntries.{entry_at, received_in, found_in, is_alone, kept_at, received_at, found_at, bare_at, row_of, AreEntries}
 use Rattle.fg_desk.proofs.RowMaps.{if-less, if-not_less, get-words_below, contains-positions_below}
@@ -206,6 +202,7 @@ kept_lies mark entries q some =
 
 pub is_row : (mark : ℕ) (entries : List Slot) → AreEntries mark entries → IsRow (row_of mark entries)
 is_row mark entries are = record {
+  limit = omega (arith, are.some, are.limit);
   kept = λ q some. kept_lies mark entries q (some_along _ _ (get-kept mark entries q) some);
   media = λ q some. lies_ahead received_in mark entries refl are q _ (get-media mark entries q) some;
   cached = λ q some. lies_ahead found_in mark entries refl are q _ (get-cached mark entries q) some;

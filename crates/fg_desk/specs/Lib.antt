@@ -2,9 +2,12 @@ pub mod Admission
 pub mod Contents
 pub mod Facts
 pub mod Laws
+pub mod Lines
+pub mod LinesInside
 pub mod Play
 pub mod Row
 pub mod RowEntries
 pub mod Run
 pub mod Solution
 pub mod State
+pub mod TrayPlaces

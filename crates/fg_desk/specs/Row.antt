@@ -1,5 +1,5 @@
 -- The row of a desk: the words at the 100 positions before the mark, and at those from the mark on.
-use Rattle.std.specs.Prelude.{◌≡◌, ◌≢◌, ◌+◌, ◌<◌, ◌≤◌, ℕ, Bool, true, ◌&&◌, not, is_some, nat_lt, nat_le, Option, Some, None, IsSome, List, length, slice_index_or, if◌then◌else◌}
+use Rattle.std.specs.Prelude.{◌≡◌, ◌+◌, ◌<◌, ◌≤◌, ◌^◌, ℕ, true, ◌&&◌, not, is_some, nat_lt, nat_le, Option, Some, None, IsSome, List, length, slice_index_or, if◌then◌else◌}
 use Rattle.std.specs.List.{Contains}
 use Rattle.std.specs.Ordering.{nat_cmp}
 use Rattle.std.specs.FinMap.{get, empty, insert, remove}
@@ -53,8 +53,9 @@ abbrev pub row_shared : RowState → ℕ → Option Word
 row_shared row position = (if set.contains row.bare position then None else row_known row position)
 
 -- What is true of every row: where its words lie, that none is both received and found, and that bare positions are
--- kept.
+-- kept. Its positions are below 2^62.
 pub record IsRow (row : RowState) : Type 0 where
+  pub limit : row.mark + row.reach + kept_count ≤ 2 ^ 62
   pub kept : (position : ℕ) → IsSome (get row.kept position) → (position < row.mark) × (row.mark ≤ position + kept_count)
   pub media : (position : ℕ) → IsSome (get row.media position) → (row.mark ≤ position) × (position < row.mark + row.reach)
   pub cached : (position : ℕ) → IsSome (get row.cached position) → (row.mark ≤ position) × (position < row.mark + row.reach)

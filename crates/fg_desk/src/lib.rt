@@ -2,6 +2,7 @@
 #![tactic(auto)]
 
 pub mod laws;
+mod lines;
 mod reply;
 mod row;
 mod tray;

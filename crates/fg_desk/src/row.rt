@@ -1,6 +1,6 @@
 //! The row of entries around the mark.
 
-ghost use Rattle.std.specs.Prelude.{◌≡◌, ◌+◌, ◌<◌, ◌≤◌, ◌^◌, ◌↔◌, ◌++◌, ◌∷◌, [], ℕ, pos, ◌-ℤ◌, length, slice_index_or, unwrap_or, Option, None, IsTrue, IfOk, IfSome, IfNone};
+ghost use Rattle.std.specs.Prelude.{◌≡◌, ◌+◌, ◌<◌, ◌≤◌, ◌^◌, ◌↔◌, ◌++◌, ◌∷◌, [], ℕ, pos, ◌-ℤ◌, length, slice_index_or, unwrap_or, Option, None, IsSome, IsTrue, IfOk, IfSome, IfNone};
 ghost use Rattle.std.specs.Option.{option_copied};
 ghost use Rattle.std.specs.FinMap.{empty};
 ghost use Rattle.fg_shape.specs.Shape.{IsShape};
@@ -320,10 +320,20 @@ fn take_entry(slot: &mut Slot, other: &mut Slot)
             if let Slot::Media(share) = slot {
                 mem::swap(share, later);
             } else {
-                mem::swap(slot, other);
+                take_share(slot, other);
             }
         }
         Slot::Solved(_) | Slot::Filled(_) => mem::swap(slot, other),
+    }
+}
+
+/// Moves the share of an entry to another one. Nothing else of the entry is copied.
+fn take_share(slot: &mut Slot, other: &mut Slot)
+    requires { IsSome (received_in other.old) }
+    ensures { slot.new ≡ other.old }
+{
+    if let Slot::Media(share) = mem::replace(other, Slot::Empty) {
+        *slot = Slot::Media(share);
     }
 }
 

@@ -3,16 +3,42 @@
 ghost use Rattle.std.specs.Prelude.{◌≡◌, ◌<◌, ◌≤◌, ◌++◌, ◌∷◌, [], length, slice_index_or, IfOk};
 ghost use Rattle.std.specs.Option.{option_copied};
 ghost use Rattle.fg_desk.specs.Play.{nothing_shown};
+ghost use Rattle.fg_desk.specs.TrayPlaces.{shown_of};
 
 use fg_words::Word;
 use std::alloc::{AllocError, Global};
 use std::marker::Model;
 
-/// What a play shows at one position.
+/// What a play shows at one position. The word is written in place, and counts where `has_word` says so.
 #[derive(Clone, Copy)]
 struct Place {
-    word: Option<Word>,
+    has_word: bool,
     repaired: bool,
+    word: Word,
+}
+
+impl Place {
+    /// The word, where one is shown.
+    fn word(&self) -> Option<&Word>
+        ensures { option_copied result ≡ (shown_of self.now).word }
+    {
+        if self.has_word {
+            Some(&self.word)
+        } else {
+            None
+        }
+    }
+
+    /// Shows nothing, or a copy of a word.
+    fn show(&mut self, word: Option<&Word>, repaired: bool)
+        ensures { shown_of self.new ≡ record { word = option_copied word.entry; repaired = repaired } }
+    {
+        self.repaired = repaired;
+        self.has_word = word.is_some();
+        if let Some(word) = word {
+            self.word = *word;
+        }
+    }
 }
 
 /// Room for what one play shows, 1.3 kB for each position. It is filled again and again, and takes
@@ -27,12 +53,16 @@ impl Model for Tray {
     ghost use Rattle.std.specs.Prelude.{◌≤◌, map, take, length};
     ghost use Rattle.fg_desk.specs.Contents.{Holding};
     ghost use Rattle.fg_desk.specs.RowEntries.{holding_code};
+    ghost use Rattle.fg_desk.specs.TrayPlaces.{shown_of};
 
     ghost Value = { Holding };
 
     ghost coded = { holding_code };
 
-    ghost view = { λ a. record { window = length a.places.items; shown = map (λ p. record { word = p.word; repaired = p.repaired }) (take a.count a.places.items) } };
+    ghost view = { λ a. record {
+      window = length a.places.items;
+      shown = map shown_of (take a.count a.places.items);
+    } };
 
     ghost invariant = { λ a. a.count ≤ length a.places.items };
 }
@@ -47,8 +77,9 @@ impl Tray {
         let mut places = Vec::with_capacity(alloc, window as usize)?;
         for _ in 0..window {
             places.push(Place {
-                word: None,
+                has_word: false,
                 repaired: false,
+                word: Word::zero(),
             })?;
         }
         Ok(Tray { places, count: 0 })
@@ -61,7 +92,7 @@ impl Tray {
     {
         let i = i as usize;
         if i < self.count {
-            self.places[i].word.as_ref()
+            self.places[i].word()
         } else {
             None
         }
@@ -85,12 +116,11 @@ impl Tray {
     /// Shows nothing, or a copy of a word, at the next position.
     pub(crate) fn show(&mut self, word: Option<&Word>, repaired: bool)
         requires { length self.old.shown < self.old.window }
-        ensures { self.new ≡ record self.old { shown = self.old.shown ++ record { word = option_copied word.entry; repaired = repaired } ∷ [] } }
+        ensures { self.new ≡ record self.old {
+          shown = self.old.shown ++ record { word = option_copied word.entry; repaired = repaired } ∷ [];
+        } }
     {
-        self.places[self.count] = Place {
-            word: word.copied(),
-            repaired,
-        };
+        self.places[self.count].show(word, repaired);
         self.count += 1;
     }
 }

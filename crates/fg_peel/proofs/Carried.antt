@@ -5,7 +5,7 @@ use Rattle.std.specs.List.{Contains}
 use Rattle.std.specs.Option.{option_or}
 use Rattle.fg_words.specs.declared.Word.{Word}
 use Rattle.fg_words.specs.Word.{word_xor}
-use Rattle.fg_peel.specs.Equation.{Equation, slots, others, sum_at}
+use Rattle.fg_peel.specs.Equation.{Equation, slots, others}
 use Rattle.fg_peel.specs.Peeling.{Step, CanFollow, IsPeeling, after_step, end_of, given_word}
 use Rattle.fg_peel.proofs.Lists.{Contains-here, Contains-there, others-element, same_or_not}
 use Rattle.fg_peel.proofs.Sums.{sum_at-agree}

@@ -1,15 +1,15 @@
 -- What becomes of a peeling when words become known, when more equations come and when a play moves the mark.
-use Rattle.std.proofs.Common.{◌≡◌, ◌≢◌, ◌⊎◌, ◌<◌, ◌≤◌, ℕ, Bool, true, false, List, [], ◌∷◌, filter, Option, Some, None, IsSome, is_some, is_none, nat_le, ◌&&◌, not, if◌then◌else◌, inl, inr, refl, sym, ap, ◌∙◌, ⊎_elim, arith}
+use Rattle.std.proofs.Common.{◌≡◌, ◌<◌, ◌≤◌, ℕ, Bool, true, false, List, [], ◌∷◌, filter, Option, Some, None, IsSome, is_some, is_none, nat_le, ◌&&◌, if◌then◌else◌, inl, inr, refl, sym, ap, ◌∙◌, ⊎_elim, arith}
 use Rattle.std.specs.List.{Contains}
 use Rattle.std.specs.Option.{option_or}
-use Rattle.std.proofs.lemmas.Bool.{cases_lt, leb-true, le-leb, ltb-true}
+use Rattle.std.proofs.lemmas.Bool.{cases_lt, leb-true, le-leb}
 use Rattle.fg_words.specs.declared.Word.{Word}
 use Rattle.fg_peel.specs.Equation.{Equation, Keeps, Agree, slots}
-use Rattle.fg_peel.specs.Peeling.{Step, CanFollow, IsPeeling, after_step, end_of}
+use Rattle.fg_peel.specs.Peeling.{Step, IsPeeling, after_step, end_of}
 use Rattle.fg_peel.specs.Laws.{CarriesOver, ReachesPast, IsPlayed}
 use Rattle.fg_peel.proofs.Lists.{Contains-nil, Contains-cases, same_or_not}
 use Rattle.fg_peel.proofs.Peelings.{some_word, known_or_not, after_step-at, after_step-other, end_of-keeps, end_of-known}
-use Rattle.fg_peel.proofs.Carried.{Carries, carried, kept_steps, carried_word}
+use Rattle.fg_peel.proofs.Carried.{Carries, carried}
 
 -- A peeling is one under more equations.
 pub peelings_take_equations :

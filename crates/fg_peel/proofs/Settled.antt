@@ -1,5 +1,5 @@
 -- Settled equations add nothing to the closure and nothing to the solutions.
-use Rattle.std.proofs.Common.{◌≡◌, ◌↔◌, ℕ, List, Option, sym, ◌∙◌, ⊎_elim}
+use Rattle.std.proofs.Common.{◌↔◌, ℕ, List, Option, sym, ◌∙◌, ⊎_elim}
 use Rattle.fg_words.specs.declared.Word.{Word}
 use Rattle.fg_peel.specs.Equation.{Equation, Keeps, IsSettled, ComesOut, slots}
 use Rattle.fg_peel.specs.Closure.{InClosure, given, derived}

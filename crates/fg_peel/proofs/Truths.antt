@@ -1,10 +1,10 @@
 -- Where the known words are true words with which every equation comes out, there is a solution of true words.
-use Rattle.std.proofs.Common.{◌≡◌, ℕ, List, Option, Some, IsSome, sym, ap, ◌∙◌}
+use Rattle.std.proofs.Common.{ℕ, List, Option, IsSome, sym, ap, ◌∙◌}
 use Rattle.fg_words.specs.declared.Word.{Word}
 use Rattle.fg_peel.specs.Equation.{Equation, AreAdmissible, Keeps, slots}
-use Rattle.fg_peel.specs.Closure.{InClosure, given}
+use Rattle.fg_peel.specs.Closure.{given}
 use Rattle.fg_peel.specs.Solution.{IsSolution}
-use Rattle.fg_peel.specs.Peeling.{Step, IsPeeling, IsMaximal, end_of}
+use Rattle.fg_peel.specs.Peeling.{Step, IsPeeling, end_of}
 use Rattle.fg_peel.specs.Laws.{AreTrue}
 use Rattle.fg_peel.proofs.Closures.{closure_least}
 use Rattle.fg_peel.proofs.Peelings.{some_word}

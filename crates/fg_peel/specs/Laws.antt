@@ -64,6 +64,19 @@ PeelingsContinue =
     (known : ℕ → Option Word) (equations : List Equation) (steps : List Step) → IsPeeling known equations steps
     → (more : List Step) × IsMaximal known equations (steps ++ more)
 
+-- A peeling keeps the known words.
+abbrev pub PeelingsKeepWords : Type 0
+PeelingsKeepWords =
+    (known : ℕ → Option Word) (equations : List Equation) (steps : List Step) → IsPeeling known equations steps
+    → Keeps known (end_of known steps)
+
+-- A peeling, and then one of what it leaves, are a peeling, with the same end.
+abbrev pub PeelingsAppend : Type 0
+PeelingsAppend =
+    (known : ℕ → Option Word) (equations : List Equation) (one other : List Step) → IsPeeling known equations one
+    → IsPeeling (end_of known one) equations other
+    → IsPeeling known equations (one ++ other) × (end_of known (one ++ other) ≡ end_of (end_of known one) other)
+
 -- A maximal peeling is sound exactly where what it found is media and the equations come out.
 abbrev pub MaximalPeelingsAreTested : Type 0
 MaximalPeelingsAreTested =
@@ -99,6 +112,13 @@ MaximalPeelingsEndAtSolution =
     (known : ℕ → Option Word) (equations : List Equation) → AreAdmissible known equations
     → (words : ℕ → Option Word) → IsSolution known equations words
     → (steps : List Step) → IsMaximal known equations steps → end_of known steps ≡ words
+
+-- So it has every word of every peeling.
+abbrev pub SolutionsKeepPeelings : Type 0
+SolutionsKeepPeelings =
+    (known : ℕ → Option Word) (equations : List Equation) → AreAdmissible known equations
+    → (words : ℕ → Option Word) → IsSolution known equations words
+    → (steps : List Step) → IsPeeling known equations steps → Keeps (end_of known steps) words
 
 -- So a maximal peeling is sound exactly where a solution exists.
 abbrev pub SoundWhereSolvable : Type 0

@@ -4,6 +4,7 @@ pub mod Equation
 pub mod Laws
 pub mod Peeling
 pub mod Recovery
+pub mod Row
 pub mod Slots
 pub mod Solution
 pub mod Verdict

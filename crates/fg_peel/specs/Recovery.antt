@@ -15,16 +15,26 @@ use Rattle.fg_peel.specs.Peeling.{Step, IsPeeling, EndsPeeling, end_of, given_wo
 use Rattle.fg_peel.specs.Slots.{OnlyFills, IsMissing, words_from, recovered_from, word_in, recovered_in, equation_of, equations_of, lines_of}
 use Rattle.fg_peel.specs.Verdict.{IsVerdict}
 
--- No line misses just one word: nothing more follows.
+-- The equation doesn't miss just one word: nothing follows from it alone.
+abbrev pub NothingFollows : (ℕ → Option Word) → Equation → Type 0
+NothingFollows words equation = (position : ℕ) → ¬ IsMissing words equation (One position)
+
+-- That is so of each line.
 abbrev pub AllClosed : (ℕ → Option Word) → Slab Line → Type 0
 AllClosed words lines =
-    (line : Line) → Contains (lines_of lines) line → (position : ℕ) → ¬ IsMissing words (equation_of line) (One position)
+    (line : Line) → Contains (lines_of lines) line → NothingFollows words (equation_of line)
 
--- No line with this slot misses just one word: nothing follows from it.
+-- It is so of each line with this slot.
 abbrev pub AllClosedAt : (ℕ → Option Word) → Slab Line → ℕ → Type 0
 AllClosedAt words lines slot =
     (line : Line) → Contains (lines_of lines) line → Contains (slots (equation_of line)) slot
-    → (position : ℕ) → ¬ IsMissing words (equation_of line) (One position)
+    → NothingFollows words (equation_of line)
+
+-- Lines from which nothing followed stay so.
+abbrev pub StayClosed : (ℕ → Option Word) → (ℕ → Option Word) → Slab Line → Type 0
+StayClosed old new lines =
+    (line : Line) → Contains (lines_of lines) line → NothingFollows old (equation_of line)
+    → NothingFollows new (equation_of line)
 
 abbrev pub is_empty : Slot → Bool
 is_empty Empty = true

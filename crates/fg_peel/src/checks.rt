@@ -2,7 +2,8 @@
 
 ghost use Rattle.std.specs.Prelude.{◌<◌, ◌≤◌, ◌↔◌, ◌≡◌, false, IsTrue, IfSome, IfNone, IsSomeAnd};
 ghost use Rattle.fg_peel.specs.Equation.{IsComplete, ComesOut, AllComeOut, AreMedia};
-ghost use Rattle.fg_peel.specs.Slots.{words_from, recovered_from, equation_of, equations_of, Fits, AllFitFrom};
+ghost use Rattle.fg_peel.specs.Slots.{equation_of, equations_of};
+ghost use Rattle.fg_peel.specs.Row.{words_in, recovered_words_in, HasSlots, HasAllSlots};
 ghost use Rattle.fg_peel.specs.Verdict.{IsLeast, IsNoMedia, BreaksAt, IsVerdict};
 ghost use Rattle.fg_peel.specs.Recovery.{RecoversMedia};
 
@@ -23,8 +24,8 @@ fn recovers_media(slot: &Slot) -> bool
 
 /// The least position whose recovered word is no media word.
 fn first_not_media(row: &Row<'_>) -> Option<u64>
-    ensures least { IfSome result (IsLeast (IsNoMedia (recovered_from row.now.start row.now.slots.now))) }
-    ensures none { IfNone result (AreMedia (recovered_from row.now.start row.now.slots.now)) }
+    ensures least { IfSome result (IsLeast (IsNoMedia (recovered_words_in row.now))) }
+    ensures none { IfNone result (AreMedia (recovered_words_in row.now)) }
 {
     for (i, slot) in row.slots.iter().enumerate() {
         if !recovers_media(slot) {
@@ -36,11 +37,11 @@ fn first_not_media(row: &Row<'_>) -> Option<u64>
 
 /// Whether all slots of a line have words that don't sum to its parity word.
 fn is_broken(row: &Row<'_>, line: &Line) -> bool
-    requires { Fits row.now.start row.now.slots.now line.now }
-    ensures complete { IsTrue result → IsComplete (words_from row.now.start row.now.slots.now) (equation_of line.now) }
-    ensures broken { IsTrue result → ¬ ComesOut (words_from row.now.start row.now.slots.now) (equation_of line.now) }
-    ensures whole { result ≡ false → IsComplete (words_from row.now.start row.now.slots.now) (equation_of line.now)
-        → ComesOut (words_from row.now.start row.now.slots.now) (equation_of line.now) }
+    requires { HasSlots row.now line.now }
+    ensures complete { IsTrue result → IsComplete (words_in row.now) (equation_of line.now) }
+    ensures broken { IsTrue result → ¬ ComesOut (words_in row.now) (equation_of line.now) }
+    ensures whole { result ≡ false → IsComplete (words_in row.now) (equation_of line.now)
+        → ComesOut (words_in row.now) (equation_of line.now) }
 {
     match row.missing(line) {
         Missing::Nothing => !row.comes_out(line),
@@ -50,9 +51,9 @@ fn is_broken(row: &Row<'_>, line: &Line) -> bool
 
 /// The least place of a line that is broken.
 fn first_broken(row: &Row<'_>, lines: &Slab<Line>) -> Option<u32>
-    requires { AllFitFrom row.now.start row.now.slots.now lines.now }
-    ensures least { IfSome result (IsLeast (BreaksAt (words_from row.now.start row.now.slots.now) lines.now)) }
-    ensures none { IfNone result (AllComeOut (words_from row.now.start row.now.slots.now) (equations_of lines.now)) }
+    requires { HasAllSlots row.now lines.now }
+    ensures least { IfSome result (IsLeast (BreaksAt (words_in row.now) lines.now)) }
+    ensures none { IfNone result (AllComeOut (words_in row.now) (equations_of lines.now)) }
 {
     let mut least: Option<u32> = None;
     for (_, line) in lines.iter() {
@@ -76,9 +77,9 @@ fn is_new_least(place: u32, least: Option<u32>) -> bool
 
 /// The verdict on the words of a row.
 pub(crate) fn verdict_on(row: &Row<'_>, lines: &Slab<Line>) -> Verdict
-    requires { AllFitFrom row.now.start row.now.slots.now lines.now }
-    ensures { IsVerdict (recovered_from row.now.start row.now.slots.now)
-        (words_from row.now.start row.now.slots.now) lines.now result }
+    requires { HasAllSlots row.now lines.now }
+    ensures { IsVerdict (recovered_words_in row.now)
+        (words_in row.now) lines.now result }
 {
     if let Some(slot) = first_not_media(row) {
         return Verdict::NotMedia { slot };

@@ -87,14 +87,14 @@ pub enum Verdict {
 /// Recovers each word that follows from the known words and the equations, and says what they are
 /// worth.
 ///
-/// Entry `i` of `slots` stands for position `low + i`; entries for positions below 0 are left alone.
-/// Known are the words of the `Media` and `Filled` entries. Only `Empty` entries change, and only into
-/// `Filled`. It takes no memory.
+/// Entry `i` of `slots` stands for position `low + i`; entries for positions below 0 are left
+/// alone. Known are the words of the `Media` and `Filled` entries. Only `Empty` entries change, and
+/// only into `Filled`. It takes no memory.
 ///
-/// A payload is read only to be summed: a recovered word costs one copy, of the parity word, and one
-/// XOR in place for each other slot of its equation, and each equation without an `Empty` slot is
-/// summed once more for the verdict. Where a slot is in one row and one column at most, each equation
-/// is looked at twice, and once more for each of its slots that is filled.
+/// A payload is read only to be summed: a recovered word costs one copy, of the parity word, and
+/// one XOR in place for each other slot of its equation, and each equation without an `Empty` slot
+/// is summed once more for the verdict. Each equation is looked at once, and once more for each of
+/// its slots that is filled.
 pub fn peel(low: i64, slots: &mut [Slot], lines: &Slab<Line>) -> Verdict
     requires first { negsuc 99 ≤ℤ low }
     requires last { (low +ℤ pos (length slots.old)) ≤ℤ pos (2 ^ 62) }
@@ -105,16 +105,19 @@ pub fn peel(low: i64, slots: &mut [Slot], lines: &Slab<Line>) -> Verdict
     ensures below { before_first low slots.new ≡ before_first low slots.old }
     ensures closure { (position : ℕ) → IsSome (words_at low slots.new position)
         ↔ InClosure (words_at low slots.old) (equations_of lines.now) position }
-    ensures peeling { EndsPeeling (equations_of lines.now) (words_at low slots.old) (words_at low slots.new) }
+    ensures peeling { EndsPeeling (equations_of lines.now)
+        (words_at low slots.old) (words_at low slots.new) }
 
     // A recovered word that is no media word counts before an equation that doesn't come out.
-    ensures verdict { IsVerdict (recovered_at low slots.new) (words_at low slots.new) lines.now result }
+    ensures verdict { IsVerdict (recovered_at low slots.new) (words_at low slots.new)
+        lines.now result }
 
     // Where the known words are media words and the recovered ones come from them by a peeling, the
     // verdict tells whether there is a solution, and the words are then it.
     ensures solution { AreMedia (known_at low slots.old)
         → ArePeeled (equations_of lines.now) (known_at low slots.old) (words_at low slots.old)
-        → TellsSolution (equations_of lines.now) (known_at low slots.old) (words_at low slots.new) result }
+        → TellsSolution (equations_of lines.now)
+        (known_at low slots.old) (words_at low slots.new) result }
 {
     if low < 0 {
         let below = slots.len().min(low.unsigned_abs() as usize);

@@ -1,8 +1,10 @@
 //! Filling empty entries from the equations that miss one word.
 
-ghost use Rattle.std.specs.Prelude.{◌≡◌, ◌≢◌, ◌+◌, ◌^◌, ◌<◌, ◌≤◌, length, slice_set, IsTrue, IsSome, None, OnSome, IfSome, IfNone, false};
-ghost use Rattle.fg_peel.specs.Slots.{word_in, words_from, equation_of, equations_of, Fits, AllFitFrom, IsMissing};
-ghost use Rattle.fg_peel.specs.Recovery.{Fills, AllClosed, AllClosedAt, empty_count, IsPeeled, with_word, AddsWord};
+ghost use Rattle.std.specs.Prelude.{◌≡◌, ◌≢◌, ◌+◌, ◌^◌, ◌<◌, ◌≤◌, length, Contains, slice_set};
+ghost use Rattle.fg_peel.specs.Slots.{word_in, words_from, equation_of, equations_of, lines_of};
+ghost use Rattle.fg_peel.specs.Slots.{Fits, AllFitFrom, IsMissing};
+ghost use Rattle.fg_peel.specs.Recovery.{IsPeeled, Fills, with_word, AddsWord};
+ghost use Rattle.fg_peel.specs.Recovery.{NothingFollows, AllClosed, AllClosedAt, StayClosed};
 
 use crate::row::{Missing, Row};
 use crate::{Line, Slot};
@@ -15,7 +17,8 @@ use slab::Slab;
 fn fill(start: u64, slots: &mut [Slot], line: &Line, position: u64)
     requires line { Fits start slots.old line.now }
     requires limit { start + length slots.old ≤ 2 ^ 62 }
-    requires missing { IsMissing (words_from start slots.old) (equation_of line.now) (Missing.One position) }
+    requires missing { IsMissing (words_from start slots.old) (equation_of line.now)
+        (Missing.One position) }
     ensures { Fills start (equation_of line.now) position slots.old slots.new }
 {
     let target = (position - start) as usize;
@@ -61,73 +64,50 @@ fn add_entry(target: &mut Slot, other: &Slot)
     }
 }
 
-/// Fills the missing slot of the first line that has this slot and misses just one, and answers
-/// which. Lines without this slot are passed over by a test on numbers.
-fn fill_next(start: u64, slots: &mut [Slot], lines: &Slab<Line>, filled: u64) -> Option<u64>
+/// Fills the slot of a line that has no word, where there is just one, and goes on from there.
+#[cycle(filling)]
+fn visit(start: u64, slots: &mut [Slot], lines: &Slab<Line>, line: &Line)
     requires lines { AllFitFrom start slots.old lines.now }
     requires limit { start + length slots.old ≤ 2 ^ 62 }
+    requires live { Contains (lines_of lines.now) line.now }
     ensures peeled { IsPeeled start (equations_of lines.now) slots.old slots.new }
-    ensures fewer { OnSome result (empty_count slots.new < empty_count slots.old) }
-    ensures which { IfSome result (λ position. IsSome (words_from start slots.new position)) }
-    ensures unknown { IfSome result (λ position. words_from start slots.old position ≡ None) }
-    ensures same { IfNone result (slots.new ≡ slots.old) }
-    ensures none { IfNone result (AllClosedAt (words_from start slots.old) lines.now filled) }
+    ensures closed { NothingFollows (words_from start slots.new) (equation_of line.now) }
+    ensures stay { StayClosed (words_from start slots.old) (words_from start slots.new) lines.now }
 {
-    for (_, line) in lines.iter() {
-        if !contains(line.base, line.shape, filled) {
-            continue;
-        }
-        if let Missing::One(position) = (Row { start, slots }).missing(line) {
-            fill(start, slots, line, position);
-            return Some(position);
-        }
+    if let Missing::One(position) = (Row { start, slots }).missing(line) {
+        fill(start, slots, line, position);
+        follow(start, slots, lines, position);
     }
-    None
 }
 
-/// Goes on from a slot that was just filled, along the lines that it opens.
+/// Visits each line that has a slot, which was just filled. Lines without it are passed over by a
+/// test on numbers.
+#[cycle(filling)]
 fn follow(start: u64, slots: &mut [Slot], lines: &Slab<Line>, filled: u64)
     requires lines { AllFitFrom start slots.old lines.now }
     requires limit { start + length slots.old ≤ 2 ^ 62 }
     ensures peeled { IsPeeled start (equations_of lines.now) slots.old slots.new }
-    ensures none { slots.new ≡ slots.old → AllClosedAt (words_from start slots.old) lines.now filled }
+    ensures closed { AllClosedAt (words_from start slots.new) lines.now filled }
+    ensures stay { StayClosed (words_from start slots.old) (words_from start slots.new) lines.now }
 {
-    let mut next = Some(filled);
-    while let Some(position) = next {
-        next = fill_next(start, slots, lines, position);
-    }
-}
-
-/// Visits each line once, fills its missing slot where there is just one, and goes on from there.
-/// It answers whether it filled any.
-fn round(start: u64, slots: &mut [Slot], lines: &Slab<Line>) -> bool
-    requires lines { AllFitFrom start slots.old lines.now }
-    requires limit { start + length slots.old ≤ 2 ^ 62 }
-    ensures peeled { IsPeeled start (equations_of lines.now) slots.old slots.new }
-    ensures fewer { IsTrue result → empty_count slots.new < empty_count slots.old }
-    ensures closed { result ≡ false → AllClosed (words_from start slots.new) lines.now }
-{
-    let mut opened = false;
     for (_, line) in lines.iter() {
-        if let Missing::One(position) = (Row { start, slots }).missing(line) {
-            fill(start, slots, line, position);
-            follow(start, slots, lines, position);
-            opened = true;
+        if contains(line.base, line.shape, filled) {
+            visit(start, slots, lines, line);
         }
     }
-    opened
 }
 
 /// Fills entries until no line misses just one word.
 ///
-/// Each round but the last fills an entry. A round visits each line once, and in it each filled entry
-/// costs a visit of the lines that have its slot. In a layout of rows and columns that is all that a
-/// filled entry can open, so two rounds do: the second finds nothing.
+/// Each line is visited once, and once more for each of its slots that is filled, at the moment
+/// that it is. A filled entry costs a pass of tests on numbers over the lines.
 pub(crate) fn fill_all(start: u64, slots: &mut [Slot], lines: &Slab<Line>)
     requires lines { AllFitFrom start slots.old lines.now }
     requires limit { start + length slots.old ≤ 2 ^ 62 }
     ensures peeled { IsPeeled start (equations_of lines.now) slots.old slots.new }
     ensures closed { AllClosed (words_from start slots.new) lines.now }
 {
-    while round(start, slots, lines) {}
+    for (_, line) in lines.iter() {
+        visit(start, slots, lines, line);
+    }
 }

@@ -30,12 +30,13 @@ pub struct Row<'a> {
 
 impl<'a> Row<'a> {
     ghost use Rattle.fg_words.specs.Word.{HasRoom};
-    ghost use Rattle.fg_peel.specs.Slots.{first_position, from_first, words_from, equation_of, Fits, IsMissing};
+    ghost use Rattle.fg_peel.specs.Slots.{first_position, from_first, equation_of, IsMissing};
+    ghost use Rattle.fg_peel.specs.Row.{words_in, HasSlots};
     ghost use Rattle.fg_peel.specs.Equation.{ComesOut};
     ghost use Rattle.fg_peel.specs.Recovery.{AddsWords};
 
-    /// The row of the positions from 0 on, where the first entry stands for position `low`. Entries for
-    /// positions below 0 are left out.
+    /// The row of the positions from 0 on, where the first entry stands for position `low`. Entries
+    /// for positions below 0 are left out.
     pub fn new(low: i64, slots: &'a [Slot]) -> Row<'a>
         requires { (low +ℤ pos (length slots.now)) ≤ℤ pos (2 ^ 62) }
         ensures start { result.start ≡ first_position low }
@@ -57,7 +58,7 @@ impl<'a> Row<'a> {
     pub fn word(&self, position: u64) -> Option<&'a Word>
         requires first { self.now.start ≤ position }
         requires last { position < self.now.start + length self.now.slots.now }
-        ensures { option_copied result ≡ words_from self.now.start self.now.slots.now position }
+        ensures { option_copied result ≡ words_in self.now position }
     {
         let slots = self.slots;
         slots[(position - self.start) as usize].word()
@@ -65,8 +66,8 @@ impl<'a> Row<'a> {
 
     /// Which slots of a line have no word. It reads no payload.
     pub fn missing(&self, line: &Line) -> Missing
-        requires { Fits self.now.start self.now.slots.now line.now }
-        ensures { IsMissing (words_from self.now.start self.now.slots.now) (equation_of line.now) result }
+        requires { HasSlots self.now line.now }
+        ensures { IsMissing (words_in self.now) (equation_of line.now) result }
     {
         let mut found = None;
         for j in 0..line.shape.na {
@@ -84,11 +85,11 @@ impl<'a> Row<'a> {
         }
     }
 
-    /// Whether the words at a line's slots sum to its parity word. A slot without a word adds nothing.
-    /// Each payload is read once.
+    /// Whether the words at a line's slots sum to its parity word. A slot without a word adds
+    /// nothing. Each payload is read once.
     pub fn comes_out(&self, line: &Line) -> bool
-        requires { Fits self.now.start self.now.slots.now line.now }
-        ensures { IsTrue result ↔ ComesOut (words_from self.now.start self.now.slots.now) (equation_of line.now) }
+        requires { HasSlots self.now line.now }
+        ensures { IsTrue result ↔ ComesOut (words_in self.now) (equation_of line.now) }
     {
         let mut sum = *line.parity.word();
         self.add_words(&mut sum, line);
@@ -97,9 +98,9 @@ impl<'a> Row<'a> {
 
     /// Adds the words at a line's slots to a word.
     fn add_words(&self, sum: &mut Word, line: &Line)
-        requires line { Fits self.now.start self.now.slots.now line.now }
+        requires line { HasSlots self.now line.now }
         requires room { HasRoom sum.old }
-        ensures { AddsWords (words_from self.now.start self.now.slots.now) (equation_of line.now) sum.old sum.new }
+        ensures { AddsWords (words_in self.now) (equation_of line.now) sum.old sum.new }
     {
         for j in 0..line.shape.na {
             let position = slot(line.base, line.shape, j);

@@ -1,7 +1,7 @@
-//! A worked block of four rows and four columns, and random blocks against a peeler that plays every
-//! order of steps on timestamps alone.
+//! A worked block of four rows and four columns, and random blocks against a peeler that plays
+//! every order of steps on timestamps alone.
 
-ghost use Rattle.std.specs.Prelude.{IsTrue};
+ghost use Rattle.std.specs.Prelude.{◌≤◌, IsTrue, length};
 ghost use Rattle.fg_peel.specs.Slots.{FitsFrom, AllFitFrom};
 
 use super::*;
@@ -112,18 +112,23 @@ fn given_lines(
     Ok(lines)
 }
 
-/// Whether a line's slots are among the first `count` positions.
-fn line_fits(count: usize, line: &Line) -> bool
-    ensures { IsTrue result → FitsFrom 0 count line.now }
+/// Whether a line's slots are among the `count` positions from `start` on.
+fn line_fits(start: u64, count: usize, line: &Line) -> bool
+    requires { count ≤ 100 }
+    ensures { IsTrue result → FitsFrom start count line.now }
 {
-    shape_ok(line.shape) && line.base <= 1000 && last(line.base, line.shape) < count as u64
+    if !shape_ok(line.shape) || line.base < start || line.base > 1_000_000 {
+        return false;
+    }
+    last(line.base, line.shape) - start < count as u64
 }
 
-fn lines_fit(slots: &[Slot], lines: &Slab<Line>) -> bool
-    ensures { IsTrue result → AllFitFrom 0 slots.now lines.now }
+fn lines_fit(start: u64, slots: &[Slot], lines: &Slab<Line>) -> bool
+    requires { length slots.now ≤ 100 }
+    ensures { IsTrue result → AllFitFrom start slots.now lines.now }
 {
     for (_, line) in lines.iter() {
-        if !line_fits(slots.len(), line) {
+        if !line_fits(start, slots.len(), line) {
             return false;
         }
     }
@@ -132,7 +137,7 @@ fn lines_fit(slots: &[Slot], lines: &Slab<Line>) -> bool
 
 fn peel_block(rt: &impl Abort, slots: &mut [Slot], lines: &Slab<Line>) -> Verdict {
     assert!(rt; slots.len() <= 100);
-    assert!(rt; lines_fit(slots, lines));
+    assert!(rt; lines_fit(0, slots, lines));
     peel(0, slots, lines)
 }
 
@@ -140,8 +145,15 @@ fn peel_block(rt: &impl Abort, slots: &mut [Slot], lines: &Slab<Line>) -> Verdic
 fn peel_after_two(rt: &impl Abort, slots: &mut [Slot], lines: &Slab<Line>) -> Verdict {
     assert!(rt; slots.len() <= 100 && slots.len() >= 2);
     let (_, rest) = slots.split_at(2);
-    assert!(rt; lines_fit(rest, lines));
+    assert!(rt; lines_fit(0, rest, lines));
     peel(-2, slots, lines)
+}
+
+/// The same where the first entry stands for position 1000.
+fn peel_from_1000(rt: &impl Abort, slots: &mut [Slot], lines: &Slab<Line>) -> Verdict {
+    assert!(rt; slots.len() <= 100);
+    assert!(rt; lines_fit(1000, slots, lines));
+    peel(1000, slots, lines)
 }
 
 /// Which entries were filled.
@@ -239,6 +251,123 @@ fn entries_below_position_0(rt: HostRuntime) -> Result<(), Fail> {
     let mut slots = entries(rt.alloc(), &stamps, 0x0006)?;
     assert!(rt; peel_after_two(&rt, &mut slots, &lines) == Verdict::Sound);
     assert_eq!(rt; filled(&slots), 0x0004);
+    Ok(())
+}
+
+/// Row 0 of a block of these timestamps, where entry 1 has a word that workers solved, entry 2 one
+/// that was shown before, and entry 3 none.
+fn mixed_row(alloc: Global, solved: Word, shown: Word) -> Result<Vec<Slot>, AllocError> {
+    let mut slots = Vec::new(alloc);
+    slots.push(Slot::Media(media(1).share(alloc)?))?;
+    slots.push(Slot::Solved(solved.share(alloc)?))?;
+    slots.push(Slot::Filled(shown))?;
+    slots.push(Slot::Empty)?;
+    Ok(slots)
+}
+
+/// The verdict on such a row, after peeling by an equation that is right of `media(1)` to
+/// `media(4)`.
+fn mixed_verdict(rt: &impl Abort, alloc: Global, slots: &mut [Slot]) -> Result<Verdict, Fail> {
+    let mut stamps = [0u32; 16];
+    for (i, stamp) in stamps.iter_mut().enumerate() {
+        *stamp = i as u32 % 16 + 1;
+    }
+    let lines = given_lines(alloc, &stamps, ROW_0_ALONE, NO_FLIP)?;
+    Ok(peel_block(rt, slots, &lines))
+}
+
+/// Whether an entry is a filled one with this word.
+fn is_filled_with(slot: &Slot, want: &Word) -> bool {
+    match slot {
+        Slot::Filled(word) => word.same(want),
+        Slot::Empty | Slot::Media(_) | Slot::Solved(_) => false,
+    }
+}
+
+#[test]
+fn solved_and_shown_words_serve_and_stay(rt: HostRuntime) -> Result<(), Fail> {
+    let mut slots = mixed_row(rt.alloc(), media(2), media(3))?;
+    assert!(rt; mixed_verdict(&rt, rt.alloc(), &mut slots)? == Verdict::Sound);
+    assert!(rt; slots.len() == 4);
+    assert!(rt; matches!(&slots[1], Slot::Solved(word) if word.word().same(&media(2))));
+    assert!(rt; is_filled_with(&slots[2], &media(3)));
+    assert!(rt; is_filled_with(&slots[3], &media(4)));
+    Ok(())
+}
+
+#[test]
+fn solved_word_that_is_no_media_word(rt: HostRuntime) -> Result<(), Fail> {
+    let mut slots = mixed_row(rt.alloc(), Word::zero(), media(3))?;
+    let verdict = mixed_verdict(&rt, rt.alloc(), &mut slots)?;
+    assert!(rt; verdict == Verdict::NotMedia { slot: 1 });
+    Ok(())
+}
+
+/// One equation of this shape, whose slots have media words stamped with their positions.
+fn stamped_line(alloc: Global, base: u32, shape: Shape) -> Result<Slab<Line>, AllocError> {
+    let mut parity = Word::zero();
+    for j in 0..u32::from(shape.na) {
+        parity.xor_in(&media(base.wrapping_add(j.wrapping_mul(u32::from(shape.offset)))));
+    }
+    let mut lines = Slab::new(alloc);
+    let line = Line {
+        base: u64::from(base),
+        shape,
+        parity: parity.share(alloc)?,
+        serial: 0,
+        place: 0,
+    };
+    let _key = lines.insert(line)?;
+    Ok(lines)
+}
+
+/// A hundred entries with media words stamped with their positions, but for the one at `lost`.
+fn stamped_row(alloc: Global, start: u32, lost: u32) -> Result<Vec<Slot>, AllocError> {
+    let mut slots = Vec::new(alloc);
+    for i in 0..100u32 {
+        if i == lost {
+            slots.push(Slot::Empty)?;
+        } else {
+            slots.push(Slot::Media(media(start.wrapping_add(i)).share(alloc)?))?;
+        }
+    }
+    Ok(slots)
+}
+
+/// Whether the last slot of an equation of this shape is recovered where all others are known, in a
+/// row of a hundred positions from `start` on.
+fn recovers_last(rt: &impl Abort, alloc: Global, start: u32, shape: Shape) -> Result<bool, Fail> {
+    let lost = (u32::from(shape.na).wrapping_sub(1)).wrapping_mul(u32::from(shape.offset));
+    let mut slots = stamped_row(alloc, start, lost)?;
+    let lines = stamped_line(alloc, start, shape)?;
+    let verdict = if start == 1000 {
+        peel_from_1000(rt, &mut slots, &lines)
+    } else {
+        peel_block(rt, &mut slots, &lines)
+    };
+    let want = media(start.wrapping_add(lost));
+    let there = slots
+        .get(lost as usize)
+        .is_some_and(|slot| is_filled_with(slot, &want));
+    Ok(verdict == Verdict::Sound && there)
+}
+
+#[test]
+fn shapes_at_their_limits(rt: HostRuntime) -> Result<(), Fail> {
+    // One slot; twenty; the longest spans; the greatest offset.
+    for (offset, na) in [(1, 1), (1, 20), (5, 20), (11, 10), (9, 12), (20, 5)] {
+        assert!(rt;
+            recovers_last(&rt, rt.alloc(), 0, Shape { offset, na })?,
+            "{offset} {na}"
+        );
+    }
+    Ok(())
+}
+
+#[test]
+fn entries_from_a_later_position_on(rt: HostRuntime) -> Result<(), Fail> {
+    assert!(rt; recovers_last(&rt, rt.alloc(), 1000, ROW)?);
+    assert!(rt; recovers_last(&rt, rt.alloc(), 1000, COLUMN)?);
     Ok(())
 }
 
@@ -376,14 +505,22 @@ fn try_block(rt: &impl Abort, alloc: Global, random: &mut Pcg32) -> Result<(), F
         }
         Verdict::NotMedia { .. } => assert!(rt; false, "each recovered word is a media word"),
     }
-    for (slot, stamp) in slots.iter().zip(ends.stamps.iter()) {
-        if verdict == Verdict::Sound
-            && let Slot::Filled(word) = slot
-        {
-            assert_eq!(rt; word.ts, *stamp);
-        }
+    if verdict == Verdict::Sound {
+        assert!(rt; are_filled_with(&slots, &stamps, &ends.stamps));
     }
     Ok(())
+}
+
+/// Whether each filled entry has the word of this block but for the timestamp that was found.
+fn are_filled_with(slots: &[Slot], stamps: &[u32; 16], found: &[u32; 16]) -> bool {
+    for (i, slot) in slots.iter().enumerate() {
+        let mut want = media(stamps[i % 16]);
+        want.ts = found[i % 16];
+        if matches!(slot, Slot::Filled(_)) && !is_filled_with(slot, &want) {
+            return false;
+        }
+    }
+    true
 }
 
 #[test]

@@ -1,7 +1,9 @@
 -- Laws of the slots of an equation, and of layouts.
-use Rattle.std.specs.Prelude.{◌≡◌, ◌+◌, ◌*◌, ◌<◌, ◌≤◌, ℕ, length, slice_index}
+use Rattle.std.specs.Prelude.{◌≡◌, ◌+◌, ◌*◌, ◌<◌, ◌≤◌, ℕ, Bool, length, slice_index}
 use Rattle.fg_shape.specs.declared.layouts.Layout.{Layout}
+use Rattle.fg_shape.specs.declared.layouts.LayoutFault.{LayoutFault}
 use Rattle.fg_shape.specs.Layout.{ColumnEnds, RowEnds}
+use Rattle.fg_shape.specs.Limits.{FirstLayoutFault, IsLayout}
 use Rattle.fg_shape.specs.Shape.{slots_of, IsShape}
 
 -- A shape has as many slots as it counts.
@@ -35,3 +37,14 @@ abbrev pub OneRowEnds : Type 0
 OneRowEnds =
     (layout : Layout) (slot a b : ℕ) (x : RowEnds layout slot a) (y : RowEnds layout slot b)
     → (x.matrix ≡ y.matrix) × (x.row ≡ y.row) × (a ≡ b)
+
+-- A layout that is written has no fault, and another at most one that is its first.
+abbrev pub LayoutsHaveNoFault : Type 0
+LayoutsHaveNoFault =
+    (l d : ℕ) (rows : Bool) (fault : LayoutFault)
+    → IsLayout l d rows → FirstLayoutFault l d rows fault → ⊥
+
+abbrev pub OneLayoutFault : Type 0
+OneLayoutFault =
+    (l d : ℕ) (rows : Bool) (a b : LayoutFault)
+    → FirstLayoutFault l d rows a → FirstLayoutFault l d rows b → a ≡ b

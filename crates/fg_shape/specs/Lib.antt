@@ -1,4 +1,5 @@
 pub mod Laws
 pub mod Layout
 pub mod Limits
+pub mod Settings
 pub mod Shape

@@ -14,8 +14,8 @@ pub struct Settings {
     pub packets: u8,
     /// Transport bits a second, 1 to 10,000,000,000.
     pub rate: u64,
-    /// The UDP port of the media datagrams, 1 to 65531. Parity of columns and rows goes to the ports
-    /// two and four above it (SMPTE ST 2022-1).
+    /// The UDP port of the media datagrams, 1 to 65531. Parity of columns goes to the port two
+    /// above it, and parity of rows to the port four above (SMPTE ST 2022-1).
     pub port: u16,
     /// The RTP sequence number of the first media datagram.
     pub seq: u16,

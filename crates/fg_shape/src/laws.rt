@@ -1,5 +1,5 @@
 //! Laws of slots and layouts, each the contract of a function that does nothing.
-ghost use Rattle.fg_shape.specs.Laws.{CountsItsSlots, LayoutsAreRead, NumbersItsSlots, OneColumnEnds, OneRowEnds, SlotsDiffer};
+ghost use Rattle.fg_shape.specs.Laws.{CountsItsSlots, LayoutsAreRead, LayoutsHaveNoFault, NumbersItsSlots, OneColumnEnds, OneLayoutFault, OneRowEnds, SlotsDiffer};
 
 /// A shape has as many slots as it counts.
 pub fn a_shape_counts_its_slots()
@@ -25,4 +25,10 @@ pub fn layouts_are_read()
 pub fn one_column_and_one_row_end()
     ensures column { OneColumnEnds }
     ensures row { OneRowEnds }
+{}
+
+/// A layout that is written has no fault, and another has one first.
+pub fn one_layout_fault()
+    ensures none { LayoutsHaveNoFault }
+    ensures one { OneLayoutFault }
 {}

@@ -54,7 +54,8 @@ impl Layout {
     /// The first fault that applies, in the order of its variants.
     pub fn new(l: u8, d: u8, rows: bool, staggered: bool) -> Result<Layout, LayoutFault>
         ensures size { IfOk result (λ layout. (layout.l ≡ l) × (layout.d ≡ d)) }
-        ensures kind { IfOk result (λ layout. (layout.rows ≡ rows) × (layout.staggered ≡ staggered)) }
+        ensures rows { IfOk result (λ layout. layout.rows ≡ rows) }
+        ensures staggered { IfOk result (λ layout. layout.staggered ≡ staggered) }
         ensures faults { IfErr result (FirstLayoutFault l d rows) }
     {
         if l < 1 || l > 20 {
@@ -82,7 +83,8 @@ impl Layout {
         requires { slot ≤ 2 ^ 62 }
         ensures column { MatchOption result.column
             ((base : ℕ) → ColumnEnds self.now slot base → ⊥) (ColumnEnds self.now slot) }
-        ensures row { MatchOption result.row ((base : ℕ) → RowEnds self.now slot base → ⊥) (RowEnds self.now slot) }
+        ensures row { MatchOption result.row
+            ((base : ℕ) → RowEnds self.now slot base → ⊥) (RowEnds self.now slot) }
     {
         Ends {
             column: self.column_ending_at(slot),
@@ -126,7 +128,8 @@ impl Layout {
 
     /// The first slot of the row that ends at the slot, where rows are sent.
     fn row_ending_at(&self, slot: u64) -> Option<u64>
-        ensures { MatchOption result ((base : ℕ) → RowEnds self.now slot base → ⊥) (RowEnds self.now slot) }
+        ensures { MatchOption result
+            ((base : ℕ) → RowEnds self.now slot base → ⊥) (RowEnds self.now slot) }
     {
         let columns = u64::from(self.l);
         let length = columns - 1;

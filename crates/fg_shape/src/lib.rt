@@ -22,8 +22,8 @@ pub struct Shape {
     pub na: u8,
 }
 
-/// Whether a shape is one that is read: an offset of 1 to 20, 1 to 20 slots, and at most 99 positions
-/// from the first slot to the last.
+/// Whether a shape is one that is read: an offset of 1 to 20, 1 to 20 slots, and at most 99
+/// positions from the first slot to the last.
 pub fn shape_ok(shape: Shape) -> bool
     ensures { IsTrue result ↔ IsShape shape.offset shape.na }
 {

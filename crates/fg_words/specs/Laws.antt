@@ -19,8 +19,11 @@ XorUndoesItself = (a : Word) → HasRoom a → word_xor a a ≡ zero_word
 
 -- The sum of two lists, one after the other, is the XOR of their sums.
 abbrev pub SumAppends : Type 0
-SumAppends = (us ws : List Word) → All HasRoom us → All HasRoom ws → word_sum (us ++ ws) ≡ word_xor (word_sum us) (word_sum ws)
+SumAppends =
+    (us ws : List Word) → All HasRoom us → All HasRoom ws
+    → word_sum (us ++ ws) ≡ word_xor (word_sum us) (word_sum ws)
 
 -- The same words in another order have the same sum.
 abbrev pub SumIgnoresOrder : Type 0
-SumIgnoresOrder = (us ws : List Word) → All HasRoom us → IsPermutation us ws → word_sum ws ≡ word_sum us
+SumIgnoresOrder =
+    (us ws : List Word) → All HasRoom us → IsPermutation us ws → word_sum ws ≡ word_sum us

@@ -25,7 +25,8 @@ pub fn xor_bytes(bytes: &mut [u8; PAYLOAD_LIMIT], other: &[u8; PAYLOAD_LIMIT])
 
 /// XORs those of the other bytes that lie in whole vectors into these.
 fn xor_whole(bytes: &mut [u8; PAYLOAD_LIMIT], other: &[u8; PAYLOAD_LIMIT])
-    ensures below { (i : ℕ) → i < WHOLE → slice_index bytes.new i ≡ bit_xor (slice_index bytes.old i) (slice_index other.now i) }
+    ensures below { (i : ℕ) → i < WHOLE
+        → slice_index bytes.new i ≡ bit_xor (slice_index bytes.old i) (slice_index other.now i) }
     ensures rest { (i : ℕ) → WHOLE ≤ i → slice_index bytes.new i ≡ slice_index bytes.old i }
 {
     for vector in 0..VECTORS {
@@ -38,7 +39,8 @@ fn xor_whole(bytes: &mut [u8; PAYLOAD_LIMIT], other: &[u8; PAYLOAD_LIMIT])
 /// XORs those of the other bytes that follow the last whole vector into these.
 fn xor_rest(bytes: &mut [u8; PAYLOAD_LIMIT], other: &[u8; PAYLOAD_LIMIT])
     ensures below { (i : ℕ) → i < WHOLE → slice_index bytes.new i ≡ slice_index bytes.old i }
-    ensures rest { (i : ℕ) → WHOLE ≤ i → slice_index bytes.new i ≡ bit_xor (slice_index bytes.old i) (slice_index other.now i) }
+    ensures rest { (i : ℕ) → WHOLE ≤ i
+        → slice_index bytes.new i ≡ bit_xor (slice_index bytes.old i) (slice_index other.now i) }
 {
     for at in WHOLE..PAYLOAD_LIMIT {
         bytes[at] ^= other[at];

@@ -25,7 +25,8 @@ pub const PACKETS_LIMIT: usize = 7;
 /// The first byte of each transport packet (ISO/IEC 13818-1).
 pub const SYNC_BYTE: u8 = 0x47;
 
-/// The payload bytes that a word has room for: as many transport packets as a media datagram carries.
+/// The payload bytes that a word has room for: as many transport packets as a media datagram
+/// carries.
 pub const PAYLOAD_LIMIT: usize = PACKETS_LIMIT * PACKET_LENGTH;
 
 /// What forward error correction can recover of a media datagram (SMPTE ST 2022-1, the recovery

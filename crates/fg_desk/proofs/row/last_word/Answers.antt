@@ -1,10 +1,10 @@
-use Rattle.std.proofs.Common.{◌≡◌, ◌<◌, ◌≤◌, ◌+◌, ◌-◌, ℕ, length, get_or, IsSome, None, sym, ap, ◌∙◌, subst, arith}
+use Rattle.std.proofs.Common.{◌≡◌, ◌<◌, ◌+◌, ◌-◌, length, get_or, IsSome, None, sym, ap, ◌∙◌, subst, arith}
 use Rattle.std.proofs.lemmas.List.{get_or_default}
 use Rattle.fg_peel.specs.declared.Slot.{Slot}
 use Rattle.fg_peel.specs.declared.Slot.TheVariants.{Empty}
 use Rattle.fg_peel.specs.Slots.{word_in}
 use Rattle.fg_desk.specs.RowEntries.{HasNoWordFrom}
-use Rattle.fg_desk.proofs.RowLoops.{no_word_past, no_word_at, last_word_at, none_of_copied, some_of_copied}
+use Rattle.fg_desk.proofs.RowLoops.{no_word_at, last_word_at, none_of_copied, some_of_copied}
 use Rattle.fg_desk.proofs.row.last_word.Goals as goal
 
 pub loop-i-preserved : goal.loop-i-preserved

@@ -1,6 +1,6 @@
-use Rattle.std.proofs.Common.{◌≡◌, ℤ, pos, ◌-ℤ◌, true, false, refl, w64, to_z, of_z, arith}
+use Rattle.std.proofs.Common.{◌≡◌, ℤ, true, false, refl, w64, to_z, of_z, arith}
 use Rattle.std.proofs.lemmas.Int.{ints}
-use Rattle.fg_desk.proofs.RowPeels.{IsLow, is_low, fits_low, recovers}
+use Rattle.fg_desk.proofs.RowPeels.{is_low, fits_low, recovers}
 use Rattle.fg_desk.proofs.row.recover_words.Goals as goal
 
 pub peel-requires-clause-lines : goal.peel-requires-clause-lines

@@ -1,4 +1,4 @@
-use Rattle.std.proofs.Common.{◌≡◌, ◌≢◌, ◌+◌, ◌<◌, ◌≤◌, ℕ, length, get_or, set, ◌++◌, List, sym, ap, ◌∙◌, ⊎_elim, arith}
+use Rattle.std.proofs.Common.{◌≡◌, ◌≢◌, ◌+◌, ◌<◌, ℕ, length, get_or, set, ◌++◌, List, sym, ap, ◌∙◌, ⊎_elim, arith}
 use Rattle.std.proofs.lemmas.Bool.{cases_eq}
 use Rattle.fg_peel.specs.declared.Slot.{Slot}
 use Rattle.fg_peel.specs.declared.Slot.TheVariants.{Empty}
@@ -21,8 +21,7 @@ loop-i-preserved c =
     let here : get_or new i Empty ≡ get_or c.args.slots.now (i + count) Empty =
     moved_here old front back i count x y cut.value cut.front_len some within
     ∙ taken_is old front back i count x y cut.value cut.front_len some within _ c.take_entry.ensures
-    ∙ c.loop-i.invariant.1 (i + count) (omega arith) in
-    (
+    ∙ c.loop-i.invariant.1 (i + count) (omega arith) in (
       λ k less.
           ⊎_elim
           (λ same.

@@ -1,4 +1,4 @@
-use Rattle.fg_peel.proofs.Solutions.{sound_agree, maximal_sound, maximal_ends_at_solution}
+use Rattle.fg_peel.proofs.Solutions.{sound_agree, maximal_sound, maximal_ends_at_solution, peelings_agree}
 use Rattle.fg_peel.proofs.Maximal.{maximal_exists}
 use Rattle.fg_peel.proofs.Verdicts.{sound_where_solvable}
 use Rattle.fg_peel.proofs.laws.confluence.Goals as goal
@@ -16,3 +16,6 @@ returns-clause-same_end c = maximal_ends_at_solution
 
 pub returns-clause-solvable : goal.returns-clause-solvable
 returns-clause-solvable c = sound_where_solvable
+
+pub returns-clause-kept : goal.returns-clause-kept
+returns-clause-kept c = peelings_agree

@@ -1,6 +1,6 @@
-use Rattle.fg_peel.proofs.Peelings.{peelings_stay, maximal_end}
+use Rattle.fg_peel.proofs.Peelings.{peelings_stay, maximal_end, end_of-keeps}
 use Rattle.fg_peel.proofs.Maximal.{maximal_exists}
-use Rattle.fg_peel.proofs.Verdicts.{peelings_continue}
+use Rattle.fg_peel.proofs.Verdicts.{peelings_continue, end_of-append, IsPeeling-append}
 use Rattle.fg_peel.proofs.laws.peelings_fill_the_closure.Goals as goal
 
 pub returns-clause-within : goal.returns-clause-within
@@ -14,3 +14,10 @@ returns-clause-exists c = maximal_exists
 
 pub returns-clause-continued : goal.returns-clause-continued
 returns-clause-continued c = peelings_continue
+
+pub returns-clause-keeps : goal.returns-clause-keeps
+returns-clause-keeps c = end_of-keeps
+
+pub returns-clause-appended : goal.returns-clause-appended
+returns-clause-appended c known equations one other first second =
+    (IsPeeling-append known equations one other first second, end_of-append known one other)

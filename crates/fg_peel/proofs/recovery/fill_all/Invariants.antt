@@ -1,10 +1,14 @@
-use Rattle.fg_peel.specs.Slots.{equations_of}
-use Rattle.fg_peel.specs.Recovery.{IsPeeled, empty_count}
+use Rattle.fg_peel.specs.Slots.{equations_of, words_from}
+use Rattle.fg_peel.specs.Recovery.{IsPeeled}
+use Rattle.fg_peel.proofs.Lines.{AreLive}
+use Rattle.fg_peel.proofs.Closed.{ClosedBut}
 use Rattle.fg_peel.proofs.recovery.fill_all.Given as goal
 
-abbrev pub invariant-loop : goal.invariant-loop
-invariant-loop l = IsPeeled l.start (equations_of l.lines) l.fn.slots l.slots
-
--- each round but the last fills an entry
-abbrev pub decreases-loop : goal.decreases-loop
-decreases-loop l = empty_count l.slots
+-- the lines that are left are live, and nothing follows from the others
+abbrev pub invariant-loop-line : goal.invariant-loop-line
+invariant-loop-line l =
+    (goal.iterator-loop-line).can_next l.line-iterator ×
+    (goal.iterator-loop-line).is_finite l.line-iterator ×
+    AreLive l.lines l.line-iterator ×
+    IsPeeled l.start (equations_of l.lines) l.fn.slots l.slots ×
+    ClosedBut (words_from l.start l.slots) l.lines l.line-iterator

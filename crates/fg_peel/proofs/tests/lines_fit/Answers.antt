@@ -7,7 +7,7 @@ pub loop-line-init : goal.loop-line-init
 loop-line-init c = (
   tt,
   tt,
-  fits_none 0 c.args.slots.now c.args.lines.now c.into_iter-line-iterator.result (c.into_iter-line-iterator.ensures.into_iter_gives ∙ c.iter-line-items.ensures.rest),
+  fits_none c.args.start c.args.slots.now c.args.lines.now c.into_iter-line-iterator.result (c.into_iter-line-iterator.ensures.into_iter_gives ∙ c.iter-line-items.ensures.rest),
 )
 
 pub loop-line-preserved : goal.loop-line-preserved
@@ -15,8 +15,8 @@ loop-line-preserved c =
     let entry : ℕ × Line = (c.in-Some.field-0-0, c.in-Some.line.now) in (
       tt,
       tt,
-      fits_more 0 c.args.slots.now c.args.lines.now c.loop-line.line-iterator entry c.next.new.self c.in-Some.ensures.steps (c.line_fits.ensures c.if-not-line_fits.false) c.loop-line.invariant.2,
+      fits_more c.args.start c.args.slots.now c.args.lines.now c.loop-line.line-iterator entry c.next.new.self c.in-Some.ensures.steps (c.line_fits.ensures c.if-not-line_fits.false) c.loop-line.invariant.2,
     )
 
 pub returns : goal.returns
-returns c = λ _. fits_all 0 c.args.slots.now c.args.lines.now c.loop-line.line-iterator c.in-None.ensures.steps.0 c.loop-line.invariant.2
+returns c = λ _. fits_all c.args.start c.args.slots.now c.args.lines.now c.loop-line.line-iterator c.in-None.ensures.steps.0 c.loop-line.invariant.2

@@ -6,4 +6,4 @@ abbrev pub invariant-loop-line : goal.invariant-loop-line
 invariant-loop-line l =
     (goal.iterator-loop-line).can_next l.line-iterator ×
     (goal.iterator-loop-line).is_finite l.line-iterator ×
-    FitsBut 0 l.slots l.lines l.line-iterator
+    FitsBut l.start l.slots l.lines l.line-iterator

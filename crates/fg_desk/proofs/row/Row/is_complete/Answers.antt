@@ -1,4 +1,4 @@
-use Rattle.std.proofs.Common.{◌≡◌, ◌<◌, ℕ, length, get_or, Contains, None, true, false, refl, sym, ◌∙◌, ap, not, subst, arith}
+use Rattle.std.proofs.Common.{◌≡◌, ◌<◌, ℕ, length, Contains, None, true, false, refl, sym, ◌∙◌, ap, not, subst, arith}
 use Rattle.std.proofs.lemmas.List.Elements.{Contains-get_or}
 use Rattle.fg_shape.specs.Shape.{slots_of}
 use Rattle.fg_desk.specs.Row.{row_words}
@@ -20,8 +20,7 @@ returns-then-is_none c =
 pub returns : goal.returns
 returns c =
     let line = c.args.line.now in
-    let xs = slots_of line.base line.shape.offset line.shape.na in
-    (
+    let xs = slots_of line.base line.shape.offset line.shape.na in (
       λ _. all_have_words (row_words c.args.self.now) xs c.loop-j.j (length-slots_of line.base line.shape.offset line.shape.na ∙ omega arith) c.loop-j.invariant,
       λ _. refl,
     )

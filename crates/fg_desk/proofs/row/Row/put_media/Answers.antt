@@ -1,4 +1,4 @@
-use Rattle.std.proofs.Common.{ap, sym, ◌∙◌, arith}
+use Rattle.std.proofs.Common.{ap, ◌∙◌, arith}
 use Rattle.fg_desk.specs.Row.{RowState, receives}
 use Rattle.fg_desk.proofs.RowChanges.{received_row}
 use Rattle.fg_desk.proofs.row.Row.put_media.Goals as goal

@@ -1,7 +1,6 @@
-use Rattle.std.proofs.Common.{◌≡◌, List, length, subst, ap, sym, ◌∙◌, vec_len, arith}
+use Rattle.std.proofs.Common.{subst, ap, sym, ◌∙◌, arith}
 use Rattle.std.proofs.lemmas.List.{with_items_is}
 use Rattle.std.specs.Vec.{with_items}
-use Rattle.fg_peel.specs.declared.Slot.{Slot}
 use Rattle.fg_desk.specs.Row.{RowState, AllLieIn}
 use Rattle.fg_desk.specs.RowEntries.{row_of}
 use Rattle.fg_desk.proofs.RowPeels.{RowRecovers, recovers_call, media_call}

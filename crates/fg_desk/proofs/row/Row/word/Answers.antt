@@ -1,4 +1,4 @@
-use Rattle.std.proofs.Common.{subst, ap, sym, ◌∙◌, ◌≤◌, arith}
+use Rattle.std.proofs.Common.{subst, ap, ◌∙◌, ◌≤◌, arith}
 use Rattle.fg_desk.specs.Row.{RowState, IsRow}
 use Rattle.fg_desk.proofs.RowViews.{is_row, row_shared-ahead}
 use Rattle.fg_desk.proofs.row.Row.word.Goals as goal

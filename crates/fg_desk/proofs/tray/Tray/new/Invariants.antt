@@ -1,4 +1,4 @@
-use Rattle.std.proofs.Common.{◌≡◌, length, vec_len}
+use Rattle.std.proofs.Common.{◌≡◌, length}
 use Rattle.fg_desk.proofs.tray.Tray.new.Given as goal
 
 abbrev pub invariant-loop : goal.invariant-loop

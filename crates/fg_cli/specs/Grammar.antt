@@ -1,0 +1,117 @@
+-- The words of the command line, as a manual page has them: for each command the names that may stand after
+-- it, and for each name the values that it takes, what holds where it isn't there, and how often it may
+-- stand. All of it is this project's own.
+use Rattle.std.specs.Prelude.{◌<◌, ◌≤◌, ◌≡◌, ◌∷◌, [], ℕ, zero, suc, Bool, List, Option, Some, None, IsTrue, codes, nat_eq}
+use Rattle.std.specs.Fmt.{decimal}
+use Rattle.std.specs.List.{list_any}
+use Rattle.fg_cli.specs.declared.Name.TheVariants as name
+use Rattle.fg_cli.specs.declared.grammar.Command.{Command}
+use Rattle.fg_cli.specs.declared.grammar.Command.TheVariants as command
+use Rattle.fg_cli.specs.declared.grammar.Key.{Key}
+use Rattle.fg_cli.specs.declared.grammar.Key.TheVariants as key
+use Rattle.fg_cli.specs.declared.grammar.Absent.{Absent}
+use Rattle.fg_cli.specs.declared.grammar.Absent.TheVariants.{Needed, Default, Nothing}
+
+-- The values that a name takes, each a number: the numbers from a least to a greatest, or one of two words,
+-- of which the first stands for 0 and the second for 1.
+pub data Range : Type 0 where
+  Number : ℕ → ℕ → Range
+  Either : List ℕ → List ℕ → Range
+
+abbrev pub Allows : Range → ℕ → Type 0
+Allows (Number least greatest) n = (least ≤ n) × (n ≤ greatest)
+Allows (Either first second) n = n ≤ 1
+
+-- How a value is written: in decimal digits, without a leading zero but for 0 itself; or as its word.
+abbrev pub value_text : Range → ℕ → List ℕ
+value_text (Number least greatest) n = decimal n
+value_text (Either first second) zero = first
+value_text (Either first second) (suc n) = second
+
+-- A name, its values, what holds where it isn't there, and how often it may stand (as often as one likes
+-- where there is no number).
+pub record TableRow : Type 0 where
+  pub name : List ℕ
+  pub range : Range
+  pub absent : Absent
+  pub most : Option ℕ
+
+-- A name that must be there, once; one that may be left out; and one that may be left out for nothing.
+abbrev pub needed : List ℕ → Range → Absent → TableRow
+needed name range absent = record { name = name; range = range; absent = absent; most = Some 1 }
+
+abbrev pub optional : List ℕ → Range → ℕ → TableRow
+optional name range default = record { name = name; range = range; absent = Default default; most = Some 1 }
+
+-- The table, a row for each name.
+abbrev pub row : Key → TableRow
+row key.Flow = record { name = codes "flow"; range = Number 1 65531; absent = Needed name.Flow; most = None }
+row key.Window = optional (codes "window") (Number 1 100) 100
+row key.Depth = optional (codes "depth") (Number 1 1000) 400
+row key.Workers = optional (codes "workers") (Number 0 16) 4
+row key.Max = optional (codes "max") (Number 8 1099511627776) 1099511627776
+row key.Columns = needed (codes "columns") (Number 0 255) (Needed name.Columns)
+row key.Rows = needed (codes "rows") (Number 0 255) (Needed name.Rows)
+row key.Fec = optional (codes "fec") (Either (codes "column") (codes "both")) 1
+row key.Layout = optional (codes "layout") (Either (codes "block") (codes "staggered")) 0
+row key.Packets = optional (codes "packets") (Number 1 7) 7
+row key.Rate = optional (codes "rate") (Number 1 10000000000) 10000000
+row key.Port = optional (codes "port") (Number 1 65531) 5000
+row key.Seq = optional (codes "seq") (Number 0 65535) 0
+row key.Ssrc = optional (codes "ssrc") (Number 0 4294967295) 0
+row key.Stamp = optional (codes "stamp") (Number 0 4294967295) 0
+row key.Drop = record { name = codes "drop"; range = Number 1 9999999999999; absent = Nothing; most = Some 1000 }
+row key.Every = record { name = codes "every"; range = Number 2 9999999999999; absent = Nothing; most = Some 1 }
+row key.Seed = needed (codes "seed") (Number 0 9999999999999) (Needed name.Seed)
+row key.Datagrams = optional (codes "datagrams") (Number 1 20000) 1000
+row key.Loss = optional (codes "loss") (Number 0 20) 3
+
+-- The word of a command.
+abbrev pub command_text : Command → List ℕ
+command_text command.Repair = codes "repair"
+command_text command.Encode = codes "encode"
+command_text command.Drill = codes "drill"
+command_text command.Inspect = codes "inspect"
+command_text command.Sample = codes "sample"
+
+-- The names that may stand after a command. Where several that must be there aren't, the first is told.
+abbrev pub keys_of : Command → List Key
+keys_of command.Repair = key.Flow ∷ key.Window ∷ key.Depth ∷ key.Workers ∷ key.Max ∷ []
+keys_of command.Encode =
+    key.Max ∷ key.Columns ∷ key.Rows ∷ key.Fec ∷ key.Layout ∷ key.Packets ∷ key.Rate ∷ key.Port ∷ key.Seq
+    ∷ key.Ssrc ∷ key.Stamp ∷ []
+keys_of command.Drill =
+    key.Window ∷ key.Depth ∷ key.Workers ∷ key.Max ∷ key.Columns ∷ key.Rows ∷ key.Fec ∷ key.Layout
+    ∷ key.Packets ∷ key.Rate ∷ key.Port ∷ key.Seq ∷ key.Ssrc ∷ key.Stamp ∷ key.Drop ∷ key.Every ∷ []
+keys_of command.Inspect = key.Flow ∷ key.Max ∷ []
+keys_of command.Sample = key.Workers ∷ key.Seed ∷ key.Datagrams ∷ key.Loss ∷ []
+
+-- The place of a name's row, by which names are told apart.
+abbrev pub place : Key → ℕ
+place key.Flow = 0
+place key.Window = 1
+place key.Depth = 2
+place key.Workers = 3
+place key.Max = 4
+place key.Columns = 5
+place key.Rows = 6
+place key.Fec = 7
+place key.Layout = 8
+place key.Packets = 9
+place key.Rate = 10
+place key.Port = 11
+place key.Seq = 12
+place key.Ssrc = 13
+place key.Stamp = 14
+place key.Drop = 15
+place key.Every = 16
+place key.Seed = 17
+place key.Datagrams = 18
+place key.Loss = 19
+
+abbrev pub same_key : Key → Key → Bool
+same_key a b = nat_eq (place a) (place b)
+
+-- The name may stand after the command.
+abbrev pub Knows : Command → Key → Type 0
+Knows command key = IsTrue (list_any (same_key key) (keys_of command))

@@ -1,0 +1,5 @@
+pub mod Grammar
+pub mod Laws
+pub mod Lines
+pub mod Orders
+pub mod Reading

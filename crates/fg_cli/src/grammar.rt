@@ -1,0 +1,279 @@
+//! The commands, and the names that may stand after them: one row for each name.
+ghost use Rattle.std.specs.Prelude.{◌≡◌, ◌<◌, ◌^◌, ◌≤◌, ◌↔◌, IfNone, IfSome, IsTrue};
+ghost use Rattle.fg_cli.specs.Grammar.{Knows, Number, Either, command_text, keys_of, needed, optional, row};
+ghost use Rattle.fg_cli.specs.Reading.{BeginsPlain, Reads, range_seen, row_seen};
+
+use crate::Name;
+
+/// What the first word says is to be done.
+#[derive(Clone, Copy)]
+pub enum Command {
+    Repair,
+    Encode,
+    Drill,
+    Inspect,
+    Sample,
+}
+
+/// A name that may stand before an equals sign.
+#[derive(Clone, Copy, PartialEq, Eq)]
+pub enum Key {
+    Flow,
+    Window,
+    Depth,
+    Workers,
+    Max,
+    Columns,
+    Rows,
+    Fec,
+    Layout,
+    Packets,
+    Rate,
+    Port,
+    Seq,
+    Ssrc,
+    Stamp,
+    Drop,
+    Every,
+    Seed,
+    Datagrams,
+    Loss,
+}
+
+/// The values that a name takes.
+#[derive(Clone, Copy)]
+pub enum Values {
+    /// The numbers from the first to the second, in decimal digits.
+    Number(u64, u64),
+    /// One of two words, which stand for 0 and 1.
+    Either(&'static str, &'static str),
+}
+
+/// What holds where a name isn't there.
+#[derive(Clone, Copy)]
+pub enum Absent {
+    /// It must be there.
+    Needed(Name),
+    /// It has this value.
+    Default(u64),
+    /// It counts for nothing.
+    Nothing,
+}
+
+/// What the table says of a name.
+#[derive(Clone, Copy)]
+pub struct Row {
+    pub name: &'static str,
+    pub values: Values,
+    pub absent: Absent,
+    /// How often the name may stand, and `None` where there is no limit.
+    pub most: Option<usize>,
+}
+
+impl Command {
+    /// The command that the word names.
+    pub fn named(word: &str) -> Option<Command>
+        ensures found { IfSome result (λ command. word.now ≡ command_text command) }
+        ensures none { IfNone result ((command : Command) → word.now ≡ command_text command → ⊥) }
+    {
+        if word == "repair" {
+            return Some(Command::Repair);
+        }
+        if word == "encode" {
+            return Some(Command::Encode);
+        }
+        if word == "drill" {
+            return Some(Command::Drill);
+        }
+        if word == "inspect" {
+            return Some(Command::Inspect);
+        }
+        if word == "sample" {
+            return Some(Command::Sample);
+        }
+        None
+    }
+
+    /// The names that may stand after the command, in the order in which missing ones are told.
+    pub fn keys(self) -> &'static [Key]
+        ensures { result.now ≡ keys_of self }
+    {
+        match self {
+            Command::Repair => &[Key::Flow, Key::Window, Key::Depth, Key::Workers, Key::Max],
+            Command::Encode => &[
+                Key::Max,
+                Key::Columns,
+                Key::Rows,
+                Key::Fec,
+                Key::Layout,
+                Key::Packets,
+                Key::Rate,
+                Key::Port,
+                Key::Seq,
+                Key::Ssrc,
+                Key::Stamp,
+            ],
+            Command::Drill => &[
+                Key::Window,
+                Key::Depth,
+                Key::Workers,
+                Key::Max,
+                Key::Columns,
+                Key::Rows,
+                Key::Fec,
+                Key::Layout,
+                Key::Packets,
+                Key::Rate,
+                Key::Port,
+                Key::Seq,
+                Key::Ssrc,
+                Key::Stamp,
+                Key::Drop,
+                Key::Every,
+            ],
+            Command::Inspect => &[Key::Flow, Key::Max],
+            Command::Sample => &[Key::Workers, Key::Seed, Key::Datagrams, Key::Loss],
+        }
+    }
+
+    /// The name that may stand after the command and is spelled so.
+    pub fn key(self, name: &str) -> Option<Key>
+        ensures found { IfSome result (λ key. Knows self key × (name.now ≡ (row key).name)) }
+        ensures none {
+            IfNone result
+              ((key : Key) → Knows self key → name.now ≡ (row key).name → ⊥)
+        }
+    {
+        for key in self.keys() {
+            if key.row().name == name {
+                return Some(*key);
+            }
+        }
+        None
+    }
+}
+
+impl Key {
+    /// The name's row of the table.
+    pub fn row(self) -> Row
+        ensures { row_seen result ≡ row self }
+    {
+        match self {
+            Key::Flow => Row {
+                name: "flow",
+                values: Values::Number(1, 65_531),
+                absent: Absent::Needed(Name::Flow),
+                most: None,
+            },
+            Key::Window => optional_row("window", Values::Number(1, 100), 100),
+            Key::Depth => optional_row("depth", Values::Number(1, 1_000), 400),
+            Key::Workers => optional_row("workers", Values::Number(0, 16), 4),
+            Key::Max => optional_row(
+                "max",
+                Values::Number(8, 1_099_511_627_776),
+                1_099_511_627_776,
+            ),
+            Key::Columns => needed_row("columns", Values::Number(0, 255), Name::Columns),
+            Key::Rows => needed_row("rows", Values::Number(0, 255), Name::Rows),
+            Key::Fec => optional_row("fec", Values::Either("column", "both"), 1),
+            Key::Layout => optional_row("layout", Values::Either("block", "staggered"), 0),
+            Key::Packets => optional_row("packets", Values::Number(1, 7), 7),
+            Key::Rate => optional_row("rate", Values::Number(1, 10_000_000_000), 10_000_000),
+            Key::Port => optional_row("port", Values::Number(1, 65_531), 5000),
+            Key::Seq => optional_row("seq", Values::Number(0, 65_535), 0),
+            Key::Ssrc => optional_row("ssrc", Values::Number(0, 4_294_967_295), 0),
+            Key::Stamp => optional_row("stamp", Values::Number(0, 4_294_967_295), 0),
+            Key::Drop => Row {
+                name: "drop",
+                values: Values::Number(1, 9_999_999_999_999),
+                absent: Absent::Nothing,
+                most: Some(1_000),
+            },
+            Key::Every => Row {
+                name: "every",
+                values: Values::Number(2, 9_999_999_999_999),
+                absent: Absent::Nothing,
+                most: Some(1),
+            },
+            Key::Seed => needed_row("seed", Values::Number(0, 9_999_999_999_999), Name::Seed),
+            Key::Datagrams => optional_row("datagrams", Values::Number(1, 20_000), 1_000),
+            Key::Loss => optional_row("loss", Values::Number(0, 20), 3),
+        }
+    }
+}
+
+/// The row of a name that must be there, once.
+fn needed_row(name: &'static str, values: Values, missing: Name) -> Row
+    ensures { row_seen result ≡ needed name.now (range_seen values) (Absent.Needed missing) }
+{
+    Row {
+        name,
+        values,
+        absent: Absent::Needed(missing),
+        most: Some(1),
+    }
+}
+
+/// The row of a name that may be left out, and stands once at most.
+fn optional_row(name: &'static str, values: Values, default: u64) -> Row
+    ensures { row_seen result ≡ optional name.now (range_seen values) default }
+{
+    Row {
+        name,
+        values,
+        absent: Absent::Default(default),
+        most: Some(1),
+    }
+}
+
+impl Values {
+    /// The value that the text stands for.
+    pub fn read(self, text: &str) -> Option<u64>
+        ensures { Reads (range_seen self) text.now result }
+    {
+        match self {
+            Values::Number(least, greatest) => number(text, least, greatest),
+            Values::Either(first, second) => either(text, first, second),
+        }
+    }
+}
+
+/// The number in decimal digits, without a leading zero, from the least to the greatest.
+fn number(text: &str, least: u64, greatest: u64) -> Option<u64>
+    ensures { Reads (Number least greatest) text.now result }
+{
+    if !is_plain(text.as_bytes()) {
+        return None;
+    }
+    let Ok(number) = text.parse::<u64>() else {
+        return None;
+    };
+    if number < least || number > greatest {
+        return None;
+    }
+    Some(number)
+}
+
+/// Whether a number's text begins with a digit, and with 0 only where it is 0. `parse` takes a sign
+/// and leading zeros.
+fn is_plain(text: &[u8]) -> bool
+    ensures { IsTrue result ↔ BeginsPlain text.now }
+{
+    if text.is_empty() {
+        return false;
+    }
+    text[0] > b'0' || (text[0] == b'0' && text.len() == 1)
+}
+
+/// 0 for the first word, and 1 for the second.
+fn either(text: &str, first: &str, second: &str) -> Option<u64>
+    ensures { Reads (Either first.now second.now) text.now result }
+{
+    if text == first {
+        return Some(0);
+    }
+    if text == second {
+        return Some(1);
+    }
+    None
+}

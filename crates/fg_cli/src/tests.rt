@@ -1,0 +1,433 @@
+//! The words of the command line by example.
+
+ghost use Rattle.std.specs.Prelude.{◌≤◌};
+
+use crate::{Name, Order, ReadWords, WordFault, read_words};
+use fg_flows::FlowFault;
+use fg_shape::LayoutFault;
+use std::alloc::{AllocError, Global};
+use std::process::Abort;
+use std::test::Fail;
+
+/// The words between the blanks of the line.
+fn words_of(alloc: Global, line: &str) -> Result<Vec<String>, AllocError> {
+    let mut words = Vec::new(alloc);
+    for word in line.split(' ') {
+        words.push(String::from_str(alloc, word)?)?;
+    }
+    Ok(words)
+}
+
+/// What the line orders.
+fn order(alloc: Global, line: &str) -> Result<Order, ReadWords> {
+    read_words(alloc, &words_of(alloc, line)?)
+}
+
+/// The first rule that the words break.
+fn fault_of(alloc: Global, words: &[String]) -> Option<WordFault> {
+    match read_words(alloc, words) {
+        Err(ReadWords::Words(fault)) => Some(fault),
+        _ => None,
+    }
+}
+
+/// Checks that the line has this fault first.
+fn refuse(rt: &impl Abort, alloc: Global, line: &str, fault: WordFault) -> Result<(), AllocError> {
+    let words = words_of(alloc, line)?;
+    assert_eq!(rt; fault_of(alloc, &words), Some(fault), "{line}");
+    Ok(())
+}
+
+/// Checks that the line orders something.
+fn accept(rt: &impl Abort, alloc: Global, line: &str) {
+    assert!(rt; order(alloc, line).is_ok(), "{line}");
+}
+
+#[test]
+fn worked_examples(rt: HostRuntime) -> Result<(), Fail> {
+    for (line, fault) in [
+        (
+            "encode columns=3 rows=4 fec=both",
+            WordFault::Layout(LayoutFault::RowsNeedFour),
+        ),
+        (
+            "encode columns=20 rows=6",
+            WordFault::Layout(LayoutFault::Product),
+        ),
+        ("drill columns=4 rows=4 drop=0", WordFault::BadWord(3)),
+        (
+            "repair flow=5000 flow=5002",
+            WordFault::Flows(FlowFault::Clash(1)),
+        ),
+        ("repair", WordFault::Missing(Name::Flow)),
+        ("", WordFault::BadWord(0)),
+    ] {
+        refuse(&rt, rt.alloc(), line, fault)?;
+    }
+    assert_eq!(rt; fault_of(rt.alloc(), &[]), Some(WordFault::NoCommand));
+    Ok(())
+}
+
+#[test]
+fn least_and_greatest_of_repair(rt: HostRuntime) {
+    for line in [
+        "repair flow=1",
+        "repair flow=65531",
+        "repair flow=5000 window=1",
+        "repair flow=5000 window=100",
+        "repair flow=5000 window=1 depth=1",
+        "repair flow=5000 depth=1000",
+        "repair flow=5000 workers=0",
+        "repair flow=5000 workers=16",
+        "repair flow=5000 max=8",
+        "repair flow=5000 max=1099511627776",
+    ] {
+        accept(&rt, rt.alloc(), line);
+    }
+}
+
+#[test]
+fn below_and_above_of_repair(rt: HostRuntime) -> Result<(), Fail> {
+    for line in [
+        "repair flow=0",
+        "repair flow=65532",
+        "repair window=0",
+        "repair window=101",
+        "repair depth=0",
+        "repair depth=1001",
+        "repair workers=17",
+        "repair max=7",
+        "repair max=1099511627777",
+    ] {
+        refuse(&rt, rt.alloc(), line, WordFault::BadWord(1))?;
+    }
+    Ok(())
+}
+
+#[test]
+fn least_and_greatest_of_encode(rt: HostRuntime) {
+    for line in [
+        "encode columns=1 rows=4 fec=column",
+        "encode columns=20 rows=5 fec=both",
+        "encode columns=5 rows=20 layout=block",
+        "encode columns=5 rows=4 layout=staggered packets=1 rate=1 port=1",
+        "encode columns=5 rows=4 packets=7 rate=10000000000 port=65531",
+        "encode columns=5 rows=4 seq=0 ssrc=0 stamp=0 max=8",
+        "encode columns=5 rows=4 seq=65535 ssrc=4294967295 stamp=4294967295",
+        "encode columns=5 rows=4 max=1099511627776",
+    ] {
+        accept(&rt, rt.alloc(), line);
+    }
+}
+
+#[test]
+fn below_and_above_of_encode(rt: HostRuntime) -> Result<(), Fail> {
+    for line in [
+        "encode columns=256",
+        "encode rows=256",
+        "encode fec=rows",
+        "encode layout=blocks",
+        "encode packets=0",
+        "encode packets=8",
+        "encode rate=0",
+        "encode rate=10000000001",
+        "encode port=0",
+        "encode port=65532",
+        "encode seq=65536",
+        "encode ssrc=4294967296",
+        "encode stamp=4294967296",
+        "encode max=7",
+    ] {
+        refuse(&rt, rt.alloc(), line, WordFault::BadWord(1))?;
+    }
+    Ok(())
+}
+
+#[test]
+fn least_and_greatest_of_drill_and_sample(rt: HostRuntime) {
+    for line in [
+        "drill columns=4 rows=4",
+        "drill columns=4 rows=4 drop=1 drop=9999999999999",
+        "drill columns=4 rows=4 every=2",
+        "drill columns=4 rows=4 every=9999999999999 window=1 depth=1 workers=16",
+        "sample seed=0",
+        "sample seed=9999999999999 datagrams=1 loss=0 workers=0",
+        "sample seed=1 datagrams=20000 loss=20 workers=16",
+    ] {
+        accept(&rt, rt.alloc(), line);
+    }
+}
+
+#[test]
+fn below_and_above_of_drill_and_sample(rt: HostRuntime) -> Result<(), Fail> {
+    for line in [
+        "drill drop=0",
+        "drill drop=10000000000000",
+        "drill every=0",
+        "drill every=1",
+        "drill every=10000000000000",
+        "sample seed=10000000000000",
+        "sample datagrams=0",
+        "sample datagrams=20001",
+        "sample loss=21",
+        "sample workers=17",
+    ] {
+        refuse(&rt, rt.alloc(), line, WordFault::BadWord(1))?;
+    }
+    Ok(())
+}
+
+#[test]
+fn forms_of_numbers(rt: HostRuntime) -> Result<(), Fail> {
+    for line in [
+        "repair flow=05000",
+        "repair workers=00",
+        "repair flow=+5000",
+        "repair workers=-0",
+        "repair flow=",
+        "repair flow=5000\t",
+        "repair flow=5e3",
+        "repair flow=0x10",
+        "repair flow=99999999999999999999999999",
+    ] {
+        refuse(&rt, rt.alloc(), line, WordFault::BadWord(1))?;
+    }
+    Ok(())
+}
+
+#[test]
+fn forms_of_words(rt: HostRuntime) -> Result<(), Fail> {
+    for line in [
+        "repair  flow=5000",
+        "repair flow",
+        "repair =5000",
+        "repair flow==5000",
+        "repair flow=5000=",
+        "repair Flow=5000",
+        "repair seed=1",
+        "repair port=5000",
+        "encode flow=5000",
+        "encode window=5",
+        "encode fec=Both",
+        "encode layout=",
+        "inspect window=5",
+        "sample depth=5",
+    ] {
+        refuse(&rt, rt.alloc(), line, WordFault::BadWord(1))?;
+    }
+    for line in ["Repair flow=5000", "flow=5000", "repair= flow=5000"] {
+        refuse(&rt, rt.alloc(), line, WordFault::BadWord(0))?;
+    }
+    Ok(())
+}
+
+#[test]
+fn names_that_stand_twice(rt: HostRuntime) -> Result<(), Fail> {
+    refuse(
+        &rt,
+        rt.alloc(),
+        "repair window=5 window=5",
+        WordFault::BadWord(2),
+    )?;
+    refuse(
+        &rt,
+        rt.alloc(),
+        "encode fec=both rows=4 fec=both",
+        WordFault::BadWord(3),
+    )?;
+    refuse(
+        &rt,
+        rt.alloc(),
+        "sample seed=1 seed=2",
+        WordFault::BadWord(2),
+    )?;
+    accept(&rt, rt.alloc(), "inspect flow=5000 flow=6000");
+    accept(&rt, rt.alloc(), "drill columns=4 rows=4 drop=5 drop=5");
+    Ok(())
+}
+
+#[test]
+fn names_that_are_missing(rt: HostRuntime) -> Result<(), Fail> {
+    for (line, name) in [
+        ("inspect max=9", Name::Flow),
+        ("encode", Name::Columns),
+        ("encode rows=4", Name::Columns),
+        ("encode columns=4", Name::Rows),
+        ("drill rows=4", Name::Columns),
+        ("sample loss=1", Name::Seed),
+    ] {
+        refuse(&rt, rt.alloc(), line, WordFault::Missing(name))?;
+    }
+    Ok(())
+}
+
+#[test]
+fn depth_below_window(rt: HostRuntime) -> Result<(), Fail> {
+    refuse(
+        &rt,
+        rt.alloc(),
+        "repair flow=5000 depth=99",
+        WordFault::Depth(2),
+    )?;
+    refuse(
+        &rt,
+        rt.alloc(),
+        "repair depth=9 flow=5000 window=10",
+        WordFault::Depth(1),
+    )?;
+    accept(&rt, rt.alloc(), "repair flow=5000 depth=10 window=10");
+    Ok(())
+}
+
+// The first rule wins, and not the first word.
+#[test]
+fn several_faults(rt: HostRuntime) -> Result<(), Fail> {
+    for (line, fault) in [
+        ("repair flow=1 flow=1 depth=1 window", WordFault::BadWord(4)),
+        ("repair depth=1", WordFault::Missing(Name::Flow)),
+        ("repair flow=1 flow=1 depth=1", WordFault::Depth(3)),
+        ("drill columns=0 rows=4 depth=1", WordFault::Depth(3)),
+        (
+            "encode rows=99 columns=0",
+            WordFault::Layout(LayoutFault::Columns),
+        ),
+        (
+            "drill rows=3 columns=4",
+            WordFault::Layout(LayoutFault::Rows),
+        ),
+        (
+            "inspect flow=9 flow=7 flow=9",
+            WordFault::Flows(FlowFault::Clash(1)),
+        ),
+    ] {
+        refuse(&rt, rt.alloc(), line, fault)?;
+    }
+    Ok(())
+}
+
+/// The words, and so many of the form `name=n`, where n begins so and rises by the step.
+fn with_many(
+    alloc: Global,
+    line: &str,
+    name: &str,
+    count: u32,
+    from: u32,
+    step: u32,
+) -> Result<Vec<String>, AllocError>
+    requires count { count ≤ 1001 }
+    requires from { from ≤ 5000 }
+    requires step { step ≤ 6 }
+{
+    let mut words = words_of(alloc, line)?;
+    for i in 0..count {
+        let number = from + step * i;
+        words.push(format!(in alloc; "{name}={number}")?)?;
+    }
+    Ok(words)
+}
+
+#[test]
+fn sixty_four_flows(rt: HostRuntime) -> Result<(), Fail> {
+    let words = with_many(rt.alloc(), "repair", "flow", 64, 5000, 6)?;
+    assert!(rt; read_words(rt.alloc(), &words).is_ok());
+    Ok(())
+}
+
+#[test]
+fn sixty_five_flows(rt: HostRuntime) -> Result<(), Fail> {
+    let words = with_many(rt.alloc(), "repair", "flow", 65, 5000, 6)?;
+    assert_eq!(rt;
+        fault_of(rt.alloc(), &words),
+        Some(WordFault::Flows(FlowFault::TooMany))
+    );
+    Ok(())
+}
+
+#[test]
+fn a_thousand_drops(rt: HostRuntime) -> Result<(), Fail> {
+    let words = with_many(rt.alloc(), "drill columns=4 rows=4", "drop", 1000, 1, 3)?;
+    assert!(rt; read_words(rt.alloc(), &words).is_ok());
+    Ok(())
+}
+
+#[test]
+fn a_thousand_and_one_drops(rt: HostRuntime) -> Result<(), Fail> {
+    let words = with_many(rt.alloc(), "drill columns=4 rows=4", "drop", 1001, 1, 3)?;
+    assert_eq!(rt;
+        fault_of(rt.alloc(), &words),
+        Some(WordFault::BadWord(1003))
+    );
+    Ok(())
+}
+
+#[test]
+fn defaults_of_repair(rt: HostRuntime) -> Result<(), Fail> {
+    let Order::Repair(plan) = order(rt.alloc(), "repair flow=7000")? else {
+        panic!(rt; "another order");
+    };
+    assert_eq!(rt; plan.table.find(7000).is_some(), true);
+    assert_eq!(rt; (plan.window, plan.depth, plan.workers), (100, 400, 4));
+    assert_eq!(rt; plan.max, 1_099_511_627_776);
+    Ok(())
+}
+
+#[test]
+fn defaults_of_encode(rt: HostRuntime) -> Result<(), Fail> {
+    let Order::Encode { settings, max } = order(rt.alloc(), "encode columns=5 rows=6")? else {
+        panic!(rt; "another order");
+    };
+    let layout = settings.layout;
+    assert_eq!(rt;
+        (layout.l, layout.d, layout.rows, layout.staggered),
+        (5, 6, true, false)
+    );
+    assert_eq!(rt;
+        (settings.packets, settings.rate, settings.port),
+        (7, 10_000_000, 5000)
+    );
+    assert_eq!(rt; (settings.seq, settings.ssrc, settings.stamp), (0, 0, 0));
+    assert_eq!(rt; max, 1_099_511_627_776);
+    Ok(())
+}
+
+#[test]
+fn defaults_of_drill(rt: HostRuntime) -> Result<(), Fail> {
+    let line = "drill columns=5 rows=5 layout=staggered fec=column port=9000 drop=4";
+    let Order::Drill {
+        settings,
+        plan,
+        losses,
+        max,
+    } = order(rt.alloc(), line)?
+    else {
+        panic!(rt; "another order");
+    };
+    assert_eq!(rt;
+        (settings.layout.rows, settings.layout.staggered),
+        (false, true)
+    );
+    assert!(rt; plan.table.find(9004).is_some());
+    assert_eq!(rt; (plan.window, plan.depth, plan.workers), (100, 400, 4));
+    assert_eq!(rt; plan.max, 4_398_046_511_104);
+    assert_eq!(rt; (losses.drops.count(), losses.every), (1, 0));
+    assert_eq!(rt; max, 1_099_511_627_776);
+    Ok(())
+}
+
+#[test]
+fn defaults_of_sample(rt: HostRuntime) -> Result<(), Fail> {
+    let Order::Sample {
+        seed,
+        datagrams,
+        loss,
+        plan,
+    } = order(rt.alloc(), "sample seed=3")?
+    else {
+        panic!(rt; "another order");
+    };
+    assert_eq!(rt; (seed, datagrams, loss), (3, 1000, 3));
+    assert!(rt; plan.table.find(5000).is_some());
+    assert_eq!(rt; (plan.window, plan.depth, plan.workers), (100, 400, 4));
+    assert_eq!(rt; plan.max, 4_398_046_511_104);
+    Ok(())
+}

@@ -1,0 +1,307 @@
+//! The live equations.
+
+ghost use Rattle.std.specs.Prelude.{◌≡◌, ◌+◌, ◌↔◌, ◌<◌, ◌≤◌, ◌^◌, ℕ, false, not, length, slice_index_or, Some, None, IsTrue, IsSome, IfOk, IfSome, IfNone};
+ghost use Rattle.std.specs.FinMap.{get, insert, len};
+ghost use Rattle.std.specs.FinSet as set;
+ghost use Rattle.slab.specs.Slab as slabs;
+ghost use Rattle.slab.specs.Slab.{slab_len};
+ghost use Rattle.fg_shape.specs.Shape.{IsShape};
+ghost use Rattle.fg_peel.specs.declared.Line.{Line as LiveLine};
+ghost use Rattle.fg_peel.specs.Slots.{equation_of};
+ghost use Rattle.fg_desk.specs.Play.{Survives};
+ghost use Rattle.fg_desk.specs.Row.{row_words};
+ghost use Rattle.fg_desk.specs.Lines.{no_lines, AreLines, AreOpen, HasSlots, IsFreePlace, IsLeastFreePlace, IsLiveLine, Settles, Reopens, SettledAreBased, Retires};
+ghost use Rattle.fg_desk.specs.LinesInside.{Holds, IsTaken, AreWithin, Moves, IsCompleteAs, IsBased, Drops};
+
+use crate::row::Row;
+use fg_peel::Line;
+use fg_shape::{Shape, last, slot};
+use fg_words::Shared;
+use slab::Slab;
+use std::alloc::{AllocError, Global};
+use std::marker::Model;
+
+/// How many equations may be live.
+const LIVE_LIMIT: usize = 512;
+
+/// The live equations in two groups. A settled one is complete and known to come out, so peeling
+/// needn't look at it again; the others are open.
+#[derive(Drop)]
+pub(crate) struct Lines {
+    open: Slab<Line>,
+    settled: Slab<Line>,
+    /// Which of the places 0 to 511 are taken.
+    places: Vec<bool>,
+}
+
+impl Model for Lines {
+    ghost use Rattle.fg_desk.specs.Lines.{LinesState};
+    ghost use Rattle.fg_desk.specs.LinesInside.{lines_code, state_of, AreSound};
+
+    ghost Value = { LinesState };
+
+    ghost coded = { lines_code };
+
+    ghost view = { λ a. state_of a.«open» a.settled };
+
+    ghost invariant = { λ a. AreSound a.«open» a.settled a.places.items };
+}
+
+impl Lines {
+    /// Nothing is live. All memory is taken here.
+    pub(crate) fn new(alloc: Global) -> Result<Lines, AllocError>
+        ensures { IfOk result (λ lines. lines ≡ no_lines) }
+    {
+        Ok(Lines {
+            open: Slab::with_capacity(alloc, LIVE_LIMIT)?,
+            settled: Slab::with_capacity(alloc, LIVE_LIMIT)?,
+            places: vec![in alloc; false; LIVE_LIMIT]?,
+        })
+    }
+
+    /// How many are live.
+    pub(crate) fn count(&self) -> usize
+        ensures count { result ≡ len self.now.live }
+        ensures facts { AreLines self.now }
+    {
+        self.open.len() + self.settled.len()
+    }
+
+    /// Whether every live equation is settled.
+    pub(crate) fn none_open(&self) -> bool
+        ensures { IsTrue result ↔ ((serial : ℕ) → IsSome (get self.now.live serial)
+            → IsTrue (set.contains self.now.settled serial)) }
+    {
+        self.open.is_empty()
+    }
+
+    /// The open ones.
+    pub(crate) fn open(&self) -> &Slab<Line>
+        ensures { AreOpen self.now result.now }
+    {
+        &self.open
+    }
+
+    /// The live one of this base and shape.
+    pub(crate) fn find(&self, base: u64, shape: Shape) -> Option<&Line>
+        ensures some { IfSome result (λ line. IsLiveLine self.now line.now
+            × HasSlots base shape.offset shape.na line.now) }
+        ensures none { IfNone result ((line : LiveLine) → IsLiveLine self.now line
+            → ¬ HasSlots base shape.offset shape.na line) }
+    {
+        match find_in(&self.open, base, shape) {
+            Some(line) => Some(line),
+            None => find_in(&self.settled, base, shape),
+        }
+    }
+
+    /// The live one at this place.
+    pub(crate) fn at(&self, place: u32) -> Option<&Line>
+        ensures some { IfSome result (λ line. IsLiveLine self.now line.now × (line.now.place ≡ place)) }
+        ensures none { IfNone result (IsFreePlace self.now place) }
+    {
+        match find_place(&self.open, place) {
+            Some(line) => Some(line),
+            None => find_place(&self.settled, place),
+        }
+    }
+
+    /// Adds an open one, at the least free place. It takes no memory.
+    pub(crate) fn insert(&mut self, base: u64, shape: Shape, parity: Shared, serial: u64)
+        requires room { len self.old.live < 512 }
+        requires shape { IsShape shape.offset shape.na }
+        requires base { base ≤ 2 ^ 62 }
+        requires fresh { get self.old.live serial ≡ None }
+        ensures { (place : ℕ) × IsLeastFreePlace self.old place
+            × (self.new ≡ record self.old {
+              live = insert self.old.live serial (record {
+                place = place;
+                equation = record { base = base; offset = shape.offset; count = shape.na; parity = parity };
+              });
+            }) }
+    {
+        let place = first_free(&self.places);
+        self.places[place] = true;
+        self.open.insert_reserved(Line {
+            base,
+            shape,
+            parity,
+            serial,
+            place: place as u32,
+        });
+    }
+
+    /// Settles each open one that is complete in the row.
+    pub(crate) fn settle(&mut self, row: &Row)
+        ensures { Settles (row_words row.now) self.old self.new }
+    {
+        move_lines(&mut self.open, &mut self.settled, row, true);
+    }
+
+    /// Opens each settled one that is no more complete in the row.
+    pub(crate) fn reopen(&mut self, row: &Row)
+        ensures { Reopens (row_words row.now) self.old self.new }
+    {
+        move_lines(&mut self.settled, &mut self.open, row, false);
+    }
+
+    /// Drops those that do not survive a play up to the row's mark. The words below the mark are kept
+    /// at the slots of the settled ones, so of these it looks at the last slot alone.
+    pub(crate) fn retire(&mut self, row: &Row)
+        requires { SettledAreBased row.now.mark row.now.kept self.old }
+        ensures { Retires row.now.mark row.now.kept self.old self.new }
+    {
+        drop_lines(&mut self.open, &mut self.places, row, false);
+        drop_lines(&mut self.settled, &mut self.places, row, true);
+    }
+
+    /// Drops all.
+    pub(crate) fn clear(&mut self)
+        ensures { self.new ≡ no_lines }
+    {
+        self.open.clear();
+        self.settled.clear();
+        self.places.fill(false);
+    }
+}
+
+/// The line of this base and shape.
+fn find_in(lines: &Slab<Line>, base: u64, shape: Shape) -> Option<&Line>
+    ensures some { IfSome result (λ line. Holds lines.now line.now
+        × HasSlots base shape.offset shape.na line.now) }
+    ensures none { IfNone result ((line : LiveLine) → Holds lines.now line
+        → ¬ HasSlots base shape.offset shape.na line) }
+{
+    for (_, line) in lines.iter() {
+        if line.base == base && line.shape.offset == shape.offset && line.shape.na == shape.na {
+            return Some(line);
+        }
+    }
+    None
+}
+
+/// The line at this place.
+fn find_place(lines: &Slab<Line>, place: u32) -> Option<&Line>
+    ensures some { IfSome result (λ line. Holds lines.now line.now × (line.now.place ≡ place)) }
+    ensures none { IfNone result ((line : LiveLine) → Holds lines.now line → ¬ (line.place ≡ place)) }
+{
+    for (_, line) in lines.iter() {
+        if line.place == place {
+            return Some(line);
+        }
+    }
+    None
+}
+
+/// The least place that isn't taken, or the number of places where all are.
+fn first_free(places: &[bool]) -> usize
+    ensures free { slice_index_or places.now result false ≡ false }
+    ensures below { (place : ℕ) → place < result → IsTaken places.now place }
+    ensures within { result ≤ length places.now }
+{
+    for i in 0..places.len() {
+        if !places[i] {
+            return i;
+        }
+    }
+    places.len()
+}
+
+/// Moves those lines from one slab to another that are complete in the row, or those that aren't.
+fn move_lines(source: &mut Slab<Line>, target: &mut Slab<Line>, row: &Row, complete: bool)
+    requires within { AreWithin source.old }
+    requires room { slab_len source.old + slab_len target.old ≤ target.old.capacity }
+    ensures { Moves (IsCompleteAs (not complete) (row_words row.now)) (IsCompleteAs complete (row_words row.now))
+        source.old target.old source.new target.new }
+{
+    for key in 0..source.capacity() {
+        if goes(source, key, row, complete) {
+            let line = source.remove(key);
+            target.insert_reserved(line);
+        }
+    }
+}
+
+/// Whether there is a line under a key that is complete in the row, or one that isn't.
+fn goes(lines: &Slab<Line>, key: usize, row: &Row, complete: bool) -> bool
+    requires { AreWithin lines.now }
+    ensures goes { IsTrue result → (line : LiveLine) × (slabs.get lines.now key ≡ Some line)
+        × IsCompleteAs complete (row_words row.now) line }
+    ensures stays { result ≡ false → (line : LiveLine) → slabs.get lines.now key ≡ Some line
+        → IsCompleteAs (not complete) (row_words row.now) line }
+{
+    match lines.get(key) {
+        Some(line) => row.is_complete(line) == complete,
+        None => false,
+    }
+}
+
+/// Drops those lines that do not survive a play up to the row's mark, and frees their places. `based`
+/// tells that the words below the mark are kept at the slots of all.
+fn drop_lines(lines: &mut Slab<Line>, places: &mut [bool], row: &Row, based: bool)
+    requires within { AreWithin lines.old }
+    requires places { length places.old ≡ 512 }
+    requires based { IsTrue based → (line : LiveLine) → Holds lines.old line
+        → IsBased row.now.mark row.now.kept (equation_of line) }
+    ensures { Drops (λ line. Survives row.now.mark row.now.kept (equation_of line))
+        lines.old lines.new places.old places.new }
+{
+    for key in 0..lines.capacity() {
+        if let Some(place) = retired_place(lines, key, row, based) {
+            lines.remove(key);
+            places[place as usize] = false;
+        }
+    }
+}
+
+/// The place of the line under a key, where it does not survive.
+fn retired_place(lines: &Slab<Line>, key: usize, row: &Row, based: bool) -> Option<u32>
+    requires within { AreWithin lines.now }
+    requires based { IsTrue based → (line : LiveLine) → Holds lines.now line
+        → IsBased row.now.mark row.now.kept (equation_of line) }
+    ensures some { IfSome result (λ place. (line : LiveLine) × (slabs.get lines.now key ≡ Some line)
+        × (line.place ≡ place) × ¬ Survives row.now.mark row.now.kept (equation_of line)) }
+    ensures none { IfNone result ((line : LiveLine) → slabs.get lines.now key ≡ Some line
+        → Survives row.now.mark row.now.kept (equation_of line)) }
+{
+    match lines.get(key) {
+        Some(line) => {
+            if survives(line, row, based) {
+                None
+            } else {
+                Some(line.place)
+            }
+        }
+        None => None,
+    }
+}
+
+/// Whether a line survives a play up to the row's mark. `based` tells that the words below the mark are
+/// kept at its slots.
+fn survives(line: &Line, row: &Row, based: bool) -> bool
+    requires shape { IsShape line.now.shape.offset line.now.shape.na }
+    requires base { line.now.base ≤ 2 ^ 62 }
+    requires based { IsTrue based → IsBased row.now.mark row.now.kept (equation_of line.now) }
+    ensures { IsTrue result ↔ Survives row.now.mark row.now.kept (equation_of line.now) }
+{
+    if last(line.base, line.shape) < row.mark() {
+        return false;
+    }
+    based || is_based(line, row)
+}
+
+/// Whether the words below the row's mark are kept at all slots of a line.
+fn is_based(line: &Line, row: &Row) -> bool
+    requires shape { IsShape line.now.shape.offset line.now.shape.na }
+    requires base { line.now.base ≤ 2 ^ 62 }
+    ensures { IsTrue result ↔ IsBased row.now.mark row.now.kept (equation_of line.now) }
+{
+    let mark = row.mark();
+    for j in 0..line.shape.na {
+        let position = slot(line.base, line.shape, j);
+        if position < mark && row.word(position).is_none() {
+            return false;
+        }
+    }
+    true
+}

@@ -1,0 +1,4 @@
+pub mod Flows
+pub mod Index
+pub mod Laws
+pub mod Plan
