@@ -1,0 +1,18 @@
+//! Laws of the definitions that the contracts cite. Each function does nothing: its contract is the law. A caller that
+//! needs a law calls it.
+ghost use Rattle.fg_report.specs.Laws.{GapsStayApart, TouchingIsOne, GapsHold};
+
+/// Runs that rise and are maximal are so after one more.
+pub fn gaps_stay_apart()
+    ensures { GapsStayApart }
+{}
+
+/// Two runs that touch are added as one.
+pub fn touching_is_one()
+    ensures { TouchingIsOne }
+{}
+
+/// After one more run its positions are in a gap, and those that were, and no other.
+pub fn gaps_hold()
+    ensures { GapsHold }
+{}
