@@ -61,9 +61,14 @@ invariant_of-self c =
     c.insert_reserved.new.self c.insert_reserved.result (line_of d) e.was_vacant e.updates e.len e.capacity (is_within d) (fresh d)
     (free d) (fewer d)
 
-pub returns : goal.returns
-returns c =
-    let d = (goal.at.returns c).After-first_free-place in
+pub returns-clause-facts : goal.returns-clause-facts
+returns-clause-facts c =
+    subst (λ (s : LinesState). AreLines s) c.self.view_is
+    (are_lines c.self.inside.open c.self.inside.settled c.self.inside.places.items c.self.invariant)
+
+pub returns-clause-added : goal.returns-clause-added
+returns-clause-added c =
+    let d = (goal.at.returns-clause-added c).After-first_free-place in
     let e = c.insert_reserved.ensures in
     let old = state_of c.self.inside.open c.self.inside.settled in
     let least : IsLeastFreePlace old c.first_free-place.result =
