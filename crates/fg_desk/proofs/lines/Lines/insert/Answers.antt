@@ -1,9 +1,10 @@
 use Rattle.std.proofs.Common.{◌≡◌, ◌<◌, ℕ, List, Bool, None, false, get_or, ap, sym, ◌∙◌, subst, arith}
 use Rattle.std.specs.FinMap.{get, len, insert}
 use Rattle.fg_peel.specs.declared.Line.{Line}
-use Rattle.fg_desk.specs.Lines.{LinesState, IsLeastFreePlace}
+use Rattle.fg_desk.specs.Lines.{LinesState, AreLines, IsLeastFreePlace}
 use Rattle.fg_desk.specs.LinesInside.{state_of, IsTaken, IsWithin}
 use Rattle.fg_desk.proofs.LinesViews.{count_live}
+use Rattle.fg_desk.proofs.LinesCalls.{are_lines}
 use Rattle.fg_desk.proofs.LinesInserts.{first_free_within, least_free, insert_sound, insert_is}
 use Rattle.fg_desk.proofs.lines.Lines.insert.Goals as goal
 use Rattle.fg_desk.proofs.lines.Lines.insert.Goals.{After-first_free-place, After-insert_reserved}
