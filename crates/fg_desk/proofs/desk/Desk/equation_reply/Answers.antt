@@ -6,7 +6,7 @@ use Rattle.fg_desk.specs.Admission.{IsLate, IsAhead, IsTimely}
 use Rattle.fg_desk.proofs.Lost.{last_at}
 use Rattle.fg_desk.proofs.Twins.{twin_of, no_twin}
 use Rattle.fg_desk.proofs.desk.Desk.equation_reply.Goals as goal
-use Rattle.fg_desk.proofs.desk.Desk.equation_reply.Goals.{After-from, After-find}
+use Rattle.fg_desk.proofs.desk.Desk.equation_reply.Goals.{After-from}
 
 module _ (c : After-from) where
   not_late : ¬ IsLate c.args.self.now.state (record { base = c.args.base; offset = c.args.shape.offset; count = c.args.shape.na; parity = c.args.parity.now })
@@ -28,20 +28,18 @@ returns-then-last-mark c =
     let far = limit d in
     (not_late d, omega (arith, end, far, c.if-last-mark.true))
 
-module _ (c : After-find) where
-  timely : IsTimely c.args.self.now.state (record { base = c.args.base; offset = c.args.shape.offset; count = c.args.shape.na; parity = c.args.parity.now })
-  timely = (
-    not_late c.After-from,
-    λ far.
-        (let end = last c.After-from in
-        let ahead = limit c.After-from in
-        omega (arith, end, ahead, c.if-last-mark.false, far)),
-  )
+timely :
+    (c : After-from) → c.last.result < c.mark.result + c.from.result + 100
+    → IsTimely c.args.self.now.state (record { base = c.args.base; offset = c.args.shape.offset; count = c.args.shape.na; parity = c.args.parity.now })
+timely c near = (
+  not_late c,
+  λ far. (let end = last c in let ahead = limit c in omega (arith, end, ahead, near, far)),
+)
 
 pub returns-in-Some : goal.returns-in-Some
 returns-in-Some c =
-    let d = (goal.at.returns-in-Some c).After-find in (
-      timely d,
+    let d = (goal.at.returns-in-Some c).After-from in (
+      timely d c.if-last-mark.false,
       twin_of c.args.self.now.state c.self.inside.lines (ap (λ (s : Contents). s.state.equations) c.self.view_is)
           (record { base = c.args.base; offset = c.args.shape.offset; count = c.args.shape.na; parity = c.args.parity.now })
           (λ parity. parity ≡ c.args.parity.now) c.in-Some.line.now c.in-Some.ensures.some.0 c.in-Some.ensures.some.1
@@ -50,8 +48,8 @@ returns-in-Some c =
 
 pub returns-in-Some-2 : goal.returns-in-Some-2
 returns-in-Some-2 c =
-    let d = (goal.at.returns-in-Some-2 c).After-find in (
-      timely d,
+    let d = (goal.at.returns-in-Some-2 c).After-from in (
+      timely d c.if-last-mark.false,
       twin_of c.args.self.now.state c.self.inside.lines (ap (λ (s : Contents). s.state.equations) c.self.view_is)
           (record { base = c.args.base; offset = c.args.shape.offset; count = c.args.shape.na; parity = c.args.parity.now })
           (λ parity. parity ≢ c.args.parity.now) c.in-Some.line.now c.in-Some.ensures.some.0 c.in-Some.ensures.some.1
@@ -60,9 +58,9 @@ returns-in-Some-2 c =
 
 pub returns-in-None : goal.returns-in-None
 returns-in-None c =
-    let d = (goal.at.returns-in-None c).After-find in
+    let d = (goal.at.returns-in-None c).After-from in
     let count = ap (λ (s : Contents). len s.state.equations) c.self.view_is in (
-      timely d,
+      timely d c.if-last-mark.false,
       no_twin c.args.self.now.state c.self.inside.lines (ap (λ (s : Contents). s.state.equations) c.self.view_is)
           (record { base = c.args.base; offset = c.args.shape.offset; count = c.args.shape.na; parity = c.args.parity.now })
           c.in-None.ensures.none,
@@ -71,9 +69,9 @@ returns-in-None c =
 
 pub returns-in-None-2 : goal.returns-in-None-2
 returns-in-None-2 c =
-    let d = (goal.at.returns-in-None-2 c).After-find in
+    let d = (goal.at.returns-in-None-2 c).After-from in
     let count = ap (λ (s : Contents). len s.state.equations) c.self.view_is in (
-      timely d,
+      timely d c.if-last-mark.false,
       no_twin c.args.self.now.state c.self.inside.lines (ap (λ (s : Contents). s.state.equations) c.self.view_is)
           (record { base = c.args.base; offset = c.args.shape.offset; count = c.args.shape.na; parity = c.args.parity.now })
           c.in-None-2.ensures.none,
