@@ -1,10 +1,11 @@
 -- A call that changes nothing else.
-use Rattle.std.proofs.Common.{◌≡◌, ◌≢◌, ◌+◌, ◌<◌, ◌≤◌, ◌^◌, ℕ, refl, arith}
+use Rattle.std.proofs.Common.{◌≡◌, ◌≢◌, ◌+◌, ◌<◌, ◌≤◌, ◌^◌, ℕ, Option, Some, MatchOption, refl, sym, subst, arith}
 use Rattle.fg_words.specs.declared.Word.{Word}
+use Rattle.fg_unwrap.specs.Position.{position_of}
 use Rattle.fg_desk.specs.declared.reply.Reply.{Reply}
-use Rattle.fg_desk.specs.declared.reply.Reply.TheVariants.{Admitted}
-use Rattle.fg_desk.specs.State.{State}
-use Rattle.fg_desk.specs.Admission.{Parity, IsAfterMedia, IsAfterParity, counted}
+use Rattle.fg_desk.specs.declared.reply.Reply.TheVariants.{Admitted, NotStarted, BeforeStart}
+use Rattle.fg_desk.specs.State.{State, Top}
+use Rattle.fg_desk.specs.Admission.{Parity, IsEquationReply, IsParityReply, equation_at, IsAfterMedia, IsAfterParity, counted}
 use Rattle.fg_desk.specs.Inside.{Parts, AreSound, state_of}
 use Rattle.fg_desk.proofs.DeskPlays.{sound_from}
 use Rattle.fg_desk.proofs.Opened.{counted_holds}
@@ -35,3 +36,18 @@ counted_after_media old seq word reply other = refl
 pub counted_after_parity : (old : State) (parity : Parity) (reply : Reply) → reply ≢ Admitted → IsAfterParity old parity reply (counted old)
 counted_after_parity old parity Admitted other = absurd (other refl)
 counted_after_parity old parity reply other = refl
+
+-- The reply to a parity datagram whose base has a position.
+pub parity_reply_at :
+    (old : State) (parity : Parity) (top : Top) (position : ℕ) (reply : Reply) → old.top ≡ Some top
+    → position_of top.position top.seq parity.base ≡ Some position → IsEquationReply old (equation_at position parity) reply
+    → IsParityReply old parity reply
+parity_reply_at old parity top position reply is at replies =
+    let first : MatchOption (position_of top.position top.seq parity.base) (reply ≡ BeforeStart)
+    (λ position. IsEquationReply old (equation_at position parity) reply) =
+    subst (λ (o : Option ℕ). MatchOption o (reply ≡ BeforeStart) (λ position. IsEquationReply old (equation_at position parity) reply))
+    (sym at) replies in
+    subst (λ (t : Option Top).
+    MatchOption t (reply ≡ NotStarted) (λ top.
+    MatchOption (position_of top.position top.seq parity.base) (reply ≡ BeforeStart)
+    (λ position. IsEquationReply old (equation_at position parity) reply))) (sym is) first
