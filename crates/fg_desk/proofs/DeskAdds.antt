@@ -72,8 +72,7 @@ module _
   pub sound_with_line : PeelingsTakeEquations → AreSound (with_line parts (lines_with parts place equation))
   sound_with_line take =
       let p = sound.peeled in
-      sound_from (with_line parts (lines_with parts place equation)) limited holds_with sound.media
-      (
+      sound_from (with_line parts (lines_with parts place equation)) limited holds_with sound.media (
         p.0,
         take (known (state_of parts)) (live_equations (state_of parts))
             (live_equations (with_equation (state_of parts) place equation)) p.0

@@ -24,8 +24,7 @@ returns-else-last-mark c =
     subst
     (λ (s : Contents). (c.is_some.result ≡ true → IsLateAt s.state c.args.base c.args.shape.offset c.args.shape.na)
     × (IsLateAt s.state c.args.base c.args.shape.offset c.args.shape.na → c.is_some.result ≡ true))
-    c.self.view_is
-    (
+    c.self.view_is (
       λ found. inr (told.0 found),
       λ late. ⊎_elim
           (λ past. absurd (omega (arith, last, c.mark.ensures.value, c.if-last-mark.false, past)))
