@@ -81,7 +81,7 @@ module _ (old : State) (place : ℕ) (equation : Equation) (holds : Holds old) w
       (λ here. inr refl) (λ was. inl (live_at old r.0 r.1 was)) in
       subst (λ (x : Equation). Contains (live_equations old) x ⊎ (x ≡ equation)) r.3 either
 
-  stays_listed : (e : Equation) → Contains (live_equations old) e → Contains (live_equations (with_equation old place equation)) e
+  pub stays_listed : (e : Equation) → Contains (live_equations old) e → Contains (live_equations (with_equation old place equation)) e
   stays_listed e listed =
       let r = serial_of old e listed in
       let numbered = (holds.live r.0 r.1 r.2).numbered in

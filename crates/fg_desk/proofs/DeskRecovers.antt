@@ -90,8 +90,7 @@ module _
       subst
       (λ (f : ℕ → Option Word).
       Follows (known (state_of parts)) (live_equations (state_of parts)) position ↔ Follows f (live_equations (state_of parts)) position)
-      (sym p.2) (found (known (state_of parts)) (live_equations (state_of parts)) p.0 p.1 position) in
-      (
+      (sym p.2) (found (known (state_of parts)) (live_equations (state_of parts)) p.0 p.1 position) in (
         λ some. closure_from_peel (state_of parts) orderly position (same.1 (ends.0 some)),
         λ inside. ends.1 (same.0 (closure_to_peel (state_of parts) position inside)),
       )

@@ -2,6 +2,8 @@ pub mod Added
 pub mod AdmissionsAdd
 pub mod Advancing
 pub mod Bounds
+pub mod DeskAdds
+pub mod DeskCounts
 pub mod DeskFlushes
 pub mod DeskOpened
 pub mod DeskPlayed
@@ -46,3 +48,4 @@ pub mod SlotRange
 pub mod StaysPeeled
 pub mod Survivors
 pub mod TrayPlaces
+pub mod Twins

@@ -285,9 +285,9 @@ impl Desk {
         requires room { HasRoom self.old.state }
         requires tray { self.old.state.window ≤ tray.old.window }
         ensures flushes { Flushes self.old.state (option_map (λ played. record {
-            first = played.first;
-            shown = tray.new.shown;
-            outcome = played.verdict;
+          first = played.first;
+          shown = tray.new.shown;
+          outcome = played.verdict;
         }) result) self.new.state }
         ensures some { IfSome result (λ played. (played.count ≡ length tray.new.shown)
             × IsBareAfter self.old self.new × (self.new.epoch ≡ epoch_after self.old.epoch played.verdict)) }
@@ -338,8 +338,8 @@ impl Desk {
             (record { base = base; offset = shape.offset; count = shape.na; parity = share }) Reply.Admitted }
         requires calls { self.old.state.calls < 2 ^ 62 }
         ensures { (place : ℕ) × IsLeastFree self.old.state place × (self.new ≡ record self.old {
-            state = with_equation self.old.state place
-                (record { base = base; offset = shape.offset; count = shape.na; parity = share });
+          state = with_equation self.old.state place
+              (record { base = base; offset = shape.offset; count = shape.na; parity = share });
         }) }
     {
         peelings_stay();
