@@ -1,3 +1,5 @@
 -- Lemmas on the definitions of this crate.
 mod GapLemmas
+mod ReportLemmas
 mod SentLemmas
+mod TextLemmas

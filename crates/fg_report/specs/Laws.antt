@@ -1,6 +1,10 @@
 -- What shows that the definitions of this crate are right.
-use Rattle.std.specs.Prelude.{◌≡◌, ◌⊎◌, ◌↔◌, ℕ, ◌+◌, ◌<◌, ◌≤◌, List}
+use Rattle.std.specs.Prelude.{◌≡◌, ◌⊎◌, ◌↔◌, ℕ, ◌+◌, ◌<◌, ◌≤◌, List, map}
+use Rattle.fg_report.specs.Fits.{Fits, FlowsFit, TailFits}
 use Rattle.fg_report.specs.Gaps.{with_gap, gaps_end, AreApart, IsInGap}
+use Rattle.fg_report.specs.Text.{report_of}
+use Rattle.fg_report.specs.declared.flow_sum.FlowSum.{FlowSum}
+use Rattle.fg_report.specs.declared.tail.Tail.{Tail}
 
 -- runs that rise and are maximal are so after one more, which is not before the end of the last
 abbrev pub GapsStayApart : Type 0
@@ -17,3 +21,14 @@ abbrev pub GapsHold : Type 0
 GapsHold = (runs : List (ℕ × ℕ)) (first count position : ℕ)
     → (IsInGap (with_gap runs first count) position
     ↔ (IsInGap runs position ⊎ ((first ≤ position) × (position < first + count))))
+
+-- what the report tells of a flow: all of it, but for the replies that no media datagram gets
+abbrev pub told : FlowSum → FlowSum
+told flow = record flow { media = record flow.media { not_started = 0; before_start = 0; ahead = 0; crowded = 0 } }
+
+-- two reports with one text tell the same
+abbrev pub TextNamesItsCounts : Type 0
+TextNamesItsCounts = (flows others : List FlowSum) (other number : ℕ) (tail end : Tail)
+    → FlowsFit flows → FlowsFit others → Fits other → Fits number → TailFits tail → TailFits end
+    → report_of flows other tail ≡ report_of others number end
+    → (map told flows ≡ map told others) × (other ≡ number) × (tail ≡ end)

@@ -15,31 +15,29 @@ counts_text counts = flat_map (λ (name, number). codes " " ++ name ++ codes " "
 abbrev pub line_of : List ℕ → ℕ → List (List ℕ × ℕ) → List ℕ
 line_of kind port counts = kind ++ codes " " ++ decimal port ++ counts_text counts ++ codes "\n"
 
--- A flow's line: what its plays showed.
-unfoldable pub flow_line : FlowSum → List ℕ
-flow_line flow = line_of (codes "flow") flow.port (
+-- What a flow's plays showed.
+abbrev pub flow_counts : FlowSum → List (List ℕ × ℕ)
+flow_counts flow =
     (codes "shown", flow.shown)
     ∷ (codes "repaired", flow.repaired)
     ∷ (codes "missing", flow.missing)
     ∷ (codes "windows", flow.windows)
     ∷ (codes "inconsistent", flow.inconsistent)
     ∷ []
-    )
 
--- The line of its media datagrams: the replies that they got, and how many their reader refused.
-unfoldable pub media_line : ℕ → Marks → List ℕ
-media_line port marks = line_of (codes "media") port (
+-- The replies that media datagrams get, and how many their reader refused.
+abbrev pub media_counts : Marks → List (List ℕ × ℕ)
+media_counts marks =
     (codes "admitted", marks.admitted)
     ∷ (codes "duplicate", marks.duplicate)
     ∷ (codes "conflict", marks.conflict)
     ∷ (codes "late", marks.late)
     ∷ (codes "bad", marks.bad)
     ∷ []
-    )
 
--- The line of its column or row parity datagrams.
-unfoldable pub parity_line : List ℕ → ℕ → Marks → List ℕ
-parity_line kind port marks = line_of kind port (
+-- The replies that parity datagrams get, and how many their reader refused.
+abbrev pub parity_counts : Marks → List (List ℕ × ℕ)
+parity_counts marks =
     (codes "admitted", marks.admitted)
     ∷ (codes "duplicate", marks.duplicate)
     ∷ (codes "conflict", marks.conflict)
@@ -50,7 +48,16 @@ parity_line kind port marks = line_of kind port (
     ∷ (codes "crowded", marks.crowded)
     ∷ (codes "bad", marks.bad)
     ∷ []
-    )
+
+-- A flow's own line, that of its media datagrams, and that of its column or row parity datagrams.
+unfoldable pub flow_line : FlowSum → List ℕ
+flow_line flow = line_of (codes "flow") flow.port (flow_counts flow)
+
+unfoldable pub media_line : ℕ → Marks → List ℕ
+media_line port marks = line_of (codes "media") port (media_counts marks)
+
+unfoldable pub parity_line : List ℕ → ℕ → Marks → List ℕ
+parity_line kind port marks = line_of kind port (parity_counts marks)
 
 -- The line of a run of positions that show nothing: its first position, and how many they are.
 unfoldable pub gap_line : ℕ → ℕ × ℕ → List ℕ

@@ -1,6 +1,6 @@
 //! Laws of the definitions that the contracts cite. Each function does nothing: its contract is the law. A caller that
 //! needs a law calls it.
-ghost use Rattle.fg_report.specs.Laws.{GapsStayApart, TouchingIsOne, GapsHold};
+ghost use Rattle.fg_report.specs.Laws.{GapsStayApart, TouchingIsOne, GapsHold, TextNamesItsCounts};
 
 /// Runs that rise and are maximal are so after one more.
 pub fn gaps_stay_apart()
@@ -15,4 +15,9 @@ pub fn touching_is_one()
 /// After one more run its positions are in a gap, and those that were, and no other.
 pub fn gaps_hold()
     ensures { GapsHold }
+{}
+
+/// Two reports with one text tell the same of all flows, of other records and of the end.
+pub fn text_names_its_counts()
+    ensures { TextNamesItsCounts }
 {}

@@ -5,8 +5,8 @@
 pub enum Tail {
     /// Behind a whole record.
     Ended,
-    /// Within the record that begins at this byte.
+    /// Inside the record that begins at this byte.
     Cut(u64),
-    /// Within the record that begins at this byte, since the input is longer than the limit.
+    /// The input is longer than the limit: the first record that isn't whole within it begins at this byte.
     TooLong(u64),
 }
