@@ -1,5 +1,5 @@
 -- The words of a row whose mark moves on.
-use Rattle.std.proofs.Common.{◌≡◌, ◌+◌, ◌<◌, ◌≤◌, ◌&&◌, ℕ, ltb, leb, cond, Option, Some, None, refl, sym, ap, ◌∙◌, ⊎_elim, arith}
+use Rattle.std.proofs.Common.{◌≡◌, ◌+◌, ◌<◌, ◌≤◌, ◌&&◌, ℕ, ltb, leb, Option, None, sym, ap, ◌∙◌, ⊎_elim, arith}
 use Rattle.std.proofs.lemmas.Bool.{cases_lt}
 use Rattle.std.specs.FinMap.{get, empty, get-empty}
 use Rattle.std.specs.Ordering.{nat_cmp}

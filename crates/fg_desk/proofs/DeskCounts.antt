@@ -1,5 +1,5 @@
 -- A call that changes nothing else.
-use Rattle.std.proofs.Common.{◌≡◌, ◌≢◌, ◌+◌, ◌<◌, ◌≤◌, ◌^◌, ℕ, Option, Some, MatchOption, refl, sym, subst, arith}
+use Rattle.std.proofs.Common.{◌≡◌, ◌≢◌, ◌+◌, ◌<◌, ◌^◌, ℕ, Option, Some, MatchOption, refl, sym, subst, arith}
 use Rattle.fg_words.specs.declared.Word.{Word}
 use Rattle.fg_unwrap.specs.Position.{position_of}
 use Rattle.fg_desk.specs.declared.reply.Reply.{Reply}

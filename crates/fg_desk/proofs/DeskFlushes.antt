@@ -9,7 +9,7 @@ use Rattle.fg_peel.specs.Laws.{FoundKeepsClosure, MaximalPeelingsEndAtClosure, P
 use Rattle.fg_desk.specs.State.{Words, known, live_equations}
 use Rattle.fg_desk.specs.Play.{IsHighest, HasMore}
 use Rattle.fg_desk.specs.Inside.{Parts, AreSound, state_of}
-use Rattle.fg_desk.specs.Row.{RowState, row_words, row_known, either, IsRow, IsHighestWord}
+use Rattle.fg_desk.specs.Row.{RowState, row_words, either, IsRow, IsHighestWord}
 use Rattle.fg_desk.specs.Window.{IsRecovered}
 use Rattle.fg_desk.proofs.DeskPlays.{with_found, sound_from, AreLimited}
 use Rattle.fg_desk.proofs.DeskRecovers.{has_closure, words_kept}

@@ -1,14 +1,12 @@
 -- A desk at first is sound.
-use Rattle.std.proofs.Common.{◌≡◌, ◌+◌, ◌≤◌, ◌<◌, ◌^◌, ℕ, [], Option, Some, None, refl, sym, ap, subst, ◌∙◌, arith}
+use Rattle.std.proofs.Common.{◌+◌, ◌≤◌, ℕ, [], None, refl, sym, subst, arith}
 use Rattle.std.proofs.lemmas.Option.{none-some}
-use Rattle.std.specs.FinMap.{get, empty, get-empty}
+use Rattle.std.specs.FinMap.{get-empty}
 use Rattle.std.specs.Ordering.{nat_cmp}
-use Rattle.fg_words.specs.declared.Word.{Word}
 use Rattle.fg_peel.specs.Equation.{AreMedia}
-use Rattle.fg_desk.specs.State.{known}
 use Rattle.fg_desk.specs.Inside.{Parts, AreSound, state_of}
 use Rattle.fg_desk.specs.Lines.{no_lines}
-use Rattle.fg_desk.specs.Row.{opened_row, row_words}
+use Rattle.fg_desk.specs.Row.{opened_row}
 use Rattle.fg_desk.proofs.DeskWords.{words_without_cache, known_are_media}
 use Rattle.fg_desk.proofs.Opened.{opening_holds}
 use Rattle.fg_desk.proofs.Options.{nothing_in_empty}

@@ -1,27 +1,26 @@
 -- What a play is, and what it leaves.
-use Rattle.std.proofs.Common.{◌≡◌, ◌≢◌, ◌+◌, ◌<◌, ◌≤◌, ◌^◌, ◌↔◌, ◌&&◌, ℕ, Bool, true, cond, ltb, leb, not, is_some, List, [], filter, Option, Some, None, IsSome, IsTrue, refl, sym, ap, subst, ◌∙◌, ⊎_elim, arith}
+use Rattle.std.proofs.Common.{◌≡◌, ◌+◌, ◌<◌, ◌≤◌, ◌^◌, ◌&&◌, ℕ, Bool, cond, ltb, leb, not, is_some, List, [], filter, Option, Some, None, IsSome, IsTrue, refl, sym, ap, subst, ◌∙◌, ⊎_elim, arith}
 use Rattle.std.specs.Prelude.{nat_le}
 use Rattle.std.proofs.lemmas.Bool.{cases_lt}
-use Rattle.std.specs.List.{Contains}
-use Rattle.std.specs.FinMap.{get, empty, get-empty}
+use Rattle.std.specs.FinMap.{get, get-empty}
 use Rattle.std.specs.Ordering.{nat_cmp}
 use Rattle.fg_words.specs.declared.Word.{Word}
-use Rattle.fg_peel.specs.Equation.{Equation, AreMedia, IsComplete, IsSettled, slots}
+use Rattle.fg_peel.specs.Equation.{AreMedia, IsComplete}
 use Rattle.fg_peel.specs.Peeling.{Step, ArePeeled, end_of}
 use Rattle.fg_peel.specs.Laws.{FoundKeepsSolutions, PeelingsAppend}
 use Rattle.fg_desk.specs.declared.reply.Outcome.{Outcome}
 use Rattle.fg_desk.specs.declared.reply.Outcome.TheVariants.{Repaired, Inconsistent}
-use Rattle.fg_desk.specs.State.{State, Top, Live, Words, known, live_equations}
+use Rattle.fg_desk.specs.State.{Top, Live, Words, known, live_equations}
 use Rattle.fg_desk.specs.Admission.{kept_count}
 use Rattle.fg_desk.specs.Facts.{Holds}
-use Rattle.fg_desk.specs.Contents.{IsBareAfter, epoch_after}
+use Rattle.fg_desk.specs.Contents.{epoch_after}
 use Rattle.fg_desk.specs.Solution.{IsSolution}
-use Rattle.fg_desk.specs.Play.{Play, Shown, IsPlay}
+use Rattle.fg_desk.specs.Play.{Shown, IsPlay}
 use Rattle.fg_desk.specs.Laws.{SolvedStaysPeeled}
-use Rattle.fg_desk.specs.Inside.{Parts, AreSound, SettledComeOut, state_of, contents_of}
+use Rattle.fg_desk.specs.Inside.{Parts, AreSound, SettledComeOut, state_of}
 use Rattle.fg_desk.specs.Row.{RowState, row_words}
 use Rattle.fg_desk.specs.Lines.{LinesState, no_lines}
-use Rattle.fg_desk.specs.Window.{IsRecovered, Keeps, Passes, Closes, without_found}
+use Rattle.fg_desk.specs.Window.{IsRecovered, Keeps, Passes, without_found}
 use Rattle.fg_desk.proofs.Advancing.{words_below, words_ahead, words_before, none_found}
 use Rattle.fg_desk.proofs.DeskRecovers.{desk_solution, desk_solvable, all_peeled}
 use Rattle.fg_desk.proofs.DeskWords.{words_without_cache, known_are_media}

@@ -10,9 +10,9 @@ use Rattle.fg_words.specs.Word.{IsMedia}
 use Rattle.fg_peel.specs.Equation.{AreMedia, Keeps, Agree, IsComplete}
 use Rattle.fg_peel.specs.Peeling.{Step, ArePeeled, end_of}
 use Rattle.fg_peel.specs.Laws.{PeelingsTakeWords}
-use Rattle.fg_desk.specs.State.{State, Top, Live, Words, known, live_equations}
+use Rattle.fg_desk.specs.State.{Top, Live, known, live_equations}
 use Rattle.fg_desk.specs.Admission.{farther, with_media}
-use Rattle.fg_desk.specs.Facts.{Holds, IsReceived}
+use Rattle.fg_desk.specs.Facts.{Holds}
 use Rattle.fg_desk.specs.Inside.{Parts, AreSound, state_of}
 use Rattle.fg_desk.specs.Row.{RowState, row_words, receives}
 use Rattle.fg_desk.specs.Lines.{LinesState, Reopens}
@@ -20,7 +20,6 @@ use Rattle.fg_desk.specs.Window.{TakesWord, TakesAnew, without_found}
 use Rattle.fg_desk.proofs.AdmissionsAdd.{known_with_media}
 use Rattle.fg_desk.proofs.DeskPlays.{AreLimited, sound_from, sound_without_found}
 use Rattle.fg_desk.proofs.Opened.{with_media_holds}
-use Rattle.fg_desk.proofs.Options.{none_or_some}
 use Rattle.fg_desk.proofs.Orderly.{known_ahead}
 use Rattle.fg_desk.proofs.Peelings.{end_keeps}
 use Rattle.fg_desk.proofs.RowReceives.{word_received, words_beside, words_stay, none_found_still, words_without_found, none_without_found}

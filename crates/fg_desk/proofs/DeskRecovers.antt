@@ -1,13 +1,12 @@
 -- What a desk's row has once the words that follow are found.
-use Rattle.std.proofs.Common.{◌≡◌, ◌+◌, ◌<◌, ◌≤◌, ◌↔◌, ◌++◌, ℕ, Bool, List, Option, Some, None, IsSome, IsTrue, sym, ap, subst, ◌∙◌, arith}
-use Rattle.std.specs.List.{Contains}
+use Rattle.std.proofs.Common.{◌↔◌, ◌++◌, ℕ, Bool, Option, IsSome, IsTrue, sym, ap, subst, ◌∙◌, arith}
 use Rattle.fg_words.specs.declared.Word.{Word}
-use Rattle.fg_peel.specs.Equation.{Equation, Keeps, IsComplete}
+use Rattle.fg_peel.specs.Equation.{Keeps, IsComplete}
 use Rattle.fg_peel.specs.Closure.{InClosure as Follows}
 use Rattle.fg_peel.specs.Solution.{IsSolution as Solves}
-use Rattle.fg_peel.specs.Peeling.{Step, IsPeeling, ArePeeled, end_of}
+use Rattle.fg_peel.specs.Peeling.{IsPeeling, ArePeeled, end_of}
 use Rattle.fg_peel.specs.Laws.{FoundKeepsSolutions, FoundKeepsClosure, MaximalPeelingsEndAtClosure, PeelingsAppend, PeelingsKeepWords}
-use Rattle.fg_desk.specs.State.{State, known, live_equations}
+use Rattle.fg_desk.specs.State.{known, live_equations}
 use Rattle.fg_desk.specs.Solution.{InClosure, IsSolution}
 use Rattle.fg_desk.specs.Inside.{Parts, AreSound, state_of}
 use Rattle.fg_desk.specs.Row.{RowState, row_words}

@@ -1,5 +1,5 @@
 -- What settled equations add to a peeling: nothing.
-use Rattle.std.proofs.Common.{◌≡◌, ◌⊎◌, ◌↔◌, ℕ, Bool, true, false, List, [], Option, Some, None, IsSome, IsTrue, inl, inr, refl, sym, ap, subst, ◌∙◌, ⊎_elim}
+use Rattle.std.proofs.Common.{◌≡◌, ◌⊎◌, ℕ, Bool, true, false, List, [], Option, Some, IsSome, IsTrue, inl, inr, refl, sym, subst, ◌∙◌, ⊎_elim}
 use Rattle.std.proofs.lemmas.Option.{none-some}
 use Rattle.std.specs.List.{Contains}
 use Rattle.std.specs.FinMap.{get}
@@ -8,13 +8,13 @@ use Rattle.slab.specs.Slab.{Slab}
 use Rattle.fg_words.specs.declared.Word.{Word}
 use Rattle.fg_peel.specs.declared.Line.{Line}
 use Rattle.fg_peel.specs.Slots.{lines_of, equation_of, equations_of}
-use Rattle.fg_peel.specs.Equation.{Equation, Keeps, IsComplete, IsSettled, slots}
+use Rattle.fg_peel.specs.Equation.{Equation, Keeps, IsComplete, IsSettled}
 use Rattle.fg_peel.specs.Closure.{InClosure, given, derived}
 use Rattle.fg_peel.specs.Solution.{IsSolution}
-use Rattle.fg_peel.specs.Peeling.{Step, CanFollow, IsMaximal, IsPeeling, EndsPeeling, end_of}
+use Rattle.fg_peel.specs.Peeling.{Step, CanFollow, EndsPeeling, end_of}
 use Rattle.fg_peel.specs.Laws.{AddsSettled, PeelingsTakeEquations, PeelingsKeepWords}
-use Rattle.fg_desk.specs.State.{State, Live, opening, live_equations}
-use Rattle.fg_desk.specs.Lines.{LinesState, AreOpen, IsLiveLine, live_of}
+use Rattle.fg_desk.specs.State.{State, Live, opening}
+use Rattle.fg_desk.specs.Lines.{LinesState, AreOpen, live_of}
 use Rattle.fg_desk.specs.Window.{EachSettled, equations_in}
 use Rattle.fg_desk.proofs.Equations.{serial_of, live_at}
 use Rattle.fg_desk.proofs.Lists.{Contains-nil, Contains-map, Contains-from_map}

@@ -1,5 +1,5 @@
 -- Settled equations where the words change.
-use Rattle.std.proofs.Common.{◌≡◌, ℕ, List, [], ◌∷◌, Option, Some, IsSome, refl, sym, ap, subst, ◌∙◌}
+use Rattle.std.proofs.Common.{◌≡◌, ℕ, List, [], ◌∷◌, Option, IsSome, refl, sym, ap, subst, ◌∙◌}
 use Rattle.std.specs.List.{Contains, filter_map, cons_option}
 use Rattle.fg_words.specs.declared.Word.{Word}
 use Rattle.fg_words.specs.Word.{word_sum}

@@ -1,5 +1,5 @@
 -- Which equations stay live and settled over a play.
-use Rattle.std.proofs.Common.{◌≡◌, ◌+◌, ◌<◌, ◌≤◌, ◌&&◌, ℕ, cond, ltb, leb, Option, Some, None, IsSome, sym, ap, subst, ◌∙◌, ⊎_elim, arith, lt-ltb, le-leb}
+use Rattle.std.proofs.Common.{◌≡◌, ◌+◌, ◌<◌, ◌≤◌, ◌&&◌, ℕ, ltb, leb, Option, Some, None, IsSome, sym, ap, subst, ◌∙◌, ⊎_elim, arith, lt-ltb, le-leb}
 use Rattle.std.proofs.lemmas.Bool.{and_from, cond-true}
 use Rattle.std.proofs.lemmas.Option.{same_Some}
 use Rattle.std.specs.List.{Contains}
@@ -8,7 +8,7 @@ use Rattle.std.specs.Ordering.{nat_cmp}
 use Rattle.fg_words.specs.declared.Word.{Word}
 use Rattle.fg_shape.specs.Shape.{IsShape}
 use Rattle.fg_peel.specs.Equation.{Equation, IsComplete, slots}
-use Rattle.fg_desk.specs.State.{Live, Words, last_slot}
+use Rattle.fg_desk.specs.State.{Live, last_slot}
 use Rattle.fg_desk.specs.Admission.{kept_count}
 use Rattle.fg_desk.specs.Row.{RowState, row_words, Advances}
 use Rattle.fg_desk.specs.Lines.{LinesState, Settles, Retires, SettledAreBased}

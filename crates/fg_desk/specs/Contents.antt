@@ -1,5 +1,5 @@
 -- What contracts see of a desk and of a tray.
-use Rattle.std.specs.Prelude.{◌≡◌, ◌+◌, ◌<◌, ◌^◌, ◌&&◌, ℕ, not, is_some, List, [], nat_lt, Option, Some, None, IfSome, if◌then◌else◌}
+use Rattle.std.specs.Prelude.{◌≡◌, ◌+◌, ◌<◌, ◌^◌, ◌&&◌, ℕ, not, is_some, List, nat_lt, Option, None, IfSome, if◌then◌else◌}
 use Rattle.std.specs.Ordering.{nat_cmp}
 use Rattle.std.specs.FinMap.{get}
 use Rattle.std.specs.FinSet.{FinSet, contains, empty}
@@ -7,7 +7,7 @@ use Rattle.fg_words.specs.declared.Word.{Word}
 use Rattle.fg_desk.specs.declared.reply.Outcome.{Outcome}
 use Rattle.fg_desk.specs.declared.reply.Outcome.TheVariants.{Repaired, Inconsistent}
 use Rattle.fg_desk.specs.State.{State, known, opening}
-use Rattle.fg_desk.specs.Play.{Play, Shown}
+use Rattle.fg_desk.specs.Play.{Shown}
 
 -- A desk: its state; the kept positions whose words were neither received nor published when they were shown, so that
 -- no share of them is there; and the epoch, which counts the inconsistent plays.

@@ -1,12 +1,12 @@
 -- What is true of every desk that calls can leave.
-use Rattle.std.specs.Prelude.{◌≡◌, ◌≢◌, ◌+◌, ◌^◌, ◌<◌, ◌≤◌, ℕ, Some, None, IsSome, IsSomeAnd}
+use Rattle.std.specs.Prelude.{◌≡◌, ◌≢◌, ◌+◌, ◌^◌, ◌<◌, ◌≤◌, ℕ, Some, None, IsSome}
 use Rattle.std.specs.List.{Contains}
 use Rattle.std.specs.FinMap.{get, empty}
 use Rattle.fg_words.specs.declared.Word.{Word}
 use Rattle.fg_words.specs.Word.{IsMedia}
 use Rattle.fg_shape.specs.Shape.{IsShape}
-use Rattle.fg_peel.specs.Equation.{Equation, slots}
-use Rattle.fg_desk.specs.State.{State, Live, Words, last_slot}
+use Rattle.fg_peel.specs.Equation.{slots}
+use Rattle.fg_desk.specs.State.{State, Live, last_slot}
 use Rattle.fg_desk.specs.Admission.{kept_count, live_limit, HaveSameSlots}
 
 -- A word that is kept: a media word, at one of the 100 positions before the mark.

@@ -1,5 +1,5 @@
 -- A flow's run over datagrams that are read. This project's own. It knows no worker, and no words found before a play.
-use Rattle.std.specs.Prelude.{◌≡◌, ◌++◌, ℕ, Bool, true, false, ◌&&◌, ⊤, List, [], ◌∷◌, Option, Some, None}
+use Rattle.std.specs.Prelude.{◌≡◌, ◌++◌, ℕ, List, [], ◌∷◌, Option, Some, None}
 use Rattle.fg_words.specs.declared.Word.{Word}
 use Rattle.fg_desk.specs.declared.reply.Reply.{Reply}
 use Rattle.fg_desk.specs.State.{State, opening}

@@ -1,7 +1,6 @@
 -- What a desk is: one flow's window state. This project's own, but for what a parity datagram says of a flow's words,
 -- which is SMPTE ST 2022-1's.
-use Rattle.std.specs.Prelude.{◌≡◌, ◌+◌, ◌-◌, ◌*◌, ◌<◌, ◌≤◌, ◌^◌, ℕ, List, map, nat_lt, Option, None, if◌then◌else◌}
-use Rattle.std.specs.List.{Contains}
+use Rattle.std.specs.Prelude.{◌+◌, ◌-◌, ◌*◌, ℕ, List, map, nat_lt, Option, None, if◌then◌else◌}
 use Rattle.std.specs.Ordering.{nat_cmp}
 use Rattle.std.specs.FinMap.{FinMap, get, entries, empty}
 use Rattle.fg_words.specs.declared.Word.{Word}

@@ -1,11 +1,11 @@
 -- What the row and the live equations do together. No public contract cites it.
-use Rattle.std.specs.Prelude.{◌≡◌, ◌⊎◌, ◌↔◌, ◌+◌, ◌<◌, ◌≤◌, ℕ, List, map, Bool, Option, Some, IsSome, IsSomeAnd, IsTrue, false, ◌≢◌}
+use Rattle.std.specs.Prelude.{◌≡◌, ◌↔◌, ◌+◌, ◌<◌, ℕ, List, map, Bool, Option, Some, IsSome, IsSomeAnd, IsTrue, false, ◌≢◌}
 use Rattle.std.specs.List.{Contains}
 use Rattle.std.specs.FinMap.{get, entries, empty}
 use Rattle.std.specs.FinSet as set
 use Rattle.fg_words.specs.declared.Word.{Word}
 use Rattle.fg_shape.specs.Shape.{IsShape}
-use Rattle.fg_peel.specs.Equation.{Equation, slots, IsComplete, AreMedia, IsSettled}
+use Rattle.fg_peel.specs.Equation.{Equation, slots, IsComplete}
 use Rattle.fg_peel.specs.Peeling.{EndsPeeling}
 use Rattle.fg_peel.specs.Solution.{IsSolution}
 use Rattle.fg_desk.specs.declared.reply.Outcome.{Outcome}

@@ -1,4 +1,4 @@
-use Rattle.std.proofs.Common.{◌≡◌, ◌≤◌, true, false, sym, arith}
+use Rattle.std.proofs.Common.{◌≡◌, ◌≤◌, true, false, arith}
 use Rattle.fg_peel.specs.Slots.{equation_of}
 use Rattle.fg_desk.specs.State.{last_slot}
 use Rattle.fg_desk.proofs.LinesCalls.{last_is}

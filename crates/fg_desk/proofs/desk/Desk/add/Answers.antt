@@ -1,4 +1,4 @@
-use Rattle.std.proofs.Common.{◌≡◌, ◌≢◌, ◌<◌, ◌^◌, None, IsSome, sym, subst}
+use Rattle.std.proofs.Common.{◌≢◌, ◌<◌, ◌^◌, None, IsSome, sym, subst}
 use Rattle.fg_peel.specs.Equation.{Equation}
 use Rattle.fg_desk.specs.declared.reply.Reply.TheVariants.{Admitted}
 use Rattle.fg_desk.specs.Admission.{IsEquationReply}

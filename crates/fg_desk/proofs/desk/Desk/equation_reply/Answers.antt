@@ -1,8 +1,8 @@
-use Rattle.std.proofs.Common.{◌≡◌, ◌≢◌, ◌+◌, ◌-◌, ◌*◌, ◌<◌, ◌≤◌, ℕ, true, false, sym, ap, subst, ◌∙◌, arith}
+use Rattle.std.proofs.Common.{◌≡◌, ◌≢◌, ◌+◌, ◌-◌, ◌*◌, ◌<◌, sym, ap, ◌∙◌, arith}
 use Rattle.std.proofs.lemmas.Bool.{false≢true}
 use Rattle.std.specs.FinMap.{len}
 use Rattle.fg_desk.specs.Contents.{Contents}
-use Rattle.fg_desk.specs.Admission.{IsLate, IsAhead, IsTimely}
+use Rattle.fg_desk.specs.Admission.{IsLate, IsTimely}
 use Rattle.fg_desk.proofs.Lost.{last_at}
 use Rattle.fg_desk.proofs.Twins.{twin_of, no_twin}
 use Rattle.fg_desk.proofs.desk.Desk.equation_reply.Goals as goal

@@ -1,10 +1,10 @@
-use Rattle.std.proofs.Common.{◌≡◌, ◌≢◌, ◌<◌, ◌≤◌, ◌^◌, ℕ, None, IsSome, ap, sym, subst, arith}
-use Rattle.fg_desk.specs.Contents.{Contents, IsBareAfter}
+use Rattle.std.proofs.Common.{◌≢◌, ◌<◌, ◌^◌, ℕ, None, IsSome, sym, subst}
+use Rattle.fg_desk.specs.Contents.{Contents}
 use Rattle.fg_desk.specs.Facts.{Holds}
-use Rattle.fg_desk.specs.Inside.{Parts, AreSound, state_of, contents_of}
+use Rattle.fg_desk.specs.Inside.{AreSound, state_of}
 use Rattle.fg_desk.specs.Parts.{parts_of}
-use Rattle.fg_desk.specs.Play.{Play, IsPlay}
-use Rattle.fg_desk.proofs.DeskPlayed.{closed_play, closed_sound, closed_bare, sound_with_epoch}
+use Rattle.fg_desk.specs.Play.{IsPlay}
+use Rattle.fg_desk.proofs.DeskPlayed.{closed_play, closed_sound, sound_with_epoch}
 use Rattle.fg_desk.proofs.DeskPlays.{played}
 use Rattle.fg_desk.proofs.DeskRecovers.{are_in_row, still_in_row, settled_are_complete}
 use Rattle.fg_desk.proofs.Options.{none_has_no_value}
