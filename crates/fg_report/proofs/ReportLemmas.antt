@@ -1,15 +1,15 @@
 -- A report's text tells its counts.
-use Rattle.std.proofs.Common.{◌≡◌, ◌≢◌, ℕ, ◌+◌, ◌^◌, ◌<◌, List, [], ◌∷◌, ◌++◌, map, get_or, codes, refl, sym, ap, ◌∙◌, subst, arith, append_assoc, append-nil}
+use Rattle.std.proofs.Common.{◌≡◌, ◌≢◌, ℕ, List, [], ◌∷◌, ◌++◌, map, get_or, codes, refl, sym, ap, ◌∙◌, subst, arith, append_assoc}
 use Rattle.std.specs.Fmt.{decimal}
 use Rattle.std.specs.List.{flat_map}
 use Rattle.fg_report.specs.Fits.{Fits, MarksFit, GapsFit, FlowFits, FlowsFit, TailFits}
 use Rattle.fg_report.specs.Laws.{told, TextNamesItsCounts}
-use Rattle.fg_report.specs.Text.{flow_counts, media_counts, parity_counts, line_of, flow_line, media_line, parity_line, gap_line, flow_lines, flow_text, other_line, tail_text, report_of}
+use Rattle.fg_report.specs.Text.{flow_counts, media_counts, parity_counts, flow_line, media_line, parity_line, gap_line, flow_lines, flow_text, other_line, tail_text}
 use Rattle.fg_report.specs.declared.marks.Marks.{Marks}
 use Rattle.fg_report.specs.declared.flow_sum.FlowSum.{FlowSum}
 use Rattle.fg_report.specs.declared.tail.Tail.{Tail}
 use Rattle.fg_report.specs.declared.tail.Tail.TheVariants.{Ended, Cut, TooLong}
-use Rattle.fg_report.proofs.TextLemmas.{Stops, cancel, number_cut, line_cut, line_right, head_same, tail_same}
+use Rattle.fg_report.proofs.TextLemmas.{cancel, number_cut, line_cut, line_right, head_same, tail_same}
 
 -- the number at a place of a line
 number_at : List (List ℕ × ℕ) → ℕ → ℕ
