@@ -1,7 +1,7 @@
 -- A flush ends.
-use Rattle.std.proofs.Common.{◌≡◌, ap, ◌+◌, ◌-◌, ◌≤◌, ℕ, min, [], ◌∷◌, length, sym, subst, arith}
+use Rattle.std.proofs.Common.{◌≡◌, ap, ◌+◌, ◌-◌, ◌≤◌, ℕ, min, [], ◌∷◌, length, arith}
 use Rattle.fg_desk.specs.State.{State}
-use Rattle.fg_desk.specs.Play.{Play, IsHighest, IsFlushStep, HasMore}
+use Rattle.fg_desk.specs.Play.{Play, IsHighest, IsFlushStep}
 use Rattle.fg_desk.specs.Laws.{FlushEnds}
 use Rattle.fg_desk.proofs.Plays.{followed_before}
 

@@ -1,10 +1,10 @@
 -- Parts of a run join, and end where nothing more is to be done.
-use Rattle.std.proofs.Common.{◌≡◌, ◌++◌, ℕ, List, [], ◌∷◌, Option, refl, sym, ap, subst, ◌∙◌, append_assoc}
+use Rattle.std.proofs.Common.{◌++◌, ℕ, List, [], ◌∷◌, Option, sym, ap, subst, ◌∙◌, append_assoc}
 use Rattle.fg_desk.specs.declared.reply.Reply.{Reply}
 use Rattle.fg_desk.specs.State.{State}
 use Rattle.fg_desk.specs.Admission.{IsDue}
 use Rattle.fg_desk.specs.Play.{Play, HasMore}
-use Rattle.fg_desk.specs.Run.{Arrival, ArePlaysDue, TakesAll, IsFlush}
+use Rattle.fg_desk.specs.Run.{ArePlaysDue, TakesAll, IsFlush}
 use Rattle.fg_desk.specs.Laws.{AreFlushSteps, HavePlayed, TakingsJoin, PlaysDueJoin, PlaysDueEnd, FlushStepsJoin, FlushStepsEnd}
 
 pub takings_join : TakingsJoin

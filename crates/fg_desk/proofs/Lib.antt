@@ -23,7 +23,6 @@ pub mod Orderly
 pub mod OrderlyAdmissions
 pub mod Parities
 pub mod Peeled
-pub mod Peelings
 pub mod Places
 pub mod PlayKeeps
 pub mod Plays

@@ -1,12 +1,13 @@
 -- Closure and solutions of a desk are those of peeling.
-use Rattle.std.proofs.Common.{◌≡◌, ◌≤◌, List, [], ◌∷◌, Some, sym, ◌∙◌, ℕ, Option, ⊎_elim}
-use Rattle.std.proofs.lemmas.Bool.{cases_lt}
+use Rattle.std.proofs.Common.{◌==◌, None, ap, ne_eqb, ◌≡◌, ◌≤◌, List, [], ◌∷◌, Some, sym, ◌∙◌, ℕ, Option, ⊎_elim}
+use Rattle.std.proofs.lemmas.Bool.{cases_lt, cond-false}
 use Rattle.std.proofs.lemmas.List.Elements.{All-from_recursion}
 use Rattle.std.proofs.lemmas.Option.{none-some}
 use Rattle.std.specs.List.{AllByRecursion}
 use Rattle.fg_words.specs.declared.Word.{Word}
 use Rattle.fg_peel.specs.Closure.{InClosure as Follows, given as follows_given, derived as follows_derived}
-use Rattle.fg_peel.specs.Peeling.{Step, IsPeeling, after_step}
+use Rattle.fg_peel.specs.Equation.{Keeps}
+use Rattle.fg_peel.specs.Peeling.{Step, IsPeeling, after_step, given_word}
 use Rattle.fg_peel.specs.Laws.{Uniqueness}
 use Rattle.fg_peel.specs.Solution.{IsSolution as Solves}
 use Rattle.fg_desk.specs.State.{State, known, live_equations}
@@ -14,7 +15,6 @@ use Rattle.fg_desk.specs.Solution.{InClosure, IsSolution, given, derived}
 use Rattle.fg_desk.specs.Laws.{ClosureIsPeelings, SolutionsArePeelings, StepsAreAhead, OneSolution}
 use Rattle.fg_desk.proofs.Options.{value_of}
 use Rattle.fg_desk.proofs.Orderly.{IsOrderly, orderly_from_holds, known_base, admissible}
-use Rattle.fg_desk.proofs.Peelings.{after_step_keeps}
 
 pub closure_to_peel : (desk : State) (position : ℕ) → InClosure desk position → Follows (known desk) (live_equations desk) position
 closure_to_peel desk position (given h) = follows_given h
@@ -53,10 +53,17 @@ pub solutions_are_peelings : SolutionsArePeelings
 solutions_are_peelings desk holds words =
     (solution_to_peel desk (orderly_from_holds desk holds) words, solution_from_peel desk (orderly_from_holds desk holds) words)
 
+-- A step keeps the known words.
+after_step_keeps : (known : ℕ → Option Word) (step : Step) → known step.position ≡ None → Keeps known (after_step known step)
+after_step_keeps known step unknown q w is =
+    cond-false (q == step.position) (Some (given_word known step)) (known q)
+    (ne_eqb q step.position (λ same. none-some w (sym (ap known same ∙ unknown) ∙ is)))
+    ∙ is
+
 -- A peeling's steps are ahead of the mark, since what is before it and in an equation is known.
 steps_ahead :
     (desk : State) → IsOrderly desk → (now : ℕ → Option Word)
-    → ((q : ℕ) (w : Word) → known desk q ≡ Some w → now q ≡ Some w)
+    → Keeps (known desk) now
     → (steps : List Step) → IsPeeling now (live_equations desk) steps → AllByRecursion (λ step. desk.mark ≤ step.position) steps
 steps_ahead desk orderly now keeps [] peeling = tt
 steps_ahead desk orderly now keeps (step ∷ steps) peeling = (

@@ -12,7 +12,7 @@ use Rattle.fg_desk.specs.State.{State, Top, opening}
 use Rattle.fg_desk.specs.Admission.{IsDue, kept_count}
 use Rattle.fg_desk.specs.Solution.{InClosure, given, derived}
 use Rattle.fg_desk.specs.Play.{Play, IsFlushStep}
-use Rattle.fg_desk.specs.Run.{Arrival, carries, protects, refused, ArePlaysDue, Takes, TakesAll}
+use Rattle.fg_desk.specs.Run.{Arrival, carries, protects, refused, Takes, TakesAll}
 use Rattle.fg_desk.specs.Facts.{Holds}
 use Rattle.fg_desk.specs.Laws.{AreFlushSteps, IsRead, HavePlayed, RunsStayWithin, FlushesStayWithin}
 use Rattle.fg_desk.proofs.Options.{value_of, some_and}

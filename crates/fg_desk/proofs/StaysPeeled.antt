@@ -7,7 +7,7 @@ use Rattle.std.specs.FinMap.{get}
 use Rattle.fg_words.specs.declared.Word.{Word}
 use Rattle.fg_peel.specs.Equation.{Equation, slots, Keeps}
 use Rattle.fg_peel.specs.Peeling.{end_of}
-use Rattle.fg_peel.specs.Laws.{PeelingsContinue, MaximalPeelingsEndAtSolution, PeelingsOutlivePlays, ReachesPast, IsPlayed}
+use Rattle.fg_peel.specs.Laws.{PeelingsKeepWords, SolutionsKeepPeelings, PeelingsOutlivePlays, ReachesPast, IsPlayed}
 use Rattle.fg_desk.specs.declared.reply.Outcome.{Outcome}
 use Rattle.fg_desk.specs.declared.reply.Outcome.TheVariants.{Repaired}
 use Rattle.fg_desk.specs.State.{State, known, live_equations}
@@ -21,7 +21,6 @@ use Rattle.fg_desk.proofs.Equations.{serial_of, live_at}
 use Rattle.fg_desk.proofs.Orderly.{orderly_from_holds, known_below, known_ahead, admissible}
 use Rattle.fg_desk.proofs.Peeled.{solution_to_peel}
 use Rattle.fg_desk.proofs.Plays.{mark_rises, kept_before, kept_shown, kept_is, received_is}
-use Rattle.fg_desk.proofs.Peelings.{end_keeps, end_agrees}
 use Rattle.fg_desk.proofs.SlotRange.{slot_is_near}
 
 module _
@@ -92,13 +91,13 @@ module _
     stays = stays_live;
   }
 
-pub solved_stays_peeled : PeelingsContinue → MaximalPeelingsEndAtSolution → PeelingsOutlivePlays → SolvedStaysPeeled
-solved_stays_peeled continues reaches outlive count old new play steps holds plays repaired peeling =
+pub solved_stays_peeled : PeelingsKeepWords → SolutionsKeepPeelings → PeelingsOutlivePlays → SolvedStaysPeeled
+solved_stays_peeled keeps kept outlive count old new play steps holds plays repaired peeling =
     let orderly = orderly_from_holds old holds in
     let solution : IsSolution old plays.words = subst (λ (o : Outcome). Decides old o plays.words) repaired plays.decides in
     let agrees : Keeps (end_of (known old) steps) plays.words =
-    end_agrees continues reaches (known old) (live_equations old) steps (admissible old orderly) plays.words
-    (solution_to_peel old orderly plays.words solution) peeling in
+    kept (known old) (live_equations old) (admissible old orderly) plays.words
+    (solution_to_peel old orderly plays.words solution) steps peeling in
     outlive new.mark (known old) (known new) (live_equations old) (live_equations new) steps peeling
     (is_played count old new play holds plays repaired (end_of (known old) steps)
-    (end_keeps (known old) (live_equations old) steps peeling) agrees)
+    (keeps (known old) (live_equations old) steps peeling) agrees)
