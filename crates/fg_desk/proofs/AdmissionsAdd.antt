@@ -18,7 +18,7 @@ use Rattle.fg_desk.proofs.Equations.{serial_of, live_at}
 use Rattle.fg_desk.proofs.Orderly.{known_below, known_ahead}
 use Rattle.fg_desk.proofs.Opened.{position_at_first, position_after, media_reply_at}
 
-known_with_media :
+pub known_with_media :
     (old : State) (seq position : ℕ) (word : Word) → old.mark ≤ position → (other : ℕ)
     → known (with_media old seq position word) other ≡ cond (other == position) (Some word) (known old other)
 known_with_media old seq position word ahead other = ⊎_elim
@@ -81,7 +81,7 @@ module _ (old : State) (place : ℕ) (equation : Equation) (holds : Holds old) w
       (λ here. inr refl) (λ was. inl (live_at old r.0 r.1 was)) in
       subst (λ (x : Equation). Contains (live_equations old) x ⊎ (x ≡ equation)) r.3 either
 
-  stays_listed : (e : Equation) → Contains (live_equations old) e → Contains (live_equations (with_equation old place equation)) e
+  pub stays_listed : (e : Equation) → Contains (live_equations old) e → Contains (live_equations (with_equation old place equation)) e
   stays_listed e listed =
       let r = serial_of old e listed in
       let numbered = (holds.live r.0 r.1 r.2).numbered in

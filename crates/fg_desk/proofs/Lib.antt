@@ -1,7 +1,15 @@
 pub mod Added
 pub mod AdmissionsAdd
+pub mod Advancing
 pub mod Bounds
+pub mod DeskAdds
+pub mod DeskCounts
+pub mod DeskFlushes
 pub mod DeskOpened
+pub mod DeskPlayed
+pub mod DeskPlays
+pub mod DeskReceives
+pub mod DeskRecovers
 pub mod DeskWords
 pub mod Equations
 pub mod Flushing
@@ -31,6 +39,7 @@ pub mod RowChanges
 pub mod RowLoops
 pub mod RowMaps
 pub mod RowPeels
+pub mod RowReceives
 pub mod RowViews
 pub mod RunFacts
 pub mod SettledEquations
@@ -39,3 +48,4 @@ pub mod SlotRange
 pub mod StaysPeeled
 pub mod Survivors
 pub mod TrayPlaces
+pub mod Twins

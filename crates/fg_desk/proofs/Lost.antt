@@ -1,12 +1,13 @@
 -- What a search for a lost slot tells.
-use Rattle.std.proofs.Common.{◌≡◌, ◌⊎◌, ◌<◌, ℕ, Bool, true, false, not, Option, Some, None, IsSome, is_some, inl, inr, refl, sym, ap, ◌∙◌, ⊎_elim}
+use Rattle.std.proofs.Common.{◌≡◌, ◌⊎◌, ◌+◌, ◌-◌, ◌*◌, ◌<◌, ◌≤◌, ℕ, Bool, true, false, not, [], Option, Some, None, IsSome, is_some, inl, inr, refl, sym, ap, ◌∙◌, ⊎_elim}
 use Rattle.std.specs.Prelude.{IfSome, IfNone}
 use Rattle.std.proofs.lemmas.Bool.{false≢true}
-use Rattle.std.specs.List.{Contains}
+use Rattle.std.specs.List.{All, Contains}
 use Rattle.std.specs.FinMap.{get}
-use Rattle.fg_shape.specs.Shape.{slots_of}
+use Rattle.fg_shape.specs.Shape.{slots_of, IsShape}
 use Rattle.fg_desk.specs.State.{Words}
 use Rattle.fg_desk.specs.LinesInside.{IsLost}
+use Rattle.fg_desk.proofs.LinesCalls.{last_is}
 use Rattle.fg_desk.proofs.Options.{none_has_no_value}
 
 pub found_or_not :
@@ -37,3 +38,24 @@ module _ (r : Option ℕ) (mark : ℕ) (kept : Words) (base offset count : ℕ)
       absurd (none_has_no_value (get kept lost.0) lost.1.lost (all lost.0 lost.1.listed lost.1.played)))
       (λ based. not_of answer (is_some r) is ∙ ap not based.1)
       (found_or_not r (AllBased mark kept base offset count) (IsLost mark kept base offset count) some none)
+
+  -- The same, said of what is lost.
+  pub is_lost :
+      (answer : Bool) → answer ≡ is_some r
+      → (answer ≡ true → (slot : ℕ) × Contains (slots_of base offset count) slot × (slot < mark) × (get kept slot ≡ None))
+      × (((slot : ℕ) × Contains (slots_of base offset count) slot × (slot < mark) × (get kept slot ≡ None)) → answer ≡ true)
+  is_lost answer is = ⊎_elim
+      (λ lost. (λ _. (lost.0, lost.1.listed, lost.1.played, lost.1.lost), λ _. is ∙ lost.2))
+      (λ based. (
+        λ found. absurd (false≢true (sym (is ∙ based.1) ∙ found)),
+        λ lost. absurd (none_has_no_value (get kept lost.0) lost.3 (based.0 lost.0 lost.1 lost.2)),
+      ))
+      (found_or_not r (AllBased mark kept base offset count) (IsLost mark kept base offset count) some none)
+
+-- The last slot, whatever the parity word.
+pub last_at :
+    (base offset count last : ℕ) → IsShape offset count → Contains (slots_of base offset count) last
+    → All (λ slot. slot ≤ last) (slots_of base offset count) → last ≡ base + (count - 1) * offset
+last_at base offset count last shape c greatest =
+    last_is (record { base = base; offset = offset; count = count; parity = record { pt = 0; ts = 0; len = 0; bytes = [] } }) last shape c
+    greatest

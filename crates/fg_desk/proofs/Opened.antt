@@ -64,7 +64,7 @@ farther_is_some (Some top) new none = go (ltb top.position new.position) none
     go true e = none-some new (sym e)
     go false e = none-some top (sym e)
 
-with_media_holds :
+pub with_media_holds :
     (old : State) (seq position : ℕ) (word : Word) → Holds old → IsReceived old position word → Holds (with_media old seq position word)
 with_media_holds old seq position word holds received =
     renewed_holds old (farther old.top (record { position = position; seq = seq })) (insert old.media position word) (old.calls + 1) holds

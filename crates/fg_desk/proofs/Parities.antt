@@ -51,13 +51,13 @@ near_unless_ahead old equation not_ahead = ⊎_elim
     (cases_lt (last_slot equation) (old.mark + old.depth + kept_count))
 
 -- What is said of an admitted equation.
-record IsNew (old : State) (place : ℕ) (equation : Equation) : Type 0 where
-  shape : IsShape equation.offset equation.count
-  base_limit : equation.base ≤ 2 ^ 62
-  timely : IsTimely old equation
-  no_twin : ¬ HasTwin old equation (λ _. ⊤)
-  placed : place < live_limit
-  free : IsFree old place
+pub record IsNew (old : State) (place : ℕ) (equation : Equation) : Type 0 where
+  pub shape : IsShape equation.offset equation.count
+  pub base_limit : equation.base ≤ 2 ^ 62
+  pub timely : IsTimely old equation
+  pub no_twin : ¬ HasTwin old equation (λ _. ⊤)
+  pub placed : place < live_limit
+  pub free : IsFree old place
 
 flip_apart : (one other : Live) → AreApart one other → AreApart other one
 flip_apart one other apart = record {
@@ -96,7 +96,7 @@ module _ (old : State) (place : ℕ) (equation : Equation) (holds : Holds old) (
     slots = no_twin_apart old equation is_new.no_twin serial live is;
   }
 
-  with_equation_holds : old.top ≢ None → Holds (with_equation old place equation)
+  pub with_equation_holds : old.top ≢ None → Holds (with_equation old place equation)
   with_equation_holds opened = record {
     window = holds.window;
     depth = holds.depth;

@@ -89,7 +89,7 @@ all_add_nothing lines known settled all = record {
       (settled r.0 r.1 r.2 (all r.0 (has_value (get lines.live r.0) r.1 r.2)))));
 }
 
-abbrev line_with : ℕ → Live → Line
+abbrev pub line_with : ℕ → Live → Line
 line_with serial live = record {
   base = live.equation.base;
   shape = record { offset = live.equation.offset; na = live.equation.count };

@@ -32,7 +32,7 @@ position_on desk seq =
 abbrev pub IsDue : State → ℕ → Type 0
 IsDue desk seq =
     IsSomeAnd desk.top (λ top.
-        IsSomeAnd (position_of top.position top.seq seq) (λ position. desk.mark + desk.depth ≤ position))
+    IsSomeAnd (position_of top.position top.seq seq) (λ position. desk.mark + desk.depth ≤ position))
 
 -- The reply to a word that comes for a position: the first of these rules that applies. The position is played; the
 -- same word is there; another word is there; and else it is admitted.
@@ -51,8 +51,8 @@ IsReplyAt desk position word Crowded = ⊥
 abbrev pub IsMediaReply : State → ℕ → Word → Reply → Type 0
 IsMediaReply desk seq word reply =
     MatchOption desk.top (reply ≡ Admitted) (λ top.
-        MatchOption (position_of top.position top.seq seq) (reply ≡ Late) (λ position.
-            IsReplyAt desk position word reply))
+    MatchOption (position_of top.position top.seq seq) (reply ≡ Late) (λ position.
+    IsReplyAt desk position word reply))
 
 -- The farther of the top and a datagram at this position.
 abbrev pub farther : Option Top → Top → Option Top
@@ -140,8 +140,8 @@ equation_at position parity = record {
 abbrev pub IsParityReply : State → Parity → Reply → Type 0
 IsParityReply desk parity reply =
     MatchOption desk.top (reply ≡ NotStarted) (λ top.
-        MatchOption (position_of top.position top.seq parity.base) (reply ≡ BeforeStart) (λ position.
-            IsEquationReply desk (equation_at position parity) reply))
+    MatchOption (position_of top.position top.seq parity.base) (reply ≡ BeforeStart) (λ position.
+    IsEquationReply desk (equation_at position parity) reply))
 
 -- No live equation has the place.
 abbrev pub IsFree : State → ℕ → Type 0
@@ -164,7 +164,7 @@ with_equation desk place equation = record desk {
 abbrev pub IsAfterParity : State → Parity → Reply → State → Type 0
 IsAfterParity old parity Admitted new =
     IsSomeAnd (position_on old parity.base) (λ position.
-        (place : ℕ) × IsLeastFree old place × (new ≡ with_equation old place (equation_at position parity)))
+    (place : ℕ) × IsLeastFree old place × (new ≡ with_equation old place (equation_at position parity)))
 IsAfterParity old parity _ new = new ≡ counted old
 
 pub record AdmitsParity (old : State) (parity : Parity) (reply : Reply) (new : State) : Type 0 where

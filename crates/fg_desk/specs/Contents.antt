@@ -36,8 +36,8 @@ abbrev pub IsBareAfter : Contents → Contents → Type 0
 IsBareAfter old new =
     (position : ℕ) → contains new.bare position
     ≡ (is_some (get new.state.kept position)
-        && (if nat_lt position old.state.mark then contains old.bare position
-            else not (is_some (get old.state.media position))))
+    && (if nat_lt position old.state.mark then contains old.bare position
+    else not (is_some (get old.state.media position))))
 
 -- An inconsistent play raises the epoch.
 abbrev pub epoch_after : ℕ → Outcome → ℕ

@@ -26,8 +26,28 @@ contents_code =
     code_by (ℕ × (ℕ × (Option Top × (ℕ × (Words × (Words × (map.FinMap nat_cmp Live × (ℕ × (ℕ × (set.FinSet nat_cmp × ℕ))))))))))
     (coded× coded_ℕ (coded× coded_ℕ (coded× (coded_option top_code) (coded× coded_ℕ (coded× words_code (coded× words_code
     (coded× (map.code coded_ℕ live_code) (coded× coded_ℕ (coded× coded_ℕ (coded× (set.code coded_ℕ) coded_ℕ))))))))))
-    (λ c. (c.state.window, (c.state.depth, (c.state.top, (c.state.mark, (c.state.kept, (c.state.media, (c.state.equations,
-    (c.state.admitted, (c.state.calls, (c.bare, c.epoch)))))))))))
+    (λ c. (
+      c.state.window,
+      (
+        c.state.depth,
+        (
+          c.state.top,
+          (
+            c.state.mark,
+            (
+              c.state.kept,
+              (
+                c.state.media,
+                (
+                  c.state.equations,
+                  (c.state.admitted, (c.state.calls, (c.bare, c.epoch))),
+                ),
+              ),
+            ),
+          ),
+        ),
+      ),
+    ))
     (λ p. record {
       state = record {
         window = p.0;

@@ -58,7 +58,7 @@ pub record IsPlay (count : ℕ) (old : State) (play : Play) (new : State) : Type
   pub kept :
       (position : ℕ) → get new.kept position
       ≡ (if nat_lt position new.mark && nat_le new.mark (position + kept_count) then
-          (if nat_lt position old.mark then get old.kept position else words position) else None)
+      (if nat_lt position old.mark then get old.kept position else words position) else None)
   -- Received words are left at the new mark and past it.
   pub media :
       (position : ℕ) → get new.media position ≡ (if nat_lt position new.mark then None else get old.media position)

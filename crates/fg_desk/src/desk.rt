@@ -1,6 +1,6 @@
 //! A desk: which datagrams are admitted, when a window plays, what it shows, and what is kept.
 
-ghost use Rattle.std.specs.Prelude.{◌≡◌, ◌≢◌, ◌↔◌, ◌<◌, ◌≤◌, ◌^◌, ℕ, length, Option, Some, None, IsTrue, IsSome, IfOk, IfSome, IfNone, option_map};
+ghost use Rattle.std.specs.Prelude.{◌≡◌, ◌≢◌, ◌+◌, ◌↔◌, ◌<◌, ◌≤◌, ◌^◌, ℕ, length, Option, Some, None, IsTrue, IsSome, IfOk, IfSome, IfNone, option_map};
 ghost use Rattle.std.specs.Option.{option_copied};
 ghost use Rattle.std.specs.FinMap.{get, len};
 ghost use Rattle.fg_words.specs.Word.{IsMedia};
@@ -10,15 +10,19 @@ ghost use Rattle.fg_desk.specs.State.{known, Top as TopState, Live};
 ghost use Rattle.fg_desk.specs.Facts.{Holds};
 ghost use Rattle.fg_desk.specs.Lines.{live_of};
 ghost use Rattle.fg_desk.specs.Contents.{opened, HasRoom, shared_at, IsBareAfter, epoch_after};
-ghost use Rattle.fg_desk.specs.Admission.{IsDue, IsReplyAt, IsEquationReply, AdmitsMedia, AdmitsParity};
+ghost use Rattle.fg_desk.specs.Admission.{IsDue, IsReplyAt, IsEquationReply, IsLeastFree, AdmitsMedia, AdmitsParity, farther as farther_top, with_media, with_equation};
 ghost use Rattle.fg_desk.specs.Play.{IsPlay, Flushes};
 ghost use Rattle.fg_desk.specs.Inside.{IsLateAt};
+ghost use Rattle.fg_desk.specs.Parts.{top_of};
 
+use crate::laws::solved_stays_peeled;
 use crate::lines::{Lines, lost_slot};
 use crate::reply::{Outcome, Reply};
 use crate::row::Row;
 use crate::tray::Tray;
+use crate::window::{close, receive, recover};
 use fg_peel::Line;
+use fg_peel::laws::{found_words_may_be_known, peelings_fill_the_closure, peelings_stay};
 use fg_shape::{Shape, last};
 use fg_unwrap::position;
 use fg_words::{Shared, Word};
@@ -55,6 +59,17 @@ pub struct Desk {
     admitted: u64,
     calls: u64,
     epoch: u64,
+}
+
+/// A play: which positions it closed, and its outcome. The tray has the words.
+#[derive(Clone, Copy, Debug, PartialEq, Eq)]
+pub struct Played {
+    /// The first position that was played.
+    pub first: u64,
+    /// How many positions were.
+    pub count: u32,
+    /// What the words are.
+    pub verdict: Outcome,
 }
 
 impl Model for Desk {
@@ -175,6 +190,36 @@ impl Desk {
         }
     }
 
+    /// Admits a media datagram, or says why not.
+    ///
+    /// The share is dropped with every reply but `Admitted`.
+    pub fn admit_media(&mut self, seq: u16, share: Shared) -> Reply
+        requires room { HasRoom self.old.state }
+        requires not_due { ¬ IsDue self.old.state seq }
+        requires media { IsMedia share }
+        ensures state { AdmitsMedia self.old.state seq share result self.new.state }
+        ensures rest { self.new ≡ record self.old { state = self.new.state } }
+    {
+        let Some(top) = self.top else {
+            self.take(0, seq, share);
+            return Reply::Admitted;
+        };
+        let Some(position) = position(top.position, top.seq, seq) else {
+            self.calls += 1;
+            return Reply::Late;
+        };
+        match self.reply_at(position, share.word()) {
+            Reply::Admitted => {
+                self.take(position, seq, share);
+                Reply::Admitted
+            }
+            reply => {
+                self.calls += 1;
+                reply
+            }
+        }
+    }
+
     /// Admits a parity datagram's equation, or says why not. `base` is the sequence number of its base.
     ///
     /// The share is dropped with every reply but `Admitted`.
@@ -185,21 +230,122 @@ impl Desk {
             (record { base = base; offset = shape.offset; count = shape.na; word = share }) result self.new.state }
         ensures rest { self.new ≡ record self.old { state = self.new.state } }
     {
-        self.calls += 1;
         let Some(top) = self.top else {
+            self.calls += 1;
             return Reply::NotStarted;
         };
         let Some(base) = position(top.position, top.seq, base) else {
+            self.calls += 1;
             return Reply::BeforeStart;
         };
         match self.equation_reply(base, shape, share.word()) {
             Reply::Admitted => {
-                self.lines.insert(base, shape, share, self.admitted);
-                self.admitted += 1;
+                self.add(base, shape, share);
                 Reply::Admitted
             }
-            reply => reply,
+            reply => {
+                self.calls += 1;
+                reply
+            }
         }
+    }
+
+    /// Plays a window.
+    ///
+    /// The tray then has the words, and which of them were repaired.
+    pub fn play(&mut self, tray: &mut Tray) -> Played
+        requires room { HasRoom self.old.state }
+        requires started { IsSome self.old.state.top }
+        requires tray { self.old.state.window ≤ tray.old.window }
+        ensures play { IsPlay self.old.state.window self.old.state
+            (record { first = result.first; shown = tray.new.shown; outcome = result.verdict }) self.new.state }
+        ensures count { result.count ≡ length tray.new.shown }
+        ensures tray { tray.new.window ≡ tray.old.window }
+        ensures bare { IsBareAfter self.old self.new }
+        ensures epoch { self.new.epoch ≡ epoch_after self.old.epoch result.verdict }
+    {
+        found_words_may_be_known();
+        peelings_fill_the_closure();
+        solved_stays_peeled();
+        let first = self.row.mark();
+        let solved = recover(&mut self.row, &self.lines);
+        let verdict = close(&mut self.row, &mut self.lines, solved, self.window, tray);
+        self.calls += 1;
+        self.epoch = next_epoch(self.epoch, verdict);
+        Played {
+            first,
+            count: self.window,
+            verdict,
+        }
+    }
+
+    /// Plays up to the highest position that has a word or follows, and at most a window. None where
+    /// none is left to be played: then the tray is as it was.
+    pub fn flush_step(&mut self, tray: &mut Tray) -> Option<Played>
+        requires room { HasRoom self.old.state }
+        requires tray { self.old.state.window ≤ tray.old.window }
+        ensures flushes { Flushes self.old.state (option_map (λ played. record {
+          first = played.first;
+          shown = tray.new.shown;
+          outcome = played.verdict;
+        }) result) self.new.state }
+        ensures some { IfSome result (λ played. (played.count ≡ length tray.new.shown)
+            × IsBareAfter self.old self.new × (self.new.epoch ≡ epoch_after self.old.epoch played.verdict)) }
+        ensures none { IfNone result ((self.new ≡ record self.old { state = self.new.state }) × (tray.new ≡ tray.old)) }
+        ensures tray { tray.new.window ≡ tray.old.window }
+    {
+        found_words_may_be_known();
+        peelings_fill_the_closure();
+        solved_stays_peeled();
+        let solved = recover(&mut self.row, &self.lines);
+        let first = self.row.mark();
+        self.calls += 1;
+        let Some(highest) = self.row.highest() else {
+            return None;
+        };
+        let count = u64::from(self.window).min(highest + 1 - first) as u32;
+        let verdict = close(&mut self.row, &mut self.lines, solved, count, tray);
+        self.epoch = next_epoch(self.epoch, verdict);
+        Some(Played {
+            first,
+            count,
+            verdict,
+        })
+    }
+
+    /// Takes a word in at a position that has none.
+    fn take(&mut self, position: u64, seq: u16, share: Shared)
+        requires ahead { self.old.state.mark ≤ position }
+        requires near { position < self.old.state.mark + self.old.state.depth }
+        requires none { get self.old.state.media position ≡ None }
+        requires media { IsMedia share }
+        requires limit { position < 2 ^ 61 + 2 ^ 16 }
+        requires calls { self.old.state.calls < 2 ^ 62 }
+        ensures { self.new ≡ record self.old { state = with_media self.old.state seq position share } }
+    {
+        peelings_stay();
+        receive(&mut self.row, &mut self.lines, position, share);
+        self.top = Some(farther(self.top, Farthest { position, seq }));
+        self.calls += 1;
+    }
+
+    /// Adds an equation to the live ones.
+    fn add(&mut self, base: u64, shape: Shape, share: Shared)
+        requires shape { IsShape shape.offset shape.na }
+        requires base { base ≤ 2 ^ 62 }
+        requires started { IsSome self.old.state.top }
+        requires admitted { IsEquationReply self.old.state
+            (record { base = base; offset = shape.offset; count = shape.na; parity = share }) Reply.Admitted }
+        requires calls { self.old.state.calls < 2 ^ 62 }
+        ensures { (place : ℕ) × IsLeastFree self.old.state place × (self.new ≡ record self.old {
+          state = with_equation self.old.state place
+              (record { base = base; offset = shape.offset; count = shape.na; parity = share });
+        }) }
+    {
+        peelings_stay();
+        self.lines.insert(base, shape, share, self.admitted);
+        self.admitted += 1;
+        self.calls += 1;
     }
 
     /// The reply to an equation.
@@ -244,5 +390,26 @@ impl Desk {
             Some(other) if other.same(word) => Reply::Duplicate,
             Some(_) => Reply::Conflict,
         }
+    }
+}
+
+/// The farther of two datagrams.
+fn farther(top: Option<Farthest>, new: Farthest) -> Farthest
+    ensures { Some (top_of result) ≡ farther_top (option_map top_of top) (top_of new) }
+{
+    match top {
+        Some(top) if top.position >= new.position => top,
+        _ => new,
+    }
+}
+
+/// The epoch after a play.
+fn next_epoch(epoch: u64, verdict: Outcome) -> u64
+    requires { epoch ≤ 2 ^ 62 }
+    ensures { result ≡ epoch_after epoch verdict }
+{
+    match verdict {
+        Outcome::Repaired => epoch,
+        Outcome::Inconsistent => epoch + 1,
     }
 }

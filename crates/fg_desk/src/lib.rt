@@ -9,6 +9,6 @@ mod row;
 mod tray;
 mod window;
 
-pub use desk::Desk;
+pub use desk::{Desk, Played};
 pub use reply::{Outcome, Reply};
 pub use tray::Tray;

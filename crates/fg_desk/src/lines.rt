@@ -113,7 +113,8 @@ impl Lines {
         requires shape { IsShape shape.offset shape.na }
         requires base { base ≤ 2 ^ 62 }
         requires fresh { get self.old.live serial ≡ None }
-        ensures { (place : ℕ) × IsLeastFreePlace self.old place
+        ensures facts { AreLines self.old }
+        ensures added { (place : ℕ) × IsLeastFreePlace self.old place
             × (self.new ≡ record self.old {
               live = insert self.old.live serial (record {
                 place = place;

@@ -32,7 +32,13 @@ pub(crate) fn recover(row: &mut Row, lines: &Lines) -> bool
 }
 
 /// Plays the first `count` positions. `solved` tells that the row's words are a solution.
-pub(crate) fn close(row: &mut Row, lines: &mut Lines, solved: bool, count: u32, tray: &mut Tray) -> Outcome
+pub(crate) fn close(
+    row: &mut Row,
+    lines: &mut Lines,
+    solved: bool,
+    count: u32,
+    tray: &mut Tray,
+) -> Outcome
     requires some { 1 ≤ count }
     requires room { count ≤ tray.old.window }
     requires near { count ≤ row.old.reach }

@@ -1,9 +1,10 @@
 use Rattle.std.proofs.Common.{◌≡◌, ◌<◌, ℕ, List, Bool, None, false, get_or, ap, sym, ◌∙◌, subst, arith}
 use Rattle.std.specs.FinMap.{get, len, insert}
 use Rattle.fg_peel.specs.declared.Line.{Line}
-use Rattle.fg_desk.specs.Lines.{LinesState, IsLeastFreePlace}
+use Rattle.fg_desk.specs.Lines.{LinesState, AreLines, IsLeastFreePlace}
 use Rattle.fg_desk.specs.LinesInside.{state_of, IsTaken, IsWithin}
 use Rattle.fg_desk.proofs.LinesViews.{count_live}
+use Rattle.fg_desk.proofs.LinesCalls.{are_lines}
 use Rattle.fg_desk.proofs.LinesInserts.{first_free_within, least_free, insert_sound, insert_is}
 use Rattle.fg_desk.proofs.lines.Lines.insert.Goals as goal
 use Rattle.fg_desk.proofs.lines.Lines.insert.Goals.{After-first_free-place, After-insert_reserved}
@@ -61,9 +62,14 @@ invariant_of-self c =
     c.insert_reserved.new.self c.insert_reserved.result (line_of d) e.was_vacant e.updates e.len e.capacity (is_within d) (fresh d)
     (free d) (fewer d)
 
-pub returns : goal.returns
-returns c =
-    let d = (goal.at.returns c).After-first_free-place in
+pub returns-clause-facts : goal.returns-clause-facts
+returns-clause-facts c =
+    subst (λ (s : LinesState). AreLines s) c.self.view_is
+    (are_lines c.self.inside.open c.self.inside.settled c.self.inside.places.items c.self.invariant)
+
+pub returns-clause-added : goal.returns-clause-added
+returns-clause-added c =
+    let d = (goal.at.returns-clause-added c).After-first_free-place in
     let e = c.insert_reserved.ensures in
     let old = state_of c.self.inside.open c.self.inside.settled in
     let least : IsLeastFreePlace old c.first_free-place.result =

@@ -1,0 +1,90 @@
+-- A desk after an equation is added is sound.
+use Rattle.std.proofs.Common.{◌≡◌, ◌≢◌, ◌+◌, ◌<◌, ◌≤◌, ◌^◌, ℕ, Some, None, IsSome, IsTrue, sym, ◌∙◌, ⊎_elim, arith, subst}
+use Rattle.std.proofs.lemmas.Bool.{cases_eq}
+use Rattle.std.specs.FinMap.{get, insert}
+use Rattle.std.specs.FinSet as set
+use Rattle.fg_shape.specs.Shape.{IsShape}
+use Rattle.fg_peel.specs.Equation.{Equation}
+use Rattle.fg_peel.specs.Laws.{PeelingsTakeEquations}
+use Rattle.fg_desk.specs.declared.reply.Reply.TheVariants.{Admitted}
+use Rattle.fg_desk.specs.State.{known, live_equations}
+use Rattle.fg_desk.specs.Admission.{IsEquationReply, IsLeastFree, live_limit, with_equation}
+use Rattle.fg_desk.specs.Facts.{Holds}
+use Rattle.fg_desk.specs.Inside.{Parts, AreSound, state_of}
+use Rattle.fg_desk.specs.Lines.{LinesState, AreLines}
+use Rattle.fg_desk.proofs.Added.{added}
+use Rattle.fg_desk.proofs.AdmissionsAdd.{stays_listed}
+use Rattle.fg_desk.proofs.DeskPlays.{AreLimited, sound_from}
+use Rattle.fg_desk.proofs.Options.{none_or_some, none_has_no_value, beside_inserted}
+use Rattle.fg_desk.proofs.Parities.{IsNew, with_equation_holds}
+use Rattle.fg_desk.proofs.Places.{free_place}
+
+-- No equation has the number that the next one gets.
+pub next_is_fresh : (parts : Parts) → AreSound parts → get parts.lines.live parts.admitted ≡ None
+next_is_fresh parts sound = ⊎_elim
+    (λ none. none)
+    (λ some. let numbered = (sound.facts.live parts.admitted some.0 some.1).numbered in absurd (omega (arith, numbered)))
+    (none_or_some (get parts.lines.live parts.admitted))
+
+abbrev pub lines_with : Parts → ℕ → Equation → LinesState
+lines_with parts place equation =
+    record parts.lines { live = insert parts.lines.live parts.admitted (record { place = place; equation = equation }) }
+
+abbrev pub with_line : Parts → LinesState → Parts
+with_line parts lines = record parts { lines = lines; admitted = parts.admitted + 1; calls = parts.calls + 1 }
+
+module _
+    (parts : Parts) (sound : AreSound parts) (lines : AreLines parts.lines) (place : ℕ) (equation : Equation)
+    (shape : IsShape equation.offset equation.count) (base_limit : equation.base ≤ 2 ^ 62)
+    (replies : IsEquationReply (state_of parts) equation Admitted) (least : IsLeastFree (state_of parts) place)
+    (opened : parts.top ≢ None) (calls : parts.calls < 2 ^ 62) where
+  is_new : IsNew (state_of parts) place equation
+  is_new =
+      let free = free_place (state_of parts) live_limit replies.2 in
+      let first : place ≤ free.0 = least.1 free.0 free.2 in
+      let below : free.0 < live_limit = free.1 in
+      record {
+        shape = shape;
+        base_limit = base_limit;
+        timely = replies.0;
+        no_twin = replies.1;
+        placed = omega (arith, first, below);
+        free = least.0;
+      }
+
+  holds_with : Holds (with_equation (state_of parts) place equation)
+  holds_with = with_equation_holds (state_of parts) place equation sound.facts is_new opened
+
+  limited : AreLimited (with_line parts (lines_with parts place equation))
+  limited =
+      let admitted = sound.admitted_limit in
+      let epoch = sound.epoch_limit in
+      record {
+        depth_limit = sound.depth_limit;
+        reach = sound.reach;
+        mark_limit = sound.mark_limit;
+        top_limit = sound.top_limit;
+        admitted_limit = omega (arith, admitted);
+        calls_limit = omega (arith, calls);
+        epoch_limit = omega (arith, epoch);
+      }
+
+  pub sound_with_line : PeelingsTakeEquations → AreSound (with_line parts (lines_with parts place equation))
+  sound_with_line take =
+      let p = sound.peeled in
+      sound_from (with_line parts (lines_with parts place equation)) limited holds_with sound.media (
+        p.0,
+        take (known (state_of parts)) (live_equations (state_of parts))
+            (live_equations (with_equation (state_of parts) place equation)) p.0
+            (stays_listed (state_of parts) place equation sound.facts) p.1,
+        p.2,
+      )
+      (λ serial live is settled. ⊎_elim
+      (λ here.
+      let some : IsSome (get parts.lines.live serial) = lines.settled serial settled in
+      absurd (none_has_no_value (get parts.lines.live parts.admitted) (next_is_fresh parts sound)
+      (subst (λ (n : ℕ). IsSome (get parts.lines.live n)) here some)))
+      (λ beside.
+      sound.settled serial live
+      (sym (beside_inserted parts.lines.live parts.admitted (added place equation) serial beside) ∙ is) settled)
+      (cases_eq serial parts.admitted))

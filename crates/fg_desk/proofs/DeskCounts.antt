@@ -1,0 +1,53 @@
+-- A call that changes nothing else.
+use Rattle.std.proofs.Common.{◌≡◌, ◌≢◌, ◌+◌, ◌<◌, ◌≤◌, ◌^◌, ℕ, Option, Some, MatchOption, refl, sym, subst, arith}
+use Rattle.fg_words.specs.declared.Word.{Word}
+use Rattle.fg_unwrap.specs.Position.{position_of}
+use Rattle.fg_desk.specs.declared.reply.Reply.{Reply}
+use Rattle.fg_desk.specs.declared.reply.Reply.TheVariants.{Admitted, NotStarted, BeforeStart}
+use Rattle.fg_desk.specs.State.{State, Top}
+use Rattle.fg_desk.specs.Admission.{Parity, IsEquationReply, IsParityReply, equation_at, IsAfterMedia, IsAfterParity, counted}
+use Rattle.fg_desk.specs.Inside.{Parts, AreSound, state_of}
+use Rattle.fg_desk.proofs.DeskPlays.{sound_from}
+use Rattle.fg_desk.proofs.Opened.{counted_holds}
+
+abbrev pub counted_parts : Parts → Parts
+counted_parts parts = record parts { calls = parts.calls + 1 }
+
+pub counted_sound : (parts : Parts) → AreSound parts → parts.calls < 2 ^ 62 → AreSound (counted_parts parts)
+counted_sound parts sound calls =
+    let admitted = sound.admitted_limit in
+    let epoch = sound.epoch_limit in
+    sound_from (counted_parts parts)
+    (record {
+      depth_limit = sound.depth_limit;
+      reach = sound.reach;
+      mark_limit = sound.mark_limit;
+      top_limit = sound.top_limit;
+      admitted_limit = omega (arith, admitted);
+      calls_limit = omega (arith, calls);
+      epoch_limit = omega (arith, epoch);
+    })
+    (counted_holds (state_of parts) sound.facts) sound.media sound.peeled sound.settled
+
+pub counted_after_media : (old : State) (seq : ℕ) (word : Word) (reply : Reply) → reply ≢ Admitted → IsAfterMedia old seq word reply (counted old)
+counted_after_media old seq word Admitted other = absurd (other refl)
+counted_after_media old seq word reply other = refl
+
+pub counted_after_parity : (old : State) (parity : Parity) (reply : Reply) → reply ≢ Admitted → IsAfterParity old parity reply (counted old)
+counted_after_parity old parity Admitted other = absurd (other refl)
+counted_after_parity old parity reply other = refl
+
+-- The reply to a parity datagram whose base has a position.
+pub parity_reply_at :
+    (old : State) (parity : Parity) (top : Top) (position : ℕ) (reply : Reply) → old.top ≡ Some top
+    → position_of top.position top.seq parity.base ≡ Some position → IsEquationReply old (equation_at position parity) reply
+    → IsParityReply old parity reply
+parity_reply_at old parity top position reply is at replies =
+    let first : MatchOption (position_of top.position top.seq parity.base) (reply ≡ BeforeStart)
+    (λ position. IsEquationReply old (equation_at position parity) reply) =
+    subst (λ (o : Option ℕ). MatchOption o (reply ≡ BeforeStart) (λ position. IsEquationReply old (equation_at position parity) reply))
+    (sym at) replies in
+    subst (λ (t : Option Top).
+    MatchOption t (reply ≡ NotStarted) (λ top.
+    MatchOption (position_of top.position top.seq parity.base) (reply ≡ BeforeStart)
+    (λ position. IsEquationReply old (equation_at position parity) reply))) (sym is) first

@@ -1,0 +1,120 @@
+-- What a flush step plays, and what is left where none is defined.
+use Rattle.std.proofs.Common.{◌≡◌, ◌⊎◌, ◌+◌, ◌-◌, ◌<◌, ◌≤◌, ◌^◌, ℕ, min, Bool, [], Option, Some, None, IsSome, inl, inr, refl, sym, ap, subst, ◌∙◌, ⊎_elim, arith}
+use Rattle.std.proofs.Math.Nat.{le-min}
+use Rattle.std.proofs.lemmas.Bool.{cases_lt}
+use Rattle.std.specs.FinMap.{get}
+use Rattle.fg_words.specs.declared.Word.{Word}
+use Rattle.fg_peel.specs.Equation.{AreMedia}
+use Rattle.fg_peel.specs.Laws.{FoundKeepsClosure, MaximalPeelingsEndAtClosure, PeelingsKeepWords}
+use Rattle.fg_desk.specs.State.{Words, known, live_equations}
+use Rattle.fg_desk.specs.Play.{IsHighest, HasMore}
+use Rattle.fg_desk.specs.Inside.{Parts, AreSound, state_of}
+use Rattle.fg_desk.specs.Row.{RowState, row_words, row_known, either, IsRow, IsHighestWord}
+use Rattle.fg_desk.specs.Window.{IsRecovered}
+use Rattle.fg_desk.proofs.DeskPlays.{with_found, sound_from, AreLimited}
+use Rattle.fg_desk.proofs.DeskRecovers.{has_closure, words_kept}
+use Rattle.fg_desk.proofs.DeskWords.{known_are_media}
+use Rattle.fg_desk.proofs.Opened.{counted_holds}
+use Rattle.fg_desk.proofs.Options.{none_has_no_value}
+use Rattle.fg_desk.proofs.Orderly.{known_below, known_ahead}
+use Rattle.fg_desk.proofs.RowMaps.{if-less, if-not_less}
+use Rattle.fg_desk.proofs.SettledWords.{settled_keeps}
+
+-- No position at the mark or past it has a word.
+abbrev pub HasNoneAhead : RowState → Type 0
+HasNoneAhead row = (position : ℕ) → row.mark ≤ position → row_words row position ≡ None
+
+none_of_either : (one other : Option Word) → either one other ≡ None → one ≡ None
+none_of_either None other none = refl
+none_of_either (Some word) other none = absurd (cc)
+
+-- The desk after one more call, with other found words.
+abbrev pub counted_with : Parts → RowState → Parts
+counted_with parts row = record parts { row = row; calls = parts.calls + 1 }
+
+module _
+    (parts : Parts) (sound : AreSound parts) (cached : Words) (answer : Bool)
+    (recovered : IsRecovered (live_equations (state_of parts)) parts.row (with_found parts cached) answer)
+    (none : HasNoneAhead (with_found parts cached)) where
+  words_are_known : (q : ℕ) → row_words (with_found parts cached) q ≡ known (state_of parts) q
+  words_are_known q = ⊎_elim
+      (λ below.
+      if-less q parts.row.mark (get parts.row.kept q) (either (get parts.row.media q) (get cached q)) below
+      ∙ sym (known_below (state_of parts) q below))
+      (λ ahead.
+      none q ahead
+      ∙ sym (known_ahead (state_of parts) q ahead
+      ∙ none_of_either (get parts.row.media q) (get cached q)
+      (sym (if-not_less q parts.row.mark (get parts.row.kept q) (either (get parts.row.media q) (get cached q)) ahead) ∙ none q ahead)))
+      (cases_lt q parts.row.mark)
+
+  sound_at : PeelingsKeepWords → parts.calls < 2 ^ 62 → AreSound (counted_with parts (with_found parts cached))
+  sound_at keep calls =
+      let same : row_words (with_found parts cached) ≡ known (state_of parts) = λ i q. words_are_known q i in
+      let admitted = sound.admitted_limit in
+      let epoch = sound.epoch_limit in
+      let limits : AreLimited (counted_with parts (with_found parts cached)) = record {
+        depth_limit = sound.depth_limit;
+        reach = sound.reach;
+        mark_limit = sound.mark_limit;
+        top_limit = sound.top_limit;
+        admitted_limit = omega (arith, admitted);
+        calls_limit = omega (arith, calls);
+        epoch_limit = omega (arith, epoch);
+      } in
+      sound_from (counted_with parts (with_found parts cached)) limits (counted_holds (state_of parts) sound.facts)
+      (subst AreMedia (sym same) (known_are_media (state_of parts) sound.facts))
+      ([], tt, same)
+      (λ serial live is settled.
+      settled_keeps (row_words parts.row) (row_words (with_found parts cached)) live.equation
+      (words_kept parts sound (with_found parts cached) answer recovered keep) (sound.settled serial live is settled))
+
+module _
+    (parts : Parts) (sound : AreSound parts) (row : RowState) (answer : Bool)
+    (recovered : IsRecovered (live_equations (state_of parts)) parts.row row answer) where
+  pub sound_with_none :
+      PeelingsKeepWords → parts.calls < 2 ^ 62 → HasNoneAhead row → AreSound (counted_with parts row)
+  sound_with_none keep calls none =
+      let again : IsRecovered (live_equations (state_of parts)) parts.row (with_found parts row.cached) answer =
+      subst (λ (r : RowState). IsRecovered (live_equations (state_of parts)) parts.row r answer) recovered.rest recovered in
+      subst (λ (r : RowState). AreSound (counted_with parts r)) (sym recovered.rest)
+      (sound_at parts sound row.cached answer again (subst HasNoneAhead recovered.rest none) keep calls)
+
+  pub mark_stays : row.mark ≡ parts.row.mark
+  mark_stays = ap (λ (r : RowState). r.mark) recovered.rest
+
+  pub has_no_more : FoundKeepsClosure → MaximalPeelingsEndAtClosure → HasNoneAhead row → ¬ HasMore (state_of parts)
+  has_no_more found filled none more =
+      let same = mark_stays in
+      let ahead = more.2 in
+      none_has_no_value (row_words row more.0) (none more.0 (omega (arith, same, ahead)))
+      ((has_closure parts sound row answer recovered found filled more.0).1 more.1)
+
+  pub highest_of : FoundKeepsClosure → MaximalPeelingsEndAtClosure → (highest : ℕ) → IsHighestWord row highest → IsHighest (state_of parts) highest
+  highest_of found filled highest is = record {
+    inside = (has_closure parts sound row answer recovered found filled highest).0 is.word;
+    greatest = λ other inside. is.greatest other ((has_closure parts sound row answer recovered found filled other).1 inside);
+  }
+
+  pub more_of : (highest : ℕ) → IsHighestWord row highest → parts.row.mark ≤ highest
+  more_of highest is = let same = mark_stays in let ahead = is.ahead in omega (arith, same, ahead)
+
+some_of_either : (one other : Option Word) → IsSome (either one other) → IsSome one ⊎ IsSome other
+some_of_either None other some = inr some
+some_of_either (Some word) other some = inl refl
+
+-- Positions of words are below 2^62.
+pub highest_limit : (row : RowState) → IsRow row → (highest : ℕ) → IsHighestWord row highest → highest < 2 ^ 62
+highest_limit row facts highest is =
+    let limit = facts.limit in
+    let some : IsSome (either (get row.media highest) (get row.cached highest)) =
+    subst (λ (o : Option Word). IsSome o)
+    (if-not_less highest row.mark (get row.kept highest) (either (get row.media highest) (get row.cached highest)) is.ahead) is.word in
+    ⊎_elim
+    (λ received. let near = (facts.media highest received).1 in omega (arith, near, limit))
+    (λ found. let near = (facts.cached highest found).1 in omega (arith, near, limit))
+    (some_of_either (get row.media highest) (get row.cached highest) some)
+
+-- A flush step plays at least one position, and at most a window.
+pub some_played : (window highest mark : ℕ) → 1 ≤ window → mark ≤ highest → 1 ≤ min window (highest + 1 - mark)
+some_played window highest mark one ahead = le-min one (omega (arith, ahead))

@@ -1,0 +1,230 @@
+-- What a play is, and what it leaves.
+use Rattle.std.proofs.Common.{◌≡◌, ◌≢◌, ◌+◌, ◌<◌, ◌≤◌, ◌^◌, ◌↔◌, ◌&&◌, ℕ, Bool, true, cond, ltb, leb, not, is_some, List, [], filter, Option, Some, None, IsSome, IsTrue, refl, sym, ap, subst, ◌∙◌, ⊎_elim, arith}
+use Rattle.std.specs.Prelude.{nat_le}
+use Rattle.std.proofs.lemmas.Bool.{cases_lt}
+use Rattle.std.specs.List.{Contains}
+use Rattle.std.specs.FinMap.{get, empty, get-empty}
+use Rattle.std.specs.Ordering.{nat_cmp}
+use Rattle.fg_words.specs.declared.Word.{Word}
+use Rattle.fg_peel.specs.Equation.{Equation, AreMedia, IsComplete, IsSettled, slots}
+use Rattle.fg_peel.specs.Peeling.{Step, ArePeeled, end_of}
+use Rattle.fg_peel.specs.Laws.{FoundKeepsSolutions, PeelingsAppend}
+use Rattle.fg_desk.specs.declared.reply.Outcome.{Outcome}
+use Rattle.fg_desk.specs.declared.reply.Outcome.TheVariants.{Repaired, Inconsistent}
+use Rattle.fg_desk.specs.State.{State, Top, Live, Words, known, live_equations}
+use Rattle.fg_desk.specs.Admission.{kept_count}
+use Rattle.fg_desk.specs.Facts.{Holds}
+use Rattle.fg_desk.specs.Contents.{IsBareAfter, epoch_after}
+use Rattle.fg_desk.specs.Solution.{IsSolution}
+use Rattle.fg_desk.specs.Play.{Play, Shown, IsPlay}
+use Rattle.fg_desk.specs.Laws.{SolvedStaysPeeled}
+use Rattle.fg_desk.specs.Inside.{Parts, AreSound, SettledComeOut, state_of, contents_of}
+use Rattle.fg_desk.specs.Row.{RowState, row_words}
+use Rattle.fg_desk.specs.Lines.{LinesState, no_lines}
+use Rattle.fg_desk.specs.Window.{IsRecovered, Keeps, Passes, Closes, without_found}
+use Rattle.fg_desk.proofs.Advancing.{words_below, words_ahead, words_before, none_found}
+use Rattle.fg_desk.proofs.DeskRecovers.{desk_solution, desk_solvable, all_peeled}
+use Rattle.fg_desk.proofs.DeskWords.{words_without_cache, known_are_media}
+use Rattle.fg_desk.proofs.Equations.{live_at}
+use Rattle.fg_desk.proofs.Options.{nothing_in_empty}
+use Rattle.fg_desk.proofs.Orderly.{orderly_from_holds, known_below}
+use Rattle.fg_desk.proofs.Plays.{words_are_media}
+use Rattle.fg_desk.proofs.RowViews.{row_words-play, row_words-received}
+use Rattle.fg_desk.proofs.SettledWords.{settled_back}
+
+-- The parts after a play.
+abbrev pub played : Parts → Outcome → RowState → LinesState → Parts
+played parts outcome new left = record parts {
+  row = new;
+  lines = left;
+  calls = parts.calls + 1;
+  epoch = epoch_after parts.epoch outcome;
+}
+
+abbrev pub with_found : Parts → Words → RowState
+with_found parts cached = record parts.row { cached = cached }
+
+-- What is within its limits in a desk.
+pub record AreLimited (parts : Parts) : Type 0 where
+  pub depth_limit : parts.depth ≤ 1000
+  pub reach : parts.row.reach ≡ parts.depth + 100
+  pub mark_limit : parts.row.mark < 2 ^ 61 + 200
+  pub top_limit : (top : Top) → parts.top ≡ Some top → top.position < 2 ^ 61 + 2 ^ 16
+  pub admitted_limit : parts.admitted ≤ parts.calls
+  pub calls_limit : parts.calls ≤ 2 ^ 62
+  pub epoch_limit : parts.epoch ≤ parts.calls
+
+pub sound_from :
+    (parts : Parts) → AreLimited parts → Holds (state_of parts) → AreMedia (row_words parts.row)
+    → ArePeeled (live_equations (state_of parts)) (known (state_of parts)) (row_words parts.row) → SettledComeOut parts
+    → AreSound parts
+sound_from parts limits facts media peeled settled = record {
+  facts = facts;
+  depth_limit = limits.depth_limit;
+  reach = limits.reach;
+  media = media;
+  peeled = peeled;
+  settled = settled;
+  mark_limit = limits.mark_limit;
+  top_limit = limits.top_limit;
+  admitted_limit = limits.admitted_limit;
+  calls_limit = limits.calls_limit;
+  epoch_limit = limits.epoch_limit;
+}
+
+-- Without found words a desk is sound.
+pub sound_without_found :
+    (parts : Parts) → AreLimited parts → Holds (state_of parts) → ((q : ℕ) → get parts.row.cached q ≡ None)
+    → SettledComeOut parts → AreSound parts
+sound_without_found parts limits facts none settled =
+    let same = words_without_cache parts.row none in
+    sound_from parts limits facts (subst AreMedia (sym same) (known_are_media (state_of parts) facts)) ([], tt, same) settled
+
+epoch_rises : (outcome : Outcome) (epoch calls : ℕ) → epoch ≤ calls → epoch_after epoch outcome ≤ calls + 1
+epoch_rises Repaired epoch calls limit = omega (arith, limit)
+epoch_rises Inconsistent epoch calls limit = omega (arith, limit)
+
+module _
+    (parts : Parts) (sound : AreSound parts) (cached : Words) (answer : Bool)
+    (recovered : IsRecovered (live_equations (state_of parts)) parts.row (with_found parts cached) answer)
+    (found : FoundKeepsSolutions) (count : ℕ) (shown : List Shown) (new : RowState) (left : LinesState) where
+  limited :
+      (outcome : Outcome) → parts.row.mark < 2 ^ 61 → parts.calls < 2 ^ 62 → count ≤ 100 → new.mark ≡ parts.row.mark + count
+      → new.reach ≡ parts.row.reach → AreLimited (played parts outcome new left)
+  limited outcome mark calls most mark_is reach_is =
+      let reach = sound.reach in
+      let admitted = sound.admitted_limit in
+      record {
+        depth_limit = sound.depth_limit;
+        reach = reach_is ∙ reach;
+        mark_limit = omega (arith, mark, most, mark_is);
+        top_limit = sound.top_limit;
+        admitted_limit = omega (arith, admitted);
+        calls_limit = omega (arith, calls);
+        epoch_limit = epoch_rises outcome parts.epoch parts.calls sound.epoch_limit;
+      }
+
+  module _ (passes : Passes count (with_found parts cached) new shown)
+      (keeps : Keeps (row_words (with_found parts cached)) new.mark new.kept parts.lines left) (solved : IsTrue answer) where
+    pub repaired_play :
+        IsPlay count (state_of parts) (record { first = parts.row.mark; shown = shown; outcome = Repaired })
+        (state_of (played parts Repaired new left))
+    repaired_play = record {
+      words = row_words (with_found parts cached);
+      decides = desk_solution parts sound (with_found parts cached) answer recovered found solved;
+      first = refl;
+      length_is = passes.shows.length_is;
+      shows = passes.shows.each;
+      mark = passes.advances.mark;
+      kept = λ q.
+          (passes.advances.kept q
+          ∙ ap (λ (o : Option Word). cond (ltb q new.mark && leb new.mark (q + kept_count)) o None)
+          (row_words-play (with_found parts cached) q));
+      media = passes.advances.media;
+      equations = λ serial live. (
+        λ is. (let r = (keeps.live serial live).0 is in (r.0, refl, r.1)),
+        λ r. (keeps.live serial live).1 (r.0, r.2),
+      );
+      rest = refl;
+    }
+
+    solution : IsSolution (state_of parts) (row_words (with_found parts cached))
+    solution = desk_solution parts sound (with_found parts cached) answer recovered found solved
+
+    repaired_media : AreMedia (row_words new)
+    repaired_media q word is =
+        words_are_media (state_of parts) Repaired (row_words (with_found parts cached)) (orderly_from_holds (state_of parts) sound.facts)
+        solution q word (words_before count (with_found parts cached) new passes.advances q word is)
+
+    repaired_peeled :
+        PeelingsAppend → SolvedStaysPeeled
+        → ArePeeled (live_equations (state_of (played parts Repaired new left))) (known (state_of (played parts Repaired new left))) (row_words new)
+    repaired_peeled append stays =
+        let all = all_peeled parts sound (with_found parts cached) answer recovered append in
+        let s = stays count (state_of parts) (state_of (played parts Repaired new left))
+        (record { first = parts.row.mark; shown = shown; outcome = Repaired }) all.0 sound.facts repaired_play refl all.1 in
+        let rest : List Step = filter (λ (step : Step). nat_le new.mark step.position) all.0 in
+        let same : (q : ℕ) → row_words new q ≡ end_of (known (state_of (played parts Repaired new left))) rest q =
+        λ q. ⊎_elim
+        (λ below.
+        words_below count (with_found parts cached) new passes.advances q below
+        ∙ sym (known_below (state_of (played parts Repaired new left)) q below) ∙ sym (s.2 q below))
+        (λ ahead.
+        words_ahead count (with_found parts cached) new passes.advances q ahead
+        ∙ ap (λ (f : ℕ → Option Word). f q) all.2 ∙ sym (s.1 q ahead))
+        (cases_lt q new.mark) in
+        (rest, s.0, λ i q. same q i)
+
+    -- Each word of a settled equation is there still.
+    left_complete :
+        (serial : ℕ) (live : Live) → get left.live serial ≡ Some live → IsComplete (row_words (with_found parts cached)) live.equation
+        → IsComplete (row_words new) live.equation
+    left_complete serial live is complete q c = ⊎_elim
+        (λ below.
+        subst (λ (o : Option Word). IsSome o) (sym (words_below count (with_found parts cached) new passes.advances q below))
+        (((keeps.live serial live).0 is).1.based q c below))
+        (λ ahead.
+        subst (λ (o : Option Word). IsSome o) (sym (words_ahead count (with_found parts cached) new passes.advances q ahead))
+        (complete q c))
+        (cases_lt q new.mark)
+
+    repaired_settled : SettledComeOut (played parts Repaired new left)
+    repaired_settled serial live is settled =
+        let complete = keeps.settled serial live is settled in
+        let listed = live_at (state_of parts) serial live ((keeps.live serial live).0 is).0 in
+        settled_back (row_words new) (row_words (with_found parts cached)) live.equation
+        (words_before count (with_found parts cached) new passes.advances) (left_complete serial live is complete)
+        (complete, solution.sums live.equation listed (λ q c. (solution.domain q).0 (complete q c)))
+
+    pub repaired_sound :
+        PeelingsAppend → SolvedStaysPeeled → parts.row.mark < 2 ^ 61 → parts.calls < 2 ^ 62 → count ≤ 100
+        → Holds (state_of (played parts Repaired new left)) → AreSound (played parts Repaired new left)
+    repaired_sound append stays mark calls most facts =
+        sound_from (played parts Repaired new left)
+        (limited Repaired mark calls most passes.advances.mark passes.advances.reach)
+        facts repaired_media (repaired_peeled append stays) repaired_settled
+
+  module _ (passes : Passes count (without_found (with_found parts cached)) new shown) (none_left : left ≡ no_lines)
+      (unsolved : ¬ IsTrue answer) where
+    nothing_left : (serial : ℕ) (live : Live) → get left.live serial ≡ Some live → ⊥
+    nothing_left serial live is =
+        nothing_in_empty serial live (sym (ap (λ (l : LinesState). get l.live serial) none_left) ∙ is)
+
+    pub received_play :
+        IsPlay count (state_of parts) (record { first = parts.row.mark; shown = shown; outcome = Inconsistent })
+        (state_of (played parts Inconsistent new left))
+    received_play = record {
+      words = get parts.row.media;
+      decides = (
+        λ solution is. unsolved (desk_solvable parts sound (with_found parts cached) answer recovered found solution is),
+        refl,
+      );
+      first = refl;
+      length_is = passes.shows.length_is;
+      shows = λ i less.
+          (let q = parts.row.mark + i in
+          passes.shows.each i less
+          ∙ ap (λ (o : Option Word). record { word = o; repaired = is_some o && not (is_some (get parts.row.media q)) })
+          (row_words-received (without_found (with_found parts cached)) q refl (omega arith)));
+      mark = passes.advances.mark;
+      kept = λ q.
+          (passes.advances.kept q
+          ∙ ap (λ (o : Option Word). cond (ltb q new.mark && leb new.mark (q + kept_count)) o None)
+          (ap (λ (f : ℕ → Option Word). f q)
+          (words_without_cache (without_found (with_found parts cached)) (get-empty nat_cmp))));
+      media = passes.advances.media;
+      equations = λ serial live. (
+        λ is. absurd (nothing_left serial live is),
+        λ r. (let never : Inconsistent ≡ Repaired = r.1 in absurd (cc)),
+      );
+      rest = refl;
+    }
+
+    pub received_sound :
+        parts.row.mark < 2 ^ 61 → parts.calls < 2 ^ 62 → count ≤ 100
+        → Holds (state_of (played parts Inconsistent new left)) → AreSound (played parts Inconsistent new left)
+    received_sound mark calls most facts =
+        sound_without_found (played parts Inconsistent new left)
+        (limited Inconsistent mark calls most passes.advances.mark passes.advances.reach) facts
+        (none_found count (without_found (with_found parts cached)) new passes.advances refl)
+        (λ serial live is settled. absurd (nothing_left serial live is))
