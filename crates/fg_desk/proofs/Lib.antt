@@ -31,7 +31,9 @@ pub mod Orderly
 pub mod OrderlyAdmissions
 pub mod Parities
 pub mod Peeled
+pub mod Peelings
 pub mod Places
+pub mod PlainRuns
 pub mod PlayKeeps
 pub mod Plays
 pub mod Replies
