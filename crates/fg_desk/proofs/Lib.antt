@@ -33,6 +33,7 @@ pub mod Parities
 pub mod Peeled
 pub mod Peelings
 pub mod Places
+pub mod PlainRuns
 pub mod PlayKeeps
 pub mod Plays
 pub mod Replies

@@ -1,4 +1,5 @@
 pub mod Admission
+pub mod Arrivals
 pub mod Contents
 pub mod Facts
 pub mod Inside

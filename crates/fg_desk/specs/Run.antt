@@ -2,15 +2,10 @@
 use Rattle.std.specs.Prelude.{◌≡◌, ◌++◌, ℕ, List, [], ◌∷◌, Option, Some, None}
 use Rattle.fg_words.specs.declared.Word.{Word}
 use Rattle.fg_desk.specs.declared.reply.Reply.{Reply}
+use Rattle.fg_desk.specs.declared.run.Stream.{Stream}
 use Rattle.fg_desk.specs.State.{State, opening}
 use Rattle.fg_desk.specs.Admission.{Parity, AdmitsMedia, AdmitsParity, IsDue}
 use Rattle.fg_desk.specs.Play.{Play, IsPlay, IsFlushStep, HasMore}
-
--- Which of a flow's three streams a datagram came by.
-pub data Stream : Type 0 where
-  media : Stream
-  column : Stream
-  row : Stream
 
 -- A datagram as it is read: a media datagram's sequence number and word; a parity datagram of a stream; or one that its
 -- reader refused.

@@ -6,9 +6,11 @@ pub mod laws;
 mod lines;
 mod reply;
 mod row;
+mod run;
 mod tray;
 mod window;
 
 pub use desk::{Desk, Played};
 pub use reply::{Outcome, Reply};
+pub use run::{Datagram, FlowRun, ShownPlay, ShownWord, Stream, run_flow};
 pub use tray::Tray;

@@ -1,0 +1,231 @@
+//! A flow's run: a list of its datagrams taken over a desk, which is flushed at the end.
+
+ghost use Rattle.std.specs.Prelude.{◌≡◌, ◌↔◌, ◌<◌, ◌≤◌, ◌^◌, ◌++◌, List, map, length, Option, Some, IsTrue, IsSomeAnd, IfOk};
+ghost use Rattle.std.specs.List.{All};
+ghost use Rattle.fg_desk.specs.State.{State};
+ghost use Rattle.fg_desk.specs.Admission.{IsDue};
+ghost use Rattle.fg_desk.specs.Play.{Play};
+ghost use Rattle.fg_desk.specs.Contents.{HasRoom};
+ghost use Rattle.fg_desk.specs.Laws.{IsRead};
+ghost use Rattle.fg_desk.specs.Run.{Takes, ArePlaysDue, IsFlush, IsRun};
+ghost use Rattle.fg_desk.specs.Arrivals.{arrival_of, play_of, came_by, IsGiven, StaysWithin, FlushesWithin};
+
+use crate::desk::{Desk, Played};
+use crate::laws::{flushes_end, runs_join, runs_stay_within};
+use crate::reply::{Outcome, Reply};
+use crate::tray::Tray;
+use fg_shape::{Shape, shape_ok};
+use fg_words::Word;
+use std::alloc::{AllocError, Global};
+
+/// The streams of a flow (SMPTE ST 2022-1).
+#[derive(Clone, Copy, Debug, PartialEq, Eq)]
+pub enum Stream {
+    /// Media datagrams.
+    Media,
+    /// Parity datagrams over columns.
+    Column,
+    /// Parity datagrams over rows.
+    Row,
+}
+
+/// A datagram as its reader gives it.
+#[derive(Clone, Copy)]
+pub enum Datagram {
+    /// A media datagram.
+    Media {
+        /// Its sequence number.
+        seq: u16,
+        /// Its word.
+        word: Word,
+    },
+    /// A parity datagram.
+    Parity {
+        /// The stream that it came by.
+        stream: Stream,
+        /// The sequence number of its base.
+        base: u16,
+        /// Its shape.
+        shape: Shape,
+        /// Its parity word.
+        word: Word,
+    },
+    /// A datagram of this stream that its reader refused.
+    Refused(Stream),
+}
+
+impl Datagram {
+    /// Whether it is as readers give it: a media word, or a shape that is read.
+    pub fn is_given(&self) -> bool
+        ensures { IsTrue result ↔ IsGiven self.now }
+    {
+        match self {
+            Datagram::Media { word, .. } => word.is_media(),
+            Datagram::Parity { shape, .. } => shape_ok(*shape),
+            Datagram::Refused(_) => true,
+        }
+    }
+}
+
+/// What a play shows at one position.
+#[derive(Clone, Copy)]
+pub struct ShownWord {
+    /// The word. None where the position is missing.
+    pub word: Option<Word>,
+    /// Whether the word was not received, but recovered.
+    pub repaired: bool,
+}
+
+/// A play and what it shows.
+#[derive(Drop)]
+pub struct ShownPlay {
+    /// Its first position.
+    pub first: u64,
+    /// What each position from there on shows.
+    pub shown: Vec<ShownWord>,
+    /// What its words are.
+    pub outcome: Outcome,
+}
+
+/// What a flow's run gives.
+#[derive(Drop)]
+pub struct FlowRun {
+    /// The plays, in their order.
+    pub plays: Vec<ShownPlay>,
+    /// The reply to each datagram. None where its reader refused it.
+    pub replies: Vec<Option<Reply>>,
+}
+
+/// The run of a flow's datagrams over a desk.
+///
+/// This is a plain account of what a flow does. It copies each word that is shown.
+pub fn run_flow(alloc: Global, window: u32, depth: u32, datagrams: &[Datagram]) -> Result<FlowRun, AllocError>
+    requires window { (1 ≤ window) × (window ≤ 100) }
+    requires depth { (window ≤ depth) × (depth ≤ 1000) }
+    requires given { All IsGiven datagrams.now }
+    requires limit { length datagrams.now < 2 ^ 44 }
+    ensures { IfOk result (λ run.
+        IsRun window depth (map arrival_of datagrams.now) (map play_of run.plays.items) run.replies.items) }
+{
+    runs_join();
+    runs_stay_within();
+    let mut desk = Desk::new(alloc, window, depth)?;
+    let mut tray = Tray::new(alloc, window)?;
+    let mut plays = Vec::new(alloc);
+    let mut replies = Vec::new(alloc);
+    for datagram in datagrams {
+        let reply = take(alloc, &mut desk, &mut tray, &mut plays, datagram)?;
+        replies.push(reply)?;
+    }
+    flush(alloc, &mut desk, &mut tray, &mut plays)?;
+    Ok(FlowRun { plays, replies })
+}
+
+/// Takes one datagram: plays what is due before it, and admits it or says why not.
+fn take(
+    alloc: Global,
+    desk: &mut Desk,
+    tray: &mut Tray,
+    plays: &mut Vec<ShownPlay>,
+    datagram: &Datagram,
+) -> Result<Option<Reply>, AllocError>
+    requires within { StaysWithin desk.old.state }
+    requires tray { desk.old.state.window ≤ tray.old.window }
+    requires given { IsGiven datagram.now }
+    ensures takes { IfOk result (λ reply. (due : List Play)
+        × (map play_of plays.new.items ≡ map play_of plays.old.items ++ due)
+        × Takes desk.old.state (arrival_of datagram.now) due reply desk.new.state) }
+    ensures read { IfOk result (λ _. IsRead (arrival_of datagram.now)) }
+    ensures window { IfOk result (λ _. desk.new.state.window ≡ desk.old.state.window) }
+    ensures tray { tray.new.window ≡ tray.old.window }
+{
+    match *datagram {
+        Datagram::Media { seq, word } => {
+            let share = word.share(alloc)?;
+            play_due(alloc, desk, tray, plays, seq)?;
+            Ok(Some(desk.admit_media(seq, share)))
+        }
+        Datagram::Parity { base, shape, word, .. } => {
+            let share = word.share(alloc)?;
+            Ok(Some(desk.admit_parity(base, shape, share)))
+        }
+        Datagram::Refused(_) => Ok(None),
+    }
+}
+
+/// Plays while a play is due before a datagram of this sequence number.
+fn play_due(
+    alloc: Global,
+    desk: &mut Desk,
+    tray: &mut Tray,
+    plays: &mut Vec<ShownPlay>,
+    seq: u16,
+) -> Result<(), AllocError>
+    requires within { StaysWithin desk.old.state }
+    requires tray { desk.old.state.window ≤ tray.old.window }
+    ensures plays { IfOk result (λ _. (due : List Play)
+        × (map play_of plays.new.items ≡ map play_of plays.old.items ++ due)
+        × ArePlaysDue desk.old.state seq due desk.new.state) }
+    ensures none_due { IfOk result (λ _. ¬ IsDue desk.new.state seq) }
+    ensures room { IfOk result (λ _. HasRoom desk.new.state) }
+    ensures window { IfOk result (λ _. desk.new.state.window ≡ desk.old.state.window) }
+    ensures tray { tray.new.window ≡ tray.old.window }
+{
+    runs_join();
+    while desk.due(seq) {
+        let played = desk.play(tray);
+        plays.push(copied(alloc, played, tray)?)?;
+    }
+    Ok(())
+}
+
+/// Plays all that is left.
+fn flush(
+    alloc: Global,
+    desk: &mut Desk,
+    tray: &mut Tray,
+    plays: &mut Vec<ShownPlay>,
+) -> Result<(), AllocError>
+    requires within { FlushesWithin desk.old.state }
+    requires tray { desk.old.state.window ≤ tray.old.window }
+    ensures { IfOk result (λ _. (flushed : List Play) × (empty : State)
+        × (map play_of plays.new.items ≡ map play_of plays.old.items ++ flushed)
+        × IsFlush desk.old.state flushed empty) }
+{
+    flushes_end();
+    while let Some(played) = desk.flush_step(tray) {
+        plays.push(copied(alloc, played, tray)?)?;
+    }
+    Ok(())
+}
+
+/// A copy of a play whose words the tray has.
+fn copied(alloc: Global, played: Played, tray: &Tray) -> Result<ShownPlay, AllocError>
+    requires { played.count ≡ length tray.now.shown }
+    ensures { IfOk result (λ play. play_of play
+        ≡ record { first = played.first; shown = tray.now.shown; outcome = played.verdict }) }
+{
+    let mut shown = Vec::new(alloc);
+    for i in 0..played.count {
+        shown.push(ShownWord {
+            word: tray.word(i).copied(),
+            repaired: tray.repaired(i),
+        })?;
+    }
+    Ok(ShownPlay {
+        first: played.first,
+        shown,
+        outcome: played.verdict,
+    })
+}
+
+/// The stream that a datagram came by.
+fn stream_of(datagram: &Datagram) -> Stream
+    ensures { result ≡ came_by (arrival_of datagram.now) }
+{
+    match datagram {
+        Datagram::Media { .. } => Stream::Media,
+        Datagram::Parity { stream, .. } => *stream,
+        Datagram::Refused(stream) => *stream,
+    }
+}
