@@ -109,9 +109,9 @@ pub one_more_taken :
     → HaveTakenSo window depth datagrams' new plays' replies'
 one_more_taken window depth datagrams datagrams' datagram between new plays plays' due replies replies' reply join so more takes read added told same =
     let arrivals : map arrival_of datagrams' ≡ map arrival_of datagrams ++ arrival_of datagram ∷ [] =
-        ap (λ (ds : List Datagram). map arrival_of ds) more ∙ map-append arrival_of datagrams (datagram ∷ []) in
+    ap (λ (ds : List Datagram). map arrival_of ds) more ∙ map-append arrival_of datagrams (datagram ∷ []) in
     let one : TakesAll between (arrival_of datagram ∷ []) due (reply ∷ []) new =
-        (due, [], new, sym (append-nil due), takes, (refl, refl, refl)) in
+    (due, [], new, sym (append-nil due), takes, (refl, refl, refl)) in
     let joined = join (opening window depth) between new (map arrival_of datagrams) (arrival_of datagram ∷ []) (map play_of plays) due replies (reply ∷ []) so.takes one in
     record {
       takes =

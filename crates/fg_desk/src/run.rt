@@ -99,7 +99,12 @@ pub struct FlowRun {
 /// The run of a flow's datagrams over a desk.
 ///
 /// This is a plain account of what a flow does. It copies each word that is shown.
-pub fn run_flow(alloc: Global, window: u32, depth: u32, datagrams: &[Datagram]) -> Result<FlowRun, AllocError>
+pub fn run_flow(
+    alloc: Global,
+    window: u32,
+    depth: u32,
+    datagrams: &[Datagram],
+) -> Result<FlowRun, AllocError>
     requires window { (1 ≤ window) × (window ≤ 100) }
     requires depth { (window ≤ depth) × (depth ≤ 1000) }
     requires given { All IsGiven datagrams.now }
@@ -145,7 +150,12 @@ fn take(
             play_due(alloc, desk, tray, plays, seq)?;
             Ok(Some(desk.admit_media(seq, share)))
         }
-        Datagram::Parity { base, shape, word, .. } => {
+        Datagram::Parity {
+            base,
+            shape,
+            word,
+            ..
+        } => {
             let share = word.share(alloc)?;
             Ok(Some(desk.admit_parity(base, shape, share)))
         }

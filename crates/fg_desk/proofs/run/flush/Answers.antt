@@ -35,6 +35,9 @@ loop-played-preserved c = record {
 
 pub returns : goal.returns
 returns c =
-    let so = c.loop-played.invariant.so in
-    (so.flushed, c.loop-played.desk.state, so.added,
-    (c.flushes_end.ensures.nothing_left c.args.desk.now.state c.loop-played.desk.state so.flushed).1 (so.steps, c.in_default.ensures.flushes.0))
+    let so = c.loop-played.invariant.so in (
+      so.flushed,
+      c.loop-played.desk.state,
+      so.added,
+      (c.flushes_end.ensures.nothing_left c.args.desk.now.state c.loop-played.desk.state so.flushed).1 (so.steps, c.in_default.ensures.flushes.0),
+    )

@@ -75,7 +75,7 @@ returns c =
     let so = c.loop-datagram.invariant.so in
     let flush = c.in_ok-flush.ensures in
     let all : take c.loop-datagram.datagram-index c.args.datagrams.now ≡ c.args.datagrams.now =
-        take_all c.loop-datagram.datagram-index c.args.datagrams.now c.loop-datagram-test.false in
+    take_all c.loop-datagram.datagram-index c.args.datagrams.now c.loop-datagram-test.false in
     record {
       taken = map play_of c.loop-datagram.plays.items;
       flushed = flush.0;

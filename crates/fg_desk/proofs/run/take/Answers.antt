@@ -13,11 +13,10 @@ pub returns-in_ok-play_due-in-Media-clause-takes : goal.returns-in_ok-play_due-i
 returns-in_ok-play_due-in-Media-clause-takes c =
     let due = c.in_ok-play_due-in-Media.ensures.plays in
     let admits =
-        subst (λ (word : Word). AdmitsMedia c.play_due.new.desk.state c.in-Media.seq word c.admit_media.result c.admit_media.new.self.state)
-        c.in_ok-share-in-Media.ensures c.admit_media.ensures.state in
-    (
+    subst (λ (word : Word). AdmitsMedia c.play_due.new.desk.state c.in-Media.seq word c.admit_media.result c.admit_media.new.self.state)
+    c.in_ok-share-in-Media.ensures c.admit_media.ensures.state in (
       due.0,
       due.1,
       subst (λ (datagram : Datagram). Takes c.args.desk.now.state (arrival_of datagram) due.0 (Some c.admit_media.result) c.admit_media.new.self.state)
-      (sym c.in-Media.is) (c.play_due.new.desk.state, due.2, admits),
+          (sym c.in-Media.is) (c.play_due.new.desk.state, due.2, admits),
     )
