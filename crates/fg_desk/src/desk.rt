@@ -138,16 +138,19 @@ impl Desk {
         self.row.word(slot)
     }
 
-    /// The share of the word known at a position. None exactly where none is known or it stands alone.
+    /// The share of the word known at a position. None exactly where none is known or it stands
+    /// alone.
     pub fn share(&self, slot: u64) -> Option<&Shared>
         ensures { option_copied result ≡ shared_at self.now slot }
     {
         self.row.share(slot)
     }
 
-    /// The position and the sequence number of the farthest media datagram. None before the first one.
+    /// The position and the sequence number of the farthest media datagram. None before the first
+    /// one.
     pub fn top(&self) -> Option<(u64, u16)>
-        ensures { option_map (λ top. record { position = top.0; seq = top.1 }) result ≡ self.now.state.top }
+        ensures { option_map (λ top. record { position = top.0; seq = top.1 }) result
+            ≡ self.now.state.top }
     {
         match self.top {
             Some(top) => Some((top.position, top.seq)),
@@ -157,14 +160,17 @@ impl Desk {
 
     /// The live equation at a place. None exactly where no live equation has it.
     pub fn line(&self, place: u32) -> Option<&Line>
-        ensures some { IfSome result (λ line. (get self.now.state.equations line.now.serial ≡ Some (live_of line.now)) × (line.now.place ≡ place)) }
-        ensures none { IfNone result ((serial : ℕ) (live : Live) → get self.now.state.equations serial ≡ Some live → live.place ≢ place) }
+        ensures some { IfSome result (λ line.
+            (get self.now.state.equations line.now.serial ≡ Some (live_of line.now))
+            × (line.now.place ≡ place)) }
+        ensures none { IfNone result ((serial : ℕ) (live : Live)
+            → get self.now.state.equations serial ≡ Some live → live.place ≢ place) }
     {
         self.lines.at(place)
     }
 
-    /// Whether the desk may change: the mark and the farthest position are below 2^61, and fewer than
-    /// 2^62 calls were made that may change it.
+    /// Whether the desk may change: the mark and the farthest position are below 2^61, and fewer
+    /// than 2^62 calls were made that may change it.
     pub fn room(&self) -> bool
         ensures room { IsTrue result ↔ HasRoom self.now.state }
         ensures facts { Holds self.now.state }
@@ -176,8 +182,8 @@ impl Desk {
         top_has_room && self.row.mark() < POSITIONS && self.calls < CALLS
     }
 
-    /// Whether a play is due before a datagram of this sequence number is admitted: it lies the depth
-    /// past the mark, or farther.
+    /// Whether a play is due before a datagram of this sequence number is admitted: it lies the
+    /// depth past the mark, or farther.
     pub fn due(&self, seq: u16) -> bool
         ensures { IsTrue result ↔ IsDue self.now.state seq }
     {
@@ -220,14 +226,16 @@ impl Desk {
         }
     }
 
-    /// Admits a parity datagram's equation, or says why not. `base` is the sequence number of its base.
+    /// Admits a parity datagram's equation, or says why not. `base` is the sequence number of its
+    /// base.
     ///
     /// The share is dropped with every reply but `Admitted`.
     pub fn admit_parity(&mut self, base: u16, shape: Shape, share: Shared) -> Reply
         requires room { HasRoom self.old.state }
         requires shape { IsShape shape.offset shape.na }
         ensures state { AdmitsParity self.old.state
-            (record { base = base; offset = shape.offset; count = shape.na; word = share }) result self.new.state }
+            (record { base = base; offset = shape.offset; count = shape.na; word = share })
+            result self.new.state }
         ensures rest { self.new ≡ record self.old { state = self.new.state } }
     {
         let Some(top) = self.top else {
@@ -258,7 +266,8 @@ impl Desk {
         requires started { IsSome self.old.state.top }
         requires tray { self.old.state.window ≤ tray.old.window }
         ensures play { IsPlay self.old.state.window self.old.state
-            (record { first = result.first; shown = tray.new.shown; outcome = result.verdict }) self.new.state }
+            (record { first = result.first; shown = tray.new.shown; outcome = result.verdict })
+            self.new.state }
         ensures count { result.count ≡ length tray.new.shown }
         ensures tray { tray.new.window ≡ tray.old.window }
         ensures bare { IsBareAfter self.old self.new }
@@ -279,8 +288,8 @@ impl Desk {
         }
     }
 
-    /// Plays up to the highest position that has a word or follows, and at most a window. None where
-    /// none is left to be played: then the tray is as it was.
+    /// Plays up to the highest position that has a word or follows, and at most a window. None
+    /// where none is left to be played: then the tray is as it was.
     pub fn flush_step(&mut self, tray: &mut Tray) -> Option<Played>
         requires room { HasRoom self.old.state }
         requires tray { self.old.state.window ≤ tray.old.window }
@@ -290,8 +299,10 @@ impl Desk {
           outcome = played.verdict;
         }) result) self.new.state }
         ensures some { IfSome result (λ played. (played.count ≡ length tray.new.shown)
-            × IsBareAfter self.old self.new × (self.new.epoch ≡ epoch_after self.old.epoch played.verdict)) }
-        ensures none { IfNone result ((self.new ≡ record self.old { state = self.new.state }) × (tray.new ≡ tray.old)) }
+            × IsBareAfter self.old self.new
+            × (self.new.epoch ≡ epoch_after self.old.epoch played.verdict)) }
+        ensures none { IfNone result ((self.new ≡ record self.old { state = self.new.state })
+            × (tray.new ≡ tray.old)) }
         ensures tray { tray.new.window ≡ tray.old.window }
     {
         found_words_may_be_known();
@@ -321,7 +332,8 @@ impl Desk {
         requires media { IsMedia share }
         requires limit { position < 2 ^ 61 + 2 ^ 16 }
         requires calls { self.old.state.calls < 2 ^ 62 }
-        ensures { self.new ≡ record self.old { state = with_media self.old.state seq position share } }
+        ensures { self.new
+            ≡ record self.old { state = with_media self.old.state seq position share } }
     {
         peelings_stay();
         receive(&mut self.row, &mut self.lines, position, share);
@@ -335,7 +347,8 @@ impl Desk {
         requires base { base ≤ 2 ^ 62 }
         requires started { IsSome self.old.state.top }
         requires admitted { IsEquationReply self.old.state
-            (record { base = base; offset = shape.offset; count = shape.na; parity = share }) Reply.Admitted }
+            (record { base = base; offset = shape.offset; count = shape.na; parity = share })
+            Reply.Admitted }
         requires calls { self.old.state.calls < 2 ^ 62 }
         ensures { (place : ℕ) × IsLeastFree self.old.state place × (self.new ≡ record self.old {
           state = with_equation self.old.state place
@@ -353,7 +366,8 @@ impl Desk {
         requires base { base ≤ 2 ^ 62 }
         requires shape { IsShape shape.offset shape.na }
         ensures { IsEquationReply self.now.state
-            (record { base = base; offset = shape.offset; count = shape.na; parity = parity.now }) result }
+            (record { base = base; offset = shape.offset; count = shape.na; parity = parity.now })
+            result }
     {
         if self.is_late(base, shape) {
             return Reply::Late;

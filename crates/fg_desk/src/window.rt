@@ -92,8 +92,8 @@ fn show_received(row: &mut Row, lines: &mut Lines, count: u32, tray: &mut Tray)
     row.advance(count);
 }
 
-/// Takes a word in at a position. Where another word was found there ahead of its play, nothing that
-/// was found is right any more.
+/// Takes a word in at a position. Where another word was found there ahead of its play, nothing
+/// that was found is right any more.
 pub(crate) fn receive(row: &mut Row, lines: &mut Lines, position: u64, share: Shared)
     requires ahead { row.old.mark ≤ position }
     requires near { position < row.old.mark + row.old.reach }

@@ -1,0 +1,48 @@
+#!/usr/bin/env bash
+# Counts the instructions of a desk's work a media datagram: admission, plays and tray, for 10 columns and 10 rows. Each
+# run is made twice under callgrind, with the desk and without it, and the difference is told. Outside the gate. It wants
+# valgrind.
+set -euo pipefail
+here=$(cd "$(dirname "$0")" && pwd)
+top=$(cd "$here/../.." && pwd)
+work=$(mktemp -d)
+trap 'rm -rf "$work"' EXIT
+mkdir -p "$work/crates/desk_work/src" "$work/crates/desk_work/proofs"
+for crate in fg_words fg_shape fg_unwrap fg_peel fg_desk; do
+    tar -C "$top/crates" --exclude=out --exclude=must-fail -cf - "$crate" | tar -C "$work/crates" -xf -
+done
+grep -E '^fg_(words|shape|unwrap|peel|desk):' "$top/crates.txt" > "$work/crates.txt"
+echo 'desk_work: fg_words fg_shape fg_desk' >> "$work/crates.txt"
+cp "$top/HANDLES" "$work/"
+cp "$here/program.txt" "$work/crates/desk_work/src/main.rt"
+mkdir "$work/crates/desk_work/proofs/take_media" "$work/crates/desk_work/proofs/run_all"
+cat > "$work/crates/desk_work/proofs/take_media/Invariants.antt" <<'END'
+use Rattle.std.proofs.Common.{◌≡◌}
+use Rattle.desk_work.proofs.take_media.Given as goal
+
+abbrev pub invariant-loop : goal.invariant-loop
+invariant-loop l = (l.desk.state.window ≡ l.fn.desk.state.window) × (l.tray.window ≡ l.fn.tray.window)
+END
+cat > "$work/crates/desk_work/proofs/run_all/Invariants.antt" <<'END'
+use Rattle.std.proofs.Common.{◌≤◌}
+use Rattle.desk_work.proofs.run_all.Given as goal
+
+abbrev pub invariant-loop-number : goal.invariant-loop-number
+invariant-loop-number l = l.desk.state.window ≤ l.tray.window
+END
+cd "$work/crates/desk_work"
+rt run -- bare 400 100 0 > "$work/log" 2>&1 || { cat "$work/log"; exit 1; }
+count() {
+    valgrind --tool=callgrind --callgrind-out-file=/dev/null out/desk_work "$@" 2>&1 \
+        | sed -n 's/.*Collected : \([0-9]*\).*/\1/p'
+}
+for loss in 0 3; do
+    for depth in 400 1000; do
+        for window in 100 10 1; do
+            with=$(count desk "$depth" "$window" "$loss")
+            without=$(count bare "$depth" "$window" "$loss")
+            echo "loss $loss depth $depth window $window: $(((with - without) / 40000)) instructions a media datagram," \
+                "$(out/desk_work desk "$depth" "$window" "$loss")"
+        done
+    done
+done
