@@ -7,6 +7,8 @@ mod lines;
 mod reply;
 mod row;
 mod run;
+#[cfg(test)]
+mod tests;
 mod tray;
 mod window;
 

@@ -1,0 +1,8 @@
+//! Desks that follow scripts: what comes, what the desk answers, and what its plays show.
+
+mod blocks;
+mod plain;
+mod plays;
+mod random;
+mod replies;
+mod script;

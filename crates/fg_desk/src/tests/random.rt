@@ -1,0 +1,241 @@
+//! Random calls of a desk and of one in another style.
+
+use super::plain::{Plain, Sum, at};
+use super::script::{admit_media, admit_parity, flush, play};
+use crate::{Desk, Outcome, Played, Reply, Tray};
+use fg_shape::Shape;
+use fg_words::Word;
+use rand_core::utils::NextWord;
+use rand_pcg::Pcg32;
+use std::alloc::{AllocError, Global};
+use std::process::Abort;
+use std::test::Fail;
+
+/// The sequence number of position 0.
+const FIRST: u16 = 65_500;
+
+/// A media word with this timestamp.
+fn stamped(timestamp: u32) -> Word {
+    let mut word = super::script::word_of(0);
+    word.ts = timestamp;
+    word
+}
+
+/// The timestamp that was sent at a position.
+fn sent(position: usize) -> u32 {
+    ((position % 65_536) as u32).wrapping_mul(0x9e37_79b1)
+}
+
+fn seq_of(position: usize) -> u16 {
+    FIRST.wrapping_add((position % 65_536) as u16)
+}
+
+/// Whether a word is the media word with this timestamp.
+fn has_stamp(word: Option<&Word>, timestamp: Option<u32>) -> bool {
+    match word {
+        Some(word) => timestamp.is_some_and(|timestamp| word.same(&stamped(timestamp))),
+        None => timestamp.is_none(),
+    }
+}
+
+/// Whether a play shows what the plain desk shows of it.
+fn shows_same(
+    plain: &Plain,
+    done: &(Played, Tray),
+    first: usize,
+    count: usize,
+    outcome: Outcome,
+) -> bool {
+    let (played, tray) = done;
+    if played.first != first as u64 || played.count as usize != count || played.verdict != outcome {
+        return false;
+    }
+    for i in 0..count {
+        let position = first.wrapping_add(i);
+        let word = at(&plain.shown, position);
+        let repaired = word.is_some() && at(&plain.media, position).is_none();
+        let i = (i % 128) as u32;
+        if !has_stamp(tray.word(i), word) || tray.repaired(i) != repaired {
+            return false;
+        }
+    }
+    true
+}
+
+/// Whether both desks tell the same of themselves.
+fn tell_same(desk: &Desk, plain: &Plain) -> bool {
+    if desk.mark() != plain.mark as u64
+        || desk.epoch() != plain.epoch
+        || desk.live() as usize != plain.live.len()
+    {
+        return false;
+    }
+    for i in 0..140usize {
+        let position = plain.mark.saturating_add(i).wrapping_sub(100);
+        if position < 100_000 && !has_stamp(desk.word(position as u64), plain.known(position)) {
+            return false;
+        }
+    }
+    true
+}
+
+/// Both desks play a window, or a flush step. Whether they agree.
+fn both_play(
+    desk: &mut Desk,
+    plain: &mut Plain,
+    alloc: Global,
+    whole: bool,
+) -> Result<bool, AllocError> {
+    let words = plain.closure(alloc)?;
+    let count = if whole {
+        plain.window
+    } else {
+        plain.rest(&words)
+    };
+    let first = plain.mark;
+    let done = if whole {
+        play(desk, alloc)?
+    } else {
+        flush(desk, alloc)?
+    };
+    let Some(done) = done else {
+        return Ok(count == 0);
+    };
+    if count == 0 {
+        return Ok(false);
+    }
+    let outcome = plain.play(alloc, &words, count)?;
+    Ok(shows_same(plain, &done, first, count, outcome) && tell_same(desk, plain))
+}
+
+/// A media datagram near the mark comes to both, and plays that it makes due.
+fn both_take_media(
+    desk: &mut Desk,
+    plain: &mut Plain,
+    alloc: Global,
+    random: &mut Pcg32,
+) -> Result<bool, AllocError> {
+    let near = random.next_word() as usize % plain.depth.saturating_add(6).max(1);
+    let from_three = plain.mark.saturating_add(near);
+    let seq = seq_of(from_three).wrapping_sub(3);
+    let position = from_three.checked_sub(3);
+    for _ in 0..4 {
+        let due = position.is_some_and(|position| position
+            >= plain.mark.saturating_add(plain.depth));
+        if desk.due(seq) != due {
+            return Ok(false);
+        }
+        if due && !both_play(desk, plain, alloc, true)? {
+            return Ok(false);
+        }
+    }
+    let wrong = if random.next_word() % 12 == 0 {
+        1 + random.next_word() % 2
+    } else {
+        0
+    };
+    let timestamp = sent(from_three.wrapping_sub(3)) ^ wrong;
+    let reply = admit_media(desk, seq, stamped(timestamp).share(alloc)?);
+    Ok(reply == Some(plain.admit_media(position, timestamp)))
+}
+
+/// The parity of what was sent at these slots.
+fn parity_of(base: usize, offset: usize, count: usize) -> u32 {
+    let mut parity = 0;
+    for j in 0..count {
+        parity ^= sent(base.wrapping_add(j.wrapping_mul(offset)));
+    }
+    parity
+}
+
+/// A parity datagram comes to both.
+fn both_take_parity(
+    desk: &mut Desk,
+    plain: &mut Plain,
+    alloc: Global,
+    random: &mut Pcg32,
+) -> Result<bool, AllocError> {
+    let offset = 1 + random.next_word() % 4;
+    let count = 1 + random.next_word() % 5;
+    let shape = Shape {
+        offset: offset as u8,
+        na: count as u8,
+    };
+    let near = random.next_word() as usize % plain.depth.saturating_add(10).max(1);
+    let far = if random.next_word() % 16 == 0 { 100 } else { 0 };
+    let from_eight = plain.mark.saturating_add(near).saturating_add(far);
+    let base = from_eight.checked_sub(8);
+    let wrong = if random.next_word() % 24 == 0 { 1 } else { 0 };
+    let parity = parity_of(from_eight.wrapping_sub(8), offset as usize, count as usize) ^ wrong;
+    let mut word = if count % 2 == 0 {
+        Word::zero()
+    } else {
+        stamped(0)
+    };
+    word.ts = parity;
+    let reply = admit_parity(
+        desk,
+        seq_of(from_eight).wrapping_sub(8),
+        shape,
+        word.share(alloc)?,
+    );
+    let want = match base {
+        Some(base) => plain.admit_parity(Sum {
+            base,
+            offset: offset as usize,
+            count: count as usize,
+            parity,
+        })?,
+        None => Reply::BeforeStart,
+    };
+    Ok(reply == Some(want))
+}
+
+/// One call of both. Whether they agree.
+fn both_go_on(
+    desk: &mut Desk,
+    plain: &mut Plain,
+    alloc: Global,
+    random: &mut Pcg32,
+) -> Result<bool, AllocError> {
+    let agree = match random.next_word() % 32 {
+        0 => both_play(desk, plain, alloc, true)?,
+        1 => both_play(desk, plain, alloc, false)?,
+        2..20 => both_take_media(desk, plain, alloc, random)?,
+        _ => both_take_parity(desk, plain, alloc, random)?,
+    };
+    Ok(agree && desk.live() as usize == plain.live.len())
+}
+
+/// Calls of two new desks, which flush at last.
+fn try_flow(rt: &impl Abort, alloc: Global, random: &mut Pcg32) -> Result<(), Fail> {
+    let window = 1 + random.next_word() % 6;
+    let depth = window + random.next_word() % 12;
+    assert!(rt; 1 <= window && window <= 100 && window <= depth && depth <= 1000);
+    let mut desk = Desk::new(alloc, window, depth)?;
+    let mut plain = Plain::new(alloc, window as usize, depth as usize)?;
+    let first = admit_media(&mut desk, FIRST, stamped(sent(0)).share(alloc)?);
+    assert!(rt; first == Some(plain.admit_media(Some(0), sent(0))));
+    for i in 0..80 {
+        assert!(rt;
+            both_go_on(&mut desk, &mut plain, alloc, random)?,
+            "call {i}"
+        );
+    }
+    for i in 0..20 {
+        assert!(rt;
+            both_play(&mut desk, &mut plain, alloc, false)?,
+            "flush step {i}"
+        );
+    }
+    Ok(())
+}
+
+#[test]
+fn random_calls(rt: HostRuntime) -> Result<(), Fail> {
+    let mut random = Pcg32::new(2022, 7);
+    for _ in 0..40 {
+        try_flow(&rt, rt.alloc(), &mut random)?;
+    }
+    Ok(())
+}
