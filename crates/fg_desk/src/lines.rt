@@ -98,7 +98,8 @@ impl Lines {
 
     /// The live one at this place.
     pub(crate) fn at(&self, place: u32) -> Option<&Line>
-        ensures some { IfSome result (λ line. IsLiveLine self.now line.now × (line.now.place ≡ place)) }
+        ensures some { IfSome result (λ line. IsLiveLine self.now line.now
+            × (line.now.place ≡ place)) }
         ensures none { IfNone result (IsFreePlace self.now place) }
     {
         match find_place(&self.open, place) {
@@ -118,7 +119,12 @@ impl Lines {
             × (self.new ≡ record self.old {
               live = insert self.old.live serial (record {
                 place = place;
-                equation = record { base = base; offset = shape.offset; count = shape.na; parity = parity };
+                equation = record {
+                  base = base;
+                  offset = shape.offset;
+                  count = shape.na;
+                  parity = parity;
+                };
               });
             }) }
     {
@@ -185,7 +191,8 @@ fn find_in(lines: &Slab<Line>, base: u64, shape: Shape) -> Option<&Line>
 /// The line at this place.
 fn find_place(lines: &Slab<Line>, place: u32) -> Option<&Line>
     ensures some { IfSome result (λ line. Holds lines.now line.now × (line.now.place ≡ place)) }
-    ensures none { IfNone result ((line : LiveLine) → Holds lines.now line → ¬ (line.place ≡ place)) }
+    ensures none { IfNone result ((line : LiveLine) → Holds lines.now line
+        → ¬ (line.place ≡ place)) }
 {
     for (_, line) in lines.iter() {
         if line.place == place {
@@ -222,7 +229,8 @@ fn free_all(places: &mut [bool])
 fn move_lines(source: &mut Slab<Line>, target: &mut Slab<Line>, row: &Row, complete: bool)
     requires within { AreWithin source.old }
     requires room { slab_len source.old + slab_len target.old ≤ target.old.capacity }
-    ensures { Moves (IsCompleteAs (not complete) (row_words row.now)) (IsCompleteAs complete (row_words row.now))
+    ensures { Moves (IsCompleteAs (not complete) (row_words row.now))
+        (IsCompleteAs complete (row_words row.now))
         source.old target.old source.new target.new }
 {
     for key in 0..source.capacity() {

@@ -110,7 +110,8 @@ pub fn run_flow(
     requires given { All IsGiven datagrams.now }
     requires limit { length datagrams.now < 2 ^ 44 }
     ensures { IfOk result (λ run.
-        IsRun window depth (map arrival_of datagrams.now) (map play_of run.plays.items) run.replies.items) }
+        IsRun window depth (map arrival_of datagrams.now) (map play_of run.plays.items)
+        run.replies.items) }
 {
     runs_join();
     runs_stay_within();
