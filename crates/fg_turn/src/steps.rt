@@ -26,7 +26,7 @@ const SERVING: usize = 1;
 const STATE: usize = 0;
 
 /// How often a seat that waits looks before it sleeps.
-const LOOKS: u32 = 300;
+const LOOKS: u32 = 1000;
 
 /// The words and the slot of a turn.
 pub(crate) type SharedTable<S> = Shared<Option<S>, View<S>, Snapshot<S>, Rule>;
