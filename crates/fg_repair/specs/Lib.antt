@@ -1,0 +1,5 @@
+-- The definitions that the contracts of this crate cite.
+pub mod Flow
+pub mod Lanes
+pub mod Laws
+pub mod Repair
