@@ -3,3 +3,4 @@ pub mod Flow
 pub mod Lanes
 pub mod Laws
 pub mod Repair
+pub mod Steps

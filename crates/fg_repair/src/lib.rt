@@ -2,6 +2,9 @@
 #![tactic(auto)]
 
 mod alone;
+mod fault;
+mod flow;
 pub mod laws;
+mod player;
 
 pub use alone::repair_alone;
