@@ -7,7 +7,7 @@ use std::sync::atomic::Ordering::SeqCst;
 const WORDS: u64 = 16;
 
 /// How many turns before its own a seat is woken: waking takes as long as some turns.
-const AHEAD: u64 = 3;
+const AHEAD: u64 = 2;
 
 /// A row of words, each for the tickets that are the same modulo 16.
 ///
