@@ -1,20 +1,8 @@
--- The two words of `repair`.
-use Rattle.std.proofs.Common.{◌≡◌, ℕ, List, [], ◌∷◌, ◌++◌, codes, length, map, get_or, IfSome, Option, Some, None, ap, ◌∙◌, arith, ◌<◌, ◌≤◌}
-use Rattle.fg_run.specs.Command.{IsRepair}
-use Rattle.fg_run.specs.Steps.{IsPort}
+-- A list of one word.
+use Rattle.std.proofs.Common.{◌≡◌, ℕ, List, [], ◌∷◌, length, map, get_or, arith, ◌<◌, ◌≤◌}
 
--- a list of two, by its elements
-pub two_mapped : {A : Type 0} (f : A → List ℕ) (xs : List A) (a b : A) → 2 ≤ length xs → length xs < 3 → a ≡ get_or xs 0 a → b ≡ get_or xs 1 b → map f xs ≡ f a ∷ f b ∷ []
-two_mapped f [] a b least most p q = absurd (omega (arith, least))
-two_mapped f (x ∷ []) a b least most p q = absurd (omega (arith, least))
-two_mapped f (x ∷ y ∷ []) a b least most p q = cc
-two_mapped f (x ∷ y ∷ z ∷ zs) a b least most p q = absurd (omega (arith, most))
-
--- the port of the second word is that of the command
-pub repair_spelled : (texts : List (List ℕ)) (command flow text : List ℕ) (r : Option ℕ) → texts ≡ command ∷ flow ∷ [] → command ≡ codes "repair" → flow ≡ codes "flow=" ++ text → IfSome r (IsPort text) → IfSome r (IsRepair texts)
-repair_spelled texts command flow text None pair one two h = h
-repair_spelled texts command flow text (Some p) pair one two h = record {
-  spelled = pair ∙ ap (λ c. c ∷ flow ∷ []) one ∙ ap (λ t. codes "repair" ∷ t ∷ []) (two ∙ ap (λ t. codes "flow=" ++ t) h.0);
-  least = h.1;
-  greatest = h.2;
-}
+-- a list of one, by its element
+pub only_one : {A : Type 0} (f : A → List ℕ) (xs : List A) (a : A) → 1 ≤ length xs → length xs < 2 → a ≡ get_or xs 0 a → map f xs ≡ f a ∷ []
+only_one f [] a least most p = absurd (omega (arith, least))
+only_one f (x ∷ []) a least most p = cc
+only_one f (x ∷ y ∷ xs) a least most p = absurd (omega (arith, most))

@@ -1,9 +1,17 @@
--- The law that shows the definition of a run's ending to be right.
+-- Laws that show the definitions of requests and answers to be right.
 use Rattle.std.specs.Prelude.{◌≡◌, ℕ, List}
 use Rattle.fg_run.specs.declared.ended.Why.{Why}
-use Rattle.fg_run.specs.Run.{IsEnding}
+use Rattle.fg_run.specs.declared.request.Request.{Request}
+use Rattle.fg_run.specs.Request.{Asks}
+use Rattle.fg_run.specs.Run.{IsAnswer}
 
--- A run over bytes has at most one ending.
-abbrev pub OneEnding : Type 0
-OneEnding = (port : ℕ) (bytes : List ℕ) (one other : Why)
-    → IsEnding port bytes one → IsEnding port bytes other → one ≡ other
+-- Words ask for at most one request.
+abbrev pub OneRequest : Type 0
+OneRequest =
+    (words : List (List ℕ)) (one other : Request) → Asks words one → Asks words other → one ≡ other
+
+-- A request has at most one answer over the bytes of an input.
+abbrev pub OneAnswer : Type 0
+OneAnswer =
+    (request : Request) (bytes : List ℕ) (one other : Why)
+    → IsAnswer request bytes one → IsAnswer request bytes other → one ≡ other

@@ -1,8 +1,5 @@
-pub mod Command
 pub mod Ended
-pub mod Flow
-pub mod Input
-pub mod Report
-pub mod Run
+pub mod Help
 pub mod Laws
-pub mod Steps
+pub mod Request
+pub mod Run

@@ -1,52 +1,91 @@
--- What a run of the program gives: this project's own rules over the trace, the flow and the report.
-use Rattle.std.specs.Prelude.{◌≡◌, ◌<◌, ◌≤◌, ◌⊎◌, ℕ, List, [], Option, length, IfSome, ⊤}
-use Rattle.fg_words.specs.declared.Word.{Word}
-use Rattle.fg_io.specs.Outlet.{Lanes, Puts, PutsPart}
+-- What the program answers to each request: this project's own. A request that is told here in no arm of its own touches
+-- nothing.
+use Rattle.std.specs.Prelude.{◌≡◌, ◌⊎◌, ℕ, List, [], Option, ⊤}
+use Rattle.fg_io.specs.Outlet.{Lanes}
 use Rattle.fg_io.specs.Sink.{Gains, GainsPart}
+use Rattle.fg_trace.specs.declared.step.Finish.{Finish}
+use Rattle.fg_trace.specs.declared.step.Finish.TheVariants as finish
+use Rattle.fg_trace.specs.Trace.{Record, Ending, Ended, NotTrace, Cut, TooLong, IsTrace}
+use Rattle.fg_cli.specs.declared.Order.TheVariants.{Repair}
+use Rattle.fg_repair.specs.Repair.{Outputs, OutputsPart}
 use Rattle.fg_run.specs.declared.ended.Why.{Why}
-use Rattle.fg_run.specs.declared.ended.Why.TheVariants.{Done, WriteFault, NotTrace, NotBuilt}
-use Rattle.fg_run.specs.Flow.{AreInOrder, IsFirstNotBuilt, lane_of_words}
-use Rattle.fg_run.specs.Input.{input_limit}
-use Rattle.fg_run.specs.Report.{report_of}
-use Rattle.fg_trace.specs.Trace.{Record, IsTrace, Ended as AtRecordEnd, NotTrace as NoMagic}
+use Rattle.fg_run.specs.declared.ended.Why.TheVariants as why
+use Rattle.fg_run.specs.declared.request.Request.{Request}
+use Rattle.fg_run.specs.declared.request.Request.TheVariants.{Help, Version, Ordered, Refused}
+use Rattle.fg_run.specs.Help.{help_text, version_text}
 
--- The bytes are a trace, and its records are the flow's media datagrams in order, with these words.
-abbrev pub AreWords : ℕ → List ℕ → List Word → Type 0
-AreWords port bytes words =
-    (records : List Record) × IsTrace bytes input_limit records AtRecordEnd × AreInOrder port records words
+-- The answer to a trace that ends so.
+abbrev pub why_of_ending : Ending → Why
+why_of_ending Ended = why.Done
+why_of_ending (NotTrace n) = why.NotTrace n
+why_of_ending (Cut n) = why.Cut n
+why_of_ending (TooLong n) = why.TooLong n
 
--- Why a run over these bytes ends, where nothing fails and memory is there: the first of these that holds.
--- There are too many bytes; they don't begin with the magic; a record isn't built; and else all is done.
-abbrev pub IsEnding : ℕ → List ℕ → Why → Type 0
-IsEnding port bytes Done = (words : List Word) × AreWords port bytes words
-IsEnding port bytes (NotTrace n) = (length bytes ≤ input_limit) × IsTrace bytes input_limit [] (NoMagic n)
-IsEnding port bytes (NotBuilt n) =
-    ((input_limit < length bytes) × (n ≡ input_limit))
-    ⊎ ((length bytes ≤ input_limit) × IsFirstNotBuilt port bytes n)
-IsEnding port bytes _ = ⊥
+-- The answer of a command that reads a trace and finishes so.
+abbrev pub why_of_finish : Finish → Why
+why_of_finish finish.Done = why.Done
+why_of_finish finish.ReadFault = why.ReadFault
+why_of_finish finish.WriteFault = why.WriteFault
+why_of_finish (finish.NotTrace n) = why.NotTrace n
+why_of_finish (finish.Cut n) = why.Cut n
+why_of_finish (finish.TooLong n) = why.TooLong n
+why_of_finish finish.Memory = why.Memory
 
--- The outputs have gained what the definition gives for the input: the lane of the port the payloads, and the sink the
--- report. No other lane has changed.
-pub record Outputs
-    (port : ℕ) (input : Option (List ℕ)) (lanes lanes' : Option Lanes) (written written' : Option (List ℕ)) : Type 0 where
-  pub words : List Word
-  pub of_input : IfSome input (λ bytes. AreWords port bytes words)
-  pub lane : Puts lanes port (lane_of_words words) lanes'
-  pub report : Gains written (report_of port (length words)) written'
+-- The request has this answer, and the lanes and the sink have gained what is defined for it over the input.
+abbrev pub Answers :
+    Request → Why → Option (List ℕ) → Option Lanes → Option Lanes → Option (List ℕ) → Option (List ℕ) → Type 0
+Answers Help answer input lanes lanes' written written' =
+    (answer ≡ why.Done) × (lanes' ≡ lanes) × Gains written help_text written'
+Answers Version answer input lanes lanes' written written' =
+    (answer ≡ why.Done) × (lanes' ≡ lanes) × Gains written version_text written'
+Answers (Refused fault) answer input lanes lanes' written written' =
+    (answer ≡ why.Words fault) × (lanes' ≡ lanes) × (written' ≡ written)
+Answers (Ordered (Repair plan)) answer input lanes lanes' written written' =
+    (end : Ending) × (answer ≡ why_of_ending end) × Outputs plan end input lanes lanes' written written'
+Answers (Ordered order) answer input lanes lanes' written written' =
+    (answer ≡ why.NotBuilt 0) × (lanes' ≡ lanes) × (written' ≡ written)
 
--- What a fault leaves in the outputs, the lane first: the lane of the port has gained a prefix of the payloads, and the
--- sink is as it was; or the lane all payloads, and the sink a prefix of the report. No other lane has changed.
-pub record OutputsPart {K : Type 0}
-    (port : ℕ) (input : Option (List ℕ)) (lanes lanes' : Option Lanes)
-    (written : K → Option (List ℕ)) (out out' : K) : Type 0 where
-  pub words : List Word
-  pub of_input : IfSome input (λ bytes. AreWords port bytes words)
-  pub outputs : (PutsPart lanes port (lane_of_words words) lanes' × (out' ≡ out))
-      ⊎ (Puts lanes port (lane_of_words words) lanes'
-      × GainsPart (written out) (report_of port (length words)) (written out'))
+-- The answer that the request has over these bytes, where nothing fails and memory is there.
+abbrev pub IsAnswer : Request → List ℕ → Why → Type 0
+IsAnswer Help bytes answer = answer ≡ why.Done
+IsAnswer Version bytes answer = answer ≡ why.Done
+IsAnswer (Refused fault) bytes answer = answer ≡ why.Words fault
+IsAnswer (Ordered (Repair plan)) bytes answer =
+    (records : List Record) × (end : Ending) × IsTrace bytes plan.max records end × (answer ≡ why_of_ending end)
+IsAnswer (Ordered order) bytes answer = answer ≡ why.NotBuilt 0
 
--- An answer that comes before anything is written.
-abbrev pub WritesNothing : Why → Type 0
-WritesNothing Done = ⊥
-WritesNothing WriteFault = ⊥
-WritesNothing _ = ⊤
+-- What a fault, or want of memory, leaves of what the request would have gained.
+abbrev pub AnswersPart :
+    {K : Type 0} → Request → Option (List ℕ) → Option Lanes → Option Lanes → (K → Option (List ℕ)) → K → K → Type 0
+AnswersPart Help input lanes lanes' written out out' =
+    (lanes' ≡ lanes) × GainsPart (written out) help_text (written out')
+AnswersPart Version input lanes lanes' written out out' =
+    (lanes' ≡ lanes) × GainsPart (written out) version_text (written out')
+AnswersPart (Ordered (Repair plan)) input lanes lanes' written out out' =
+    OutputsPart plan input lanes lanes' written out out'
+AnswersPart request input lanes lanes' written out out' = (lanes' ≡ lanes) × (out' ≡ out)
+
+-- What the request leaves alone, whatever its answer: the input, the sink, the lanes.
+abbrev pub ReadsNothing : Request → Type 0
+ReadsNothing (Ordered (Repair plan)) = ⊥
+ReadsNothing request = ⊤
+
+abbrev pub WritesNothing : Request → Type 0
+WritesNothing Help = ⊥
+WritesNothing Version = ⊥
+WritesNothing (Ordered (Repair plan)) = ⊥
+WritesNothing request = ⊤
+
+abbrev pub MakesNoLane : Request → Type 0
+MakesNoLane (Ordered (Repair plan)) = ⊥
+MakesNoLane request = ⊤
+
+-- The input isn't what the request reads: it is no trace.
+abbrev pub IsNoInput : Request → List ℕ → Type 0
+IsNoInput (Ordered (Repair plan)) bytes = (n : ℕ) × IsTrace bytes plan.max [] (NotTrace n)
+IsNoInput request bytes = ⊥
+
+-- After this answer to the request nothing of the input is left.
+abbrev pub ReadsAll : Request → Why → Type 0
+ReadsAll (Ordered (Repair plan)) answer = (answer ≡ why.Done) ⊎ ((n : ℕ) × (answer ≡ why.Cut n))
+ReadsAll request answer = ⊥

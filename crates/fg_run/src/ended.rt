@@ -1,23 +1,34 @@
 //! How a call of the program ends.
 ghost use Rattle.std.specs.Prelude.{◌≡◌};
 ghost use Rattle.fg_run.specs.Ended.{status_of};
+ghost use Rattle.fg_run.specs.Run.{why_of_finish};
+
+use fg_cli::WordFault;
+use fg_trace::Finish;
 
 /// Why the program ended.
 #[derive(Clone, Copy, Debug, PartialEq, Eq)]
 pub enum Why {
     /// All was done, and the outputs are whole.
     Done,
+    /// The words break a rule of the command line, and this is the first.
+    Words(WordFault),
     /// Reading the input failed.
     ReadFault,
-    /// Writing the report or a lane failed.
+    /// Writing to the output or a lane failed.
     WriteFault,
     /// The input is no trace: the place of the first byte that differs from the magic, or the input's length where it
     /// ends before.
     NotTrace(u64),
+    /// The input ends inside a record, of which this is the place of the first byte. The outputs are those of the records
+    /// before it.
+    Cut(u64),
+    /// The input has more bytes than it may, and this is the place of the first byte of the first record that isn't whole
+    /// within the limit. The outputs are those of the records before it.
+    TooLong(u64),
     /// There was no memory.
     Memory,
-    /// What is asked isn't built yet: 0 where the words aren't, the most bytes that an input may have where it has more,
-    /// and else the place of the first byte of the first record that isn't.
+    /// The words order what isn't built yet; the place is 0.
     NotBuilt(u64),
 }
 
@@ -31,17 +42,36 @@ pub struct Ended {
 }
 
 impl Why {
-    /// The exit status: 0, 2, 3, 4, 6 and 9 in the order of the variants.
+    /// The exit status: 0, 1, 2, 3, 4, 4, 5, 6 and 9 in the order of the variants.
     pub fn status(&self) -> u8
         ensures { result ≡ status_of self.now }
     {
         match self {
             Why::Done => 0,
+            Why::Words(_) => 1,
             Why::ReadFault => 2,
             Why::WriteFault => 3,
-            Why::NotTrace(_) => 4,
+            Why::NotTrace(_) | Why::Cut(_) => 4,
+            Why::TooLong(_) => 5,
             Why::Memory => 6,
             Why::NotBuilt(_) => 9,
+        }
+    }
+}
+
+/// A command that reads a trace ends so.
+impl From<Finish> for Why {
+    ghost from_gives = { λ finish why. why ≡ why_of_finish finish };
+
+    fn from(finish: Finish) -> Why {
+        match finish {
+            Finish::Done => Why::Done,
+            Finish::ReadFault => Why::ReadFault,
+            Finish::WriteFault => Why::WriteFault,
+            Finish::NotTrace(place) => Why::NotTrace(place),
+            Finish::Cut(place) => Why::Cut(place),
+            Finish::TooLong(place) => Why::TooLong(place),
+            Finish::Memory => Why::Memory,
         }
     }
 }

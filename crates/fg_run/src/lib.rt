@@ -1,44 +1,43 @@
-//! The top call of the program: [`run`] reads its words and its input, and writes its outputs.
+//! The top call of the program: [`run`] reads its words, does what they ask for, and tells how that ended.
 //!
-//! What is built so far is `repair flow=P` of a trace whose records are the media datagrams of one flow, in order.
+//! What is built so far is `repair`, on one thread. The other orders of the grammar are answered as not built.
 #![tactic(auto)]
 
-ghost use Rattle.std.specs.Prelude.{◌≡◌, ◌≢◌, ◌↔◌, ◌≤◌, ◌⊎◌, ℕ, IfSome, map, string_bytes};
+ghost use Rattle.std.specs.Prelude.{◌≡◌, ◌≢◌, ◌≤◌, ◌⊎◌, ℕ, IfSome, map, string_bytes};
 ghost use Rattle.std.specs.Io.KnownBytes.{IsAtEnd};
 ghost use Rattle.fg_io.specs.Faults.{CountsFault};
+ghost use Rattle.fg_cli.specs.declared.WordFault.{WordFault as AnyWordFault};
 ghost use Rattle.fg_run.specs.declared.ended.Why.{Why as AnyWhy};
-ghost use Rattle.fg_run.specs.Command.{IsRepair};
+ghost use Rattle.fg_run.specs.declared.request.Request.{Request as AnyRequest};
 ghost use Rattle.fg_run.specs.Ended.{IsFault, TellsFault, status_of};
-ghost use Rattle.fg_run.specs.Steps.{answer_of};
-ghost use Rattle.fg_run.specs.Run.{IsEnding, Outputs, OutputsPart, WritesNothing};
+ghost use Rattle.fg_run.specs.Request.{Asks};
+ghost use Rattle.fg_run.specs.Run.{Answers, AnswersPart, IsAnswer, IsNoInput, MakesNoLane, ReadsAll, ReadsNothing, WritesNothing};
 
-mod command;
+mod answer;
 mod ended;
-mod fault;
 mod fault_line;
-mod flow;
 mod gate;
-mod input;
+mod help;
 pub mod laws;
-mod repair;
-mod report;
+mod request;
 #[cfg(test)]
 mod tests;
-mod trace;
 
 pub use ended::{Ended, Why};
-use fault::Fault;
+use fg_io::laws::parts_of_writes;
 use fg_io::{Outlet, Sink, Source};
 pub use gate::{Gate, NoGate};
-use std::alloc::Global;
+use request::Request;
+use std::alloc::{AllocError, Global};
 use std::sync::Wait;
 use std::thread::Threads;
 
 /// Runs the program that the words name over the input, the sinks and the lanes.
 ///
-/// `repair flow=P` writes the payloads of the flow on port P to its lane, and then the report to `out`. Every other
-/// list of words is refused, and so is an input that isn't built: neither reads on, writes or makes anything. The line
-/// that says why goes to `err`; a fault of `err` changes no answer.
+/// `--help` and `--version`, each as the only word, write a text to `out`. `repair` repairs the flows of the trace in the
+/// input: each flow's lane gains its repaired stream, and `out` the report. So far every number of workers goes through
+/// one thread, the caller's. All other orders are answered as not built, and words that break a rule are refused: neither
+/// reads, writes or makes anything. The line that says why goes to `err`; a fault of `err` changes no answer.
 pub fn run<
     W: Threads + Wait + Sync,
     S: Source + Send,
@@ -58,33 +57,49 @@ pub fn run<
 ) -> Ended
     ensures status { result.status ≡ status_of result.why }
 
-    // Words that are no `repair` of one flow are refused at once.
-    ensures words { (result.why ≡ Why.NotBuilt 0)
-        ↔ ((port : ℕ) → IsRepair (map string_bytes words.now) port → ⊥) }
-    ensures nothing_read { result.why ≡ Why.NotBuilt 0 → input.new ≡ input.old }
+    // The headline, on one thread. Whatever the words ask for: with every answer but a fault's or want of memory's the
+    // lanes and the sink have gained exactly what is defined for the request over the input's bytes.
+    ensures answers { (request : AnyRequest) → Asks (map string_bytes words.now) request
+        → IsFault result.why ⊎ Answers request result.why (S.left input.old)
+        (O.lanes lanes.old) (O.lanes lanes.new) (K.written out.old) (K.written out.new) }
 
-    // Every answer but a fault's or want of memory's is the one that the input's bytes have, and no other is.
-    ensures ending { IfSome (S.left input.old) (λ bytes. (port : ℕ)
-        → IsRepair (map string_bytes words.now) port
-        → IsFault result.why ⊎ IsEnding port bytes result.why) }
-    ensures exactly { IfSome (S.left input.old) (λ bytes. (port : ℕ)
-        → IsRepair (map string_bytes words.now) port
-        → (why : AnyWhy) → IsEnding port bytes why → IsFault result.why ⊎ (result.why ≡ why)) }
+    // The answer that a request has over the bytes is told, and no other.
+    ensures exactly { IfSome (S.left input.old) (λ bytes. (request : AnyRequest)
+        → Asks (map string_bytes words.now) request → (why : AnyWhy)
+        → IsAnswer request bytes why → IsFault result.why ⊎ (result.why ≡ why)) }
+    ensures complete { IfSome (S.left input.old) (λ bytes. (request : AnyRequest)
+        → Asks (map string_bytes words.now) request → (why : AnyWhy) → IsAnswer request bytes why
+        → ¬ CountsFault (S.faults input.old) (S.faults input.new)
+        → ¬ CountsFault (K.faults out.old) (K.faults out.new)
+        → ¬ CountsFault (O.faults lanes.old) (O.faults lanes.new)
+        → (result.why ≡ why) ⊎ (result.why ≡ Why.Memory)) }
 
-    // The headline: with status 0 the outputs have gained what the definition gives, and all was read.
-    ensures done { result.why ≡ Why.Done → (port : ℕ) → IsRepair (map string_bytes words.now) port
-        → Outputs port (S.left input.old) (O.lanes lanes.old) (O.lanes lanes.new)
-        (K.written out.old) (K.written out.new) }
-    ensures all_read { result.why ≡ Why.Done → IsAtEnd (S.left input.new) }
+    // Every answer but want of memory comes after the words were understood: they ask for something, and where they are
+    // told to break a rule they do.
+    ensures asked { (result.why ≡ Why.Memory)
+        ⊎ ((request : AnyRequest) × Asks (map string_bytes words.now) request) }
+    ensures words { (fault : AnyWordFault) → result.why ≡ Why.Words fault
+        → Asks (map string_bytes words.now) (Request.Refused fault) }
 
-    // After a fault of the lane the sink has gained nothing, and after one of the sink the lane is whole. With every
-    // other answer nothing is written.
-    ensures part { result.why ≡ Why.WriteFault → (port : ℕ)
-        → IsRepair (map string_bytes words.now) port
-        → OutputsPart port (S.left input.old) (O.lanes lanes.old) (O.lanes lanes.new)
+    // After a fault or want of memory the outputs have gained parts.
+    ensures part { IsFault result.why → (request : AnyRequest)
+        → Asks (map string_bytes words.now) request
+        → AnswersPart request (S.left input.old) (O.lanes lanes.old) (O.lanes lanes.new)
         K.written out.old out.new }
-    ensures nothing_written { WritesNothing result.why
-        → (out.new ≡ out.old) × (lanes.new ≡ lanes.old) }
+
+    // What a request has no business with is left alone, whatever the answer. An input that isn't what the request reads
+    // makes nothing.
+    ensures nothing_read { (request : AnyRequest) → Asks (map string_bytes words.now) request
+        → ReadsNothing request → input.new ≡ input.old }
+    ensures nothing_written { (request : AnyRequest) → Asks (map string_bytes words.now) request
+        → WritesNothing request → out.new ≡ out.old }
+    ensures no_lane { (request : AnyRequest) → Asks (map string_bytes words.now) request
+        → MakesNoLane request → lanes.new ≡ lanes.old }
+    ensures no_input { IfSome (S.left input.old) (λ bytes. (request : AnyRequest)
+        → Asks (map string_bytes words.now) request → IsNoInput request bytes
+        → (lanes.new ≡ lanes.old) × (out.new ≡ out.old)) }
+    ensures all_read { (request : AnyRequest) → Asks (map string_bytes words.now) request
+        → ReadsAll request result.why → IsAtEnd (S.left input.new) }
 
     // A fault of the outside is answered only where it was counted in this call, and with every other answer none was.
     // No count falls.
@@ -107,21 +122,13 @@ pub fn run<
         (E.written err.new) (E.faults err.new) }
     ensures quiet { result.why ≡ Why.Done → err.new ≡ err.old }
 {
-    let why = match command::flow_port(words) {
-        Some(port) => answer(repair::repair(alloc, port, input, out, lanes)),
-        None => Why::NotBuilt(0),
+    laws::one_request();
+    parts_of_writes();
+    let why = match request::read_request(alloc, words) {
+        Ok(request) => answer::answer(alloc, request, input, out, lanes),
+        Err(AllocError) => Why::Memory,
     };
     tell_end(err, why)
-}
-
-/// The answer of a run that has this outcome.
-fn answer(outcome: Result<(), Fault>) -> Why
-    ensures { result ≡ answer_of outcome }
-{
-    match outcome {
-        Ok(()) => Why::Done,
-        Err(fault) => fault.into(),
-    }
 }
 
 /// Tells how a call ended: writes the line that says why to `err`, and answers with the status. A fault of `err`

@@ -1,13 +1,16 @@
 //! The program: makes the real source, sinks and folder, and calls [`fg_run::run`].
 #![tactic(auto)]
 
-ghost use Rattle.std.specs.Prelude.{◌≡◌, ◌↔◌, ℕ, [], drop, map, string_bytes, IfOk, IfErr, IsErr, OnErr};
+ghost use Rattle.std.specs.Prelude.{◌≡◌, ◌↔◌, ◌⊎◌, [], drop, map, string_bytes, IfOk, IfErr, IsErr, OnErr};
 ghost use Rattle.std.specs.IoError.{error_kind};
 ghost use Rattle.std.specs.Process.{exit_status};
 ghost use Rattle.std.specs.Vec.Iter.{into_iter_items};
-ghost use Rattle.fg_run.specs.Command.{IsRepair};
-ghost use Rattle.fg_run.specs.Ended.{TellsFault, status_of};
-ghost use Rattle.fg_run.specs.Run.{Outputs};
+ghost use Rattle.fg_cli.specs.declared.WordFault.{WordFault as AnyWordFault};
+ghost use Rattle.fg_run.specs.declared.request.Request.{Request as AnyRequest};
+ghost use Rattle.fg_run.specs.declared.request.Request.TheVariants.{Refused};
+ghost use Rattle.fg_run.specs.Ended.{IsFault, TellsFault, status_of};
+ghost use Rattle.fg_run.specs.Request.{Asks};
+ghost use Rattle.fg_run.specs.Run.{Answers};
 
 use fg_io::{FolderOutlet, Outlet, Sink, Source, StderrSink, StdinSource, StdoutSink};
 use fg_run::{Ended, NoGate, Why};
@@ -42,12 +45,12 @@ fn run_words<W: Threads + Wait + Sync, S: Source + Send, K: Sink + Send, E: Sink
 ) -> Ended
     ensures status { result.status ≡ status_of result.why }
     ensures no_memory { OnErr words (result.why ≡ Why.Memory) }
-    ensures words { IfOk words (λ words. (result.why ≡ Why.NotBuilt 0)
-        ↔ ((port : ℕ) → IsRepair (map string_bytes words.items) port → ⊥)) }
-    ensures done { IfOk words (λ words. result.why ≡ Why.Done
-        → (port : ℕ) → IsRepair (map string_bytes words.items) port
-        → Outputs port (S.left input.old) (O.lanes lanes.old) (O.lanes lanes.new)
-        (K.written out.old) (K.written out.new)) }
+    ensures answers { IfOk words (λ words. (request : AnyRequest)
+        → Asks (map string_bytes words.items) request
+        → IsFault result.why ⊎ Answers request result.why (S.left input.old)
+        (O.lanes lanes.old) (O.lanes lanes.new) (K.written out.old) (K.written out.new)) }
+    ensures words { IfOk words (λ words. (fault : AnyWordFault) → result.why ≡ Why.Words fault
+        → Asks (map string_bytes words.items) (Refused fault)) }
     ensures err { TellsFault result.why (E.written err.old) (E.faults err.old)
         (E.written err.new) (E.faults err.new) }
 {

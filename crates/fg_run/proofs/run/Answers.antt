@@ -1,33 +1,65 @@
-use Rattle.std.proofs.Common.{◌≡◌, ◌⊎◌, sym, ◌∙◌}
+use Rattle.std.proofs.Common.{◌≡◌, ◌⊎◌, inl, refl}
 use Rattle.fg_run.specs.declared.ended.Why.{Why}
+use Rattle.fg_run.specs.declared.ended.Why.TheVariants.{Memory}
 use Rattle.fg_run.specs.Ended.{IsFault}
-use Rattle.fg_run.specs.Run.{IsEnding}
-use Rattle.fg_run.specs.Steps.{answer_of}
-use Rattle.fg_run.proofs.OfPort.{of_each, of_each_told, none_told, exactly_told}
-use Rattle.fg_run.proofs.Stops.{ending_told, where_done, where_write}
+use Rattle.fg_run.specs.Run.{Answers, AnswersPart, IsAnswer, IsNoInput, MakesNoLane, ReadsNothing, WritesNothing}
+use Rattle.fg_run.proofs.Asked.{of_each, of_each_told, complete_told, memory_told, memory_complete, nothing_made}
+use Rattle.fg_run.proofs.Untouched.{untouched}
 use Rattle.fg_run.proofs.run.Goals as goal
-use Rattle.fg_run.proofs.run.Goals.{in-Some, in-None}
+use Rattle.fg_run.proofs.run.Goals.{in-Ok, in-Err}
 
-pub returns-clause-ending : goal.returns-clause-ending
-returns-clause-ending g c = elim c.match-flow_port.branch [
-  | in-Some w ↦ rw (c.tell_end.ensures.why, w.why-is, w.answer-why.ensures) (of_each_told _ w.in-Some.port _ (λ port bytes. IsFault (answer_of w.repair.result) ⊎ IsEnding port bytes (answer_of w.repair.result)) w.in-Some.ensures.found (ending_told w.in-Some.port _ w.repair.result w.repair.ensures.ending w.repair.ensures.refused))
-  | in-None w ↦ none_told _ _ (λ port bytes. IsFault c.tell_end.result.why ⊎ IsEnding port bytes c.tell_end.result.why) w.in-None.ensures.none
+pub returns-clause-answers : goal.returns-clause-answers
+returns-clause-answers g c = elim c.match-read_request.branch [
+  | in-Ok w ↦ rw (c.tell_end.ensures.why, w.why-is, w.lanes-is, w.out-is)
+      (of_each c.one_request.ensures _ w.in-Ok.request (λ request. IsFault w.answer-why.result ⊎ Answers request w.answer-why.result _ _ _ _ _)
+      w.in-Ok.ensures.asked w.answer-why.ensures.answers)
+  | in-Err w ↦ rw (c.tell_end.ensures.why, w.why-is) (λ request h. inl tt)
 ]
 
 pub returns-clause-exactly : goal.returns-clause-exactly
-returns-clause-exactly g c = elim c.match-flow_port.branch [
-  | in-Some w ↦ rw (c.tell_end.ensures.why, w.why-is, w.answer-why.ensures) (of_each_told _ w.in-Some.port _ (λ port bytes. (why : Why) → IsEnding port bytes why → IsFault (answer_of w.repair.result) ⊎ (answer_of w.repair.result ≡ why)) w.in-Some.ensures.found (exactly_told w.in-Some.port _ (answer_of w.repair.result) (ending_told w.in-Some.port _ w.repair.result w.repair.ensures.ending w.repair.ensures.refused)))
-  | in-None w ↦ none_told _ _ (λ port bytes. (why : Why) → IsEnding port bytes why → IsFault c.tell_end.result.why ⊎ (c.tell_end.result.why ≡ why)) w.in-None.ensures.none
+returns-clause-exactly g c = elim c.match-read_request.branch [
+  | in-Ok w ↦ rw (c.tell_end.ensures.why, w.why-is)
+      (of_each_told c.one_request.ensures _ w.in-Ok.request _ (λ request bytes. (why : Why) → IsAnswer request bytes why → IsFault w.answer-why.result ⊎ (w.answer-why.result ≡ why))
+      w.in-Ok.ensures.asked w.answer-why.ensures.exactly)
+  | in-Err w ↦ rw (c.tell_end.ensures.why, w.why-is) (memory_told _ _)
 ]
 
-pub returns-clause-done : goal.returns-clause-done
-returns-clause-done g c e = elim c.match-flow_port.branch [
-  | in-Some w ↦ rw (w.lanes-is, w.out-is) (of_each _ w.in-Some.port _ w.in-Some.ensures.found (where_done w.repair.result _ w.repair.ensures.done (sym w.answer-why.ensures ∙ sym w.why-is ∙ sym c.tell_end.ensures.why ∙ e)))
-  | in-None w ↦ λ port h. absurd (w.in-None.ensures.none port h)
+pub returns-clause-complete : goal.returns-clause-complete
+returns-clause-complete g c = elim c.match-read_request.branch [
+  | in-Ok w ↦ rw (c.tell_end.ensures.why, w.why-is, w.input-is, w.out-is, w.lanes-is)
+      (of_each_told c.one_request.ensures _ w.in-Ok.request _ (λ request bytes. (why : Why) → IsAnswer request bytes why → _ → _ → _ → (w.answer-why.result ≡ why) ⊎ (w.answer-why.result ≡ Memory))
+      w.in-Ok.ensures.asked
+      (complete_told _ _ _ w.answer-why.result _ (IsAnswer w.in-Ok.request) w.answer-why.ensures.exactly w.answer-why.ensures.read_fault w.answer-why.ensures.write_fault))
+  | in-Err w ↦ rw (c.tell_end.ensures.why, w.why-is) (memory_complete _ _ _ _ _)
 ]
 
 pub returns-clause-part : goal.returns-clause-part
-returns-clause-part g c e = elim c.match-flow_port.branch [
-  | in-Some w ↦ rw (w.lanes-is, w.out-is) (of_each _ w.in-Some.port _ w.in-Some.ensures.found (where_write w.repair.result _ w.repair.ensures.part (sym w.answer-why.ensures ∙ sym w.why-is ∙ sym c.tell_end.ensures.why ∙ e)))
-  | in-None w ↦ λ port h. absurd (w.in-None.ensures.none port h)
+returns-clause-part g c = elim c.match-read_request.branch [
+  | in-Ok w ↦ rw (c.tell_end.ensures.why, w.why-is, w.out-is, w.lanes-is)
+      (λ fault. of_each c.one_request.ensures _ w.in-Ok.request (λ request. AnswersPart request _ _ _ _ _ _) w.in-Ok.ensures.asked (w.answer-why.ensures.part fault))
+  | in-Err w ↦ rw (w.out-is, w.lanes-is) (λ fault request h. untouched c.parts_of_writes.ensures.none request _ _ _ _)
+]
+
+pub returns-clause-nothing_read : goal.returns-clause-nothing_read
+returns-clause-nothing_read g c = elim c.match-read_request.branch [
+  | in-Ok w ↦ rw w.input-is (of_each c.one_request.ensures _ w.in-Ok.request (λ request. ReadsNothing request → w.answer-why.new.input ≡ c.args.input.now) w.in-Ok.ensures.asked w.answer-why.ensures.nothing_read)
+  | in-Err w ↦ rw w.input-is (λ request h k. refl)
+]
+
+pub returns-clause-nothing_written : goal.returns-clause-nothing_written
+returns-clause-nothing_written g c = elim c.match-read_request.branch [
+  | in-Ok w ↦ rw w.out-is (of_each c.one_request.ensures _ w.in-Ok.request (λ request. WritesNothing request → w.answer-why.new.out ≡ c.args.out.now) w.in-Ok.ensures.asked w.answer-why.ensures.nothing_written)
+  | in-Err w ↦ rw w.out-is (λ request h k. refl)
+]
+
+pub returns-clause-no_lane : goal.returns-clause-no_lane
+returns-clause-no_lane g c = elim c.match-read_request.branch [
+  | in-Ok w ↦ rw w.lanes-is (of_each c.one_request.ensures _ w.in-Ok.request (λ request. MakesNoLane request → w.answer-why.new.lanes ≡ c.args.lanes.now) w.in-Ok.ensures.asked w.answer-why.ensures.no_lane)
+  | in-Err w ↦ rw w.lanes-is (λ request h k. refl)
+]
+
+pub returns-clause-no_input : goal.returns-clause-no_input
+returns-clause-no_input g c = elim c.match-read_request.branch [
+  | in-Ok w ↦ rw (w.lanes-is, w.out-is) (of_each_told c.one_request.ensures _ w.in-Ok.request _ (λ request bytes. IsNoInput request bytes → (w.answer-why.new.lanes ≡ c.args.lanes.now) × (w.answer-why.new.out ≡ c.args.out.now)) w.in-Ok.ensures.asked w.answer-why.ensures.no_input)
+  | in-Err w ↦ rw (w.lanes-is, w.out-is) (nothing_made _ _ _ (refl, refl))
 ]

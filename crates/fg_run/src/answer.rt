@@ -1,0 +1,82 @@
+//! Answering a request.
+ghost use Rattle.std.specs.Prelude.{◌≡◌, ◌≢◌, ◌≤◌, ◌⊎◌, IfSome};
+ghost use Rattle.std.specs.Io.KnownBytes.{IsAtEnd};
+ghost use Rattle.fg_io.specs.Faults.{CountsFault};
+ghost use Rattle.fg_io.specs.Sink.{Gains, GainsPart};
+ghost use Rattle.fg_flows.specs.Plan.{PlanFits};
+ghost use Rattle.fg_cli.specs.declared.WordFault.{WordFault as AnyWordFault};
+ghost use Rattle.fg_cli.specs.declared.Order.{Order as AnyOrder};
+ghost use Rattle.fg_run.specs.declared.ended.Why.{Why as AnyWhy};
+ghost use Rattle.fg_run.specs.declared.request.Request.{Request as AnyRequest};
+ghost use Rattle.fg_run.specs.Ended.{IsFault};
+ghost use Rattle.fg_run.specs.Request.{RequestFits};
+ghost use Rattle.fg_run.specs.Run.{Answers, AnswersPart, IsAnswer, IsNoInput, MakesNoLane, ReadsAll, ReadsNothing, WritesNothing};
+
+use crate::ended::Why;
+use crate::help;
+use crate::request::Request;
+use fg_cli::Order;
+use fg_flows::Plan;
+use fg_io::{Outlet, Sink, Source, write_all};
+use fg_repair::repair_alone;
+use std::alloc::Global;
+
+/// Does what the request asks for, and tells why it ended.
+pub fn answer<S: Source, K: Sink, O: Outlet>(
+    alloc: Global,
+    request: Request,
+    input: &mut S,
+    out: &mut K,
+    lanes: &mut O,
+) -> Why
+    requires { RequestFits request }
+    ensures answers { IsFault result ⊎ Answers request result (S.left input.old)
+        (O.lanes lanes.old) (O.lanes lanes.new) (K.written out.old) (K.written out.new) }
+    ensures exactly { IfSome (S.left input.old) (λ bytes. (why : AnyWhy)
+        → IsAnswer request bytes why → IsFault result ⊎ (result ≡ why)) }
+    ensures words { (fault : AnyWordFault) → result ≡ Why.Words fault → request ≡ Request.Refused fault }
+    ensures part { IsFault result → AnswersPart request (S.left input.old) (O.lanes lanes.old)
+        (O.lanes lanes.new) K.written out.old out.new }
+    ensures no_input { IfSome (S.left input.old) (λ bytes. IsNoInput request bytes
+        → (lanes.new ≡ lanes.old) × (out.new ≡ out.old)) }
+    ensures nothing_read { ReadsNothing request → input.new ≡ input.old }
+    ensures nothing_written { WritesNothing request → out.new ≡ out.old }
+    ensures no_lane { MakesNoLane request → lanes.new ≡ lanes.old }
+    ensures all_read { ReadsAll request result → IsAtEnd (S.left input.new) }
+
+    ensures read_fault { result ≡ Why.ReadFault → CountsFault (S.faults input.old) (S.faults input.new) }
+    ensures write_fault { result ≡ Why.WriteFault
+        → CountsFault (K.faults out.old) (K.faults out.new)
+        ⊎ CountsFault (O.faults lanes.old) (O.faults lanes.new) }
+    ensures no_read_fault { result ≢ Why.ReadFault → S.faults input.new ≡ S.faults input.old }
+    ensures no_write_fault { result ≢ Why.WriteFault
+        → (K.faults out.new ≡ K.faults out.old) × (O.faults lanes.new ≡ O.faults lanes.old) }
+    ensures input_faults { S.faults input.old ≤ S.faults input.new }
+    ensures out_faults { K.faults out.old ≤ K.faults out.new }
+    ensures lanes_faults { O.faults lanes.old ≤ O.faults lanes.new }
+{
+    match request {
+        Request::Help => write_text(out, help::help_text()),
+        Request::Version => write_text(out, help::version_text()),
+        Request::Ordered(Order::Repair(plan)) => repair_alone(
+            alloc, &plan, input, out, lanes,
+        ).into(),
+        Request::Ordered(_) => Why::NotBuilt(0),
+        Request::Refused(fault) => Why::Words(fault),
+    }
+}
+
+/// Writes the text, and tells why that ended.
+fn write_text<K: Sink>(out: &mut K, text: &str) -> Why
+    ensures done_or_fault { (result ≡ Why.Done) ⊎ (result ≡ Why.WriteFault) }
+    ensures whole { result ≡ Why.Done → Gains (K.written out.old) text.now (K.written out.new) }
+    ensures part { result ≡ Why.WriteFault → GainsPart (K.written out.old) text.now (K.written out.new) }
+    ensures no_fault { result ≡ Why.Done → K.faults out.new ≡ K.faults out.old }
+    ensures counted { result ≡ Why.WriteFault → CountsFault (K.faults out.old) (K.faults out.new) }
+    ensures never_falls { K.faults out.old ≤ K.faults out.new }
+{
+    match write_all(out, text.as_bytes()) {
+        Ok(()) => Why::Done,
+        Err(_) => Why::WriteFault,
+    }
+}
