@@ -6,9 +6,11 @@ use Rattle.fg_io.specs.Outlet.{Lanes, lane_of, lane_bytes, WhereTold}
 use Rattle.fg_trace.specs.Reader.{ReaderState, StandsAfter}
 use Rattle.fg_trace.specs.Trace.{Record, Ending, NotTrace, IsTrace}
 use Rattle.fg_flows.specs.declared.Plan.{Plan}
+use Rattle.fg_flows.specs.Plan.{PlanFits}
 use Rattle.fg_desk.specs.State.{State}
 use Rattle.fg_report.specs.declared.flow_sum.FlowSum.{FlowSum}
 use Rattle.fg_report.specs.declared.tail.Tail.{Tail}
+use Rattle.fg_report.specs.declared.tail.Tail.TheVariants as tail
 use Rattle.fg_repair.specs.declared.engine.Engine.{Engine}
 use Rattle.fg_repair.specs.declared.fault.Fault.{Fault}
 use Rattle.fg_repair.specs.declared.fault.Fault.TheVariants.{Write}
@@ -104,8 +106,14 @@ pub record IsUnderway
 
 -- The trace is one, and ends so.
 abbrev pub TellsTail : Ending → Tail → Type 0
-TellsTail (NotTrace n) tail = ⊥
-TellsTail end tail = tail ≡ tail_of end
+TellsTail (NotTrace n) told = ⊥
+TellsTail end told = told ≡ tail_of end
+
+-- Such a tail is found at the input's end.
+abbrev pub IsReadToEnd : Tail → Type 0
+IsReadToEnd tail.Ended = ⊤
+IsReadToEnd (tail.Cut n) = ⊤
+IsReadToEnd (tail.TooLong n) = ⊥
 
 -- All records of the trace were taken, and it ends so.
 pub record TookAll
@@ -118,6 +126,15 @@ pub record TookAll
   pub come : HasCome plan records engine before after
 
 -- At the end
+
+-- The engine has taken some records, as a plan has it.
+pub record IsReady (engine : Engine) (lanes : Option Lanes) : Type 0 where
+  pub plan : Plan
+  pub records : List Record
+  pub before : Option Lanes
+  pub fits : PlanFits plan
+  pub few : length records < 2 ^ 43
+  pub come : HasCome plan records engine before lanes
 
 -- One flow is flushed or not.
 abbrev pub FlowEnds : Bool → Plan → List Record → ℕ → Flow → List ℕ → Type 0
