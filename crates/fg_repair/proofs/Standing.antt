@@ -243,21 +243,26 @@ come_some law plan good engine port i kind of old new player at keeps tray datag
 front_more : (window depth : ℕ) (records : List Record) (r : Record) (port : ℕ) (lane : List ℕ) → IsFrontOfLane window depth records port lane → IsFrontOfLane window depth (records ++ r ∷ []) port lane
 front_more window depth records r port lane f later result h = f (r ∷ later) result (subst (λ (rs : List Record). IsFlowResult window depth rs port result) (append_assoc records (r ∷ []) later) h)
 
+some_flow : (items : List Flow) → 0 < length items → Flow
+some_flow [] h = absurd (omega arith)
+some_flow (f ∷ items) h = f
+
 -- what a flow of the table has shown is its lane's front
-pub front_at : TakenIsFront → (plan : Plan) (records : List Record) (engine : Engine) (gained : ℕ → List ℕ) → EngineStands plan records engine gained → Flow → (port : ℕ) → Contains plan.table port → IsFrontOfLane plan.window plan.depth records port (gained port)
-front_at law plan records engine gained h any port c =
+pub front_at : TakenIsFront → (plan : Plan) (records : List Record) (engine : Engine) (gained : ℕ → List ℕ) → EngineStands plan records engine gained → (port : ℕ) → Contains plan.table port → IsFrontOfLane plan.window plan.depth records port (gained port)
+front_at law plan records engine gained h port c =
+    let any = some_flow engine.flows.items (omega (arith, h.count, c.1)) in
     let same : slice_index plan.table c.0 ≡ port = get_or_default plan.table c.0 0 port c.1 ∙ c.2 in
     let stands : FlowStands plan records (slice_index plan.table c.0) (slice_index_or engine.flows.items c.0 any) (gained (slice_index plan.table c.0)) = h.flows c.0 any c.1 in
     subst (λ p. IsFrontOfLane plan.window plan.depth records p (gained p)) same
     (law plan.window plan.depth (slice_index plan.table c.0) records _ _ (gained (slice_index plan.table c.0)) stands.taken)
 
-broken_at : TakenIsFront → (plan : Plan) (records : List Record) (r : Record) (engine : Engine) (gained : ℕ → List ℕ) → EngineStands plan records engine gained → Flow → (flow : ℕ) (part : List ℕ) → IsFrontOfLane plan.window plan.depth (records ++ r ∷ []) flow (gained flow ++ part) → (port : ℕ) → Contains plan.table port → (port ≡ flow) ⊎ (port ≡ flow → ⊥) → IsFrontOfLane plan.window plan.depth (records ++ r ∷ []) port (more gained flow part port)
-broken_at law plan records r engine gained h any flow part f port c (inl e) =
+broken_at : TakenIsFront → (plan : Plan) (records : List Record) (r : Record) (engine : Engine) (gained : ℕ → List ℕ) → EngineStands plan records engine gained → (flow : ℕ) (part : List ℕ) → IsFrontOfLane plan.window plan.depth (records ++ r ∷ []) flow (gained flow ++ part) → (port : ℕ) → Contains plan.table port → (port ≡ flow) ⊎ (port ≡ flow → ⊥) → IsFrontOfLane plan.window plan.depth (records ++ r ∷ []) port (more gained flow part port)
+broken_at law plan records r engine gained h flow part f port c (inl e) =
     subst (λ p. IsFrontOfLane plan.window plan.depth (records ++ r ∷ []) p (more gained flow part p)) (sym e)
     (subst (λ (lane : List ℕ). IsFrontOfLane plan.window plan.depth (records ++ r ∷ []) flow lane) (sym (more_same gained flow part)) f)
-broken_at law plan records r engine gained h any flow part f port c (inr ne) =
+broken_at law plan records r engine gained h flow part f port c (inr ne) =
     subst (λ (lane : List ℕ). IsFrontOfLane plan.window plan.depth (records ++ r ∷ []) port lane) (sym (more_other gained flow part port ne))
-    (front_more plan.window plan.depth records r port (gained port) (front_at law plan records engine gained h any port c))
+    (front_more plan.window plan.depth records r port (gained port) (front_at law plan records engine gained h port c))
 
 pub breaks_some :
     TakenIsFront → (plan : Plan) (engine : Engine) (port i : ℕ) (kind : Kind) → IsPortOf plan.table port i kind
@@ -273,5 +278,5 @@ breaks_some law plan engine port i kind of old at datagram now after breaks befo
     record {
       gained = more h.gained flow step.part;
       grow = grow_more before now after plan.table h.gained flow step.part (contains_at plan.table i of.0) h.grow step.grows;
-      fronts = λ q c. broken_at law plan records r engine h.gained h.stands old flow step.part step.front q c (cases_eq q flow);
+      fronts = λ q c. broken_at law plan records r engine h.gained h.stands flow step.part step.front q c (cases_eq q flow);
     }
