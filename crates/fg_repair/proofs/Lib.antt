@@ -3,3 +3,4 @@ pub mod Growing
 pub mod Results
 pub mod Standing
 pub mod Reading
+pub mod Flushing

@@ -141,10 +141,10 @@ come_none plan engine port none before now records r h e =
 -- A record of a flow
 
 -- a fact of a flow's own settings, at the plan's
-moved : (P : ℕ → ℕ → ℕ → Type 0) (w w' d d' p p' : ℕ) → w ≡ w' → d ≡ d' → p ≡ p' → P w d p → P w' d' p'
+pub moved : (P : ℕ → ℕ → ℕ → Type 0) (w w' d d' p p' : ℕ) → w ≡ w' → d ≡ d' → p ≡ p' → P w d p → P w' d' p'
 moved P w w' d d' p p' ew ed ep h = subst (λ x. P x d' p') ew (subst (λ x. P w x p') ed (subst (λ x. P w d x) ep h))
 
-flow_taken : (plan : Plan) (records : List Record) (port : ℕ) (flow : Flow) (lane : List ℕ) → FlowStands plan records port flow lane → HasTaken flow.desk.state.window flow.desk.state.depth flow.sum.port records flow.desk.state flow.sum lane
+pub flow_taken : (plan : Plan) (records : List Record) (port : ℕ) (flow : Flow) (lane : List ℕ) → FlowStands plan records port flow lane → HasTaken flow.desk.state.window flow.desk.state.depth flow.sum.port records flow.desk.state flow.sum lane
 flow_taken plan records port flow lane h =
     moved (λ w d p. HasTaken w d p records flow.desk.state flow.sum lane) plan.window flow.desk.state.window plan.depth flow.desk.state.depth port flow.sum.port
     (sym h.window_is) (sym h.depth_is) (sym h.port_is) h.taken

@@ -127,15 +127,6 @@ pub record TookAll
 
 -- At the end
 
--- The engine has taken some records, as a plan has it.
-pub record IsReady (engine : Engine) (lanes : Option Lanes) : Type 0 where
-  pub plan : Plan
-  pub records : List Record
-  pub before : Option Lanes
-  pub fits : PlanFits plan
-  pub few : length records < 2 ^ 43
-  pub come : HasCome plan records engine before lanes
-
 -- One flow is flushed or not.
 abbrev pub FlowEnds : Bool → Plan → List Record → ℕ → Flow → List ℕ → Type 0
 FlowEnds true plan records port flow lane =
@@ -146,10 +137,21 @@ FlowEnds false plan records port flow lane = FlowStands plan records port flow l
 pub record IsFlushing
     (plan : Plan) (records : List Record) (count : ℕ) (flows : List Flow) (before after : Option Lanes) : Type 0 where
   pub gained : ℕ → List ℕ
+  pub long : length flows ≡ length plan.table
   pub ends : (k : ℕ) (d : Flow) → k < length plan.table
       → FlowEnds (nat_lt k count) plan records (slice_index plan.table k) (slice_index_or flows k d) (gained (slice_index plan.table k))
   pub grow : GrowAll before plan.table gained after
   pub there : AreThere plan.table after
+
+-- The flows have taken some records, as a plan has it, and none is flushed.
+pub record AreReady (flows : List Flow) (window : ℕ) (lanes : Option Lanes) : Type 0 where
+  pub plan : Plan
+  pub records : List Record
+  pub before : Option Lanes
+  pub fits : PlanFits plan
+  pub few : length records < 2 ^ 43
+  pub tray : window ≡ plan.window
+  pub flushing : IsFlushing plan records 0 flows before lanes
 
 -- A fault came meanwhile: what each lane has gained is its front in the trace of these records.
 pub record BreaksAtFlush (plan : Plan) (records : List Record) (before after : Option Lanes) : Type 0 where
