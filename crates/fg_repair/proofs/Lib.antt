@@ -4,3 +4,4 @@ pub mod Results
 pub mod Standing
 pub mod Reading
 pub mod Flushing
+pub mod Writing
