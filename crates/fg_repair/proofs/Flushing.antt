@@ -19,7 +19,7 @@ use Rattle.fg_repair.specs.Flow.{FlowResult, IsFlowResult}
 use Rattle.fg_repair.specs.Lanes.{LanesGain, PutsAll}
 use Rattle.fg_repair.specs.Repair.{AreResults, lanes_of}
 use Rattle.fg_repair.specs.Steps.{HasTaken, IsUnderway, IsFrontOfLane, BeginsLane, EndsFlow, BreaksAtEnd}
-use Rattle.fg_repair.proofs.Growing.{more, more_same, more_other, grow_more, there_more, contains_at}
+use Rattle.fg_repair.proofs.Lanes.{more, more_same, more_other, grow_more, there_more, contains_at}
 use Rattle.fg_repair.proofs.Standing.{moved, flow_taken, ports_differ}
 
 -- Which flows are flushed

@@ -1,7 +1,7 @@
+pub mod Flushing
 pub mod Fronts
-pub mod Growing
+pub mod Lanes
 pub mod Results
 pub mod Standing
-pub mod Reading
-pub mod Flushing
+pub mod Walking
 pub mod Writing

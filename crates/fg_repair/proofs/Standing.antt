@@ -27,7 +27,7 @@ use Rattle.fg_repair.specs.Engine.{TakenIsFront, FlowStands, EngineStands, HasCo
 use Rattle.fg_repair.specs.Flow.{Arrives, records_of, is_of, IsFlowResult, FlowResult}
 use Rattle.fg_repair.specs.Repair.{others_of}
 use Rattle.fg_repair.specs.Steps.{HasTaken, IsFrontOfLane, TakesRecord, BreaksAtRecord}
-use Rattle.fg_repair.proofs.Growing.{more, more_same, more_other, grow_more, there_more, contains_at}
+use Rattle.fg_repair.proofs.Lanes.{more, more_same, more_other, grow_more, there_more, contains_at}
 
 -- Before the first record
 

@@ -16,8 +16,8 @@ use Rattle.fg_repair.specs.Lanes.{LanesGainPart, PutsAllPart}
 use Rattle.fg_repair.specs.Repair.{AreResults, lanes_of}
 use Rattle.fg_repair.specs.Steps.{BeginsLane}
 use Rattle.fg_repair.proofs.Flushing.{flushing_none}
-use Rattle.fg_repair.proofs.Growing.{told_map}
-use Rattle.fg_repair.proofs.Reading.{each_part, others_told}
+use Rattle.fg_repair.proofs.Lanes.{told_map}
+use Rattle.fg_repair.proofs.Walking.{each_part, others_told}
 
 -- Before any record
 

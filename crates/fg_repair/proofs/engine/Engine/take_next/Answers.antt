@@ -5,7 +5,7 @@ use Rattle.fg_trace.specs.Trace.{Ended, Cut, TooLong}
 use Rattle.fg_io.specs.Outlet.{Lanes}
 use Rattle.fg_repair.specs.Engine.{IsUnderway, LanesPart}
 use Rattle.fg_repair.proofs.Results.{on_err}
-use Rattle.fg_repair.proofs.Reading.{running, part_at_record, part_at_fault, took_all}
+use Rattle.fg_repair.proofs.Walking.{running, part_at_record, part_at_fault, took_all}
 use Rattle.fg_repair.proofs.engine.Engine.take_next.Goals as goal
 
 pub take-requires-clause-running : goal.take-requires-clause-running

@@ -19,7 +19,7 @@ use Rattle.fg_repair.specs.Flow.{FlowResult, IsFlowResult}
 use Rattle.fg_repair.specs.Lanes.{OthersStay, LaneGainsPart, LanesGainPart, PutsAllPart}
 use Rattle.fg_repair.specs.Repair.{AreResults, lanes_of}
 use Rattle.fg_repair.specs.Steps.{IsFrontOfLane}
-use Rattle.fg_repair.proofs.Growing.{told_map}
+use Rattle.fg_repair.proofs.Lanes.{told_map}
 use Rattle.fg_repair.proofs.Standing.{front_at}
 
 -- Few records
