@@ -2,6 +2,7 @@
 #![tactic(auto)]
 
 mod alone;
+mod counts;
 mod fault;
 mod flow;
 pub mod laws;
