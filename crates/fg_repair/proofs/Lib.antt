@@ -1,2 +1,4 @@
 pub mod Counting
 pub mod Filling
+pub mod Growing
+pub mod Showing

@@ -154,6 +154,10 @@ pub record CountsWithin (sum : FlowSum) (mark : ℕ) : Type 0 where
 abbrev pub play_in : Played → Holding → Play
 play_in played tray = record { first = played.first; shown = tray.shown; outcome = played.verdict }
 
+-- The port's lane has gained a front of the piece.
+abbrev pub GrowsPart : Option Lanes → ℕ → List ℕ → Option Lanes → Type 0
+GrowsPart before port piece after = (part : List ℕ) × IsPrefix part piece × Grows before port part after
+
 -- Such plays were made from here. They are counted, and the lane has gained what they show.
 pub record HaveShown
     (Are : List Play → State → Type 0) (old : State) (sum : FlowSum) (before : Option Lanes)
@@ -169,21 +173,18 @@ pub record BreakOff (Are : List Play → State → Type 0) (port : ℕ) (before 
   pub plays : List Play
   pub now : State
   pub are : Are plays now
-  pub part : List ℕ
-  pub front : IsPrefix part (lane_of plays)
-  pub grows : Grows before port part after
+  pub part : GrowsPart before port (lane_of plays) after
 
--- A datagram of this kind is read, and does this.
-pub record TakesDatagram
-    (kind : Kind) (bytes : List ℕ) (old : State) (sum : FlowSum) (before : Option Lanes)
+-- A datagram of this kind is read, the plays before it are made, and it is admitted or gets its reply.
+pub record AdmitsDatagram
+    (kind : Kind) (bytes : List ℕ) (old : State) (sum : FlowSum) (before : Option Lanes) (reply : Option Reply)
     (new : State) (sum' : FlowSum) (after : Option Lanes) : Type 0 where
   pub arrival : Arrival
   pub due : List Play
-  pub reply : Option Reply
   pub read : IsReadAs kind bytes arrival
   pub takes : Takes old arrival due reply new
   pub grows : Grows before sum.port (lane_of due) after
-  pub counts : sum' ≡ with_answer kind (with_plays sum old.mark due) reply
+  pub counts : sum' ≡ with_plays sum old.mark due
 
 -- The plays that come before an arrival, so far. Only a media datagram makes plays due.
 abbrev pub PlaysBefore : State → Arrival → List Play → State → Type 0

@@ -4,10 +4,11 @@ ghost use Rattle.std.specs.List.{count_by};
 ghost use Rattle.std.specs.Option.{option_copied};
 ghost use Rattle.fg_desk.specs.Play.{Play};
 ghost use Rattle.fg_repair.specs.Flow.{is_inconsistent, shown_payload};
-ghost use Rattle.fg_repair.specs.Steps.{MarksHaveRoom, CountsWithin, with_reply, with_shown};
+ghost use Rattle.fg_repair.specs.Steps.{MarksHaveRoom, RepliesHaveRoom, CountsWithin, with_reply, with_answer, with_shown};
 
 use crate::player::payload;
 use fg_desk::{Outcome, Reply};
+use fg_flows::Kind;
 use fg_report::{FlowSum, Marks};
 use fg_words::Word;
 use std::alloc::AllocError;
@@ -27,6 +28,18 @@ pub(crate) fn count_reply(marks: &mut Marks, reply: Option<Reply>)
         Some(Reply::Ahead) => marks.ahead += 1,
         Some(Reply::Crowded) => marks.crowded += 1,
         None => marks.bad += 1,
+    }
+}
+
+/// Counts the reply to a datagram of this kind.
+pub(crate) fn count_answer(sum: &mut FlowSum, kind: Kind, reply: Option<Reply>)
+    requires { RepliesHaveRoom sum.old }
+    ensures { sum.new ≡ with_answer kind sum.old reply }
+{
+    match kind {
+        Kind::Media => count_reply(&mut sum.media, reply),
+        Kind::Column => count_reply(&mut sum.column, reply),
+        Kind::Row => count_reply(&mut sum.row, reply),
     }
 }
 
