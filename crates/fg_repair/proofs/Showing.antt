@@ -1,5 +1,5 @@
 -- Plays are made and shown one after another.
-use Rattle.std.proofs.Common.{◌≡◌, ◌+◌, ◌-◌, ◌<◌, ◌≤◌, ◌++◌, ℕ, List, [], ◌∷◌, length, Bool, false, true, IsTrue, Option, Result, Ok, Err, OnErr, refl, sym, ap, subst, ◌∙◌, arith, length-append}
+use Rattle.std.proofs.Common.{◌≡◌, ◌+◌, ◌-◌, ◌<◌, ◌≤◌, ◌++◌, ℕ, List, [], ◌∷◌, length, min, Bool, false, true, IsTrue, Option, Result, Ok, Err, OnErr, refl, sym, ap, subst, ◌∙◌, arith, length-append}
 use Rattle.std.proofs.lemmas.List.{append-nil}
 use Rattle.fg_io.specs.Outlet.{Lanes}
 use Rattle.fg_desk.specs.State.{State}
@@ -21,6 +21,19 @@ mark_after :
     → new.mark ≡ old.mark + length (all_shown (play ∷ []))
 mark_after count old play new is =
     is.mark ∙ ap (λ (n : ℕ). old.mark + n) (sym is.length_is ∙ sym (shown_of_one play))
+
+-- What was made so, may be told otherwise.
+pub retold :
+    (Are Told : List Play → State → Type 0) (old new : State) (sum sum' : FlowSum) (before after : Option Lanes)
+    → ((plays : List Play) → Are plays new → Told plays new) → HaveShown Are old sum before new sum' after
+    → HaveShown Told old sum before new sum' after
+retold Are Told old new sum sum' before after tell so = record {
+  plays = so.plays;
+  are = tell so.plays so.are;
+  mark = so.mark;
+  grows = so.grows;
+  counts = so.counts;
+}
 
 module _ (Are : List Play → State → Type 0) (old : State) (sum : FlowSum) (before : Option Lanes) where
   pub one_more_shown :
@@ -99,3 +112,16 @@ nearer limit mark next count is some room = omega arith
 pub on_err : {T E P : Type 0} (r : Result T E) → P → OnErr r P
 on_err (Ok x) holds = tt
 on_err (Err e) holds = holds
+
+-- A step of a flush plays one position at least, and moves the mark nearer to its limit.
+pub step_shows :
+    (old new : State) (play : Play) (step : IsFlushStep old play new) → 1 ≤ old.window
+    → 1 ≤ min old.window (step.highest + 1 - old.mark)
+step_shows old new play step some = (let more : old.mark ≤ step.highest = step.more in omega (arith, more, some))
+
+pub step_nearer :
+    (limit : ℕ) (old new : State) (play : Play) → IsFlushStep old play new → 1 ≤ old.window → old.mark < limit
+    → limit - new.mark < limit - old.mark
+step_nearer limit old new play step some room =
+    nearer limit old.mark new.mark (min old.window (step.highest + 1 - old.mark)) step.plays.mark
+    (step_shows old new play step some) room

@@ -4,7 +4,7 @@ ghost use Rattle.fg_io.specs.Faults.{CountsFault};
 ghost use Rattle.fg_trace.specs.Trace.{Record};
 ghost use Rattle.fg_flows.specs.declared.Kind.{Kind as KindOf};
 ghost use Rattle.fg_flows.specs.Flows.{port_of};
-ghost use Rattle.fg_desk.specs.State.{opening};
+ghost use Rattle.fg_desk.specs.State.{State, opening};
 ghost use Rattle.fg_desk.specs.Admission.{IsDue};
 ghost use Rattle.fg_desk.specs.Contents.{HasRoom};
 ghost use Rattle.fg_desk.specs.Run.{Arrival, Takes, IsFlush};
@@ -253,8 +253,8 @@ impl Flow {
         requires within { FlushesWithin self.old.desk.state }
         requires counts { CountsWithin self.old.sum self.old.desk.state.mark }
         requires tray { self.old.desk.state.window ≤ player.old.tray.window }
-        ensures plays { OnOk result (HaveShown (λ plays now. IsFlush self.old.desk.state plays now)
-            self.old.desk.state self.old.sum (O.lanes lanes.old) self.new.desk.state self.new.sum (O.lanes lanes.new)) }
+        ensures plays { OnOk result ((empty : State) × HaveShown (IsFlush self.old.desk.state) self.old.desk.state
+            self.old.sum (O.lanes lanes.old) empty self.new.sum (O.lanes lanes.new)) }
         ensures breaks { OnErr result (BreakOff (AreFlushSteps self.old.desk.state) self.old.sum.port
             (O.lanes lanes.old) (O.lanes lanes.new)) }
         ensures port { self.new.sum.port ≡ self.old.sum.port }
