@@ -1,4 +1,5 @@
 pub mod Counting
 pub mod Filling
 pub mod Growing
+pub mod Reading
 pub mod Showing

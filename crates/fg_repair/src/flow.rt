@@ -2,6 +2,8 @@
 ghost use Rattle.std.specs.Prelude.{◌≡◌, ◌≢◌, ◌≤◌, ◌<◌, ◌^◌, ℕ, List, [], ◌∷◌, length, IfOk, OnOk, OnErr, IsErrOf};
 ghost use Rattle.fg_io.specs.Faults.{CountsFault};
 ghost use Rattle.fg_trace.specs.Trace.{Record};
+ghost use Rattle.fg_fechead.specs.declared.Parity.{Parity as ParityRead};
+ghost use Rattle.fg_fechead.specs.ParityDatagram.{IsParityDatagram};
 ghost use Rattle.fg_flows.specs.declared.Kind.{Kind as KindOf};
 ghost use Rattle.fg_flows.specs.Flows.{port_of};
 ghost use Rattle.fg_desk.specs.State.{State, opening};
@@ -282,6 +284,7 @@ fn admit_parity(
     requires room { HasRoom desk.old.state }
     ensures admits { IfOk result (λ reply. (kind : KindOf) → kind ≢ Kind.Media → (arrival : Arrival)
         × IsReadAs kind datagram.now arrival × Takes desk.old.state arrival [] reply desk.new.state) }
+    ensures read { OnErr result ((parity : ParityRead) × IsParityDatagram datagram.now parity) }
     ensures unchanged { OnErr result (desk.new ≡ desk.old) }
     ensures settings { (desk.new.state.window ≡ desk.old.state.window)
         × (desk.new.state.depth ≡ desk.old.state.depth) }
