@@ -1,3 +1,4 @@
+pub mod Admitting
 pub mod Counting
 pub mod Filling
 pub mod Growing

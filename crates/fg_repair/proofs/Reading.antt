@@ -11,7 +11,7 @@ use Rattle.fg_desk.specs.Admission.{AdmitsParity}
 use Rattle.fg_desk.specs.Run.{Arrival, protects, refused, Takes}
 use Rattle.fg_repair.specs.Flow.{IsReadAs, stream_of, parity_of}
 
-parity_is_read :
+pub parity_is_read :
     (kind : Kind) (bytes : List ℕ) (parity : ParityRead) → kind ≢ Media → IsParityDatagram bytes parity
     → IsReadAs kind bytes (protects (stream_of kind) (parity_of parity))
 parity_is_read Media bytes parity other is = absurd (other refl)

@@ -10,7 +10,7 @@ use Rattle.fg_report.specs.declared.flow_sum.FlowSum.{FlowSum}
 use Rattle.fg_repair.specs.Flow.{all_shown, lane_of}
 use Rattle.fg_repair.specs.Steps.{with_plays, CountsWithin, Grows, GrowsPart, HaveShown, BreakOff}
 use Rattle.fg_repair.proofs.Counting.{all_shown_more, lane_more, plays_more, plays_within}
-use Rattle.fg_repair.proofs.Growing.{grows_join, grows_part_join}
+use Rattle.fg_repair.proofs.Growing.{grows_none, grows_join, prefix_none, grows_part_join}
 
 shown_of_one : (play : Play) → length (all_shown (play ∷ [])) ≡ length play.shown
 shown_of_one play = ap length (append-nil play.shown)
@@ -21,6 +21,29 @@ mark_after :
     → new.mark ≡ old.mark + length (all_shown (play ∷ []))
 mark_after count old play new is =
     is.mark ∙ ap (λ (n : ℕ). old.mark + n) (sym is.length_is ∙ sym (shown_of_one play))
+
+-- No play adds nothing.
+pub counts_none : (sum : FlowSum) (first : ℕ) → sum ≡ with_plays sum first []
+counts_none sum first =
+    let zero : (n : ℕ) → n ≡ n + 0 = λ n. omega arith in
+    λ i. record sum {
+      shown = zero sum.shown i;
+      repaired = zero sum.repaired i;
+      missing = zero sum.missing i;
+      windows = zero sum.windows i;
+      inconsistent = zero sum.inconsistent i;
+    }
+
+-- A fault before any play.
+pub breaks_before :
+    (Are : List Play → State → Type 0) (old : State) (port : ℕ) (lanes : Option Lanes) → Are [] old
+    → BreakOff Are port lanes lanes
+breaks_before Are old port lanes are = record {
+  plays = [];
+  now = old;
+  are = are;
+  part = (([]), prefix_none [], grows_none lanes port);
+}
 
 -- What was made so, may be told otherwise.
 pub retold :

@@ -9,7 +9,7 @@ ghost use Rattle.fg_flows.specs.Flows.{port_of};
 ghost use Rattle.fg_desk.specs.State.{State, opening};
 ghost use Rattle.fg_desk.specs.Admission.{IsDue};
 ghost use Rattle.fg_desk.specs.Contents.{HasRoom};
-ghost use Rattle.fg_desk.specs.Run.{Arrival, Takes, IsFlush};
+ghost use Rattle.fg_desk.specs.Run.{Arrival, ArePlaysDue, Takes, IsFlush};
 ghost use Rattle.fg_desk.specs.Laws.{HavePlayed, AreFlushSteps};
 ghost use Rattle.fg_desk.specs.Arrivals.{StaysWithin, FlushesWithin};
 ghost use Rattle.fg_repair.specs.Flow.{IsReadAs, lane_of, sum_of};
@@ -226,7 +226,7 @@ impl Flow {
         requires within { StaysWithin self.old.desk.state }
         requires counts { CountsWithin self.old.sum self.old.desk.state.mark }
         requires tray { self.old.desk.state.window ≤ player.old.tray.window }
-        ensures plays { OnOk result (HaveShown (HavePlayed self.old.desk.state seq) self.old.desk.state self.old.sum
+        ensures plays { OnOk result (HaveShown (ArePlaysDue self.old.desk.state seq) self.old.desk.state self.old.sum
             (O.lanes lanes.old) self.new.desk.state self.new.sum (O.lanes lanes.new)) }
         ensures none_due { OnOk result (¬ IsDue self.new.desk.state seq) }
         ensures room { OnOk result (HasRoom self.new.desk.state) }

@@ -1,10 +1,12 @@
-use Rattle.std.proofs.Common.{◌≡◌, refl, sym, ap, ◌∙◌, arith}
+use Rattle.std.proofs.Common.{◌≡◌, List, refl, sym, ap, ◌∙◌, arith}
 use Rattle.fg_desk.specs.Contents.{Holding}
 use Rattle.fg_desk.specs.State.{State}
 use Rattle.fg_desk.specs.Play.{Play}
+use Rattle.fg_desk.specs.Admission.{IsDue}
+use Rattle.fg_desk.specs.Run.{ArePlaysDue}
 use Rattle.fg_desk.specs.Laws.{HavePlayed}
 use Rattle.fg_repair.specs.Steps.{play_in}
-use Rattle.fg_repair.proofs.Showing.{one_more_shown, breaks_off, within_one_more, due_after, on_err}
+use Rattle.fg_repair.proofs.Showing.{retold, one_more_shown, breaks_off, within_one_more, due_after, fails, on_err}
 use Rattle.fg_repair.proofs.flow.Flow.play_due.Goals as goal
 
 pub loop-self-preserved : goal.loop-self-preserved
@@ -39,3 +41,13 @@ returns-in_err-put_play-clause-breaks g c =
     on_err _ (breaks_off (HavePlayed old.desk.state c.args.seq) old.desk.state old.sum (g.O.Outlet.lanes c.args.lanes.now)
     now.self.desk.state c.play-played.new.self.state now.self.sum (g.O.Outlet.lanes now.lanes) (g.O.Outlet.lanes c.put_play.new.lanes) play
     now.invariant.so join now.invariant.port c.in_err-put_play.ensures.part)
+
+pub returns-clause-plays : goal.returns-clause-plays
+returns-clause-plays g c =
+    let old = c.args.self.now in
+    let now = c.loop-self in
+    let none = fails (IsDue now.self.desk.state c.args.seq) c.due.result c.loop-self-test.false c.due.ensures.1 in
+    retold (HavePlayed old.desk.state c.args.seq) (ArePlaysDue old.desk.state c.args.seq) old.desk.state now.self.desk.state old.sum now.self.sum
+    (g.O.Outlet.lanes c.args.lanes.now) (g.O.Outlet.lanes now.lanes)
+    (λ (plays : List Play) played. (c.runs_join.ensures.all_due old.desk.state now.self.desk.state c.args.seq plays).1 (played, none))
+    now.invariant.so
