@@ -179,7 +179,7 @@ impl Flow {
     {
         match kind {
             Kind::Media => self.admit_media(alloc, player, datagram, lanes),
-            Kind::Column | Kind::Row => Ok(admit_parity(alloc, &mut self.desk, datagram)?),
+            _ => Ok(admit_parity(alloc, &mut self.desk, datagram)?),
         }
     }
 

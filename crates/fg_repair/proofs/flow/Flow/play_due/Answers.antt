@@ -1,4 +1,4 @@
-use Rattle.std.proofs.Common.{◌≡◌, List, refl, sym, ap, ◌∙◌, arith}
+use Rattle.std.proofs.Common.{List, refl, ap, ◌∙◌}
 use Rattle.fg_desk.specs.Contents.{Holding}
 use Rattle.fg_desk.specs.State.{State}
 use Rattle.fg_desk.specs.Play.{Play}
