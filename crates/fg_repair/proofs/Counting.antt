@@ -37,7 +37,7 @@ end_after :
 end_after gaps position true behind = omega (arith, behind)
 end_after gaps position false behind = (let end = end_with gaps position 1 in omega (arith, end))
 
-gaps_end_within :
+pub gaps_end_within :
     (gaps : List (ℕ × ℕ)) (position : ℕ) (shown : List Shown) → gaps_end gaps ≤ position
     → gaps_end (gaps_from gaps position shown) ≤ position + length shown
 gaps_end_within gaps position [] behind = omega (arith, behind)

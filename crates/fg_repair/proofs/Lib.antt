@@ -1,6 +1,11 @@
 pub mod Admitting
+pub mod Answering
+pub mod Arriving
 pub mod Counting
 pub mod Filling
 pub mod Growing
 pub mod Reading
 pub mod Showing
+pub mod Taking
+pub mod Underway
+pub mod Zips
