@@ -1,4 +1,3 @@
-use Rattle.std.proofs.Common.{◌≡◌, refl}
 use Rattle.std.proofs.lemmas.Result.{on_ok_weaker, on_err_weaker}
 use Rattle.fg_repair.proofs.Underway.{flushes_within, counts_within}
 use Rattle.fg_repair.proofs.Taking.{flow_ends, flow_breaks}
