@@ -3,6 +3,7 @@
 
 mod alone;
 mod engine;
+mod counts;
 mod fault;
 mod flow;
 pub mod laws;
