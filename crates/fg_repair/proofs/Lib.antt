@@ -3,6 +3,7 @@ pub mod Answering
 pub mod Arriving
 pub mod Counting
 pub mod Filling
+pub mod Finishing
 pub mod Flushing
 pub mod Fronts
 pub mod Growing

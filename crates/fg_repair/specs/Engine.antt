@@ -3,17 +3,21 @@ use Rattle.std.specs.Prelude.{◌≡◌, ◌≢◌, ◌+◌, ◌≤◌, ◌<◌,
 use Rattle.std.specs.List.{Contains, slice_index_or}
 use Rattle.fg_io.specs.Faults.{CountsFault}
 use Rattle.fg_io.specs.Outlet.{Lanes, lane_of, lane_bytes, WhereTold}
+use Rattle.fg_trace.specs.declared.step.Finish.{Finish}
+use Rattle.fg_trace.specs.declared.step.Finish.TheVariants as finish
 use Rattle.fg_trace.specs.Reader.{ReaderState, StandsAfter}
 use Rattle.fg_trace.specs.Trace.{Record, Ending, NotTrace, IsTrace}
 use Rattle.fg_flows.specs.declared.Plan.{Plan}
 use Rattle.fg_flows.specs.Plan.{PlanFits}
 use Rattle.fg_desk.specs.State.{State}
+use Rattle.fg_report.specs.declared.fault.ReportFault.{ReportFault}
+use Rattle.fg_report.specs.declared.fault.ReportFault.TheVariants.{WriteFault as NotWritten, Memory as NoMemory}
 use Rattle.fg_report.specs.declared.flow_sum.FlowSum.{FlowSum}
 use Rattle.fg_report.specs.declared.tail.Tail.{Tail}
 use Rattle.fg_report.specs.declared.tail.Tail.TheVariants as tail
 use Rattle.fg_repair.specs.declared.engine.Engine.{Engine}
 use Rattle.fg_repair.specs.declared.fault.Fault.{Fault}
-use Rattle.fg_repair.specs.declared.fault.Fault.TheVariants.{Write}
+use Rattle.fg_repair.specs.declared.fault.Fault.TheVariants.{Read, Write, Memory}
 use Rattle.fg_repair.specs.declared.flow.Flow.{Flow}
 use Rattle.fg_repair.specs.Flow.{FlowResult, IsFlowResult}
 use Rattle.fg_repair.specs.Lanes.{OthersStay, PutsAll, PutsAllPart}
@@ -180,6 +184,29 @@ pub record LanesWhole
   pub tells : TellsTail end tail
   pub ended : HasEnded plan records engine.flows.items before after
   pub other : engine.other ≡ others_of plan.table records
+
+-- The answer
+
+-- To a trace with this tail.
+abbrev pub told_finish : Tail → Finish
+told_finish tail.Ended = finish.Done
+told_finish (tail.Cut n) = finish.Cut n
+told_finish (tail.TooLong n) = finish.TooLong n
+
+-- After a fault.
+abbrev pub fault_finish : Fault → Finish
+fault_finish Read = finish.ReadFault
+fault_finish Write = finish.WriteFault
+fault_finish Memory = finish.Memory
+
+-- A fault of the report.
+abbrev pub report_fault : ReportFault → Fault
+report_fault NotWritten = Write
+report_fault NoMemory = Memory
+
+-- What is no trace has a result for each flow too: that of no record.
+abbrev pub NoRecordsHaveResults : Type 0
+NoRecordsHaveResults = (plan : Plan) → (results : List FlowResult) × AreResults plan [] results
 
 -- Faults
 
