@@ -81,12 +81,12 @@ pub front_of_lane :
 front_of_lane lane part whole before next after plays is front begin shown = (
   front.0 ++ lane_of after,
   shown
-  ∙ ap lane_of begin
-  ∙ lane_more before (next ++ after)
-  ∙ ap (λ (bytes : List ℕ). lane_of before ++ bytes) (lane_more next after)
-  ∙ (λ i. sym is i ++ (front.1 i ++ lane_of after))
-  ∙ ap (λ (bytes : List ℕ). lane ++ bytes) (append_assoc part front.0 (lane_of after))
-  ∙ sym (append_assoc lane part (front.0 ++ lane_of after)),
+      ∙ ap lane_of begin
+      ∙ lane_more before (next ++ after)
+      ∙ ap (λ (bytes : List ℕ). lane_of before ++ bytes) (lane_more next after)
+      ∙ (λ i. sym is i ++ (front.1 i ++ lane_of after))
+      ∙ ap (λ (bytes : List ℕ). lane ++ bytes) (append_assoc part front.0 (lane_of after))
+      ∙ sym (append_assoc lane part (front.0 ++ lane_of after)),
 )
 
 -- The end.
