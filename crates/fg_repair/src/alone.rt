@@ -1,5 +1,5 @@
 //! The repair on one thread.
-ghost use Rattle.std.specs.Prelude.{◌≡◌, ◌≢◌, ◌⊎◌, ◌≤◌, ℕ, Option, None, Err, List, [], IfOk, IfSome, OnOk, OnErr};
+ghost use Rattle.std.specs.Prelude.{◌≡◌, ◌≢◌, ◌⊎◌, ◌≤◌, ◌++◌, ℕ, Option, None, Err, List, [], IfOk, IfSome, OnOk, OnErr};
 ghost use Rattle.std.specs.Io.KnownBytes.{IsAtEnd};
 ghost use Rattle.fg_io.specs.Faults.{CountsFault};
 ghost use Rattle.fg_io.specs.Sink.{Gains, GainsPart};
@@ -12,6 +12,7 @@ ghost use Rattle.fg_repair.specs.Repair.{IsFault, ReadsAll, Finishes, OutputsPar
 
 use crate::engine::Engine;
 use crate::fault::Fault;
+use crate::flow::Flow;
 use crate::laws::{no_records_have_results, one_flow_result};
 use fg_flows::Plan;
 use fg_io::laws::parts_of_writes;
@@ -19,7 +20,7 @@ use fg_io::{Outlet, Sink, Source};
 use fg_report::{FlowSum, Tail, write_report};
 use fg_trace::laws::one_trace;
 use fg_trace::{Finish, Reader, TraceFault};
-use std::alloc::Global;
+use std::alloc::{AllocError, Global};
 
 /// Repairs the flows of a trace, on the caller's thread.
 ///
@@ -140,7 +141,7 @@ fn repair_records<S: Source, K: Sink, O: Outlet>(
 fn report<K: Sink>(
     alloc: Global,
     engine: Engine,
-    mut sums: Vec<FlowSum>,
+    sums: Vec<FlowSum>,
     tail: Tail,
     out: &mut K,
 ) -> Result<(), Fault>
@@ -153,11 +154,19 @@ fn report<K: Sink>(
     ensures writes { CountsFor Fault.Write result (K.faults out.old) (K.faults out.new) }
 {
     parts_of_writes();
-    for flow in engine.flows {
-        sums.push(flow.sum)?;
-    }
+    let sums = add_sums(sums, engine.flows)?;
     write_report(alloc, &sums, engine.other, tail, out)?;
     Ok(())
+}
+
+/// Adds the flows' counts to `sums`.
+fn add_sums(mut sums: Vec<FlowSum>, flows: Vec<Flow>) -> Result<Vec<FlowSum>, AllocError>
+    ensures { IfOk result (λ all. all.items ≡ sums.items ++ sums_of flows.items) }
+{
+    for flow in flows {
+        sums.push(flow.sum)?;
+    }
+    Ok(sums)
 }
 
 /// The answer to a trace with this tail.
