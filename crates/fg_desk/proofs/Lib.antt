@@ -17,6 +17,7 @@ pub mod Equations
 pub mod Flushing
 pub mod Following
 pub mod Joining
+pub mod LinesBounds
 pub mod LinesCalls
 pub mod LinesInserts
 pub mod LinesLists

@@ -21,7 +21,7 @@ use std::marker::Model;
 use std::mem;
 
 /// How many positions before the mark have entries.
-const KEPT: usize = 100;
+pub(crate) const KEPT: usize = 100;
 
 /// The entries of the 100 positions before the mark and of those from the mark on. An entry is
 /// 1.3 kB.
