@@ -1,12 +1,11 @@
 -- What early ends of searches and passes rest on.
-use Rattle.std.proofs.Common.{◌≡◌, ◌≢◌, ◌⊎◌, ◌+◌, ◌<◌, ◌≤◌, ◌↔◌, ℕ, Bool, List, [], length, Some, inl, inr, refl, subst, ⊎_elim, arith}
-use Rattle.slab.specs.Slab.{Slab, get, slab_len, entries}
+use Rattle.std.proofs.Common.{◌≡◌, ◌≤◌, ℕ, Bool, List, [], inl, refl, ⊎_elim, arith}
+use Rattle.slab.specs.Slab.{Slab}
 use Rattle.fg_peel.specs.declared.Line.{Line}
 use Rattle.fg_peel.specs.Slots.{equation_of}
 use Rattle.fg_desk.specs.State.{Words, last_slot}
 use Rattle.fg_desk.specs.Play.{Survives}
-use Rattle.fg_desk.specs.LinesInside.{Holds, Stands, AreBetween, IsBased, Moves, Drops}
-use Rattle.fg_desk.proofs.LinesViews.{listed}
+use Rattle.fg_desk.specs.LinesInside.{Holds, AreBetween, IsBased, Moves, Drops}
 use Rattle.fg_desk.proofs.LinesInserts.{none_at}
 
 -- a slab without lines

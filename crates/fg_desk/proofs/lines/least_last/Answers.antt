@@ -1,9 +1,8 @@
-use Rattle.std.proofs.Common.{◌≡◌, ◌<◌, ◌≤◌, ℕ, ⊎_elim, ◌∙◌, arith}
+use Rattle.std.proofs.Common.{◌<◌, ℕ, ⊎_elim, ◌∙◌, arith}
 use Rattle.std.proofs.lemmas.Bool.{cases_lt}
 use Rattle.fg_peel.specs.declared.Line.{Line}
 use Rattle.fg_peel.specs.Slots.{equation_of}
 use Rattle.fg_desk.specs.State.{last_slot}
-use Rattle.fg_desk.specs.LinesInside.{Holds, IsWithin}
 use Rattle.fg_desk.proofs.LinesCalls.{last_is}
 use Rattle.fg_desk.proofs.LinesSearch.{search_begins, search_first, search_weaker, search_goes_on, search_ends}
 use Rattle.fg_desk.proofs.lines.least_last.Goals as goal

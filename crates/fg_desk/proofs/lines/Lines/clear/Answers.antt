@@ -17,7 +17,7 @@ invariant_of-self c =
     let room' : 512 ≤ c.clear-2.new.self.capacity = omega (arith, c.self.invariant.sound.settled_room, c.clear-2.ensures.capacity) in
     record {
       sound = subst (λ (ps : List Bool). AreSound c.clear.new.self c.clear-2.new.self ps) (sym (with_items_is places new full))
-    (none_sound c.clear.new.self c.clear-2.new.self new c.clear.ensures.empty c.clear-2.ensures.empty count c.free_all.ensures room room');
+          (none_sound c.clear.new.self c.clear-2.new.self new c.clear.ensures.empty c.clear-2.ensures.empty count c.free_all.ensures room room');
       between = nothing_between (2 ^ 64 - 1) 0 c.clear.new.self c.clear-2.new.self c.clear.ensures.empty c.clear-2.ensures.empty;
     }
 

@@ -1,4 +1,4 @@
-use Rattle.std.proofs.Common.{◌≡◌, ◌<◌, ◌≤◌, ℕ, List, Bool, None, false, get_or, ap, sym, ◌∙◌, subst, ⊎_elim, arith}
+use Rattle.std.proofs.Common.{◌≡◌, ◌<◌, ℕ, List, Bool, None, false, get_or, ap, sym, ◌∙◌, subst, ⊎_elim, arith}
 use Rattle.std.specs.FinMap.{get, len, insert}
 use Rattle.fg_peel.specs.declared.Line.{Line}
 use Rattle.fg_peel.specs.Slots.{equation_of}
@@ -65,7 +65,7 @@ invariant_of-self c =
     let most = c.max-self-inside.ensures in
     record {
       sound = insert_sound c.self.inside.open c.self.inside.settled c.self.inside.places.items c.self.invariant.sound
-    c.insert_reserved.new.self c.insert_reserved.result (line_of d) e.was_vacant e.updates e.len e.capacity (is_within d) (fresh d)
+          c.insert_reserved.new.self c.insert_reserved.result (line_of d) e.was_vacant e.updates e.len e.capacity (is_within d) (fresh d)
           (free d) (fewer d);
       between = λ line stands. ⊎_elim
           (λ new.

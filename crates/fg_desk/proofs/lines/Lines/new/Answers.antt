@@ -16,10 +16,10 @@ invariant_of-result c =
     let items : c.in_ok-vec.field-0.items ≡ replicate 512 false = c.in_ok-vec.ensures.items_if_clones_equal (λ y e. e) in
     record {
       sound = none_sound c.in_ok-with_capacity.field-0 c.in_ok-with_capacity-2.field-0 c.in_ok-vec.field-0.items
-    c.in_ok-with_capacity.ensures.empty c.in_ok-with_capacity-2.ensures.empty
-    (ap (λ (xs : List Bool). length xs) items ∙ length-replicate 512 false)
-    (λ place. ap (λ (xs : List Bool). get_or xs place false) items ∙ all_free 512 place)
-    c.in_ok-with_capacity.ensures.capacity c.in_ok-with_capacity-2.ensures.capacity;
+          c.in_ok-with_capacity.ensures.empty c.in_ok-with_capacity-2.ensures.empty
+          (ap (λ (xs : List Bool). length xs) items ∙ length-replicate 512 false)
+          (λ place. ap (λ (xs : List Bool). get_or xs place false) items ∙ all_free 512 place)
+          c.in_ok-with_capacity.ensures.capacity c.in_ok-with_capacity-2.ensures.capacity;
       between = nothing_between (2 ^ 64 - 1) 0 c.in_ok-with_capacity.field-0 c.in_ok-with_capacity-2.field-0
           c.in_ok-with_capacity.ensures.empty c.in_ok-with_capacity-2.ensures.empty;
     }

@@ -9,7 +9,7 @@ pub invariant_of-self : goal.invariant_of-self
 invariant_of-self c =
     record {
       sound = reopens_sound c.self.inside.open c.self.inside.settled c.self.inside.places.items c.self.invariant.sound (row_words c.args.row.now)
-    c.move_lines.new.target c.move_lines.new.source c.move_lines.ensures;
+          c.move_lines.new.target c.move_lines.new.source c.move_lines.ensures;
       between = λ line stands. c.self.invariant.between line
           (to_reopened c.self.inside.open c.self.inside.settled c.self.inside.places.items c.self.invariant.sound (row_words c.args.row.now)
           c.move_lines.new.target c.move_lines.new.source c.move_lines.ensures line stands);
