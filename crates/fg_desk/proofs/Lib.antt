@@ -46,6 +46,7 @@ pub mod RowLoops
 pub mod RowMaps
 pub mod RowPeels
 pub mod RowReceives
+pub mod RowStored
 pub mod RowViews
 pub mod RunFacts
 pub mod SettledEquations
