@@ -59,12 +59,12 @@ due_spans old seq [] new is = spans_none old.mark new.mark (ap (λ (s : State). 
 due_spans old seq (play ∷ plays) new is =
     spans_play old.window old play is.1.0 plays new.mark is.1.1 (due_spans is.1.0 seq plays new is.1.2)
 
-media_keeps_mark : (old new : State) (seq : ℕ) (word : Word) (reply : Reply) → IsAfterMedia old seq word reply new → new.mark ≡ old.mark
+pub media_keeps_mark : (old new : State) (seq : ℕ) (word : Word) (reply : Reply) → IsAfterMedia old seq word reply new → new.mark ≡ old.mark
 media_keeps_mark old new seq word Admitted after =
     let a = some_and (position_on old seq) (λ p. new ≡ with_media old seq p word) after in ap (λ (s : State). s.mark) a.2
 media_keeps_mark old new seq word reply after = ap (λ (s : State). s.mark) after
 
-parity_keeps_mark : (old new : State) (parity : Parity) (reply : Reply) → IsAfterParity old parity reply new → new.mark ≡ old.mark
+pub parity_keeps_mark : (old new : State) (parity : Parity) (reply : Reply) → IsAfterParity old parity reply new → new.mark ≡ old.mark
 parity_keeps_mark old new parity Admitted after =
     let a = some_and (position_on old parity.base)
     (λ position. (place : ℕ) × IsLeastFree old place × (new ≡ with_equation old place (equation_at position parity))) after in

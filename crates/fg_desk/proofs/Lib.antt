@@ -1,7 +1,9 @@
 pub mod Added
 pub mod AdmissionsAdd
 pub mod Advancing
+pub mod Beginnings
 pub mod Bounds
+pub mod Counts
 pub mod DeskAdds
 pub mod DeskCounts
 pub mod DeskFlushes
@@ -36,6 +38,7 @@ pub mod Places
 pub mod PlainRuns
 pub mod PlayKeeps
 pub mod Plays
+pub mod Reaching
 pub mod Replies
 pub mod RowChanges
 pub mod RowLoops

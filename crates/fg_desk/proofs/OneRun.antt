@@ -135,13 +135,13 @@ module _ (unique : Uniqueness) where
   one_taking old (refused stream) plays plays' None (Some reply') new new' orderly read a b = absurd b
   one_taking old (refused stream) plays plays' (Some reply) reply' new new' orderly read a b = absurd a
 
-  record SameRun (plays plays' : List Play) (replies replies' : List (Option Reply)) (new new' : State) : Type 0 where
-    play : plays ≡ plays'
-    answers : replies ≡ replies'
-    state : new ≡ new'
-    orderly : IsOrderly new
+  pub record SameRun (plays plays' : List Play) (replies replies' : List (Option Reply)) (new new' : State) : Type 0 where
+    pub play : plays ≡ plays'
+    pub answers : replies ≡ replies'
+    pub state : new ≡ new'
+    pub orderly : IsOrderly new
 
-  one_taking_all :
+  pub one_taking_all :
       (old : State) (arrivals : List Arrival) (plays plays' : List Play) (replies replies' : List (Option Reply)) (new new' : State)
       → IsOrderly old → All IsRead arrivals → TakesAll old arrivals plays replies new → TakesAll old arrivals plays' replies' new'
       → SameRun plays plays' replies replies' new new'

@@ -4,8 +4,6 @@ use Rattle.fg_words.specs.Word.{IsMedia}
 use Rattle.fg_shape.specs.Shape.{IsShape}
 use Rattle.fg_desk.specs.declared.run.Datagram.{Datagram}
 use Rattle.fg_desk.specs.declared.run.Datagram.TheVariants as datagram
-use Rattle.fg_desk.specs.declared.run.Stream.{Stream}
-use Rattle.fg_desk.specs.declared.run.Stream.TheVariants.{Media}
 use Rattle.fg_desk.specs.declared.run.ShownWord.{ShownWord}
 use Rattle.fg_desk.specs.declared.run.ShownPlay.{ShownPlay}
 use Rattle.fg_desk.specs.State.{State}
@@ -27,12 +25,6 @@ abbrev pub IsGiven : Datagram → Type 0
 IsGiven (datagram.Media seq word) = IsMedia word
 IsGiven (datagram.Parity stream base shape word) = IsShape shape.offset shape.na
 IsGiven (datagram.Refused stream) = ⊤
-
--- The stream that an arrival came by.
-abbrev pub came_by : Arrival → Stream
-came_by (carries seq word) = Media
-came_by (protects stream parity) = stream
-came_by (refused stream) = stream
 
 -- The play that a copy tells.
 abbrev pub shown_word : ShownWord → Shown

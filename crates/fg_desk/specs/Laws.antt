@@ -1,5 +1,5 @@
 -- Laws that show the definitions of a desk to be right.
-use Rattle.std.specs.Prelude.{◌≡◌, ◌⊎◌, ◌==◌, if◌then◌else◌, ◌≢◌, ◌+◌, ◌-◌, ◌<◌, ◌≤◌, ◌^◌, ◌↔◌, ◌++◌, ℕ, ⊤, nat_le, List, [], ◌∷◌, length, filter, Option, Some, None}
+use Rattle.std.specs.Prelude.{◌≡◌, ◌⊎◌, ◌==◌, if◌then◌else◌, ◌≢◌, ◌+◌, ◌-◌, ◌<◌, ◌≤◌, ◌^◌, ◌↔◌, ◌++◌, ℕ, ⊤, IsTrue, nat_le, List, [], ◌∷◌, length, filter, Option, Some, None}
 use Rattle.std.specs.List.{All, Contains}
 use Rattle.std.specs.FinMap.{get}
 use Rattle.fg_words.specs.declared.Word.{Word}
@@ -17,7 +17,8 @@ use Rattle.fg_desk.specs.Contents.{HasRoom}
 use Rattle.fg_desk.specs.Solution.{InClosure, IsSolution}
 use Rattle.fg_desk.specs.Admission.{Parity, AdmitsMedia, AdmitsParity, IsDue, position_on, equation_at}
 use Rattle.fg_desk.specs.Play.{Play, IsPlay, IsFlushStep, IsHighest, HasMore, Flushes}
-use Rattle.fg_desk.specs.Run.{Arrival, carries, protects, refused, ArePlaysDue, TakesAll, IsFlush, IsRun}
+use Rattle.fg_desk.specs.declared.run.Stream.{Stream}
+use Rattle.fg_desk.specs.Run.{Arrival, carries, protects, refused, came_by, is_counted, count_of, ArePlaysDue, TakesAll, IsFlush, IsRun}
 use Rattle.fg_desk.specs.Facts.{Holds}
 
 -- The live equations are those that stand under some serial number.
@@ -210,3 +211,89 @@ OneRun =
     (window depth : ℕ) (arrivals : List Arrival) (plays plays' : List Play) (replies replies' : List (Option Reply))
     → All IsRead arrivals → IsRun window depth arrivals plays replies → IsRun window depth arrivals plays' replies'
     → (plays ≡ plays') × (replies ≡ replies')
+
+-- The same datagrams taken by a new desk give the same plays, the same replies and the same desk.
+abbrev pub OneTaking : Type 0
+OneTaking =
+    (window depth : ℕ) (arrivals : List Arrival) (plays plays' : List Play) (replies replies' : List (Option Reply))
+    (new new' : State)
+    → All IsRead arrivals → TakesAll (opening window depth) arrivals plays replies new
+    → TakesAll (opening window depth) arrivals plays' replies' new'
+    → (plays ≡ plays') × (replies ≡ replies') × (new ≡ new')
+
+-- The plays of a run's first datagrams come first in it.
+abbrev pub TakenPlaysComeFirst : Type 0
+TakenPlaysComeFirst =
+    (window depth : ℕ) (earlier later : List Arrival) (before plays : List Play) (first replies : List (Option Reply))
+    (taken : State)
+    → All IsRead earlier → TakesAll (opening window depth) earlier before first taken
+    → IsRun window depth (earlier ++ later) plays replies → (after : List Play) × (plays ≡ before ++ after)
+
+-- Then come those that are due before the next datagram.
+abbrev pub DuePlaysComeNext : Type 0
+DuePlaysComeNext =
+    (window depth seq : ℕ) (word : Word) (earlier later : List Arrival) (before due plays : List Play)
+    (first replies : List (Option Reply)) (taken now : State)
+    → All IsRead earlier → TakesAll (opening window depth) earlier before first taken → HavePlayed taken seq due now
+    → IsRun window depth (earlier ++ carries seq word ∷ later) plays replies
+    → (after : List Play) × (plays ≡ before ++ (due ++ after))
+
+-- After the last datagram come the steps of the flush.
+abbrev pub FlushStepsComeNext : Type 0
+FlushStepsComeNext =
+    (window depth : ℕ) (arrivals : List Arrival) (before flushed plays : List Play) (first replies : List (Option Reply))
+    (taken now : State)
+    → All IsRead arrivals → TakesAll (opening window depth) arrivals before first taken
+    → AreFlushSteps taken flushed now → IsRun window depth arrivals plays replies
+    → (after : List Play) × (plays ≡ before ++ (flushed ++ after))
+
+-- How many positions plays show, with those that are missing.
+abbrev pub played_count : List Play → ℕ
+played_count [] = 0
+played_count (play ∷ plays) = length play.shown + played_count plays
+
+-- Plays move the mark by as many positions as they show, and each shows one at least.
+abbrev pub Reach : State → List Play → State → Type 0
+Reach old plays new =
+    (new.mark ≡ old.mark + played_count plays) × All (λ play. 1 ≤ length play.shown) plays
+
+abbrev pub PlaysReachTheMark : Type 0
+PlaysReachTheMark =
+    (old new : State) (arrivals : List Arrival) (plays : List Play) (replies : List (Option Reply))
+    → 1 ≤ old.window → TakesAll old arrivals plays replies new → Reach old plays new
+
+abbrev pub DuePlaysReachTheMark : Type 0
+DuePlaysReachTheMark =
+    (old new : State) (seq : ℕ) (plays : List Play)
+    → 1 ≤ old.window → HavePlayed old seq plays new → Reach old plays new
+
+abbrev pub FlushStepsReachTheMark : Type 0
+FlushStepsReachTheMark =
+    (old new : State) (plays : List Play) → 1 ≤ old.window → AreFlushSteps old plays new → Reach old plays new
+
+-- Each datagram gets a reply, or none where its reader refused it.
+abbrev pub EachGetsAReply : Type 0
+EachGetsAReply =
+    (old new : State) (arrivals : List Arrival) (plays : List Play) (replies : List (Option Reply))
+    → TakesAll old arrivals plays replies new → length replies ≡ length arrivals
+
+-- Those are counted that came by the stream and got the reply.
+abbrev pub CountsAreOfReplies : Type 0
+CountsAreOfReplies =
+    (stream : Stream) (reply answer : Option Reply) (arrival : Arrival)
+    → IsTrue (is_counted stream reply arrival answer) ↔ ((came_by arrival ≡ stream) × (answer ≡ reply))
+
+-- One more datagram adds one to the count of its reply and stream, and nothing to another.
+abbrev pub CountsAdd : Type 0
+CountsAdd =
+    (stream : Stream) (reply answer : Option Reply) (arrivals : List Arrival) (arrival : Arrival)
+    (answers : List (Option Reply))
+    → length arrivals ≡ length answers
+    → count_of stream reply (arrivals ++ arrival ∷ []) (answers ++ answer ∷ [])
+    ≡ count_of stream reply arrivals answers + (if is_counted stream reply arrival answer then 1 else 0)
+
+-- No count is more than the datagrams.
+abbrev pub CountsStayWithin : Type 0
+CountsStayWithin =
+    (stream : Stream) (reply : Option Reply) (arrivals : List Arrival) (answers : List (Option Reply))
+    → count_of stream reply arrivals answers ≤ length arrivals

@@ -1,8 +1,10 @@
 -- A flow's run over datagrams that are read. This project's own. It knows no worker, and no words found before a play.
-use Rattle.std.specs.Prelude.{◌≡◌, ◌++◌, ℕ, List, [], ◌∷◌, Option, Some, None}
+use Rattle.std.specs.Prelude.{◌≡◌, ◌==◌, ◌+◌, ◌++◌, ◌&&◌, ℕ, Bool, List, [], ◌∷◌, Option, Some, None, if◌then◌else◌}
 use Rattle.fg_words.specs.declared.Word.{Word}
 use Rattle.fg_desk.specs.declared.reply.Reply.{Reply}
+use Rattle.fg_desk.specs.declared.reply.Reply.TheVariants.{Admitted, Duplicate, Conflict, Late, NotStarted, BeforeStart, Ahead, Crowded}
 use Rattle.fg_desk.specs.declared.run.Stream.{Stream}
+use Rattle.fg_desk.specs.declared.run.Stream.TheVariants.{Media, Column, Row}
 use Rattle.fg_desk.specs.State.{State, opening}
 use Rattle.fg_desk.specs.Admission.{Parity, AdmitsMedia, AdmitsParity, IsDue}
 use Rattle.fg_desk.specs.Play.{Play, IsPlay, IsFlushStep, HasMore}
@@ -13,6 +15,12 @@ pub data Arrival : Type 0 where
   carries : ℕ → Word → Arrival
   protects : Stream → Parity → Arrival
   refused : Stream → Arrival
+
+-- The stream that an arrival came by.
+abbrev pub came_by : Arrival → Stream
+came_by (carries seq word) = Media
+came_by (protects stream parity) = stream
+came_by (refused stream) = stream
 
 -- Windows are played while one is due before a datagram of this sequence number.
 abbrev pub ArePlaysDue : State → ℕ → List Play → State → Type 0
@@ -54,3 +62,33 @@ pub record IsRun (window depth : ℕ) (arrivals : List Arrival) (plays : List Pl
   pub takes : TakesAll (opening window depth) arrivals taken replies filled
   pub flush : IsFlush filled flushed empty
   pub plays_are : plays ≡ taken ++ flushed
+
+-- The replies of a run are counted. Streams and replies are told apart by their numbers, in the order in which they are
+-- declared; no reply comes last.
+abbrev pub stream_number : Stream → ℕ
+stream_number Media = 0
+stream_number Column = 1
+stream_number Row = 2
+
+abbrev pub reply_number : Option Reply → ℕ
+reply_number (Some Admitted) = 0
+reply_number (Some Duplicate) = 1
+reply_number (Some Conflict) = 2
+reply_number (Some Late) = 3
+reply_number (Some NotStarted) = 4
+reply_number (Some BeforeStart) = 5
+reply_number (Some Ahead) = 6
+reply_number (Some Crowded) = 7
+reply_number None = 8
+
+-- An arrival that was answered so came by this stream, and got this reply.
+abbrev pub is_counted : Stream → Option Reply → Arrival → Option Reply → Bool
+is_counted stream reply arrival answer =
+    (stream_number (came_by arrival) == stream_number stream) && (reply_number answer == reply_number reply)
+
+-- How many arrivals came by this stream and got this reply. With no reply: how many their reader refused.
+abbrev pub count_of : Stream → Option Reply → List Arrival → List (Option Reply) → ℕ
+count_of stream reply [] answers = 0
+count_of stream reply (arrival ∷ arrivals) [] = 0
+count_of stream reply (arrival ∷ arrivals) (answer ∷ answers) =
+    (if is_counted stream reply arrival answer then 1 else 0) + count_of stream reply arrivals answers

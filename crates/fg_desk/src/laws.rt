@@ -5,6 +5,9 @@ ghost use Rattle.fg_desk.specs.Laws.{LiveStandUnderSerials, OpeningHolds, MediaK
 ghost use Rattle.fg_desk.specs.Laws.{ClosureIsPeelings, SolutionsArePeelings, StepsAreAhead, OneSolution};
 ghost use Rattle.fg_desk.specs.Laws.{ClosureGainsNothing, FlushEnds, FlushStepsJoin, FlushStepsEnd, SolvedStaysPeeled};
 ghost use Rattle.fg_desk.specs.Laws.{LaterChangesNothing, TakingsJoin, PlaysDueJoin, PlaysDueEnd, PlaysFollow, RunsStayWithin, FlushesStayWithin, OneRun};
+ghost use Rattle.fg_desk.specs.Laws.{OneTaking, TakenPlaysComeFirst, DuePlaysComeNext, FlushStepsComeNext};
+ghost use Rattle.fg_desk.specs.Laws.{PlaysReachTheMark, DuePlaysReachTheMark, FlushStepsReachTheMark};
+ghost use Rattle.fg_desk.specs.Laws.{EachGetsAReply, CountsAreOfReplies, CountsAdd, CountsStayWithin};
 
 use fg_peel::laws::{confluence, peelings_fill_the_closure, peelings_stay, uniqueness};
 
@@ -89,3 +92,58 @@ pub fn one_run()
 {
     uniqueness();
 }
+
+/// The same datagrams taken by a new desk give the same plays, the same replies and the same desk.
+pub fn one_taking()
+    ensures { OneTaking }
+{
+    uniqueness();
+}
+
+/// The plays of a flow's first datagrams come first in its run.
+pub fn taken_plays_come_first()
+    ensures { TakenPlaysComeFirst }
+{
+    uniqueness();
+}
+
+/// Then come the plays that are due before the next datagram.
+pub fn due_plays_come_next()
+    ensures { DuePlaysComeNext }
+{
+    uniqueness();
+}
+
+/// After the last datagram come the steps of the flush.
+pub fn flush_steps_come_next()
+    ensures { FlushStepsComeNext }
+{
+    uniqueness();
+}
+
+/// The mark is the number of positions that were shown or missing, and each play has one at least.
+pub fn plays_reach_the_mark()
+    ensures taken { PlaysReachTheMark }
+    ensures due { DuePlaysReachTheMark }
+    ensures flushed { FlushStepsReachTheMark }
+{}
+
+/// Each datagram of a run gets a reply, or none where its reader refused it.
+pub fn each_gets_a_reply()
+    ensures { EachGetsAReply }
+{}
+
+/// Those datagrams are counted that came by a stream and got a reply.
+pub fn counts_are_of_replies()
+    ensures { CountsAreOfReplies }
+{}
+
+/// One more datagram adds one to the count of its stream and reply, and nothing to another.
+pub fn counts_add()
+    ensures { CountsAdd }
+{}
+
+/// No count is more than the datagrams.
+pub fn counts_stay_within()
+    ensures { CountsStayWithin }
+{}

@@ -7,8 +7,8 @@ ghost use Rattle.fg_desk.specs.Admission.{IsDue};
 ghost use Rattle.fg_desk.specs.Play.{Play};
 ghost use Rattle.fg_desk.specs.Contents.{HasRoom};
 ghost use Rattle.fg_desk.specs.Laws.{IsRead};
-ghost use Rattle.fg_desk.specs.Run.{Takes, ArePlaysDue, IsFlush, IsRun};
-ghost use Rattle.fg_desk.specs.Arrivals.{arrival_of, play_of, came_by, IsGiven, StaysWithin, FlushesWithin};
+ghost use Rattle.fg_desk.specs.Run.{Takes, ArePlaysDue, IsFlush, IsRun, came_by, is_counted, count_of};
+ghost use Rattle.fg_desk.specs.Arrivals.{arrival_of, play_of, IsGiven, StaysWithin, FlushesWithin};
 
 use crate::desk::{Desk, Played};
 use crate::laws::{flushes_end, runs_join, runs_stay_within};
@@ -65,6 +65,17 @@ impl Datagram {
             Datagram::Refused(_) => true,
         }
     }
+
+    /// The stream that it came by.
+    pub fn came_by(&self) -> Stream
+        ensures { result ≡ came_by (arrival_of self.now) }
+    {
+        match self {
+            Datagram::Media { .. } => Stream::Media,
+            Datagram::Parity { stream, .. } => *stream,
+            Datagram::Refused(stream) => *stream,
+        }
+    }
 }
 
 /// What a play shows at one position.
@@ -94,6 +105,34 @@ pub struct FlowRun {
     pub plays: Vec<ShownPlay>,
     /// The reply to each datagram. None where its reader refused it.
     pub replies: Vec<Option<Reply>>,
+}
+
+impl FlowRun {
+    /// How many of the datagrams that were run came by this stream and got this reply; with no reply,
+    /// how many their reader refused.
+    pub fn count(&self, datagrams: &[Datagram], stream: Stream, reply: Option<Reply>) -> u64
+        ensures { result
+            ≡ count_of stream reply (map arrival_of datagrams.now) self.now.replies.items }
+    {
+        let mut count = 0;
+        for i in 0..datagrams.len().min(self.replies.len()) {
+            let answer = self.replies[i];
+            count += u64::from(is_counted(&datagrams[i], answer, stream, reply));
+        }
+        count
+    }
+}
+
+/// Whether a datagram that was answered so came by this stream and got this reply.
+fn is_counted(
+    datagram: &Datagram,
+    answer: Option<Reply>,
+    stream: Stream,
+    reply: Option<Reply>,
+) -> bool
+    ensures { result ≡ is_counted stream reply (arrival_of datagram.now) answer }
+{
+    datagram.came_by() == stream && answer == reply
 }
 
 /// The run of a flow's datagrams over a desk.
@@ -228,15 +267,4 @@ fn copied(alloc: Global, played: Played, tray: &Tray) -> Result<ShownPlay, Alloc
         shown,
         outcome: played.verdict,
     })
-}
-
-/// The stream that a datagram came by.
-fn stream_of(datagram: &Datagram) -> Stream
-    ensures { result ≡ came_by (arrival_of datagram.now) }
-{
-    match datagram {
-        Datagram::Media { .. } => Stream::Media,
-        Datagram::Parity { stream, .. } => *stream,
-        Datagram::Refused(stream) => *stream,
-    }
 }

@@ -1,9 +1,11 @@
 //! Why a repair stops before the end of its trace is told.
 ghost use Rattle.std.specs.Prelude.{◌≡◌};
+ghost use Rattle.fg_repair.specs.Engine.{report_fault};
 ghost use Rattle.fg_repair.specs.declared.fault.Fault.TheVariants.{Write, Memory};
 
 use fg_io::Failed;
-use std::alloc::AllocError;
+use fg_report::ReportFault;
+use std::alloc::{AllocError, AllocFailed};
 
 /// A fault of the outside, or want of memory.
 #[derive(Clone, Copy, Debug, PartialEq, Eq)]
@@ -24,10 +26,29 @@ impl From<AllocError> for Fault {
     }
 }
 
+impl<T: Drop> From<AllocFailed<T>> for Fault {
+    ghost from_gives = { λ _ fault. fault ≡ Memory };
+
+    fn from(_: AllocFailed<T>) -> Fault {
+        Fault::Memory
+    }
+}
+
 impl From<Failed> for Fault {
     ghost from_gives = { λ _ fault. fault ≡ Write };
 
     fn from(_: Failed) -> Fault {
         Fault::Write
+    }
+}
+
+impl From<ReportFault> for Fault {
+    ghost from_gives = { λ from fault. fault ≡ report_fault from };
+
+    fn from(fault: ReportFault) -> Fault {
+        match fault {
+            ReportFault::WriteFault => Fault::Write,
+            ReportFault::Memory => Fault::Memory,
+        }
     }
 }

@@ -2,6 +2,8 @@
 #![tactic(auto)]
 
 mod alone;
+mod engine;
+mod counts;
 mod fault;
 mod flow;
 pub mod laws;

@@ -6,6 +6,9 @@ use std::sync::atomic::Ordering::SeqCst;
 /// How many words there are.
 const WORDS: u64 = 16;
 
+/// How many turns before its own a seat is woken: waking takes as long as some turns.
+const AHEAD: u64 = 2;
+
 /// A row of words, each for the tickets that are the same modulo 16.
 ///
 /// A word has the token of the ticket whose seat was the last to announce that it will sleep there, until a seat that
@@ -58,8 +61,15 @@ impl Sleepers {
         self.word(ticket).park(wait, token(ticket));
     }
 
-    /// Wakes the seat with this ticket, where one sleeps or is about to. Whoever else sleeps on its word looks again.
+    /// Wakes the seat whose ticket is served now, and the one that comes some turns later, which is then awake when its turn
+    /// comes.
     pub(crate) fn wake(&self, ticket: u64) {
+        self.wake_one(ticket);
+        self.wake_one(ticket.wrapping_add(AHEAD));
+    }
+
+    /// Wakes the seat with this ticket, where one sleeps or is about to. Whoever else sleeps on its word looks again.
+    fn wake_one(&self, ticket: u64) {
         let word = self.word(ticket);
         if word.load(SeqCst) != 0 {
             word.store(0, SeqCst);

@@ -1,4 +1,4 @@
-use Rattle.std.proofs.Common.{◌≡◌, ◌<◌, ◌≤◌, ◌^◌, refl, arith, ◌∙◌}
+use Rattle.std.proofs.Common.{◌^◌, refl, arith, ◌∙◌}
 use Rattle.fg_desk.proofs.PlainRuns.{none_flushed, one_more_flushed, step_nearer}
 use Rattle.fg_desk.proofs.run.flush.Goals as goal
 

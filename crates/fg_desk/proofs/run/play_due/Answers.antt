@@ -1,4 +1,4 @@
-use Rattle.std.proofs.Common.{◌≡◌, ◌<◌, ◌≤◌, ◌^◌, refl, arith, ◌∙◌}
+use Rattle.std.proofs.Common.{◌^◌, refl, arith, ◌∙◌}
 use Rattle.fg_desk.specs.Admission.{IsDue}
 use Rattle.fg_desk.proofs.PlainRuns.{none_played, one_more_played, nearer, fails}
 use Rattle.fg_desk.proofs.run.play_due.Goals as goal

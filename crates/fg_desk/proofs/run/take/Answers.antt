@@ -1,4 +1,4 @@
-use Rattle.std.proofs.Common.{◌≡◌, [], Some, refl, sym, subst}
+use Rattle.std.proofs.Common.{[], Some, refl, sym, subst}
 use Rattle.fg_words.specs.declared.Word.{Word}
 use Rattle.fg_desk.specs.declared.run.Datagram.{Datagram}
 use Rattle.fg_desk.specs.Admission.{AdmitsMedia}

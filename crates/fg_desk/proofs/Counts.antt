@@ -1,0 +1,114 @@
+-- How the replies of a run are counted.
+use Rattle.std.proofs.Common.{◌≡◌, ◌+◌, ◌<◌, ◌≤◌, ◌++◌, ◌==◌, ℕ, zero, suc, min, Bool, true, false, cond, List, [], ◌∷◌, map, take, length, get_or, Option, Some, None, refl, sym, ap, ◌∙◌, arith, length-take}
+use Rattle.std.proofs.lemmas.List.{length-map, map-append, take_more}
+use Rattle.std.proofs.lemmas.Bool.{and_parts, and_from}
+use Rattle.std.proofs.lemmas.Bool.Decides.{Decides-eqb}
+use Rattle.std.specs.Int.{from_bool}
+use Rattle.fg_desk.specs.declared.reply.Reply.{Reply}
+use Rattle.fg_desk.specs.declared.reply.Reply.TheVariants.{Admitted, Duplicate, Conflict, Late, NotStarted, BeforeStart, Ahead, Crowded}
+use Rattle.fg_desk.specs.declared.run.Stream.{Stream}
+use Rattle.fg_desk.specs.declared.run.Stream.TheVariants.{Media, Column, Row}
+use Rattle.fg_desk.specs.declared.run.Datagram.{Datagram}
+use Rattle.fg_desk.specs.Arrivals.{arrival_of}
+use Rattle.fg_desk.specs.Run.{Arrival, came_by, stream_number, reply_number, is_counted, count_of}
+use Rattle.fg_desk.specs.Laws.{CountsAreOfReplies, CountsAdd, CountsStayWithin}
+
+stream_at : ℕ → Stream
+stream_at n = get_or (Media ∷ Column ∷ []) n Row
+
+stream_is : (stream : Stream) → stream_at (stream_number stream) ≡ stream
+unfolding stream_at
+stream_is Media = refl
+stream_is Column = refl
+stream_is Row = refl
+
+reply_at : ℕ → Option Reply
+reply_at n =
+    get_or
+    (Some Admitted ∷ Some Duplicate ∷ Some Conflict ∷ Some Late ∷ Some NotStarted ∷ Some BeforeStart ∷ Some Ahead ∷ Some Crowded ∷ [])
+    n None
+
+reply_is : (reply : Option Reply) → reply_at (reply_number reply) ≡ reply
+unfolding reply_at
+reply_is (Some Admitted) = refl
+reply_is (Some Duplicate) = refl
+reply_is (Some Conflict) = refl
+reply_is (Some Late) = refl
+reply_is (Some NotStarted) = refl
+reply_is (Some BeforeStart) = refl
+reply_is (Some Ahead) = refl
+reply_is (Some Crowded) = refl
+reply_is None = refl
+
+pub counts_are_of_replies : CountsAreOfReplies
+counts_are_of_replies stream reply answer arrival = (
+  λ is.
+      let both = and_parts (stream_number (came_by arrival) == stream_number stream) (reply_number answer == reply_number reply) is in
+      let streams = (Decides-eqb (stream_number (came_by arrival)) (stream_number stream)).0 both.0 in
+      let replies = (Decides-eqb (reply_number answer) (reply_number reply)).0 both.1 in (
+        sym (stream_is (came_by arrival)) ∙ ap stream_at streams ∙ stream_is stream,
+        sym (reply_is answer) ∙ ap reply_at replies ∙ reply_is reply,
+      ),
+  λ both. and_from (stream_number (came_by arrival) == stream_number stream) (reply_number answer == reply_number reply)
+      ((Decides-eqb (stream_number (came_by arrival)) (stream_number stream)).1 (ap stream_number both.0))
+      ((Decides-eqb (reply_number answer) (reply_number reply)).1 (ap reply_number both.1)),
+)
+
+pub counts_add : CountsAdd
+counts_add stream reply answer [] arrival [] same = omega arith
+counts_add stream reply answer [] arrival (other ∷ answers) same = absurd (omega (arith, same))
+counts_add stream reply answer (other ∷ arrivals) arrival [] same = absurd (omega (arith, same))
+counts_add stream reply answer (other ∷ arrivals) arrival (other' ∷ answers) same =
+    let rest = counts_add stream reply answer arrivals arrival answers (omega (arith, same)) in omega (arith, rest)
+
+pub at_most_one : (b : Bool) → cond b 1 0 ≤ 1
+at_most_one true = omega arith
+at_most_one false = omega arith
+
+-- A truth value as a number.
+pub byte_of : (b : Bool) → from_bool b ≡ cond b 1 0
+byte_of true = refl
+byte_of false = refl
+
+pub counts_stay_within : CountsStayWithin
+counts_stay_within stream reply [] answers = omega arith
+counts_stay_within stream reply (arrival ∷ arrivals) [] = omega arith
+counts_stay_within stream reply (arrival ∷ arrivals) (answer ∷ answers) =
+    let rest = counts_stay_within stream reply arrivals answers in
+    let one = at_most_one (is_counted stream reply arrival answer) in
+    omega (arith, rest, one)
+
+-- The count of one more datagram, which is counted or not, and of all of them.
+pub count_more :
+    (stream : Stream) (reply : Option Reply) (datagrams : List Datagram) (answers : List (Option Reply)) (i : ℕ)
+    (datagram : Datagram) (answer answer' : Option Reply) (counted : Bool) (count : ℕ)
+    → i < length datagrams → i < length answers → answer ≡ get_or answers i answer'
+    → counted ≡ is_counted stream reply (arrival_of (get_or datagrams i datagram)) answer
+    → count ≡ count_of stream reply (map arrival_of (take i datagrams)) (take i answers)
+    → count + cond counted 1 0
+    ≡ count_of stream reply (map arrival_of (take (i + 1) datagrams)) (take (i + 1) answers)
+count_more stream reply datagrams answers i datagram answer answer' counted count below below' is tested so = sym (
+    (λ j. count_of stream reply (map arrival_of (take_more datagrams i datagram below j)) (take_more answers i answer' below' j))
+    ∙ ap (λ (xs : List Arrival). count_of stream reply xs (take i answers ++ get_or answers i answer' ∷ []))
+    (map-append arrival_of (take i datagrams) (get_or datagrams i datagram ∷ []))
+    ∙ counts_add stream reply (get_or answers i answer') (map arrival_of (take i datagrams)) (arrival_of (get_or datagrams i datagram))
+    (take i answers) (simp (length-map, length-take) (omega (arith, below, below')))
+    ∙ ap (λ (a : Option Reply). count_of stream reply (map arrival_of (take i datagrams)) (take i answers)
+    + cond (is_counted stream reply (arrival_of (get_or datagrams i datagram)) a) 1 0) (sym is)
+    ∙ ap (λ (b : Bool). count_of stream reply (map arrival_of (take i datagrams)) (take i answers) + cond b 1 0) (sym tested)
+    ∙ ap (λ (n : ℕ). n + cond counted 1 0) (sym so)
+    )
+
+pub count_all :
+    (stream : Stream) (reply : Option Reply) (datagrams : List Datagram) (answers : List (Option Reply)) (i : ℕ)
+    → min (length datagrams) (length answers) ≤ i
+    → count_of stream reply (map arrival_of (take i datagrams)) (take i answers)
+    ≡ count_of stream reply (map arrival_of datagrams) answers
+count_all stream reply [] answers zero all = refl
+count_all stream reply [] answers (suc i) all = refl
+count_all stream reply (datagram ∷ datagrams) [] zero all = refl
+count_all stream reply (datagram ∷ datagrams) [] (suc i) all = refl
+count_all stream reply (datagram ∷ datagrams) (answer ∷ answers) zero all = absurd (omega (arith, all))
+count_all stream reply (datagram ∷ datagrams) (answer ∷ answers) (suc i) all =
+    ap (λ (n : ℕ). cond (is_counted stream reply (arrival_of datagram) answer) 1 0 + n)
+    (count_all stream reply datagrams answers i (omega (arith, all)))
