@@ -1,4 +1,5 @@
 pub mod Faults
+pub mod HelpLemmas
 pub mod Keys
 pub mod Lines
 pub mod Lists

@@ -74,6 +74,41 @@ command_text command.Drill = codes "drill"
 command_text command.Inspect = codes "inspect"
 command_text command.Sample = codes "sample"
 
+-- What the help says of a command, and of a name.
+abbrev pub command_about : Command → List ℕ
+command_about command.Repair = codes "writes each flow of a trace, repaired, to PORT.ts"
+command_about command.Encode = codes "encodes a transport stream with parity"
+command_about command.Drill = codes "encodes a stream, drops records, and repairs it"
+command_about command.Inspect = codes "writes a line for each record of a trace"
+command_about command.Sample = codes "makes a stream, drops records, and repairs it"
+
+abbrev pub about : Key → List ℕ
+about key.Flow = codes "a flow's media port, up to 64 times"
+about key.Window = codes "positions that are played at once"
+about key.Depth = codes "a datagram so far ahead plays them"
+about key.Workers = codes "threads beside the one that reads"
+about key.Max = codes "most bytes of the input"
+about key.Columns = codes "columns of a matrix"
+about key.Rows = codes "rows of a matrix"
+about key.Fec = codes "parity of columns, or of rows too"
+about key.Layout = codes "where the columns begin"
+about key.Packets = codes "transport packets in a datagram"
+about key.Rate = codes "transport bits a second"
+about key.Port = codes "the media port"
+about key.Seq = codes "the first RTP sequence number"
+about key.Ssrc = codes "the RTP synchronization source"
+about key.Stamp = codes "the first RTP timestamp"
+about key.Drop = codes "a record left out"
+about key.Every = codes "its multiples are left out"
+about key.Seed = codes "what the stream is made from"
+about key.Datagrams = codes "media datagrams of the stream"
+about key.Loss = codes "records of a hundred left out"
+
+-- What stands behind a command that the program doesn't have yet.
+abbrev pub mark : Command → List ℕ
+mark command.Repair = []
+mark _ = codes " (not built yet)"
+
 -- The names that may stand after a command. Where several that must be there aren't, the first is told.
 abbrev pub keys_of : Command → List Key
 keys_of command.Repair = key.Flow ∷ key.Window ∷ key.Depth ∷ key.Workers ∷ key.Max ∷ []

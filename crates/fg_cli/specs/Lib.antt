@@ -1,4 +1,5 @@
 pub mod Grammar
+pub mod Help
 pub mod Laws
 pub mod Lines
 pub mod Orders

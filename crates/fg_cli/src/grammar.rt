@@ -1,6 +1,6 @@
 //! The commands, and the names that may stand after them: one row for each name.
 ghost use Rattle.std.specs.Prelude.{◌≡◌, ◌<◌, ◌^◌, ◌≤◌, ◌↔◌, IfNone, IfSome, IsTrue};
-ghost use Rattle.fg_cli.specs.Grammar.{Knows, Number, Either, command_text, keys_of, needed, optional, row};
+ghost use Rattle.fg_cli.specs.Grammar.{Knows, Number, Either, about, command_about, command_text, keys_of, mark, needed, optional, row};
 ghost use Rattle.fg_cli.specs.Reading.{BeginsPlain, Reads, range_seen, row_seen};
 
 use crate::Name;
@@ -71,6 +71,19 @@ pub struct Row {
 }
 
 impl Command {
+    /// The word that names the command.
+    pub fn word(self) -> &'static str
+        ensures { result.now ≡ command_text self }
+    {
+        match self {
+            Command::Repair => "repair",
+            Command::Encode => "encode",
+            Command::Drill => "drill",
+            Command::Inspect => "inspect",
+            Command::Sample => "sample",
+        }
+    }
+
     /// The command that the word names.
     pub fn named(word: &str) -> Option<Command>
         ensures found { IfSome result (λ command. word.now ≡ command_text command) }
@@ -92,6 +105,31 @@ impl Command {
             return Some(Command::Sample);
         }
         None
+    }
+
+    /// What the help says of the command.
+    pub fn about(self) -> &'static str
+        ensures { result.now ≡ command_about self }
+    {
+        match self {
+            Command::Repair => "writes each flow of a trace, repaired, to PORT.ts",
+            Command::Encode => "encodes a transport stream with parity",
+            Command::Drill => "encodes a stream, drops records, and repairs it",
+            Command::Inspect => "writes a line for each record of a trace",
+            Command::Sample => "makes a stream, drops records, and repairs it",
+        }
+    }
+
+    /// What the help says behind a command that the program doesn't have yet.
+    pub fn mark(self) -> &'static str
+        ensures { result.now ≡ mark self }
+    {
+        match self {
+            Command::Repair => "",
+            Command::Encode | Command::Drill | Command::Inspect | Command::Sample => {
+                " (not built yet)"
+            }
+        }
     }
 
     /// The names that may stand after the command, in the order in which missing ones are told.
@@ -196,6 +234,34 @@ impl Key {
             Key::Seed => needed_row("seed", Values::Number(0, 9_999_999_999_999), Name::Seed),
             Key::Datagrams => optional_row("datagrams", Values::Number(1, 20_000), 1_000),
             Key::Loss => optional_row("loss", Values::Number(0, 20), 3),
+        }
+    }
+
+    /// What the help says of the name.
+    pub fn about(self) -> &'static str
+        ensures { result.now ≡ about self }
+    {
+        match self {
+            Key::Flow => "a flow's media port, up to 64 times",
+            Key::Window => "positions that are played at once",
+            Key::Depth => "a datagram so far ahead plays them",
+            Key::Workers => "threads beside the one that reads",
+            Key::Max => "most bytes of the input",
+            Key::Columns => "columns of a matrix",
+            Key::Rows => "rows of a matrix",
+            Key::Fec => "parity of columns, or of rows too",
+            Key::Layout => "where the columns begin",
+            Key::Packets => "transport packets in a datagram",
+            Key::Rate => "transport bits a second",
+            Key::Port => "the media port",
+            Key::Seq => "the first RTP sequence number",
+            Key::Ssrc => "the RTP synchronization source",
+            Key::Stamp => "the first RTP timestamp",
+            Key::Drop => "a record left out",
+            Key::Every => "its multiples are left out",
+            Key::Seed => "what the stream is made from",
+            Key::Datagrams => "media datagrams of the stream",
+            Key::Loss => "records of a hundred left out",
         }
     }
 }

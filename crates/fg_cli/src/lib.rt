@@ -11,11 +11,14 @@ use std::alloc::{AllocError, AllocFailed, Global};
 use thiserror::Error;
 
 mod grammar;
+mod help;
 pub mod laws;
 mod making;
 mod settings;
 #[cfg(test)]
 mod tests;
+
+pub use help::{Question, help_text, version_text};
 
 /// What the words order.
 #[derive(Drop)]

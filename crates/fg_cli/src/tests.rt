@@ -2,7 +2,7 @@
 
 ghost use Rattle.std.specs.Prelude.{◌≤◌};
 
-use crate::{Name, Order, ReadWords, WordFault, read_words};
+use crate::{Name, Order, Question, ReadWords, WordFault, help_text, read_words, version_text};
 use fg_flows::FlowFault;
 use fg_shape::LayoutFault;
 use std::alloc::{AllocError, Global};
@@ -429,5 +429,72 @@ fn defaults_of_sample(rt: HostRuntime) -> Result<(), Fail> {
     assert!(rt; plan.table.find(5000).is_some());
     assert_eq!(rt; (plan.window, plan.depth, plan.workers), (100, 400, 4));
     assert_eq!(rt; plan.max, 4_398_046_511_104);
+    Ok(())
+}
+
+/// Whether the text has this piece somewhere.
+fn has(text: &[u8], piece: &str) -> bool {
+    text.windows(piece.len())
+        .any(|part| part == piece.as_bytes())
+}
+
+/// Parts of the help, as they are to look.
+const HELP_PARTS: [&str; 3] = [
+    "
+fgate repair: writes each flow of a trace, repaired, to PORT.ts
+  flow=1..65531           a flow's media port, up to 64 times; needed
+  window=1..100           positions that are played at once; default 100
+  depth=1..1000           a datagram so far ahead plays them; default 400
+  workers=0..16           threads beside the one that reads; default 4
+  max=8..1099511627776    most bytes of the input; default 1099511627776
+
+fgate encode: encodes a transport stream with parity (not built yet)
+",
+    "
+  fec=column|both         parity of columns, or of rows too; default both
+  layout=block|staggered  where the columns begin; default block
+",
+    "
+  drop=1..9999999999999   a record left out, up to 1000 times; default none
+  every=2..9999999999999  its multiples are left out; default none
+
+",
+];
+
+#[test]
+fn help_looks_so(rt: HostRuntime) -> Result<(), Fail> {
+    let text = help_text(rt.alloc())?;
+    for part in HELP_PARTS {
+        assert!(rt; has(&text, part), "{part}");
+    }
+    Ok(())
+}
+
+#[test]
+fn help_fits_80_columns(rt: HostRuntime) -> Result<(), Fail> {
+    let text = help_text(rt.alloc())?;
+    for line in text.split(|byte| *byte == b'\n') {
+        assert!(rt; line.len() <= 80);
+    }
+    assert_eq!(rt; text.last(), Some(&b'\n'));
+    assert_eq!(rt; version_text(), "fgate 0.1.0\n");
+    Ok(())
+}
+
+#[test]
+fn questions(rt: HostRuntime) -> Result<(), Fail> {
+    for (line, question) in [
+        ("--help", Some(Question::Help)),
+        ("--version", Some(Question::Version)),
+        ("--help repair", None),
+        ("--version --help", None),
+        ("help", None),
+    ] {
+        let words = words_of(rt.alloc(), line)?;
+        assert_eq!(rt; Question::asked(&words), question, "{line}");
+    }
+    assert_eq!(rt; Question::asked(&[]), None);
+    let answer = Question::Version.answer(rt.alloc())?;
+    assert_eq!(rt; answer.as_slice(), b"fgate 0.1.0\n".as_slice());
     Ok(())
 }

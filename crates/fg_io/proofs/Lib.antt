@@ -1,5 +1,6 @@
 -- Lemmas on the definitions of this crate, which proofs of other crates cite too.
 pub mod FaultLemmas
+mod OpenFilesLemmas
 pub mod OutletLemmas
 pub mod PieceLemmas
 pub mod PrefixLemmas

@@ -6,6 +6,7 @@ pub mod Laws
 pub mod MemOutlet
 pub mod MemSink
 pub mod MemSource
+pub mod OpenFiles
 pub mod Outlet
 pub mod Prefix
 pub mod Safe

@@ -6,6 +6,7 @@ ghost use Rattle.fg_io.specs.Outlet.{Puts, PutsPart};
 
 use crate::Failed;
 use crate::lane_name::LaneName;
+use crate::open_files::OpenFiles;
 use crate::outlet::Outlet;
 use std::fs::OpenOptions;
 use std::io::Write;
@@ -17,16 +18,18 @@ const PORTS: usize = 65_536;
 
 /// The current folder, where the lane of a port is the file `<port>.ts`.
 ///
-/// The first put to a port makes its file empty, and each put appends to it. Contracts see the count of faults, which
-/// stands still at its last value.
+/// The first put to a port makes its file empty, and each put appends to it. Up to 64 files, those used last, stay open
+/// until they are put to again, and one that fails is closed. Contracts see the count of faults, which stands still at
+/// its last value.
 #[derive(Drop)]
-pub struct FolderOutlet<F> {
+pub struct FolderOutlet<F: Files> {
     files: F,
     made: [bool; PORTS],
+    open: OpenFiles<F::File>,
     faults: u64,
 }
 
-impl<F> Model for FolderOutlet<F> {
+impl<F: Files> Model for FolderOutlet<F> {
     ghost use Rattle.std.specs.Prelude.{ℕ};
 
     ghost Value = { ℕ };
@@ -34,40 +37,46 @@ impl<F> Model for FolderOutlet<F> {
     ghost view = { λ a. a.faults };
 }
 
-impl<F: Files> FolderOutlet<F> {
+impl<F: Files + AllocGlobal> FolderOutlet<F> {
     /// The current folder, before any put.
     pub fn new(files: F) -> FolderOutlet<F>
         ensures { result ≡ 0 }
     {
+        let open = OpenFiles::new(files.alloc());
         FolderOutlet {
             files,
             made: [false; PORTS],
+            open,
             faults: 0,
         }
     }
+}
 
-    /// Opens the port's file at its end, and makes it empty where this is the first time.
-    fn open(&mut self, port: u16) -> io::Result<F::File>
-        ensures { self.new ≡ self.old }
-    {
-        let name = LaneName::new(port);
-        let place = usize::from(port);
-        if self.made[place] {
-            return OpenOptions::new()
-                .append(true)
-                .open(&self.files, name.as_str());
-        }
-        let file = fs::create(&self.files, name.as_str())?;
-        self.made[place] = true;
-        Ok(file)
-    }
-
-    /// Opens the port's file, and appends the piece.
+impl<F: Files> FolderOutlet<F> {
+    /// Appends the piece to the port's file. Where that fails the file is closed, so the next put opens it at its end.
     fn append(&mut self, port: u16, piece: &[u8]) -> io::Result<()>
         ensures { self.new ≡ self.old }
     {
-        self.open(port)?.write_all(piece)
+        let mut file = match self.open.take(port) {
+            Some(file) => file,
+            None => open_lane(&self.files, &mut self.made, port)?,
+        };
+        file.write_all(piece)?;
+        self.open.add(port, file);
+        Ok(())
     }
+}
+
+/// Opens the port's file at its end, and makes it empty where this is the first time.
+fn open_lane<F: Files>(files: &F, made: &mut [bool; PORTS], port: u16) -> io::Result<F::File> {
+    let name = LaneName::new(port);
+    let place = usize::from(port);
+    if made[place] {
+        return OpenOptions::new().append(true).open(files, name.as_str());
+    }
+    let file = fs::create(files, name.as_str())?;
+    made[place] = true;
+    Ok(file)
 }
 
 impl<F: Files> Outlet for FolderOutlet<F> {

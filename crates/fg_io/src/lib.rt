@@ -12,6 +12,7 @@ pub mod laws;
 mod mem_outlet;
 mod mem_sink;
 mod mem_source;
+mod open_files;
 mod outlet;
 mod safe;
 mod sink;

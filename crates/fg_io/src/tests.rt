@@ -1,4 +1,7 @@
 use super::*;
+use crate::lane_name::LaneName;
+use std::ops::Range;
+use std::os::unix::fs::symlink;
 use std::test::Fail;
 use std::{fs, io};
 
@@ -151,5 +154,75 @@ fn folder_makes_a_lane_after_a_fault(rt: HostRuntime) -> Result<(), Fail> {
     let (first, second, bytes) = lane?;
     assert!(rt; !first && second);
     assert_eq!(rt; bytes.as_slice(), b"de".as_slice());
+    Ok(())
+}
+
+/// Puts the piece to each of the lanes. Whether all was taken.
+fn put_to_each<O: Outlet>(outlet: &mut O, ports: Range<u16>, piece: &[u8]) -> bool {
+    let mut taken = true;
+    for port in ports {
+        taken = outlet.put(port, piece).is_ok() && taken;
+    }
+    taken
+}
+
+/// Removes the files of the lanes. Whether each held these bytes.
+fn take_each(rt: &HostRuntime, ports: Range<u16>, bytes: &[u8]) -> io::Result<bool> {
+    let mut same = true;
+    for port in ports {
+        let name = LaneName::new(port);
+        same = fs::read(rt, name.as_str())?.as_slice() == bytes && same;
+        fs::remove_file(rt, name.as_str())?;
+    }
+    Ok(same)
+}
+
+// Each file is closed before its lane's next put.
+#[test]
+fn folder_keeps_more_lanes_than_files(rt: HostRuntime) -> Result<(), Fail> {
+    let mut outlet = FolderOutlet::new(&rt);
+    assert!(rt; put_to_each(&mut outlet, 64000..64070, b"ab"));
+    assert!(rt; put_to_each(&mut outlet, 64000..64070, b"c"));
+    assert!(rt; take_each(&rt, 64000..64070, b"abc")?);
+    Ok(())
+}
+
+/// Puts to a lane, removes its file, and puts to the lanes from 65,000 up to `end`. Whether the first one takes more,
+/// which it does only where its file is still open: a lane that was made is not made again.
+fn stays_open(rt: &HostRuntime, end: u16) -> io::Result<bool> {
+    let mut outlet = FolderOutlet::new(rt);
+    let mut taken = outlet.put(64999, b"a").is_ok();
+    fs::remove_file(rt, "64999.ts")?;
+    taken = put_to_each(&mut outlet, 65000..end, b"b") && taken;
+    let more = outlet.put(64999, b"c").is_ok();
+    Ok(take_each(rt, 65000..end, b"b")? && taken && more)
+}
+
+#[test]
+fn folder_keeps_64_files_open(rt: HostRuntime) -> Result<(), Fail> {
+    assert!(rt; stays_open(&rt, 65000)?);
+    assert!(rt; stays_open(&rt, 65063)?);
+    assert!(rt; !stays_open(&rt, 65064)?);
+    Ok(())
+}
+
+/// Puts to a lane whose file is full, and again where another has its name. Whether each was taken, and what that holds.
+fn lane_after_a_full_file(rt: &HostRuntime) -> io::Result<(bool, bool, Vec<u8>)> {
+    symlink(rt, "/dev/full", "65532.ts")?;
+    let mut outlet = FolderOutlet::new(rt);
+    let first = outlet.put(65532, b"abc").is_ok();
+    fs::remove_file(rt, "65532.ts")?;
+    fs::write(rt, "65532.ts", "ab")?;
+    let second = outlet.put(65532, b"c").is_ok();
+    Ok((first, second, fs::read(rt, "65532.ts")?))
+}
+
+#[test]
+fn folder_opens_a_file_that_failed_at_its_end(rt: HostRuntime) -> Result<(), Fail> {
+    let lane = lane_after_a_full_file(&rt);
+    let _ = fs::remove_file(&rt, "65532.ts");
+    let (first, second, bytes) = lane?;
+    assert!(rt; !first && second);
+    assert_eq!(rt; bytes.as_slice(), b"abc".as_slice());
     Ok(())
 }

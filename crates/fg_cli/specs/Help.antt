@@ -1,0 +1,113 @@
+-- The help of the program, from the table of the words, and its version. All of it is this project's own.
+use Rattle.std.specs.Prelude.{◌≡◌, ℕ, List, [], ◌∷◌, ◌++◌, Option, Some, None, codes, drop, length, nat_eq, if◌then◌else◌}
+use Rattle.std.specs.Fmt.{decimal}
+use Rattle.std.specs.List.{flat_map}
+use Rattle.fg_cli.specs.declared.help.Question.{Question}
+use Rattle.fg_cli.specs.declared.help.Question.TheVariants as question
+use Rattle.fg_cli.specs.declared.grammar.Command.{Command}
+use Rattle.fg_cli.specs.declared.grammar.Command.TheVariants.{Repair, Encode, Drill, Inspect, Sample}
+use Rattle.fg_cli.specs.declared.grammar.Key.{Key}
+use Rattle.fg_cli.specs.declared.grammar.Absent.{Absent}
+use Rattle.fg_cli.specs.declared.grammar.Absent.TheVariants.{Needed, Default, Nothing}
+use Rattle.fg_cli.specs.Grammar.{Range, Number, Either, TableRow, about, command_about, command_text, keys_of, mark, row, value_text}
+
+-- Lines of text.
+abbrev pub lines_text : List (List ℕ) → List ℕ
+lines_text lines = flat_map (λ line. line ++ codes "\n") lines
+
+-- The values that a name takes.
+abbrev pub range_text : Range → List ℕ
+range_text (Number least greatest) = decimal least ++ codes ".." ++ decimal greatest
+range_text (Either first second) = first ++ codes "|" ++ second
+
+-- How often it may stand, where a number above one is set for it.
+abbrev pub times_text : Option ℕ → List ℕ
+times_text None = []
+times_text (Some most) = if nat_eq most 1 then [] else codes ", up to " ++ decimal most ++ codes " times"
+
+-- What holds where it isn't there.
+abbrev pub absent_text : Range → Absent → List ℕ
+absent_text range (Needed name) = codes "needed"
+absent_text range (Default n) = codes "default " ++ value_text range n
+absent_text range Nothing = codes "default none"
+
+-- A text with blanks behind it, up to column 26.
+unfoldable pub blanks : List ℕ
+blanks = codes "                          "
+
+abbrev pub padded : List ℕ → List ℕ
+padded text = text ++ drop (length text) blanks
+
+-- How a name and its values are spelled, in a column of their own.
+unfoldable pub spelling : List ℕ → Range → List ℕ
+spelling name range = padded (codes "  " ++ name ++ codes "=" ++ range_text range)
+
+-- A line of the table: how its name is spelled, what it means, and what holds where it isn't there.
+unfoldable pub row_line : TableRow → List ℕ → List ℕ
+row_line row meaning =
+    spelling row.name row.range ++ meaning ++ times_text row.most ++ codes "; " ++ absent_text row.range row.absent
+    ++ codes "\n"
+
+-- The line of a name.
+abbrev pub key_line : Key → List ℕ
+key_line key = row_line (row key) (about key)
+
+-- The line of a command.
+unfoldable pub command_line : Command → List ℕ
+command_line command =
+    codes "\nfgate " ++ command_text command ++ codes ": " ++ command_about command ++ mark command ++ codes "\n"
+
+-- A command with its names, in the order of the table.
+unfoldable pub command_help : Command → List ℕ
+command_help command = command_line command ++ flat_map key_line (keys_of command)
+
+unfoldable pub intro : List ℕ
+intro =
+    lines_text
+    (codes "fgate: repairs MPEG transport streams in RTP by SMPTE ST 2022-1 parity"
+    ∷ codes ""
+    ∷ codes "usage: fgate COMMAND NAME=VALUE .."
+    ∷ codes "       fgate --help"
+    ∷ codes "       fgate --version"
+    ∷ codes ""
+    ∷ codes "Standard input is a trace, for encode and drill a stream. Standard output is the"
+    ∷ codes "report, for encode a trace. Each flow goes to the file PORT.ts of this folder."
+    ∷ [])
+
+unfoldable pub outro : List ℕ
+outro =
+    lines_text
+    (codes ""
+    ∷ codes "status:"
+    ∷ codes "  0  all was done"
+    ∷ codes "  1  the words are faulty, and nothing was read"
+    ∷ codes "  2  reading failed"
+    ∷ codes "  3  writing failed"
+    ∷ codes "  4  the input is no trace, or ends inside a record"
+    ∷ codes "  5  the input is longer than max"
+    ∷ codes "  6  there was no memory"
+    ∷ codes "  7  the stream is not of whole transport packets"
+    ∷ codes "  9  the command is not built yet"
+    ∷ codes ""
+    ∷ codes "example: fgate repair flow=5000 flow=6000 < night.trace"
+    ∷ [])
+
+-- The whole help: each command of the table, between what holds of all.
+abbrev pub help : List ℕ
+help = intro ++ flat_map command_help (Repair ∷ Encode ∷ Drill ∷ Inspect ∷ Sample ∷ []) ++ outro
+
+abbrev pub version : List ℕ
+version = codes "fgate 0.1.0\n"
+
+-- The word of a question, and its answer.
+abbrev pub question_text : Question → List ℕ
+question_text question.Help = codes "--help"
+question_text question.Version = codes "--version"
+
+abbrev pub answer_text : Question → List ℕ
+answer_text question.Help = help
+answer_text question.Version = version
+
+-- The words are this question, which stands alone.
+abbrev pub IsQuestion : List (List ℕ) → Question → Type 0
+IsQuestion words question = words ≡ question_text question ∷ []

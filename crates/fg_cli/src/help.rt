@@ -1,0 +1,285 @@
+//! The help of the program, written from the table of the words, and its version.
+ghost use Rattle.std.specs.Prelude.{◌≡◌, ◌++◌, ◌-◌, ◌≤◌, IfNone, IfOk, IfSome, OnOk, drop, length, map, string_bytes};
+ghost use Rattle.std.specs.Fmt.{decimal};
+ghost use Rattle.fg_cli.specs.Grammar.{value_text};
+ghost use Rattle.fg_cli.specs.Help.{IsQuestion, absent_text, answer_text, blanks, command_help, command_line, help, intro, key_line, lines_text, outro, question_text, range_text, row_line, spelling, times_text, version};
+ghost use Rattle.fg_cli.specs.Reading.{range_seen, row_seen};
+
+use crate::grammar::{Absent, Command, Key, Row, Values};
+use itoa::Buffer;
+use std::alloc::{AllocError, Global};
+
+/// Blanks up to the column in which the meaning of a name begins.
+const BLANKS: &str = "                          ";
+
+/// What is asked of the program in place of a command.
+#[derive(Clone, Copy, Debug, PartialEq, Eq)]
+pub enum Question {
+    /// How it is called.
+    Help,
+    /// Which version it is.
+    Version,
+}
+
+impl Question {
+    /// The question that the words are: `--help` or `--version`, alone.
+    pub fn asked(words: &[String]) -> Option<Question>
+        ensures found { IfSome result (IsQuestion (map string_bytes words.now)) }
+        ensures none { IfNone result
+            ((question : Question) → IsQuestion (map string_bytes words.now) question → ⊥) }
+    {
+        let [word] = words else {
+            return None;
+        };
+        Question::named(word.as_str())
+    }
+
+    /// The question that the word is.
+    fn named(word: &str) -> Option<Question>
+        ensures found { IfSome result (λ question. word.now ≡ question_text question) }
+        ensures none { IfNone result
+            ((question : Question) → word.now ≡ question_text question → ⊥) }
+    {
+        if word == "--help" {
+            return Some(Question::Help);
+        }
+        if word == "--version" {
+            return Some(Question::Version);
+        }
+        None
+    }
+
+    /// The answer, as lines of text.
+    pub fn answer(self, alloc: Global) -> Result<Vec<u8>, AllocError>
+        ensures { IfOk result (λ text. text.items ≡ answer_text self) }
+    {
+        match self {
+            Question::Help => help_text(alloc),
+            Question::Version => Vec::from_slice(alloc, version_text().as_bytes()),
+        }
+    }
+}
+
+/// The help: each command with its names, their values and defaults; the statuses; and an example. It has lines of at
+/// most 80 columns.
+pub fn help_text(alloc: Global) -> Result<Vec<u8>, AllocError>
+    ensures { IfOk result (λ text. text.items ≡ help) }
+{
+    let mut text = Vec::new(alloc);
+    push_intro(&mut text)?;
+    push_command(&mut text, Command::Repair)?;
+    push_command(&mut text, Command::Encode)?;
+    push_command(&mut text, Command::Drill)?;
+    push_command(&mut text, Command::Inspect)?;
+    push_command(&mut text, Command::Sample)?;
+    push_outro(&mut text)?;
+    Ok(text)
+}
+
+/// The program's name and version, as a line.
+pub fn version_text() -> &'static str
+    ensures { result.now ≡ version }
+{
+    "fgate 0.1.0\n"
+}
+
+/// Pushes what the program is, and how it is called.
+#[tactic(auto, unfolding(crate::specs::Help::intro))]
+fn push_intro(text: &mut Vec<u8>) -> Result<(), AllocError>
+    ensures { OnOk result (text.new.items ≡ text.old.items ++ intro) }
+{
+    push_lines(
+        text,
+        &[
+            "fgate: repairs MPEG transport streams in RTP by SMPTE ST 2022-1 parity",
+            "",
+            "usage: fgate COMMAND NAME=VALUE ..",
+            "       fgate --help",
+            "       fgate --version",
+            "",
+            "Standard input is a trace, for encode and drill a stream. Standard output is the",
+            "report, for encode a trace. Each flow goes to the file PORT.ts of this folder.",
+        ],
+    )
+}
+
+/// Pushes the statuses and an example.
+#[tactic(auto, unfolding(crate::specs::Help::outro))]
+fn push_outro(text: &mut Vec<u8>) -> Result<(), AllocError>
+    ensures { OnOk result (text.new.items ≡ text.old.items ++ outro) }
+{
+    push_lines(
+        text,
+        &[
+            "",
+            "status:",
+            "  0  all was done",
+            "  1  the words are faulty, and nothing was read",
+            "  2  reading failed",
+            "  3  writing failed",
+            "  4  the input is no trace, or ends inside a record",
+            "  5  the input is longer than max",
+            "  6  there was no memory",
+            "  7  the stream is not of whole transport packets",
+            "  9  the command is not built yet",
+            "",
+            "example: fgate repair flow=5000 flow=6000 < night.trace",
+        ],
+    )
+}
+
+/// Pushes lines.
+fn push_lines(text: &mut Vec<u8>, lines: &[&str]) -> Result<(), AllocError>
+    ensures { OnOk result (text.new.items
+        ≡ text.old.items ++ lines_text (map (λ line. line.now) lines.now)) }
+{
+    for line in lines {
+        text.extend_from_slice(line.as_bytes())?;
+        text.push(b'\n')?;
+    }
+    Ok(())
+}
+
+/// Pushes a command with its names.
+#[tactic(auto, unfolding(crate::specs::Help::command_help))]
+fn push_command(text: &mut Vec<u8>, command: Command) -> Result<(), AllocError>
+    ensures { OnOk result (text.new.items ≡ text.old.items ++ command_help command) }
+{
+    push_command_line(text, command)?;
+    let keys = command.keys();
+    for key in keys {
+        push_key_line(text, *key)?;
+    }
+    Ok(())
+}
+
+/// Pushes the line of a command.
+#[tactic(auto, unfolding(crate::specs::Help::command_line))]
+fn push_command_line(text: &mut Vec<u8>, command: Command) -> Result<(), AllocError>
+    ensures { OnOk result (text.new.items ≡ text.old.items ++ command_line command) }
+{
+    text.extend_from_slice(b"\nfgate ")?;
+    text.extend_from_slice(command.word().as_bytes())?;
+    text.extend_from_slice(b": ")?;
+    text.extend_from_slice(command.about().as_bytes())?;
+    text.extend_from_slice(command.mark().as_bytes())?;
+    text.push(b'\n')?;
+    Ok(())
+}
+
+/// Pushes the line of a name.
+fn push_key_line(text: &mut Vec<u8>, key: Key) -> Result<(), AllocError>
+    ensures { OnOk result (text.new.items ≡ text.old.items ++ key_line key) }
+{
+    push_row_line(text, key.row(), key.about())
+}
+
+/// Pushes a line of the table.
+#[tactic(auto, unfolding(crate::specs::Help::row_line))]
+fn push_row_line(text: &mut Vec<u8>, row: Row, meaning: &str) -> Result<(), AllocError>
+    ensures { OnOk result (text.new.items ≡ text.old.items ++ row_line (row_seen row) meaning.now) }
+{
+    push_spelling(text, row.name, row.values)?;
+    text.extend_from_slice(meaning.as_bytes())?;
+    push_times(text, row.most)?;
+    text.extend_from_slice(b"; ")?;
+    push_absent(text, row.values, row.absent)?;
+    text.push(b'\n')?;
+    Ok(())
+}
+
+/// Pushes how a name and its values are spelled, in a column of their own.
+fn push_spelling(text: &mut Vec<u8>, name: &str, values: Values) -> Result<(), AllocError>
+    ensures { OnOk result (text.new.items
+        ≡ text.old.items ++ spelling name.now (range_seen values)) }
+{
+    let start = text.len();
+    text.extend_from_slice(b"  ")?;
+    text.extend_from_slice(name.as_bytes())?;
+    text.push(b'=')?;
+    push_range(text, values)?;
+    push_blanks(text, start)?;
+    Ok(())
+}
+
+/// Pushes blanks behind what begins at the start, up to the column.
+#[tactic(auto, unfolding(crate::specs::Help::blanks))]
+fn push_blanks(text: &mut Vec<u8>, start: usize) -> Result<(), AllocError>
+    requires { start ≤ length text.old.items }
+    ensures { OnOk result (text.new.items
+        ≡ text.old.items ++ drop (length text.old.items - start) blanks) }
+{
+    let width = text.len() - start;
+    let blanks = BLANKS.as_bytes();
+    if width >= blanks.len() {
+        return Ok(());
+    }
+    text.extend_from_slice(&blanks[width..])
+}
+
+/// Pushes the values that a name takes.
+fn push_range(text: &mut Vec<u8>, values: Values) -> Result<(), AllocError>
+    ensures { OnOk result (text.new.items ≡ text.old.items ++ range_text (range_seen values)) }
+{
+    match values {
+        Values::Number(least, greatest) => {
+            push_number(text, least)?;
+            text.extend_from_slice(b"..")?;
+            push_number(text, greatest)
+        }
+        Values::Either(first, second) => {
+            text.extend_from_slice(first.as_bytes())?;
+            text.push(b'|')?;
+            text.extend_from_slice(second.as_bytes())
+        }
+    }
+}
+
+/// Pushes how often a name may stand, where a number above one is set for it.
+fn push_times(text: &mut Vec<u8>, most: Option<usize>) -> Result<(), AllocError>
+    ensures { OnOk result (text.new.items ≡ text.old.items ++ times_text most) }
+{
+    match most {
+        Some(most) if most != 1 => {
+            text.extend_from_slice(b", up to ")?;
+            push_number(text, most as u64)?;
+            text.extend_from_slice(b" times")
+        }
+        _ => Ok(()),
+    }
+}
+
+/// Pushes what holds where a name isn't there.
+fn push_absent(text: &mut Vec<u8>, values: Values, absent: Absent) -> Result<(), AllocError>
+    ensures { OnOk result (text.new.items
+        ≡ text.old.items ++ absent_text (range_seen values) absent) }
+{
+    match absent {
+        Absent::Needed(_) => text.extend_from_slice(b"needed"),
+        Absent::Default(value) => {
+            text.extend_from_slice(b"default ")?;
+            push_value(text, values, value)
+        }
+        Absent::Nothing => text.extend_from_slice(b"default none"),
+    }
+}
+
+/// Pushes a value as it is written.
+fn push_value(text: &mut Vec<u8>, values: Values, value: u64) -> Result<(), AllocError>
+    ensures { OnOk result (text.new.items
+        ≡ text.old.items ++ value_text (range_seen values) value) }
+{
+    match values {
+        Values::Number(_, _) => push_number(text, value),
+        Values::Either(first, _) if value == 0 => text.extend_from_slice(first.as_bytes()),
+        Values::Either(_, second) => text.extend_from_slice(second.as_bytes()),
+    }
+}
+
+/// Pushes a number in decimal.
+fn push_number(text: &mut Vec<u8>, number: u64) -> Result<(), AllocError>
+    ensures { OnOk result (text.new.items ≡ text.old.items ++ decimal number) }
+{
+    let mut digits = Buffer::new();
+    text.extend_from_slice(digits.format(number).as_bytes())
+}
