@@ -1,0 +1,181 @@
+//! Words, and the lines on the error sink.
+use super::*;
+
+/// The line that tells such an end.
+fn told(alloc: Global, why: Why) -> Result<MemSink, AllocError> {
+    let mut err = MemSink::new(alloc, 100, &[])?;
+    let _ = tell_end(&mut err, why);
+    Ok(err)
+}
+
+#[test]
+fn each_end_has_its_line(rt: HostRuntime) -> Result<(), Fail> {
+    for (why, line) in [
+        (Why::Done, ""),
+        (Why::ReadFault, "read fault\n"),
+        (Why::WriteFault, "write fault\n"),
+        (Why::NotTrace(7), "not a trace at byte 7\n"),
+        (Why::Cut(2688), "cut at byte 2688\n"),
+        (
+            Why::TooLong(1_099_511_627_776),
+            "too long at byte 1099511627776\n",
+        ),
+        (Why::Memory, "no memory\n"),
+        (Why::NotBuilt(0), "not built at byte 0\n"),
+    ] {
+        assert_eq!(rt; told(rt.alloc(), why)?.bytes(), line.as_bytes());
+    }
+    Ok(())
+}
+
+#[test]
+fn each_fault_of_the_words_has_its_line(rt: HostRuntime) -> Result<(), Fail> {
+    for (fault, line) in [
+        (WordFault::NoCommand, "words: no command\n"),
+        (WordFault::BadWord(12), "words: bad word 12\n"),
+        (WordFault::Missing(Name::Flow), "words: missing flow\n"),
+        (
+            WordFault::Missing(Name::Columns),
+            "words: missing columns\n",
+        ),
+        (WordFault::Missing(Name::Rows), "words: missing rows\n"),
+        (WordFault::Missing(Name::Seed), "words: missing seed\n"),
+        (WordFault::Depth(3), "words: depth below window at word 3\n"),
+        (WordFault::Layout(LayoutFault::Columns), "words: layout 1\n"),
+        (WordFault::Layout(LayoutFault::Rows), "words: layout 2\n"),
+        (WordFault::Layout(LayoutFault::Product), "words: layout 3\n"),
+        (
+            WordFault::Layout(LayoutFault::RowsNeedFour),
+            "words: layout 4\n",
+        ),
+        (WordFault::Flows(FlowFault::NoFlow), "words: flows 1\n"),
+        (WordFault::Flows(FlowFault::TooMany), "words: flows 2\n"),
+        (
+            WordFault::Flows(FlowFault::Port(5)),
+            "words: flows 3 at 5\n",
+        ),
+        (
+            WordFault::Flows(FlowFault::Clash(63)),
+            "words: flows 4 at 63\n",
+        ),
+    ] {
+        assert_eq!(rt;
+            told(rt.alloc(), Why::Words(fault))?.bytes(),
+            line.as_bytes()
+        );
+    }
+    Ok(())
+}
+
+// Nothing is read, though the input is a trace.
+#[test]
+fn words_are_refused_at_once(rt: HostRuntime) -> Result<(), Fail> {
+    for (line, fault, told) in [
+        ("", WordFault::NoCommand, "words: no command\n"),
+        (
+            "repair",
+            WordFault::Missing(Name::Flow),
+            "words: missing flow\n",
+        ),
+        (
+            "--help repair",
+            WordFault::BadWord(0),
+            "words: bad word 0\n",
+        ),
+        (
+            "repair flow=5000 flow=5002",
+            WordFault::Flows(FlowFault::Clash(1)),
+            "words: flows 4 at 1\n",
+        ),
+        (
+            "repair window=50 flow=5000 depth=20",
+            WordFault::Depth(3),
+            "words: depth below window at word 3\n",
+        ),
+        (
+            "encode columns=20 rows=6",
+            WordFault::Layout(LayoutFault::Product),
+            "words: layout 3\n",
+        ),
+    ] {
+        let wanted = Wanted {
+            why: Why::Words(fault),
+            line: told,
+            out: "",
+            lane: None,
+        };
+        expect(&rt, rt.alloc(), line, b"FECTRAC1", &wanted)?;
+    }
+    Ok(())
+}
+
+#[test]
+fn orders_that_are_not_built(rt: HostRuntime) -> Result<(), Fail> {
+    let wanted = Wanted {
+        why: Why::NotBuilt(0),
+        line: "not built at byte 0\n",
+        out: "",
+        lane: None,
+    };
+    for line in [
+        "encode columns=4 rows=4",
+        "drill columns=4 rows=4",
+        "inspect flow=5000",
+        "sample seed=1",
+    ] {
+        expect(&rt, rt.alloc(), line, b"FECTRAC1", &wanted)?;
+    }
+    Ok(())
+}
+
+#[test]
+fn help_and_version_are_words_of_their_own(rt: HostRuntime) -> Result<(), Fail> {
+    for (line, text) in [
+        ("--help", help::help_text()),
+        ("--version", help::version_text()),
+    ] {
+        let wanted = Wanted {
+            why: Why::Done,
+            line: "",
+            out: text,
+            lane: None,
+        };
+        let mut outside = Outside::new(rt.alloc(), b"")?;
+        outside.out = MemSink::new(rt.alloc(), 10_000, &[])?;
+        let ended = outside.run(&rt, rt.alloc(), line)?;
+        wanted.check(&rt, rt.alloc(), ended, &outside)?;
+    }
+    Ok(())
+}
+
+// A body that tries again would write all.
+#[test]
+fn a_help_that_is_not_written(rt: HostRuntime) -> Result<(), Fail> {
+    let mut outside = Outside::new(rt.alloc(), b"")?;
+    outside.out = MemSink::new(rt.alloc(), 5, &[])?;
+    let ended = outside.run(&rt, rt.alloc(), "--help")?;
+    assert_eq!(rt; ended.why, Why::WriteFault);
+    assert_eq!(rt;
+        Some(outside.out.bytes()),
+        help::help_text().as_bytes().get(..5)
+    );
+    assert_eq!(rt; outside.err.bytes(), b"write fault\n".as_slice());
+    Ok(())
+}
+
+#[test]
+fn a_fault_of_the_error_sink_changes_nothing_else(rt: HostRuntime) -> Result<(), Fail> {
+    for (room, fails, line) in [(5, 9, "not a"), (100, 1, "not a trace at byte ")] {
+        let mut outside = Outside::new(rt.alloc(), b"")?;
+        outside.err = MemSink::new(rt.alloc(), room, &[fails])?;
+        let ended = outside.run(&rt, rt.alloc(), "repair flow=5000")?;
+        let wanted = Wanted {
+            why: Why::NotTrace(0),
+            line,
+            out: "",
+            lane: None,
+        };
+        wanted.check(&rt, rt.alloc(), ended, &outside)?;
+    }
+    Ok(())
+}
