@@ -13,14 +13,15 @@ use Rattle.fg_repair.specs.Flow.{FlowResult, IsFlowResult, sum_of}
 use Rattle.fg_report.specs.declared.flow_sum.FlowSum.{FlowSum}
 use Rattle.fg_report.specs.declared.tail.Tail.{Tail}
 use Rattle.fg_report.specs.Text.{report_of}
+use Rattle.fg_trace.specs.declared.step.Finish.TheVariants as finish
 use Rattle.fg_trace.specs.Laws.{OneTrace}
 use Rattle.fg_trace.specs.Trace.{Record, Ending, Ended, NotTrace, Cut, TooLong, IsTrace}
 use Rattle.fg_io.specs.Outlet.{Lanes, WhereTold}
 use Rattle.fg_io.specs.Sink.{GainsPart}
 use Rattle.fg_repair.specs.declared.engine.Engine.{Engine}
-use Rattle.fg_repair.specs.Engine.{OneFlowResult, LanesPart, LanesWhole, TellsTail, sums_of}
+use Rattle.fg_repair.specs.Engine.{OneFlowResult, NoRecordsHaveResults, LanesPart, LanesWhole, TellsTail, sums_of}
 use Rattle.fg_repair.specs.Lanes.{OthersStay, LanesGain, PutsAll, PutsAllPart}
-use Rattle.fg_repair.specs.Repair.{AreResults, OutputsPart, lanes_of, others_of, tail_of, report_text}
+use Rattle.fg_repair.specs.Repair.{AreResults, OutputsPart, Finishes, lanes_of, others_of, tail_of, report_text}
 use Rattle.fg_repair.proofs.Fronts.{one_of_each}
 use Rattle.fg_repair.proofs.Lanes.{told_map, grow_none}
 use Rattle.fg_repair.proofs.Writing.{nothing_part}
@@ -111,3 +112,14 @@ report_outputs law one plan first engine told before after written out out' h pa
   others = puts_others plan.table (lanes_of h.ended.results) before after h.ended.puts;
   front = report_front law one plan first engine told before after written out out' h part;
 }
+
+-- No trace
+
+pub not_trace : NoRecordsHaveResults → (plan : Plan) (first : Option (List ℕ)) (max : ℕ) (lanes : Option Lanes) (written : Option (List ℕ)) (place : ℕ) → max ≡ plan.max → IfSome first (λ bytes. IsTrace bytes max [] (NotTrace place)) → Finishes plan (finish.NotTrace place) first lanes lanes written written
+not_trace law plan first max lanes written place same h = (NotTrace place, refl, record {
+  records = [];
+  results = (law plan).0;
+  of_input = subst (λ n. IfSome first (λ bytes. IsTrace bytes n [] (NotTrace place))) same h;
+  are_results = (law plan).1;
+  gain = (refl, refl);
+})
