@@ -1,5 +1,4 @@
-use Rattle.std.proofs.Common.{◌≡◌, ◌≢◌, Err, ap}
-use Rattle.fg_trace.specs.Reader.{Opens}
+use Rattle.std.proofs.Common.{Err, ap}
 use Rattle.fg_repair.proofs.Opening.{differs_at, counts_at, not_write_at}
 use Rattle.fg_repair.proofs.alone.find_magic.Goals as goal
 

@@ -1,9 +1,7 @@
-use Rattle.std.proofs.Common.{◌≡◌, ◌∙◌, ℕ, Option, List, [], IfSome, ap}
+use Rattle.std.proofs.Common.{◌≡◌, ◌∙◌, ap}
 use Rattle.fg_trace.specs.Reader.{ReaderState}
-use Rattle.fg_trace.specs.Trace.{IsTrace, NotTrace}
 use Rattle.fg_repair.proofs.Results.{on_err}
 use Rattle.fg_repair.proofs.Finishing.{no_outputs, not_trace}
-use Rattle.fg_repair.proofs.Opening.{never_refused}
 use Rattle.fg_repair.proofs.alone.repair.Goals as goal
 
 pub returns-in_err-reader-clause-part : goal.returns-in_err-reader-clause-part
