@@ -1,26 +1,25 @@
 -- How a repair ends: what it answers, and what lanes and sink have gained then.
-use Rattle.std.proofs.Common.{◌≡◌, ◌≢◌, ◌⊎◌, inl, inr, ℕ, nat_lt, cond, Bool, true, false, is_some, Option, Some, None, IfSome, IsSome, List, [], ◌∷◌, ◌++◌, map, refl, sym, ap, ◌∙◌, subst}
+use Rattle.std.proofs.Common.{◌≡◌, ◌⊎◌, inl, inr, ℕ, nat_lt, cond, Bool, true, false, is_some, Option, Some, None, IfSome, List, [], ◌∷◌, map, refl, sym, ap, ◌∙◌, subst}
 use Rattle.std.specs.FinMap.{get, empty, get-empty}
 use Rattle.std.specs.List.{AllZip}
 use Rattle.std.specs.Ordering.{nat_cmp}
-use Rattle.fg_words.specs.declared.Word.{Word}
 use Rattle.fg_flows.specs.declared.Plan.{Plan}
 use Rattle.fg_desk.specs.Laws.{LiveStandUnderSerials}
-use Rattle.fg_desk.specs.Play.{HasMore}
 use Rattle.fg_desk.specs.Solution.{InClosure, given, derived}
-use Rattle.fg_desk.specs.State.{State, Live, Words, opening, known}
+use Rattle.fg_desk.specs.State.{Words, opening}
 use Rattle.fg_repair.specs.Flow.{FlowResult, IsFlowResult, sum_of}
 use Rattle.fg_report.specs.declared.flow_sum.FlowSum.{FlowSum}
 use Rattle.fg_report.specs.declared.tail.Tail.{Tail}
 use Rattle.fg_report.specs.Text.{report_of}
+use Rattle.fg_trace.specs.declared.step.Finish.TheVariants as finish
 use Rattle.fg_trace.specs.Laws.{OneTrace}
 use Rattle.fg_trace.specs.Trace.{Record, Ending, Ended, NotTrace, Cut, TooLong, IsTrace}
 use Rattle.fg_io.specs.Outlet.{Lanes, WhereTold}
 use Rattle.fg_io.specs.Sink.{GainsPart}
 use Rattle.fg_repair.specs.declared.engine.Engine.{Engine}
-use Rattle.fg_repair.specs.Engine.{OneFlowResult, LanesPart, LanesWhole, TellsTail, sums_of}
+use Rattle.fg_repair.specs.Engine.{OneFlowResult, NoRecordsHaveResults, LanesPart, LanesWhole, TellsTail, sums_of}
 use Rattle.fg_repair.specs.Lanes.{OthersStay, LanesGain, PutsAll, PutsAllPart}
-use Rattle.fg_repair.specs.Repair.{AreResults, OutputsPart, lanes_of, others_of, tail_of, report_text}
+use Rattle.fg_repair.specs.Repair.{AreResults, OutputsPart, Finishes, lanes_of, others_of, tail_of, report_text}
 use Rattle.fg_repair.proofs.Fronts.{one_of_each}
 use Rattle.fg_repair.proofs.Lanes.{told_map, grow_none}
 use Rattle.fg_repair.proofs.Writing.{nothing_part}
@@ -111,3 +110,18 @@ report_outputs law one plan first engine told before after written out out' h pa
   others = puts_others plan.table (lanes_of h.ended.results) before after h.ended.puts;
   front = report_front law one plan first engine told before after written out out' h part;
 }
+
+-- No trace
+
+pub not_trace : NoRecordsHaveResults → (plan : Plan) (first : Option (List ℕ)) (max : ℕ) (lanes : Option Lanes) (written : Option (List ℕ)) (place : ℕ) → max ≡ plan.max → IfSome first (λ bytes. IsTrace bytes max [] (NotTrace place)) → Finishes plan (finish.NotTrace place) first lanes lanes written written
+not_trace law plan first max lanes written place same h = (
+  NotTrace place,
+  refl,
+  record {
+    records = [];
+    results = (law plan).0;
+    of_input = subst (λ n. IfSome first (λ bytes. IsTrace bytes n [] (NotTrace place))) same h;
+    are_results = (law plan).1;
+    gain = (refl, refl);
+  },
+)

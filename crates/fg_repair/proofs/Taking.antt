@@ -1,5 +1,5 @@
 -- What was taken, and what comes next of it.
-use Rattle.std.proofs.Common.{◌≡◌, ◌+◌, ◌<◌, ◌≤◌, ◌++◌, ℕ, List, [], ◌∷◌, length, Option, refl, sym, ap, subst, ◌∙◌, arith, append_assoc}
+use Rattle.std.proofs.Common.{◌≡◌, ◌+◌, ◌≤◌, ◌++◌, ℕ, List, [], ◌∷◌, length, Option, refl, sym, ap, subst, ◌∙◌, arith, append_assoc}
 use Rattle.std.specs.List.{All, AllZip}
 use Rattle.std.proofs.lemmas.List.{append-nil}
 use Rattle.fg_io.specs.Prefix.{IsPrefix}
@@ -21,7 +21,6 @@ use Rattle.fg_repair.specs.Steps.{HasTaken, HaveShown, BreakOff, AdmitsDatagram,
 use Rattle.fg_repair.proofs.Arriving.{one_more_record, and_later_records, arrivals_are_read, one_list_arrives, arrivals_begin}
 use Rattle.fg_repair.proofs.Answering.{answer_added}
 use Rattle.fg_repair.proofs.Counting.{plays_more, lane_more}
-use Rattle.fg_repair.proofs.Growing.{prefix_join}
 use Rattle.fg_repair.proofs.Underway.{mark_is_shown}
 use Rattle.fg_repair.proofs.Zips.{zip_push}
 
