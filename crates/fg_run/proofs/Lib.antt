@@ -2,4 +2,3 @@ pub mod Asked
 pub mod Lines
 pub mod Requests
 pub mod Untouched
-pub mod Words

@@ -11,7 +11,7 @@ use Rattle.fg_repair.specs.Flow.{FlowResult, IsFlowResult}
 use Rattle.fg_repair.specs.Lanes.{LaneGainsPart, PutsAll, PutsAllPart, OthersStay}
 use Rattle.fg_repair.specs.Repair.{AreResults, lanes_of, report_text}
 use Rattle.fg_run.specs.declared.request.Request.{Request}
-use Rattle.fg_run.specs.declared.request.Request.TheVariants.{Help, Version, Ordered, Refused}
+use Rattle.fg_run.specs.declared.request.Request.TheVariants.{Asked, Ordered, Refused}
 use Rattle.fg_run.specs.Run.{AnswersPart}
 
 lane_stays : (lanes : Lanes) (port : ℕ) (piece : List ℕ) → LaneGainsPart lanes lanes port piece
@@ -52,8 +52,7 @@ front plan (Some bytes) lanes written out = λ records results end h k. inl (not
 -- whatever was asked for
 pub untouched : {K : Type 0} → NoneIsPart → (request : Request) (input : Option (List ℕ)) (lanes : Option Lanes) (written : K → Option (List ℕ)) (out : K)
     → AnswersPart request input lanes lanes written out out
-untouched none Help input lanes written out = (refl, none (written out) _)
-untouched none Version input lanes written out = (refl, none (written out) _)
+untouched none (Asked question) input lanes written out = (refl, none (written out) _)
 untouched none (Ordered (Repair plan)) input lanes written out = record {
   others = others_stay plan lanes;
   front = front plan input lanes written out;

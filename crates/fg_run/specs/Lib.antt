@@ -1,5 +1,4 @@
 pub mod Ended
-pub mod Help
 pub mod Laws
 pub mod Request
 pub mod Run

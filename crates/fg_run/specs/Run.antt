@@ -6,13 +6,13 @@ use Rattle.fg_io.specs.Sink.{Gains, GainsPart}
 use Rattle.fg_trace.specs.declared.step.Finish.{Finish}
 use Rattle.fg_trace.specs.declared.step.Finish.TheVariants as finish
 use Rattle.fg_trace.specs.Trace.{Record, Ending, Ended, NotTrace, Cut, TooLong, IsTrace}
+use Rattle.fg_cli.specs.Help.{answer_text}
 use Rattle.fg_cli.specs.declared.Order.TheVariants.{Repair}
 use Rattle.fg_repair.specs.Repair.{Outputs, OutputsPart}
 use Rattle.fg_run.specs.declared.ended.Why.{Why}
 use Rattle.fg_run.specs.declared.ended.Why.TheVariants as why
 use Rattle.fg_run.specs.declared.request.Request.{Request}
-use Rattle.fg_run.specs.declared.request.Request.TheVariants.{Help, Version, Ordered, Refused}
-use Rattle.fg_run.specs.Help.{help_text, version_text}
+use Rattle.fg_run.specs.declared.request.Request.TheVariants.{Asked, Ordered, Refused}
 
 -- The answer to a trace that ends so.
 abbrev pub why_of_ending : Ending → Why
@@ -34,10 +34,8 @@ why_of_finish finish.Memory = why.Memory
 -- The request has this answer, and the lanes and the sink have gained what is defined for it over the input.
 abbrev pub Answers :
     Request → Why → Option (List ℕ) → Option Lanes → Option Lanes → Option (List ℕ) → Option (List ℕ) → Type 0
-Answers Help answer input lanes lanes' written written' =
-    (answer ≡ why.Done) × (lanes' ≡ lanes) × Gains written help_text written'
-Answers Version answer input lanes lanes' written written' =
-    (answer ≡ why.Done) × (lanes' ≡ lanes) × Gains written version_text written'
+Answers (Asked question) answer input lanes lanes' written written' =
+    (answer ≡ why.Done) × (lanes' ≡ lanes) × Gains written (answer_text question) written'
 Answers (Refused fault) answer input lanes lanes' written written' =
     (answer ≡ why.Words fault) × (lanes' ≡ lanes) × (written' ≡ written)
 Answers (Ordered (Repair plan)) answer input lanes lanes' written written' =
@@ -47,8 +45,7 @@ Answers (Ordered order) answer input lanes lanes' written written' =
 
 -- The answer that the request has over these bytes, where nothing fails and memory is there.
 abbrev pub IsAnswer : Request → List ℕ → Why → Type 0
-IsAnswer Help bytes answer = answer ≡ why.Done
-IsAnswer Version bytes answer = answer ≡ why.Done
+IsAnswer (Asked question) bytes answer = answer ≡ why.Done
 IsAnswer (Refused fault) bytes answer = answer ≡ why.Words fault
 IsAnswer (Ordered (Repair plan)) bytes answer =
     (records : List Record) × (end : Ending) × IsTrace bytes plan.max records end × (answer ≡ why_of_ending end)
@@ -57,10 +54,8 @@ IsAnswer (Ordered order) bytes answer = answer ≡ why.NotBuilt 0
 -- What a fault, or want of memory, leaves of what the request would have gained.
 abbrev pub AnswersPart :
     {K : Type 0} → Request → Option (List ℕ) → Option Lanes → Option Lanes → (K → Option (List ℕ)) → K → K → Type 0
-AnswersPart Help input lanes lanes' written out out' =
-    (lanes' ≡ lanes) × GainsPart (written out) help_text (written out')
-AnswersPart Version input lanes lanes' written out out' =
-    (lanes' ≡ lanes) × GainsPart (written out) version_text (written out')
+AnswersPart (Asked question) input lanes lanes' written out out' =
+    (lanes' ≡ lanes) × GainsPart (written out) (answer_text question) (written out')
 AnswersPart (Ordered (Repair plan)) input lanes lanes' written out out' =
     OutputsPart plan input lanes lanes' written out out'
 AnswersPart request input lanes lanes' written out out' = (lanes' ≡ lanes) × (out' ≡ out)
@@ -71,8 +66,7 @@ ReadsNothing (Ordered (Repair plan)) = ⊥
 ReadsNothing request = ⊤
 
 abbrev pub WritesNothing : Request → Type 0
-WritesNothing Help = ⊥
-WritesNothing Version = ⊥
+WritesNothing (Asked question) = ⊥
 WritesNothing (Ordered (Repair plan)) = ⊥
 WritesNothing request = ⊤
 

@@ -4,6 +4,7 @@ ghost use Rattle.std.specs.Io.KnownBytes.{IsAtEnd};
 ghost use Rattle.fg_io.specs.Faults.{CountsFault};
 ghost use Rattle.fg_io.specs.Sink.{Gains, GainsPart};
 ghost use Rattle.fg_flows.specs.Plan.{PlanFits};
+ghost use Rattle.fg_cli.specs.Help.{answer_text};
 ghost use Rattle.fg_cli.specs.declared.WordFault.{WordFault as AnyWordFault};
 ghost use Rattle.fg_cli.specs.declared.Order.{Order as AnyOrder};
 ghost use Rattle.fg_run.specs.declared.ended.Why.{Why as AnyWhy};
@@ -13,10 +14,10 @@ ghost use Rattle.fg_run.specs.Request.{RequestFits};
 ghost use Rattle.fg_run.specs.Run.{Answers, AnswersPart, IsAnswer, IsNoInput, MakesNoLane, ReadsAll, ReadsNothing, WritesNothing};
 
 use crate::ended::Why;
-use crate::help;
 use crate::request::Request;
-use fg_cli::Order;
+use fg_cli::{Order, Question};
 use fg_flows::Plan;
+use fg_io::laws::parts_of_writes;
 use fg_io::{Outlet, Sink, Source, write_all};
 use fg_repair::repair_alone;
 use std::alloc::Global;
@@ -56,8 +57,7 @@ pub fn answer<S: Source, K: Sink, O: Outlet>(
     ensures lanes_faults { O.faults lanes.old ≤ O.faults lanes.new }
 {
     match request {
-        Request::Help => write_text(out, help::help_text()),
-        Request::Version => write_text(out, help::version_text()),
+        Request::Asked(question) => tell_question(alloc, question, out),
         Request::Ordered(Order::Repair(plan)) => repair_alone(
             alloc, &plan, input, out, lanes,
         ).into(),
@@ -66,16 +66,21 @@ pub fn answer<S: Source, K: Sink, O: Outlet>(
     }
 }
 
-/// Writes the text, and tells why that ended.
-fn write_text<K: Sink>(out: &mut K, text: &str) -> Why
-    ensures done_or_fault { (result ≡ Why.Done) ⊎ (result ≡ Why.WriteFault) }
-    ensures whole { result ≡ Why.Done → Gains (K.written out.old) text.now (K.written out.new) }
-    ensures part { result ≡ Why.WriteFault → GainsPart (K.written out.old) text.now (K.written out.new) }
-    ensures no_fault { result ≡ Why.Done → K.faults out.new ≡ K.faults out.old }
+/// Writes the answer to a question, and tells why that ended.
+fn tell_question<K: Sink>(alloc: Global, question: Question, out: &mut K) -> Why
+    ensures whole { IsFault result ⊎ ((result ≡ Why.Done)
+        × Gains (K.written out.old) (answer_text question) (K.written out.new)) }
+    ensures part { IsFault result → GainsPart (K.written out.old) (answer_text question) (K.written out.new) }
+    ensures no_read { result ≢ Why.ReadFault }
     ensures counted { result ≡ Why.WriteFault → CountsFault (K.faults out.old) (K.faults out.new) }
+    ensures no_fault { result ≢ Why.WriteFault → K.faults out.new ≡ K.faults out.old }
     ensures never_falls { K.faults out.old ≤ K.faults out.new }
 {
-    match write_all(out, text.as_bytes()) {
+    parts_of_writes();
+    let Ok(text) = question.answer(alloc) else {
+        return Why::Memory;
+    };
+    match write_all(out, &text) {
         Ok(()) => Why::Done,
         Err(_) => Why::WriteFault,
     }

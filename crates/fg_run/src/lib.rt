@@ -17,7 +17,6 @@ mod answer;
 mod ended;
 mod fault_line;
 mod gate;
-mod help;
 pub mod laws;
 mod request;
 #[cfg(test)]
@@ -34,7 +33,7 @@ use std::thread::Threads;
 
 /// Runs the program that the words name over the input, the sinks and the lanes.
 ///
-/// `--help` and `--version`, each as the only word, write a text to `out`. `repair` repairs the flows of the trace in the
+/// `--help` and `--version`, each as the only word, write their text to `out`. `repair` repairs the flows of the trace in the
 /// input: each flow's lane gains its repaired stream, and `out` the report. So far every number of workers goes through
 /// one thread, the caller's. All other orders are answered as not built, and words that break a rule are refused: neither
 /// reads, writes or makes anything. The line that says why goes to `err`; a fault of `err` changes no answer.
