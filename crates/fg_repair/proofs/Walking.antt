@@ -13,7 +13,7 @@ use Rattle.fg_trace.specs.Laws.{WalksTheFront}
 use Rattle.fg_trace.specs.Reader.{Answer, ReaderState, StandsAfter, Walks}
 use Rattle.fg_trace.specs.Trace.{Record, Ending, IsTrace, spelling, trace_of}
 use Rattle.fg_repair.specs.declared.engine.Engine.{Engine}
-use Rattle.fg_repair.specs.Engine.{TakenIsFront, LanesGrow, GrowAll, IsRunning, HasCome, BreaksAfter, LanesPart, IsUnderway, TookAll, TellsTail}
+use Rattle.fg_repair.specs.Engine.{TakenIsFront, LanesGrow, GrowAll, IsRunning, HasCome, BreaksAfter, LanesPart, HasWalked, TookAll, TellsTail}
 use Rattle.fg_repair.specs.Flow.{FlowResult, IsFlowResult}
 use Rattle.fg_repair.specs.Lanes.{OthersStay, LaneGainsPart, LanesGainPart, PutsAllPart}
 use Rattle.fg_repair.specs.Repair.{AreResults, lanes_of}
@@ -37,7 +37,7 @@ few_records plan fits first now reader records max h =
     let within : length (trace_of records) ≤ plan.max = subst (λ n. length (trace_of records) ≤ n) max (subst (λ n. n ≤ reader.max) h.place h.within) in
     omega (arith, few_spelled records)
 
-pub running : (plan : Plan) → PlanFits plan → (first now : Option (List ℕ)) (reader : ReaderState) (engine : Engine) (before after : Option Lanes) → reader.max ≡ plan.max → IsUnderway plan first now reader engine before after → IsRunning plan engine
+pub running : (plan : Plan) → PlanFits plan → (first now : Option (List ℕ)) (reader : ReaderState) (engine : Engine) (before after : Option Lanes) → reader.max ≡ plan.max → HasWalked plan first now reader engine before after → IsRunning plan engine
 running plan fits first now reader engine before after max h = record {
   records = h.records;
   gained = h.come.gained;
@@ -94,7 +94,7 @@ pub part_at_record :
     → next.max ≡ plan.max → answer ≡ Ok (Datagram time port size) → datagram ≡ next.payload
     → ((records : List Record) → StandsAfter reader first left records → Walks answer next first now records)
     → ((records : List Record) (r : Record) → HasCome plan records engine before at → r.port ≡ port → r.datagram ≡ datagram → BreaksAfter plan (records ++ r ∷ []) before after)
-    → IsUnderway plan first left reader engine before at → LanesPart plan first before after
+    → HasWalked plan first left reader engine before at → LanesPart plan first before after
 part_at_record law plan first left now reader next engine before at after answer time port size datagram max is payload walks breaks h =
     let r : Record = record { time = time; port = port; datagram = next.payload } in
     let stands : StandsAfter next first now (h.records ++ r ∷ []) = subst (λ (a : Answer). Walks a next first now h.records) is (walks h.records h.stands) in
@@ -118,7 +118,7 @@ come_breaks law plan records engine before after h = record {
 pub part_at_fault :
     WalksTheFront → TakenIsFront → (plan : Plan) (first left now : Option (List ℕ)) (reader next : ReaderState) (engine : Engine) (before at : Option Lanes) (why : TraceFault)
     → next.max ≡ plan.max → ((records : List Record) → StandsAfter reader first left records → Walks (Err why) next first now records)
-    → IsUnderway plan first left reader engine before at → LanesPart plan first before at
+    → HasWalked plan first left reader engine before at → LanesPart plan first before at
 part_at_fault law front plan first left now reader next engine before at why max walks h =
     broken_part law plan first now next h.records before at max (stands_still next first now h.records why (walks h.records h.stands)) (come_breaks front plan h.records engine before at h.come)
 
@@ -131,7 +131,7 @@ pub took_all :
     (plan : Plan) → PlanFits plan → (first left now : Option (List ℕ)) (reader next : ReaderState) (engine : Engine) (before at : Option Lanes) (end : Ending) (told : Tail)
     → next.max ≡ plan.max → TellsTail end told
     → ((records : List Record) → StandsAfter reader first left records → StandsAfter next first now records × IfSome first (λ bytes. IsTrace bytes next.max records end))
-    → IsUnderway plan first left reader engine before at → TookAll plan first engine told before at
+    → HasWalked plan first left reader engine before at → TookAll plan first engine told before at
 took_all plan fits first left now reader next engine before at end told max tells walks h = record {
   records = h.records;
   end = end;

@@ -10,7 +10,7 @@ use Rattle.fg_trace.specs.Reader.{ReaderState, StandsAfter}
 use Rattle.fg_trace.specs.Trace.{Record, Ending, IsTrace}
 use Rattle.fg_repair.specs.declared.engine.Engine.{Engine}
 use Rattle.fg_repair.specs.declared.flow.Flow.{Flow}
-use Rattle.fg_repair.specs.Engine.{LanesGrow, GrowAll, AreThere, EngineStands, LanesPart, IsUnderway, TookAll, AreReady, IsFlushing, BreaksAtFlush, HasEnded, LanesWhole}
+use Rattle.fg_repair.specs.Engine.{LanesGrow, GrowAll, AreThere, EngineStands, LanesPart, HasWalked, TookAll, AreReady, IsFlushing, BreaksAtFlush, HasEnded, LanesWhole}
 use Rattle.fg_repair.specs.Flow.{FlowResult}
 use Rattle.fg_repair.specs.Lanes.{LanesGainPart, PutsAllPart}
 use Rattle.fg_repair.specs.Repair.{AreResults, lanes_of}
@@ -43,7 +43,7 @@ nothing_part plan first before after g = record {
   front = nothing_front plan before after first g;
 }
 
-pub begun : (plan : Plan) (first left : Option (List ℕ)) (reader : ReaderState) (engine : Engine) (before now : Option Lanes) → EngineStands plan [] engine (λ _. []) → GrowAll before plan.table (λ _. []) now → AreThere plan.table now → StandsAfter reader first left [] → IsUnderway plan first left reader engine before now
+pub begun : (plan : Plan) (first left : Option (List ℕ)) (reader : ReaderState) (engine : Engine) (before now : Option Lanes) → EngineStands plan [] engine (λ _. []) → GrowAll before plan.table (λ _. []) now → AreThere plan.table now → StandsAfter reader first left [] → HasWalked plan first left reader engine before now
 begun plan first left reader engine before now new grow there stands = record {
   records = [];
   stands = stands;

@@ -104,7 +104,7 @@ pub record LanesPart (plan : Plan) (first : Option (List ℕ)) (before after : O
       → PutsAllPart before plan.table (lanes_of results) after)
 
 -- The reader stands after the records that the engine has taken.
-pub record IsUnderway
+pub record HasWalked
     (plan : Plan) (first now : Option (List ℕ)) (reader : ReaderState) (engine : Engine) (before after : Option Lanes) : Type 0 where
   pub records : List Record
   pub stands : StandsAfter reader first now records

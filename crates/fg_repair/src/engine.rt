@@ -7,7 +7,7 @@ ghost use Rattle.fg_trace.specs.Reader.{StandsAfter};
 ghost use Rattle.fg_trace.specs.Trace.{Record};
 ghost use Rattle.fg_flows.specs.declared.Plan.{Plan};
 ghost use Rattle.fg_flows.specs.Plan.{PlanFits};
-ghost use Rattle.fg_repair.specs.Engine.{EngineStands, IsRunning, HasCome, BreaksAfter, LanesPart, IsUnderway, TookAll, IsReadToEnd, IsFlushing, AreReady, HasEnded, BreaksAtFlush, LanesWhole, GrowAll, AreThere, CountsFor};
+ghost use Rattle.fg_repair.specs.Engine.{EngineStands, IsRunning, HasCome, BreaksAfter, LanesPart, HasWalked, TookAll, IsReadToEnd, IsFlushing, AreReady, HasEnded, BreaksAtFlush, LanesWhole, GrowAll, AreThere, CountsFor};
 
 use crate::fault::Fault;
 use crate::flow::Flow;
@@ -93,17 +93,17 @@ impl Engine {
     ) -> Result<Option<Tail>, Fault>
         requires fits { PlanFits plan.now }
         requires underway { (first : Option (List ℕ)) × (before : Option Lanes)
-            × IsUnderway plan.now first (S.left input.old) reader.old self.old before (O.lanes lanes.old) }
+            × HasWalked plan.now first (S.left input.old) reader.old self.old before (O.lanes lanes.old) }
         requires open { reader.old.kept ≡ None }
         requires max { reader.old.max ≡ plan.now.max }
         ensures more { IfOk result (λ end. IfNone end ((first : Option (List ℕ)) (before : Option Lanes)
-            → IsUnderway plan.now first (S.left input.old) reader.old self.old before (O.lanes lanes.old)
-            → IsUnderway plan.now first (S.left input.new) reader.new self.new before (O.lanes lanes.new))) }
+            → HasWalked plan.now first (S.left input.old) reader.old self.old before (O.lanes lanes.old)
+            → HasWalked plan.now first (S.left input.new) reader.new self.new before (O.lanes lanes.new))) }
         ensures ends { IfOk result (λ end. IfSome end (λ tail. (first : Option (List ℕ)) (before : Option Lanes)
-            → IsUnderway plan.now first (S.left input.old) reader.old self.old before (O.lanes lanes.old)
+            → HasWalked plan.now first (S.left input.old) reader.old self.old before (O.lanes lanes.old)
             → TookAll plan.now first self.new tail before (O.lanes lanes.new))) }
         ensures part { OnErr result ((first : Option (List ℕ)) (before : Option Lanes)
-            → IsUnderway plan.now first (S.left input.old) reader.old self.old before (O.lanes lanes.old)
+            → HasWalked plan.now first (S.left input.old) reader.old self.old before (O.lanes lanes.old)
             → LanesPart plan.now first before (O.lanes lanes.new)) }
         ensures all_read { IfOk result (λ end. IfSome end (λ tail. IsReadToEnd tail → IsAtEnd (S.left input.new))) }
         ensures open { IfOk result (λ end. IfNone end (reader.new.kept ≡ None)) }
@@ -138,14 +138,14 @@ impl Engine {
     ) -> Result<Tail, Fault>
         requires fits { PlanFits plan.now }
         requires underway { (first : Option (List ℕ)) × (before : Option Lanes)
-            × IsUnderway plan.now first (S.left input.old) reader.old self.old before (O.lanes lanes.old) }
+            × HasWalked plan.now first (S.left input.old) reader.old self.old before (O.lanes lanes.old) }
         requires open { reader.old.kept ≡ None }
         requires max { reader.old.max ≡ plan.now.max }
         ensures whole { IfOk result (λ tail. (first : Option (List ℕ)) (before : Option Lanes)
-            → IsUnderway plan.now first (S.left input.old) reader.old self.old before (O.lanes lanes.old)
+            → HasWalked plan.now first (S.left input.old) reader.old self.old before (O.lanes lanes.old)
             → TookAll plan.now first self.new tail before (O.lanes lanes.new)) }
         ensures part { OnErr result ((first : Option (List ℕ)) (before : Option Lanes)
-            → IsUnderway plan.now first (S.left input.old) reader.old self.old before (O.lanes lanes.old)
+            → HasWalked plan.now first (S.left input.old) reader.old self.old before (O.lanes lanes.old)
             → LanesPart plan.now first before (O.lanes lanes.new)) }
         ensures all_read { IfOk result (λ tail. IsReadToEnd tail → IsAtEnd (S.left input.new)) }
         ensures reads { CountsFor Fault.Read result (S.faults input.old) (S.faults input.new) }
