@@ -1,5 +1,5 @@
 -- Lemmas on the help's text.
-use Rattle.std.proofs.Common.{◌≡◌, ◌-◌, ◌<◌, ◌≤◌, ℕ, List, [], ◌∷◌, ◌++◌, codes, drop, get_or, length, map, sym, ap, ◌∙◌, append_assoc, arith}
+use Rattle.std.proofs.Common.{◌≡◌, ◌-◌, ℕ, List, ◌++◌, codes, drop, length, ap, ◌∙◌, append_assoc, arith}
 use Rattle.std.proofs.Math.ListN.{length-append}
 use Rattle.fg_cli.specs.Help.{blanks, padded}
 

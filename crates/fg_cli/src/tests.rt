@@ -434,8 +434,7 @@ fn defaults_of_sample(rt: HostRuntime) -> Result<(), Fail> {
 
 /// Whether the text has this piece somewhere.
 fn has(text: &[u8], piece: &str) -> bool {
-    text.windows(piece.len())
-        .any(|part| part == piece.as_bytes())
+    str::from_utf8(text).is_ok_and(|text| text.contains(piece))
 }
 
 /// Parts of the help, as they are to look.

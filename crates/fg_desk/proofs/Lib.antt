@@ -17,6 +17,7 @@ pub mod Equations
 pub mod Flushing
 pub mod Following
 pub mod Joining
+pub mod LinesBounds
 pub mod LinesCalls
 pub mod LinesInserts
 pub mod LinesLists
@@ -45,6 +46,7 @@ pub mod RowLoops
 pub mod RowMaps
 pub mod RowPeels
 pub mod RowReceives
+pub mod RowStored
 pub mod RowViews
 pub mod RunFacts
 pub mod SettledEquations

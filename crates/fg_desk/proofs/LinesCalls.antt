@@ -109,7 +109,7 @@ module _ (first second : Slab Line) (places : List Bool) (sound : AreSound first
   -- a pass that settles
   module _ (words : ℕ → Option Word) (first' second' : Slab Line)
       (moves : Moves (IsCompleteAs false words) (IsCompleteAs true words) first second first' second') where
-    to : (line : Line) → Stands first' second' line → Stands first second line
+    pub to : (line : Line) → Stands first' second' line → Stands first second line
     to line stands = ⊎_elim
         (λ a. inl (moves.left line a).0)
         (λ b. ⊎_elim (λ old. inr old) (λ new. inl new.0) (moves.gone line b))
@@ -158,7 +158,7 @@ module _ (first second : Slab Line) (places : List Bool) (sound : AreSound first
   -- a pass that opens again
   module _ (words : ℕ → Option Word) (first' second' : Slab Line)
       (moves : Moves (IsCompleteAs true words) (IsCompleteAs false words) second first second' first') where
-    to_reopened : (line : Line) → Stands first' second' line → Stands first second line
+    pub to_reopened : (line : Line) → Stands first' second' line → Stands first second line
     to_reopened line stands = ⊎_elim
         (λ a. ⊎_elim (λ old. inl old) (λ new. inr new.0) (moves.gone line a))
         (λ b. inr (moves.left line b).0)
@@ -218,7 +218,7 @@ module _ (first second : Slab Line) (places : List Bool) (sound : AreSound first
   module _ (mark : ℕ) (kept : Words) (first' second' : Slab Line) (places' places'' : List Bool)
       (one : Drops (λ line. Survives mark kept (equation_of line)) first first' places places')
       (two : Drops (λ line. Survives mark kept (equation_of line)) second second' places' places'') where
-    to_retired : (line : Line) → Stands first' second' line
+    pub to_retired : (line : Line) → Stands first' second' line
         → Stands first second line × Survives mark kept (equation_of line)
     to_retired line stands = ⊎_elim
         (λ a. let r = (one.left a.0 line).0 a.1 in (inl (a.0, r.0), r.1))

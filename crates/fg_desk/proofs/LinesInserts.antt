@@ -67,7 +67,7 @@ module _ (first second : Slab Line) (places : List Bool) (sound : AreSound first
         subst (λ (p : ℕ). get_or places p false ≡ true) same (sound.taken other stands) in
         let e : false ≡ true = sym free ∙ t in absurd (cc)
 
-    is_or_stood : (other : Line) → Stands first' second other → (other ≡ line) ⊎ Stands first second other
+    pub is_or_stood : (other : Line) → Stands first' second other → (other ≡ line) ⊎ Stands first second other
     is_or_stood other stands = ⊎_elim
         (λ a. ⊎_elim
         (λ new. inl new.1)
@@ -153,7 +153,7 @@ pub none_is : (first second : Slab Line) → first.slots ≡ [] → second.slots
 unfolding state_at live_in serials_in
 none_is first second none none' = ap (λ s. state_at s second.slots) none ∙ ap (λ s. state_at [] s) none'
 
-none_at : (lines : Slab Line) → lines.slots ≡ [] → (key : ℕ) (line : Line) → get lines key ≡ Some line → ⊥
+pub none_at : (lines : Slab Line) → lines.slots ≡ [] → (key : ℕ) (line : Line) → get lines key ≡ Some line → ⊥
 none_at lines none key line is =
     let e : get_or lines.slots key None ≡ None = ap (λ (s : List (Option Line)). get_or s key None) none in
     none-some line (sym e ∙ is)

@@ -27,6 +27,15 @@ module _ (IsSought : Line → Type 0) (lines : Slab Line) where
       → Searches IsSought lines all → Holds lines entry.1
   search_first all entry rest cut searches = searches.holds entry.1 (rw cut (Contains-here entry.1 (lines_in rest)))
 
+  -- where less is sought
+  pub search_weaker :
+      (IsSought' : Line → Type 0) → ((line : Line) → IsSought' line → IsSought line) → (rest : List (ℕ × Line))
+      → Searches IsSought lines rest → Searches IsSought' lines rest
+  search_weaker IsSought' less rest searches = record {
+    holds = searches.holds;
+    others = λ line h. ⊎_elim (λ left. inl left) (λ done. inr (λ sought. done (less line sought))) (searches.others line h);
+  }
+
   pub search_goes_on :
       (all : List (ℕ × Line)) (entry : ℕ × Line) (rest : List (ℕ × Line)) → all ≡ entry ∷ rest → (IsSought entry.1 → ⊥)
       → Searches IsSought lines all → Searches IsSought lines rest

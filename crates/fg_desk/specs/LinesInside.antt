@@ -80,6 +80,17 @@ pub record AreSound (open_lines settled_lines : Slab Line) (places : List Bool) 
   pub open_room : live_limit ≤ open_lines.capacity
   pub settled_room : live_limit ≤ settled_lines.capacity
 
+-- The last slots of all lines lie between these positions.
+abbrev pub AreBetween : ℕ → ℕ → Slab Line → Slab Line → Type 0
+AreBetween earliest latest open_lines settled_lines =
+    (line : Line) → Stands open_lines settled_lines line
+    → (earliest ≤ last_slot (equation_of line)) × (last_slot (equation_of line) ≤ latest)
+
+-- All that is true of the fields.
+pub record AreKept (open_lines settled_lines : Slab Line) (places : List Bool) (earliest latest : ℕ) : Type 0 where
+  pub sound : AreSound open_lines settled_lines places
+  pub between : AreBetween earliest latest open_lines settled_lines
+
 -- A pass moves those lines that go from one slab to another. The others stay.
 pub record Moves (IsLeft IsGone : Line → Type 0) (source target source' target' : Slab Line) : Type 0 where
   pub left : (line : Line) → Holds source' line → Holds source line × IsLeft line

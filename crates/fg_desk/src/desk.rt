@@ -16,9 +16,9 @@ ghost use Rattle.fg_desk.specs.Inside.{IsLateAt};
 ghost use Rattle.fg_desk.specs.Parts.{top_of};
 
 use crate::laws::solved_stays_peeled;
-use crate::lines::{Lines, lost_slot};
+use crate::lines::{LIVE_LIMIT, Lines, lost_slot};
 use crate::reply::{Outcome, Reply};
-use crate::row::Row;
+use crate::row::{KEPT, Row};
 use crate::tray::Tray;
 use crate::window::{close, receive, recover};
 use fg_peel::Line;
@@ -28,12 +28,6 @@ use fg_unwrap::position;
 use fg_words::{Shared, Word};
 use std::alloc::{AllocError, Global};
 use std::marker::Model;
-
-/// How many positions before the mark have kept words.
-const KEPT: u64 = 100;
-
-/// How many equations may be live.
-const LIVE_LIMIT: usize = 512;
 
 /// The mark and the farthest position are below this where a desk may change.
 const POSITIONS: u64 = 1 << 61;
@@ -372,7 +366,7 @@ impl Desk {
         if self.is_late(base, shape) {
             return Reply::Late;
         }
-        if last(base, shape) >= self.row.mark() + u64::from(self.depth) + KEPT {
+        if last(base, shape) >= self.row.mark() + u64::from(self.depth) + KEPT as u64 {
             return Reply::Ahead;
         }
         match self.lines.find(base, shape) {

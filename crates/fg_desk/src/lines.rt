@@ -9,10 +9,11 @@ ghost use Rattle.std.specs.List.{Contains};
 ghost use Rattle.fg_shape.specs.Shape.{slots_of, IsShape};
 ghost use Rattle.fg_peel.specs.declared.Line.{Line as LiveLine};
 ghost use Rattle.fg_peel.specs.Slots.{equation_of};
+ghost use Rattle.fg_desk.specs.State.{last_slot};
 ghost use Rattle.fg_desk.specs.Play.{Survives};
 ghost use Rattle.fg_desk.specs.Row.{row_words};
 ghost use Rattle.fg_desk.specs.Lines.{no_lines, AreLines, AreOpen, HasSlots, IsFreePlace, IsLeastFreePlace, IsLiveLine, Settles, Reopens, SettledAreBased, Retires};
-ghost use Rattle.fg_desk.specs.LinesInside.{Holds, IsTaken, AreWithin, Moves, IsCompleteAs, IsBased, IsLost, Drops};
+ghost use Rattle.fg_desk.specs.LinesInside.{Holds, Stands, IsTaken, AreWithin, Moves, IsCompleteAs, IsBased, IsLost, Drops};
 
 use crate::row::Row;
 use fg_peel::Line;
@@ -33,11 +34,15 @@ pub(crate) struct Lines {
     settled: Slab<Line>,
     /// Which of the places 0 to 511 are taken.
     places: Vec<bool>,
+    /// No line's last slot lies before this position, and none past the other: most searches and passes
+    /// end here.
+    earliest: u64,
+    latest: u64,
 }
 
 impl Model for Lines {
     ghost use Rattle.fg_desk.specs.Lines.{LinesState};
-    ghost use Rattle.fg_desk.specs.LinesInside.{lines_code, state_of, AreSound};
+    ghost use Rattle.fg_desk.specs.LinesInside.{lines_code, state_of, AreKept};
 
     ghost Value = { LinesState };
 
@@ -45,7 +50,7 @@ impl Model for Lines {
 
     ghost view = { λ a. state_of a.«open» a.settled };
 
-    ghost invariant = { λ a. AreSound a.«open» a.settled a.places.items };
+    ghost invariant = { λ a. AreKept a.«open» a.settled a.places.items a.earliest a.latest };
 }
 
 impl Lines {
@@ -57,6 +62,8 @@ impl Lines {
             open: Slab::with_capacity(alloc, LIVE_LIMIT)?,
             settled: Slab::with_capacity(alloc, LIVE_LIMIT)?,
             places: vec![in alloc; false; LIVE_LIMIT]?,
+            earliest: u64::MAX,
+            latest: 0,
         })
     }
 
@@ -85,11 +92,16 @@ impl Lines {
 
     /// The live one of this base and shape.
     pub(crate) fn find(&self, base: u64, shape: Shape) -> Option<&Line>
+        requires shape { IsShape shape.offset shape.na }
+        requires base { base ≤ 2 ^ 62 }
         ensures some { IfSome result (λ line. IsLiveLine self.now line.now
             × HasSlots base shape.offset shape.na line.now) }
         ensures none { IfNone result ((line : LiveLine) → IsLiveLine self.now line
             → ¬ HasSlots base shape.offset shape.na line) }
     {
+        if last(base, shape) > self.latest {
+            return None;
+        }
         match find_in(&self.open, base, shape) {
             Some(line) => Some(line),
             None => find_in(&self.settled, base, shape),
@@ -129,7 +141,10 @@ impl Lines {
             }) }
     {
         let place = first_free(&self.places);
+        let end = last(base, shape);
         self.places[place] = true;
+        self.earliest = self.earliest.min(end);
+        self.latest = self.latest.max(end);
         self.open.insert_reserved(Line {
             base,
             shape,
@@ -160,7 +175,8 @@ impl Lines {
         ensures { Retires row.now.mark row.now.kept self.old self.new }
     {
         drop_lines(&mut self.open, &mut self.places, row, false);
-        drop_lines(&mut self.settled, &mut self.places, row, true);
+        drop_settled(&mut self.settled, &mut self.places, row, self.earliest);
+        self.earliest = earliest_after(&self.open, &self.settled, self.earliest, row.mark());
     }
 
     /// Drops all.
@@ -170,6 +186,8 @@ impl Lines {
         self.open.clear();
         self.settled.clear();
         free_all(&mut self.places);
+        self.earliest = u64::MAX;
+        self.latest = 0;
     }
 }
 
@@ -233,6 +251,9 @@ fn move_lines(source: &mut Slab<Line>, target: &mut Slab<Line>, row: &Row, compl
         (IsCompleteAs complete (row_words row.now))
         source.old target.old source.new target.new }
 {
+    if source.is_empty() {
+        return;
+    }
     for key in 0..source.capacity() {
         if goes(source, key, row, complete) {
             let line = source.remove(key);
@@ -265,12 +286,63 @@ fn drop_lines(lines: &mut Slab<Line>, places: &mut [bool], row: &Row, based: boo
     ensures { Drops (λ line. Survives row.now.mark row.now.kept (equation_of line))
         lines.old lines.new places.old places.new }
 {
+    if lines.is_empty() {
+        return;
+    }
     for key in 0..lines.capacity() {
         if let Some(place) = retired_place(lines, key, row, based) {
             lines.remove(key);
             places[place as usize] = false;
         }
     }
+}
+
+/// Drops those settled lines that do not survive a play up to the row's mark, and frees their places.
+/// No last slot lies before `earliest`, and where the mark doesn't either, all survive.
+fn drop_settled(lines: &mut Slab<Line>, places: &mut [bool], row: &Row, earliest: u64)
+    requires within { AreWithin lines.old }
+    requires places { length places.old ≡ 512 }
+    requires based { (line : LiveLine) → Holds lines.old line
+        → IsBased row.now.mark row.now.kept (equation_of line) }
+    requires earliest { (line : LiveLine) → Holds lines.old line
+        → earliest ≤ last_slot (equation_of line) }
+    ensures { Drops (λ line. Survives row.now.mark row.now.kept (equation_of line))
+        lines.old lines.new places.old places.new }
+{
+    if row.mark() <= earliest {
+        return;
+    }
+    drop_lines(lines, places, row, true);
+}
+
+/// A position before which no line's last slot lies. It is sought anew where the mark has passed the
+/// one before.
+fn earliest_after(unsettled: &Slab<Line>, settled: &Slab<Line>, earliest: u64, mark: u64) -> u64
+    requires unsettled { AreWithin unsettled.now }
+    requires settled { AreWithin settled.now }
+    requires earliest { (line : LiveLine) → Stands unsettled.now settled.now line
+        → earliest ≤ last_slot (equation_of line) }
+    ensures { (line : LiveLine) → Stands unsettled.now settled.now line
+        → result ≤ last_slot (equation_of line) }
+{
+    if mark <= earliest {
+        return earliest;
+    }
+    let least = least_last(unsettled, u64::MAX);
+    least_last(settled, least)
+}
+
+/// The least of a position and the lines' last slots.
+fn least_last(lines: &Slab<Line>, most: u64) -> u64
+    requires { AreWithin lines.now }
+    ensures most { result ≤ most }
+    ensures least { (line : LiveLine) → Holds lines.now line → result ≤ last_slot (equation_of line) }
+{
+    let mut least = most;
+    for (_, line) in lines.iter() {
+        least = least.min(last(line.base, line.shape));
+    }
+    least
 }
 
 /// The place of the line under a key, where it does not survive.

@@ -9,7 +9,7 @@ ghost use Rattle.fg_peel.specs.Equation.{AreMedia, IsComplete};
 ghost use Rattle.fg_peel.specs.Peeling.{EndsPeeling};
 ghost use Rattle.fg_peel.specs.Slots.{word_in, equation_of, equations_of};
 ghost use Rattle.fg_desk.specs.Row.{opened_row, row_words, row_known, row_shared, IsRow, receives, AllLieIn, IsHighestWord, Shows, Advances};
-ghost use Rattle.fg_desk.specs.RowEntries.{entry_at, words_of, row_of, received_in, shown_in, AreEntries, Recovers, ShowsEntries, IsLastWord, HasNoWordFrom, ForgetsFound};
+ghost use Rattle.fg_desk.specs.RowEntries.{entry_at, words_of, row_of, live_entries, IsEmptyPast, StaysPast, received_in, shown_in, AreEntries, Recovers, ShowsEntries, IsLastWord, HasNoWordFrom, ForgetsFound};
 
 use crate::tray::Tray;
 use fg_peel::{Line, Slot, Verdict, peel};
@@ -21,7 +21,11 @@ use std::marker::Model;
 use std::mem;
 
 /// How many positions before the mark have entries.
-const KEPT: usize = 100;
+pub(crate) const KEPT: usize = 100;
+
+/// How many positions the mark may pass before the entries are moved. Until then they stand further on
+/// in the memory.
+const SLACK: usize = 100;
 
 /// The entries of the 100 positions before the mark and of those from the mark on. An entry is
 /// 1.3 kB.
@@ -32,20 +36,23 @@ const KEPT: usize = 100;
 #[derive(Drop)]
 pub(crate) struct Row {
     mark: u64,
+    /// Where the first entry stands.
+    front: usize,
+    /// The entries, before them those that were passed, and after them empty ones.
     slots: Vec<Slot>,
 }
 
 impl Model for Row {
     ghost use Rattle.fg_desk.specs.Row.{RowState};
-    ghost use Rattle.fg_desk.specs.RowEntries.{row_code, row_of, AreEntries};
+    ghost use Rattle.fg_desk.specs.RowEntries.{row_code, row_of, live_entries, AreStored};
 
     ghost Value = { RowState };
 
     ghost coded = { row_code };
 
-    ghost view = { λ a. row_of a.mark a.slots.items };
+    ghost view = { λ a. row_of a.mark (live_entries a.front a.slots.items) };
 
-    ghost invariant = { λ a. AreEntries a.mark a.slots.items };
+    ghost invariant = { λ a. AreStored a.mark a.front a.slots.items };
 }
 
 impl Row {
@@ -54,12 +61,16 @@ impl Row {
         requires { depth ≤ 1000 }
         ensures { IfOk result (λ row. row ≡ opened_row (depth + 100)) }
     {
-        let count = KEPT + depth as usize + 100;
+        let count = KEPT + depth as usize + 100 + SLACK;
         let mut slots = Vec::with_capacity(alloc, count)?;
         for _ in 0..count {
             slots.push(Slot::Empty)?;
         }
-        Ok(Row { mark: 0, slots })
+        Ok(Row {
+            mark: 0,
+            front: 0,
+            slots,
+        })
     }
 
     /// The first position that isn't played yet.
@@ -87,14 +98,14 @@ impl Row {
     pub(crate) fn share(&self, position: u64) -> Option<&Shared>
         ensures { option_copied result ≡ row_shared self.now position }
     {
-        share_at(self.mark, &self.slots, position)
+        share_at(self.mark, live(&self.slots, self.front), position)
     }
 
     /// The word at a position, also where it was found ahead of its play.
     pub(crate) fn any_word(&self, position: u64) -> Option<&Word>
         ensures { option_copied result ≡ row_words self.now position }
     {
-        word_at(self.mark, &self.slots, position)
+        word_at(self.mark, live(&self.slots, self.front), position)
     }
 
     /// Whether all slots of a line have words.
@@ -117,7 +128,7 @@ impl Row {
         ensures none { IfNone result ((position : ℕ) → self.now.mark ≤ position
             → row_words self.now position ≡ None) }
     {
-        match last_word(&self.slots) {
+        match last_word(live(&self.slots, self.front)) {
             Some(last) => Some(self.mark + (last - KEPT) as u64),
             None => None,
         }
@@ -129,7 +140,7 @@ impl Row {
         requires near { position < self.old.mark + self.old.reach }
         ensures { self.new ≡ receives self.old position share }
     {
-        let index = (position - self.mark) as usize + KEPT;
+        let index = self.front + KEPT + (position - self.mark) as usize;
         self.slots[index] = Slot::Media(share);
     }
 
@@ -137,7 +148,7 @@ impl Row {
     pub(crate) fn forget_cached(&mut self)
         ensures { self.new ≡ record self.old { cached = empty } }
     {
-        forget_filled(&mut self.slots);
+        forget_live(&mut self.slots, self.front);
     }
 
     /// Finds each word that follows from the row's words and the lines, and tells whether they have
@@ -154,7 +165,7 @@ impl Row {
             → IsSolution (row_words self.old) (equations_of lines.now) solution
             → IsTrue result × (row_words self.new ≡ solution) }
     {
-        recover_words(self.mark, &mut self.slots, lines)
+        recover_live(self.mark, &mut self.slots, self.front, lines)
     }
 
     /// Copies the words at the first positions from the mark on to a tray.
@@ -164,7 +175,7 @@ impl Row {
         ensures shows { Shows self.now count tray.new.shown }
         ensures window { tray.new.window ≡ tray.old.window }
     {
-        show_entries(&self.slots, count, tray);
+        show_entries(live(&self.slots, self.front), count, tray);
     }
 
     /// Moves the mark on. What is played stays as long as it is kept.
@@ -174,9 +185,18 @@ impl Row {
         requires limit { self.old.mark + count + self.old.reach + 100 ≤ 2 ^ 62 }
         ensures { Advances count self.old self.new }
     {
-        shift_down(&mut self.slots, count as usize);
+        self.front = move_on(&mut self.slots, self.front, count as usize);
         self.mark += u64::from(count);
     }
+}
+
+/// The row's entries among the slots.
+fn live(slots: &[Slot], front: usize) -> &[Slot]
+    requires front { front ≤ SLACK }
+    requires some { SLACK ≤ length slots.now }
+    ensures { result.now ≡ live_entries front slots.now }
+{
+    &slots[front..front + (slots.len() - SLACK)]
 }
 
 /// The entry of a position, where the row has one.
@@ -241,6 +261,32 @@ fn recover_words(mark: u64, slots: &mut [Slot], lines: &Slab<Line>) -> bool
     }
 }
 
+/// Peels the row's entries among the slots.
+fn recover_live(mark: u64, slots: &mut [Slot], front: usize, lines: &Slab<Line>) -> bool
+    requires front { front ≤ SLACK }
+    requires some { SLACK ≤ length slots.old }
+    requires entries { AreEntries mark (live_entries front slots.old) }
+    requires within { AllLieIn (row_of mark (live_entries front slots.old)) lines.now }
+    requires media { AreMedia (words_of mark (live_entries front slots.old)) }
+    ensures recovers { Recovers mark lines.now (live_entries front slots.old)
+        (live_entries front slots.new) result }
+    ensures past { StaysPast front slots.old slots.new }
+{
+    let end = front + (slots.len() - SLACK);
+    recover_words(mark, &mut slots[front..end], lines)
+}
+
+/// Empties each of the row's entries from the mark on that has a word of its own.
+fn forget_live(slots: &mut [Slot], front: usize)
+    requires front { front ≤ SLACK }
+    requires some { SLACK ≤ length slots.old }
+    ensures forgets { ForgetsFound (live_entries front slots.old) (live_entries front slots.new) }
+    ensures past { StaysPast front slots.old slots.new }
+{
+    let end = front + (slots.len() - SLACK);
+    forget_filled(&mut slots[front..end]);
+}
+
 /// The last entry with a word, from the mark on.
 fn last_word(slots: &[Slot]) -> Option<usize>
     ensures some { IfSome result (IsLastWord slots.now) }
@@ -289,6 +335,24 @@ fn show_entries(slots: &[Slot], count: u32, tray: &mut Tray)
     for i in 0..count {
         show_entry(&slots[KEPT + i as usize], tray);
     }
+}
+
+/// Passes the first `count` of the row's entries, and answers where the first one then stands. The
+/// entries are moved only where no room is left after them.
+fn move_on(slots: &mut [Slot], front: usize, count: usize) -> usize
+    requires some { 1 ≤ count }
+    requires within { count + SLACK ≤ length slots.old }
+    requires front { front ≤ SLACK }
+    requires past { IsEmptyPast front slots.old }
+    ensures front { result ≤ SLACK }
+    ensures moved { (k : ℕ) → slice_index_or slots.new (result + k) Slot.Empty
+        ≡ slice_index_or slots.old (front + count + k) Slot.Empty }
+{
+    if front + count <= SLACK {
+        return front + count;
+    }
+    shift_down(slots, front + count);
+    0
 }
 
 /// Moves each entry to the place `count` before it. The first `count` entries go, and the last ones

@@ -1,13 +1,15 @@
 -- Sums of words one word after another, where no word is longer than the room for it.
-use Rattle.std.proofs.Common.{◌≡◌, ℕ, zero, suc, ◌+◌, ◌<◌, ◌≤◌, List, [], ◌∷◌, length, replicate, drop, get_or, bit_xor, Option, Some, None, refl, sym, ap, ◌∙◌, arith}
+use Rattle.std.proofs.Common.{◌≡◌, ℕ, zero, suc, ◌+◌, ◌<◌, ◌≤◌, List, [], ◌∷◌, length, replicate, drop, get_or, bit_xor, Option, Some, None, refl, sym, ap, ⊎_elim, ◌∙◌, arith}
 use Rattle.std.specs.Int.Bits.{xor_zero_r}
 use Rattle.std.specs.Simd.Lanes.{zip2}
 use Rattle.std.specs.List.{filter_map, cons_option}
 use Rattle.std.proofs.lemmas.List.{drop_more, drop_all}
+use Rattle.std.proofs.lemmas.Bool.{cases_lt}
 use Rattle.fg_words.specs.declared.Word.{Word}
 use Rattle.fg_words.specs.Word.{zero_word, word_xor, word_sum, HasRoom}
 use Rattle.fg_words.proofs.WordLemmas.{word-ext, word_xor_assoc, word_xor-self, word_xor-zero_same, HasRoom-zero}
 use Rattle.fg_peel.specs.Equation.{sum_at}
+use Rattle.fg_peel.specs.Recovery.{with_added}
 
 -- The word has no more bytes than fit.
 abbrev pub IsShort : Word → Type 0
@@ -81,3 +83,31 @@ module _ (words : ℕ → Option Word) (xs : List ℕ) (j : ℕ) (acc total : Wo
   adding_done past short so_far =
       let none = drop_all j xs past in
       sym (xor_zero_short acc short) ∙ (rw none at so_far)
+
+  -- one more slot, or none where all are done
+  pub adding_one :
+      (added : Option Word) → (j < length xs → added ≡ words (get_or xs j 0)) → (length xs ≤ j → added ≡ None)
+      → word_xor acc (sum_at words (drop j xs)) ≡ total
+      → word_xor (with_added acc added) (sum_at words (drop (j + 1) xs)) ≡ total
+  adding_one added within past so_far = ⊎_elim (λ less. here less added (within less)) (λ more. done more) (cases_lt j (length xs))
+    where
+      here : j < length xs → (o : Option Word) → o ≡ words (get_or xs j 0)
+          → word_xor (with_added acc o) (sum_at words (drop (j + 1) xs)) ≡ total
+      here less None is = adding_none less (sym is) so_far
+      here less (Some w) is = adding_more w less (sym is) so_far
+
+      done : length xs ≤ j → word_xor (with_added acc added) (sum_at words (drop (j + 1) xs)) ≡ total
+      done more =
+          ap (λ (o : Option Word). word_xor (with_added acc o) (sum_at words (drop (j + 1) xs))) (past more)
+          ∙ ap (λ (l : List ℕ). word_xor acc (sum_at words l)) (drop_all (j + 1) xs (omega (arith, more)) ∙ sym (drop_all j xs more))
+          ∙ so_far
+
+pub short_added : (a : Word) (added : Option Word) → IsShort a → IsShort (with_added a added)
+short_added a None short = short
+short_added a (Some b) short = short_xor a b short
+
+-- Two words at once, one of them, and none.
+pub added_both : (sum : Word) (one other : Option Word) (a b : Word) → one ≡ Some a → other ≡ Some b
+    → word_xor sum (word_xor a b) ≡ with_added (with_added sum one) other
+added_both sum one other a b is is' =
+    sym (word_xor_assoc sum a b) ∙ (λ i. with_added (with_added sum (sym is i)) (sym is' i))

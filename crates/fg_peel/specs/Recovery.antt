@@ -74,6 +74,11 @@ abbrev pub AddsWord : List Slot → List Slot → ℕ → ℕ → Type 0
 AddsWord old new target other =
     new ≡ slice_set old target (with_word (slice_index_or old target Empty) (word_in (slice_index_or old other Empty)))
 
+-- A sum after a word was added, where there is one.
+abbrev pub with_added : Word → Option Word → Word
+with_added sum (Some word) = word_xor sum word
+with_added sum None = sum
+
 -- A sum has gained the words at the equation's slots.
 abbrev pub AddsWords : (ℕ → Option Word) → Equation → Word → Word → Type 0
 AddsWords words equation old new = new ≡ word_xor old (sum_at words (slots equation))

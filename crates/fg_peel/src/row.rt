@@ -1,7 +1,8 @@
 //! A row of entries, and what it tells of a line.
 
-ghost use Rattle.std.specs.Prelude.{◌≡◌, ◌+◌, ◌^◌, ◌<◌, ◌≤◌, ◌≤ℤ◌, ◌+ℤ◌, ◌↔◌, pos, length, IsTrue};
+ghost use Rattle.std.specs.Prelude.{◌≡◌, ◌+◌, ◌^◌, ◌<◌, ◌≤◌, ◌≤ℤ◌, ◌+ℤ◌, ◌↔◌, pos, length, slice_index_or, None, IsTrue};
 ghost use Rattle.std.specs.Option.{option_copied};
+ghost use Rattle.fg_peel.specs.Recovery.{with_added};
 
 use crate::{Line, Slot};
 use fg_shape::slot;
@@ -32,7 +33,7 @@ impl<'a> Row<'a> {
     ghost use Rattle.fg_words.specs.Word.{HasRoom};
     ghost use Rattle.fg_peel.specs.Slots.{first_position, from_first, equation_of, IsMissing};
     ghost use Rattle.fg_peel.specs.Row.{words_in, HasSlots};
-    ghost use Rattle.fg_peel.specs.Equation.{ComesOut};
+    ghost use Rattle.fg_peel.specs.Equation.{slots, ComesOut};
     ghost use Rattle.fg_peel.specs.Recovery.{AddsWords};
 
     /// The row of the positions from 0 on, where the first entry stands for position `low`. Entries
@@ -96,17 +97,42 @@ impl<'a> Row<'a> {
         sum.is_zero()
     }
 
-    /// Adds the words at a line's slots to a word.
+    /// Adds the words at a line's slots to a word, two at a time.
     fn add_words(&self, sum: &mut Word, line: &Line)
         requires line { HasSlots self.now line.now }
         requires room { HasRoom sum.old }
         ensures { AddsWords (words_in self.now) (equation_of line.now) sum.old sum.new }
     {
-        for j in 0..line.shape.na {
-            let position = slot(line.base, line.shape, j);
-            if let Some(word) = self.word(position) {
-                sum.xor_in(word);
-            }
+        for pair in 0..line.shape.na.div_ceil(2) {
+            let one = self.word_at(line, 2 * pair);
+            let other = self.word_at(line, 2 * pair + 1);
+            add_two(sum, one, other);
         }
+    }
+
+    /// The word at a line's slot of this number. There is none past its slots.
+    fn word_at(&self, line: &Line, j: u8) -> Option<&'a Word>
+        requires { HasSlots self.now line.now }
+        ensures within { j < line.now.shape.na → option_copied result
+            ≡ words_in self.now (slice_index_or (slots (equation_of line.now)) j 0) }
+        ensures past { line.now.shape.na ≤ j → option_copied result ≡ None }
+    {
+        if j < line.shape.na {
+            self.word(slot(line.base, line.shape, j))
+        } else {
+            None
+        }
+    }
+}
+
+/// Adds two words to a sum. One that is missing adds nothing.
+fn add_two(sum: &mut Word, one: Option<&Word>, other: Option<&Word>)
+    ensures { sum.new
+        ≡ with_added (with_added sum.old (option_copied one.entry)) (option_copied other.entry) }
+{
+    match (one, other) {
+        (Some(one), Some(other)) => sum.xor_in_two(one, other),
+        (Some(word), None) | (None, Some(word)) => sum.xor_in(word),
+        (None, None) => {}
     }
 }

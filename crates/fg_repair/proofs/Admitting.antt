@@ -1,5 +1,5 @@
 -- What comes of a datagram that is taken.
-use Rattle.std.proofs.Common.{◌≡◌, ◌≢◌, ℕ, List, [], Option, Some, None, refl, sym, subst}
+use Rattle.std.proofs.Common.{◌≡◌, ◌≢◌, ℕ, List, [], Option, Some, None, refl, subst}
 use Rattle.fg_words.specs.declared.Word.{Word}
 use Rattle.fg_io.specs.Outlet.{Lanes}
 use Rattle.fg_rtp.specs.MediaDatagram.{IsMediaDatagram}

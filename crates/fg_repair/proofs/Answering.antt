@@ -1,5 +1,5 @@
 -- One more reply is counted.
-use Rattle.std.proofs.Common.{◌≡◌, ◌+◌, ◌==◌, ◌&&◌, ℕ, cond, List, [], ◌∷◌, ◌++◌, length, Option, Some, None, refl, sym, ap, subst, ◌∙◌, arith}
+use Rattle.std.proofs.Common.{◌≡◌, ◌+◌, ◌==◌, ◌&&◌, ℕ, cond, List, [], ◌∷◌, ◌++◌, length, Option, Some, None, refl, sym, ap, ◌∙◌, arith}
 use Rattle.fg_flows.specs.declared.Kind.{Kind}
 use Rattle.fg_flows.specs.declared.Kind.TheVariants as kind
 use Rattle.fg_desk.specs.declared.reply.Reply.{Reply}
@@ -7,7 +7,7 @@ use Rattle.fg_desk.specs.declared.reply.Reply.TheVariants.{Admitted, Duplicate, 
 use Rattle.fg_desk.specs.declared.run.Stream.{Stream}
 use Rattle.fg_desk.specs.declared.run.Stream.TheVariants as stream
 use Rattle.fg_desk.specs.Play.{Play}
-use Rattle.fg_desk.specs.Run.{Arrival, carries, protects, refused, came_by, stream_number, reply_number, is_counted, count_of}
+use Rattle.fg_desk.specs.Run.{Arrival, carries, protects, refused, came_by, stream_number, reply_number, count_of}
 use Rattle.fg_desk.specs.Laws.{CountsAdd}
 use Rattle.fg_report.specs.declared.marks.Marks.{Marks}
 use Rattle.fg_report.specs.declared.flow_sum.FlowSum.{FlowSum}

@@ -1,11 +1,9 @@
 -- The records of a flow arrive in one way.
-use Rattle.std.proofs.Common.{◌≡◌, ◌≢◌, ◌+◌, ◌<◌, ◌≤◌, ◌==◌, ◌||◌, ℕ, Bool, true, false, cond, List, [], ◌∷◌, ◌++◌, length, refl, sym, ap, subst, ◌∙◌, arith}
-use Rattle.std.specs.List.{All, AllZip, filter}
+use Rattle.std.proofs.Common.{◌≡◌, ◌≤◌, ◌==◌, ◌||◌, ℕ, Bool, true, false, cond, List, [], ◌∷◌, ◌++◌, length, refl, sym, ap, subst, ◌∙◌, arith}
+use Rattle.std.specs.List.{All, AllZip}
 use Rattle.std.proofs.lemmas.Bool.Decides.{nat_tests}
 use Rattle.std.proofs.lemmas.List.Elements.{filter-append}
 use Rattle.std.proofs.lemmas.List.Sums.{length-filter, count_by-le-length}
-use Rattle.fg_words.specs.declared.Word.{Word}
-use Rattle.fg_rtp.specs.MediaDatagram.{IsMediaDatagram}
 use Rattle.fg_rtp.specs.Laws.{ReadsOneWay as MediaReadsOneWay}
 use Rattle.fg_fechead.specs.declared.Parity.{Parity as ParityRead}
 use Rattle.fg_fechead.specs.ParityDatagram.{IsParityDatagram}
@@ -19,7 +17,7 @@ use Rattle.fg_desk.specs.declared.run.Stream.TheVariants as stream
 use Rattle.fg_desk.specs.Admission.{Parity}
 use Rattle.fg_desk.specs.Run.{Arrival, carries, protects, refused}
 use Rattle.fg_desk.specs.Laws.{IsRead}
-use Rattle.fg_repair.specs.Flow.{is_of, records_of, stream_of, parity_of, IsReadAs, Arrives}
+use Rattle.fg_repair.specs.Flow.{is_of, records_of, parity_of, IsReadAs, Arrives}
 use Rattle.fg_repair.proofs.Zips.{zip_one, zip_begins, zip_length, zip_all}
 
 -- The flow's records among more of them.

@@ -1,24 +1,22 @@
 -- How the flows of a repair are flushed, one after another.
-use Rattle.std.proofs.Common.{◌≡◌, ◌⊎◌, inl, inr, ℕ, suc, ◌+◌, ◌<◌, ◌≤◌, ◌^◌, nat_lt, Bool, true, false, Option, Some, None, IfSome, IsSome, List, [], ◌∷◌, ◌++◌, length, map, set, slice_index, unwrap_or, refl, sym, ap, ◌∙◌, subst, arith, append-nil}
+use Rattle.std.proofs.Common.{◌≡◌, ◌⊎◌, inl, inr, ℕ, suc, ◌+◌, ◌<◌, ◌≤◌, ◌^◌, nat_lt, Bool, true, false, Option, Some, None, IsSome, List, [], ◌∷◌, ◌++◌, length, map, set, slice_index, unwrap_or, refl, sym, ap, ◌∙◌, subst, arith, append-nil}
 use Rattle.std.specs.List.{AllZip, Contains, slice_index_or}
 use Rattle.std.proofs.lemmas.Bool.{cases_eq}
 use Rattle.std.proofs.lemmas.Bool.Decides.{nat_tests}
 use Rattle.std.proofs.lemmas.List.{get_or-set_same, get_or-set_other, get_or_default, length-set}
-use Rattle.fg_io.specs.Outlet.{Lanes, lane_of, lane_bytes, WhereTold}
-use Rattle.fg_io.specs.Prefix.{IsPrefix}
+use Rattle.fg_io.specs.Outlet.{Lanes, lane_of, lane_bytes}
 use Rattle.fg_flows.specs.declared.Plan.{Plan}
 use Rattle.fg_flows.specs.Flows.{IsTable}
 use Rattle.fg_flows.specs.Laws.{OneFlowHasAPort}
 use Rattle.fg_flows.specs.Plan.{PlanFits}
-use Rattle.fg_report.specs.declared.flow_sum.FlowSum.{FlowSum}
 use Rattle.fg_trace.specs.Trace.{Record}
 use Rattle.fg_repair.specs.declared.engine.Engine.{Engine}
 use Rattle.fg_repair.specs.declared.flow.Flow.{Flow}
-use Rattle.fg_repair.specs.Engine.{OneFlowResult, TakenIsFront, LanesGrow, GrowAll, AreThere, FlowStands, FlowEnds, HasCome, IsFlushing, BreaksAtFlush, HasEnded, sums_of}
+use Rattle.fg_repair.specs.Engine.{OneFlowResult, TakenIsFront, GrowAll, AreThere, FlowStands, FlowEnds, HasCome, IsFlushing, BreaksAtFlush, HasEnded, sums_of}
 use Rattle.fg_repair.specs.Flow.{FlowResult, IsFlowResult}
-use Rattle.fg_repair.specs.Lanes.{LanesGain, PutsAll}
-use Rattle.fg_repair.specs.Repair.{AreResults, lanes_of}
-use Rattle.fg_repair.specs.Steps.{HasTaken, IsUnderway, IsFrontOfLane, BeginsLane, EndsFlow, BreaksAtEnd}
+use Rattle.fg_repair.specs.Lanes.{PutsAll}
+use Rattle.fg_repair.specs.Repair.{lanes_of}
+use Rattle.fg_repair.specs.Steps.{HasTaken, IsUnderway, BeginsLane, EndsFlow, BreaksAtEnd}
 use Rattle.fg_repair.proofs.Lanes.{more, more_same, more_other, grow_more, there_more, contains_at}
 use Rattle.fg_repair.proofs.Standing.{moved, flow_taken, ports_differ}
 

@@ -1,5 +1,5 @@
 -- A lane that grows piece by piece.
-use Rattle.std.proofs.Common.{◌≡◌, ◌++◌, ℕ, List, [], Option, Some, None, refl, sym, ap, ◌∙◌, append_assoc}
+use Rattle.std.proofs.Common.{◌++◌, ℕ, List, [], Option, Some, None, refl, sym, ap, ◌∙◌, append_assoc}
 use Rattle.std.proofs.lemmas.List.{append-nil}
 use Rattle.fg_io.specs.Prefix.{IsPrefix}
 use Rattle.fg_io.specs.Outlet.{Lanes, lane_bytes}

@@ -1,5 +1,5 @@
 -- How the lanes of several ports grow, piece after piece.
-use Rattle.std.proofs.Common.{◌≡◌, ◌≢◌, ◌⊎◌, inl, inr, ℕ, ◌<◌, Option, Some, None, IfSome, IsSome, List, [], ◌∷◌, ◌++◌, nat_eq, ◌+◌, length, slice_index, unwrap_or, refl, sym, ap, ◌∙◌, subst, arith, append_assoc, append-nil, cond}
+use Rattle.std.proofs.Common.{◌≡◌, ◌⊎◌, inl, inr, ℕ, ◌<◌, Option, Some, None, IfSome, IsSome, List, [], ◌∷◌, ◌++◌, nat_eq, ◌+◌, length, slice_index, unwrap_or, refl, sym, ap, ◌∙◌, subst, arith, append_assoc, append-nil, cond}
 use Rattle.std.specs.List.{Contains}
 use Rattle.std.proofs.lemmas.Bool.{cases_eq}
 use Rattle.std.proofs.lemmas.List.{get_or_default}
@@ -7,7 +7,6 @@ use Rattle.std.proofs.lemmas.List.Elements.{Contains-get_or}
 use Rattle.std.proofs.lemmas.Bool.Decides.{nat_tests}
 use Rattle.fg_io.specs.Outlet.{Lanes, lane_of, lane_bytes, WhereTold, Puts, PutsPart, LaneGains, LaneGainsPart}
 use Rattle.fg_repair.specs.Engine.{LaneGrown, LanesGrow, GrowAll, AreThere}
-use Rattle.fg_repair.specs.Lanes.{OthersStay}
 use Rattle.fg_repair.specs.Steps.{LaneGrows, Grows}
 
 -- Where lanes are told

@@ -8,6 +8,7 @@ pub mod Flushing
 pub mod Fronts
 pub mod Growing
 pub mod Lanes
+pub mod Opening
 pub mod Reading
 pub mod Results
 pub mod Showing

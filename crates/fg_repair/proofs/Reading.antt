@@ -1,5 +1,5 @@
 -- How the records of a flow are read: in one way each.
-use Rattle.std.proofs.Common.{◌≡◌, ◌≢◌, ◌+◌, ℕ, List, [], ◌∷◌, Option, Some, None, refl, sym, ap, subst, ◌∙◌, arith}
+use Rattle.std.proofs.Common.{◌≡◌, ◌≢◌, ℕ, List, [], Option, Some, None, refl, subst}
 use Rattle.fg_words.specs.declared.Word.{Word}
 use Rattle.fg_fechead.specs.declared.Parity.{Parity as ParityRead}
 use Rattle.fg_fechead.specs.ParityDatagram.{IsParityDatagram}

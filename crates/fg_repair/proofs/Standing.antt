@@ -1,6 +1,6 @@
 -- How the flows of a repair stand, record after record.
-use Rattle.std.proofs.Common.{◌≡◌, ◌≢◌, ◌⊎◌, inl, inr, ℕ, ◌+◌, ◌<◌, ◌==◌, ◌||◌, Bool, true, false, not, cond, Option, Some, None, List, [], ◌∷◌, ◌++◌, length, set, get_or, slice_index, refl, sym, ap, ◌∙◌, subst, arith, append_assoc, append-nil, zero-add, add-zero, ◌≤◌}
-use Rattle.std.specs.List.{All, AllZip, Contains, filter, count_by, list_any, slice_index_or}
+use Rattle.std.proofs.Common.{◌≡◌, ◌⊎◌, inl, inr, ℕ, ◌+◌, ◌<◌, Bool, true, false, not, cond, Option, List, [], ◌∷◌, ◌++◌, length, set, slice_index, refl, sym, ap, ◌∙◌, subst, arith, append_assoc, append-nil, zero-add, add-zero, ◌≤◌}
+use Rattle.std.specs.List.{AllZip, Contains, list_any, slice_index_or}
 use Rattle.std.specs.Vec.{with_item}
 use Rattle.std.proofs.lemmas.Bool.{cases_eq}
 use Rattle.std.proofs.lemmas.Bool.Decides.{nat_tests}
@@ -24,7 +24,7 @@ use Rattle.fg_repair.specs.declared.engine.Engine.{Engine}
 use Rattle.fg_repair.specs.declared.flow.Flow.{Flow}
 use Rattle.fg_repair.specs.declared.player.Player.{Player}
 use Rattle.fg_repair.specs.Engine.{TakenIsFront, FlowStands, EngineStands, HasCome, BreaksAfter}
-use Rattle.fg_repair.specs.Flow.{Arrives, records_of, is_of, IsFlowResult, FlowResult}
+use Rattle.fg_repair.specs.Flow.{Arrives, records_of, is_of, IsFlowResult}
 use Rattle.fg_repair.specs.Repair.{others_of}
 use Rattle.fg_repair.specs.Steps.{HasTaken, IsFrontOfLane, TakesRecord, BreaksAtRecord}
 use Rattle.fg_repair.proofs.Lanes.{more, more_same, more_other, grow_more, there_more, contains_at}

@@ -1,5 +1,5 @@
 -- What was taken, and what comes next of it.
-use Rattle.std.proofs.Common.{◌≡◌, ◌+◌, ◌<◌, ◌≤◌, ◌++◌, ℕ, List, [], ◌∷◌, length, Option, refl, sym, ap, subst, ◌∙◌, arith, append_assoc}
+use Rattle.std.proofs.Common.{◌≡◌, ◌+◌, ◌≤◌, ◌++◌, ℕ, List, [], ◌∷◌, length, Option, refl, sym, ap, subst, ◌∙◌, arith, append_assoc}
 use Rattle.std.specs.List.{All, AllZip}
 use Rattle.std.proofs.lemmas.List.{append-nil}
 use Rattle.fg_io.specs.Prefix.{IsPrefix}
@@ -21,7 +21,6 @@ use Rattle.fg_repair.specs.Steps.{HasTaken, HaveShown, BreakOff, AdmitsDatagram,
 use Rattle.fg_repair.proofs.Arriving.{one_more_record, and_later_records, arrivals_are_read, one_list_arrives, arrivals_begin}
 use Rattle.fg_repair.proofs.Answering.{answer_added}
 use Rattle.fg_repair.proofs.Counting.{plays_more, lane_more}
-use Rattle.fg_repair.proofs.Growing.{prefix_join}
 use Rattle.fg_repair.proofs.Underway.{mark_is_shown}
 use Rattle.fg_repair.proofs.Zips.{zip_push}
 
@@ -81,12 +80,12 @@ pub front_of_lane :
 front_of_lane lane part whole before next after plays is front begin shown = (
   front.0 ++ lane_of after,
   shown
-  ∙ ap lane_of begin
-  ∙ lane_more before (next ++ after)
-  ∙ ap (λ (bytes : List ℕ). lane_of before ++ bytes) (lane_more next after)
-  ∙ (λ i. sym is i ++ (front.1 i ++ lane_of after))
-  ∙ ap (λ (bytes : List ℕ). lane ++ bytes) (append_assoc part front.0 (lane_of after))
-  ∙ sym (append_assoc lane part (front.0 ++ lane_of after)),
+      ∙ ap lane_of begin
+      ∙ lane_more before (next ++ after)
+      ∙ ap (λ (bytes : List ℕ). lane_of before ++ bytes) (lane_more next after)
+      ∙ (λ i. sym is i ++ (front.1 i ++ lane_of after))
+      ∙ ap (λ (bytes : List ℕ). lane ++ bytes) (append_assoc part front.0 (lane_of after))
+      ∙ sym (append_assoc lane part (front.0 ++ lane_of after)),
 )
 
 -- The end.

@@ -1,6 +1,6 @@
 -- What is so of a flow that has taken records.
-use Rattle.std.proofs.Common.{◌≡◌, ◌+◌, ◌<◌, ◌≤◌, ◌^◌, ◌++◌, ℕ, not, List, [], ◌∷◌, length, Option, Some, None, refl, sym, ap, subst, ◌∙◌, arith, length-append}
-use Rattle.std.specs.List.{All, count_by}
+use Rattle.std.proofs.Common.{◌≡◌, ◌<◌, ◌≤◌, ◌^◌, ℕ, not, List, [], ◌∷◌, length, Option, Some, None, refl, sym, subst, arith, length-append}
+use Rattle.std.specs.List.{All}
 use Rattle.std.proofs.lemmas.List.Sums.{count_by-le-length}
 use Rattle.std.proofs.lemmas.List.Elements.{All-head, All-tail}
 use Rattle.fg_desk.specs.declared.reply.Reply.{Reply}
@@ -11,10 +11,10 @@ use Rattle.fg_desk.specs.State.{State, opening}
 use Rattle.fg_desk.specs.Play.{Play, Shown}
 use Rattle.fg_desk.specs.Arrivals.{StaysWithin, FlushesWithin}
 use Rattle.fg_desk.specs.Run.{Arrival, TakesAll, count_of}
-use Rattle.fg_desk.specs.Laws.{IsRead, RunsStayWithin, FlushesStayWithin, PlaysReachTheMark, CountsStayWithin, played_count}
+use Rattle.fg_desk.specs.Laws.{RunsStayWithin, FlushesStayWithin, PlaysReachTheMark, CountsStayWithin, played_count}
 use Rattle.fg_report.specs.declared.flow_sum.FlowSum.{FlowSum}
 use Rattle.fg_repair.specs.Flow.{all_shown, shows_word, is_inconsistent, marks_of, sum_of}
-use Rattle.fg_repair.specs.Steps.{HasTaken, IsUnderway, CountsWithin, MarksHaveRoom, RepliesHaveRoom}
+use Rattle.fg_repair.specs.Steps.{IsUnderway, CountsWithin, MarksHaveRoom, RepliesHaveRoom}
 use Rattle.fg_repair.proofs.Arriving.{few_arrive, arrivals_are_read}
 use Rattle.fg_repair.proofs.Counting.{gaps_end_within}
 

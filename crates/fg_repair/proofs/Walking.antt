@@ -1,20 +1,19 @@
 -- How the records of a trace are taken, from where the reader stands.
-use Rattle.std.proofs.Common.{◌≡◌, ◌⊎◌, inl, inr, ℕ, suc, ◌+◌, ◌<◌, ◌≤◌, ◌^◌, Option, Some, None, IfSome, IsSome, Result, Ok, Err, List, [], ◌∷◌, ◌++◌, length, take, drop, refl, sym, ap, ◌∙◌, subst, arith, length-append}
+use Rattle.std.proofs.Common.{◌≡◌, ℕ, suc, ◌<◌, ◌≤◌, ◌^◌, Option, Some, None, IfSome, Ok, Err, List, [], ◌∷◌, ◌++◌, length, take, drop, refl, sym, ap, ◌∙◌, subst, arith, length-append}
 use Rattle.std.specs.List.{AllZip, Contains, flat_map}
 use Rattle.std.proofs.lemmas.List.{take-append-drop}
 use Rattle.fg_io.specs.Outlet.{Lanes, WhereTold}
 use Rattle.fg_flows.specs.declared.Plan.{Plan}
 use Rattle.fg_flows.specs.Plan.{PlanFits}
 use Rattle.fg_report.specs.declared.tail.Tail.{Tail}
-use Rattle.fg_report.specs.declared.tail.Tail.TheVariants as tail
-use Rattle.fg_trace.specs.declared.step.Step.TheVariants.{Datagram, End}
+use Rattle.fg_trace.specs.declared.step.Step.TheVariants.{Datagram}
 use Rattle.fg_trace.specs.declared.step.TraceFault.{TraceFault}
 use Rattle.fg_trace.specs.declared.step.TraceFault.TheVariants as fault
 use Rattle.fg_trace.specs.Laws.{WalksTheFront}
 use Rattle.fg_trace.specs.Reader.{Answer, ReaderState, StandsAfter, Walks}
-use Rattle.fg_trace.specs.Trace.{Record, Ending, Ended, Cut, TooLong, IsTrace, spelling, trace_of}
+use Rattle.fg_trace.specs.Trace.{Record, Ending, IsTrace, spelling, trace_of}
 use Rattle.fg_repair.specs.declared.engine.Engine.{Engine}
-use Rattle.fg_repair.specs.Engine.{TakenIsFront, LanesGrow, LaneGrown, GrowAll, EngineStands, IsRunning, HasCome, BreaksAfter, LanesPart, IsUnderway, TookAll, TellsTail}
+use Rattle.fg_repair.specs.Engine.{TakenIsFront, LanesGrow, GrowAll, IsRunning, HasCome, BreaksAfter, LanesPart, IsUnderway, TookAll, TellsTail}
 use Rattle.fg_repair.specs.Flow.{FlowResult, IsFlowResult}
 use Rattle.fg_repair.specs.Lanes.{OthersStay, LaneGainsPart, LanesGainPart, PutsAllPart}
 use Rattle.fg_repair.specs.Repair.{AreResults, lanes_of}

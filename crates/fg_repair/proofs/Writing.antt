@@ -1,7 +1,7 @@
 -- How the lanes of a trace are written, from its magic on.
-use Rattle.std.proofs.Common.{◌≡◌, ℕ, ◌<◌, ◌^◌, Option, Some, None, IfSome, List, [], ◌++◌, length, refl, sym, ap, ◌∙◌, subst}
+use Rattle.std.proofs.Common.{◌≡◌, ℕ, Option, Some, None, IfSome, List, [], refl, sym, ◌∙◌, subst}
 use Rattle.std.specs.List.{Contains}
-use Rattle.fg_io.specs.Outlet.{Lanes, WhereTold}
+use Rattle.fg_io.specs.Outlet.{Lanes}
 use Rattle.fg_flows.specs.declared.Plan.{Plan}
 use Rattle.fg_flows.specs.Plan.{PlanFits}
 use Rattle.fg_report.specs.declared.tail.Tail.{Tail}
@@ -11,7 +11,7 @@ use Rattle.fg_trace.specs.Trace.{Record, Ending, IsTrace}
 use Rattle.fg_repair.specs.declared.engine.Engine.{Engine}
 use Rattle.fg_repair.specs.declared.flow.Flow.{Flow}
 use Rattle.fg_repair.specs.Engine.{LanesGrow, GrowAll, AreThere, EngineStands, LanesPart, IsUnderway, TookAll, AreReady, IsFlushing, BreaksAtFlush, HasEnded, LanesWhole}
-use Rattle.fg_repair.specs.Flow.{FlowResult, IsFlowResult}
+use Rattle.fg_repair.specs.Flow.{FlowResult}
 use Rattle.fg_repair.specs.Lanes.{LanesGainPart, PutsAllPart}
 use Rattle.fg_repair.specs.Repair.{AreResults, lanes_of}
 use Rattle.fg_repair.specs.Steps.{BeginsLane}

@@ -1,8 +1,10 @@
 -- How far a repair has come, over all flows. No public contract cites what stands here.
-use Rattle.std.specs.Prelude.{◌≡◌, ◌≢◌, ◌+◌, ◌≤◌, ◌<◌, ◌^◌, ◌⊎◌, ℕ, ⊤, Bool, true, false, Option, None, Some, IfSome, IsSome, Result, Err, List, [], ◌∷◌, ◌++◌, length, map, nat_lt, slice_index}
+use Rattle.std.specs.Prelude.{◌≡◌, ◌≢◌, ◌≤◌, ◌<◌, ◌^◌, ◌⊎◌, ℕ, ⊤, Bool, true, false, Option, Some, IfSome, IsSome, Result, Ok, Err, List, [], ◌++◌, length, map, nat_lt, slice_index}
 use Rattle.std.specs.List.{Contains, slice_index_or}
 use Rattle.fg_io.specs.Faults.{CountsFault}
 use Rattle.fg_io.specs.Outlet.{Lanes, lane_of, lane_bytes, WhereTold}
+use Rattle.fg_trace.specs.declared.step.TraceFault.{TraceFault}
+use Rattle.fg_trace.specs.declared.step.TraceFault.TheVariants as fault
 use Rattle.fg_trace.specs.declared.step.Finish.{Finish}
 use Rattle.fg_trace.specs.declared.step.Finish.TheVariants as finish
 use Rattle.fg_trace.specs.Reader.{ReaderState, StandsAfter}
@@ -186,6 +188,11 @@ pub record LanesWhole
   pub other : engine.other ≡ others_of plan.table records
 
 -- The answer
+
+-- To a fault of the magic: the place of the first byte that differs, or a read fault.
+abbrev pub told_place : TraceFault → Result (Option ℕ) Fault
+told_place (fault.NotTrace n) = Ok (Some n)
+told_place why = Err Read
 
 -- To a trace with this tail.
 abbrev pub told_finish : Tail → Finish

@@ -12,7 +12,6 @@ use Rattle.fg_flows.specs.declared.Kind.TheVariants as kind
 use Rattle.fg_flows.specs.Flows.{port_of}
 use Rattle.fg_desk.specs.declared.reply.Reply.{Reply}
 use Rattle.fg_desk.specs.declared.reply.Reply.TheVariants.{Admitted, Duplicate, Conflict, Late, NotStarted, BeforeStart, Ahead, Crowded}
-use Rattle.fg_desk.specs.declared.reply.Outcome.{Outcome}
 use Rattle.fg_desk.specs.declared.reply.Outcome.TheVariants.{Repaired, Inconsistent}
 use Rattle.fg_desk.specs.declared.run.Stream.{Stream}
 use Rattle.fg_desk.specs.declared.run.Stream.TheVariants as stream

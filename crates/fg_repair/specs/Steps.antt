@@ -6,7 +6,6 @@ use Rattle.fg_io.specs.Outlet.{Lanes, lane_of as lane_at, lane_bytes, OthersStay
 use Rattle.fg_trace.specs.Trace.{Record}
 use Rattle.fg_flows.specs.declared.Kind.{Kind}
 use Rattle.fg_flows.specs.declared.Kind.TheVariants as kind
-use Rattle.fg_flows.specs.Flows.{port_of}
 use Rattle.fg_desk.specs.declared.desk.Played.{Played}
 use Rattle.fg_desk.specs.declared.reply.Reply.{Reply}
 use Rattle.fg_desk.specs.declared.reply.Reply.TheVariants.{Admitted, Duplicate, Conflict, Late, NotStarted, BeforeStart, Ahead, Crowded}

@@ -1,17 +1,18 @@
 //! The repair on one thread.
-ghost use Rattle.std.specs.Prelude.{◌≡◌, ◌≢◌, ◌⊎◌, ◌≤◌, ℕ, Option, None, Err, List, [], IfOk, IfSome, OnOk, OnErr};
+ghost use Rattle.std.specs.Prelude.{◌≡◌, ◌≢◌, ◌⊎◌, ◌≤◌, ◌++◌, ℕ, Option, None, Err, List, [], IfOk, IfSome, IfNone, OnOk, OnErr};
 ghost use Rattle.std.specs.Io.KnownBytes.{IsAtEnd};
 ghost use Rattle.fg_io.specs.Faults.{CountsFault};
 ghost use Rattle.fg_io.specs.Sink.{Gains, GainsPart};
-ghost use Rattle.fg_trace.specs.Reader.{StandsAfter};
+ghost use Rattle.fg_trace.specs.Reader.{StandsBefore, StandsAfter};
 ghost use Rattle.fg_trace.specs.Trace.{Record, Ending as TraceEnding, NotTrace as NoMagic, IsTrace};
 ghost use Rattle.fg_flows.specs.Plan.{PlanFits};
 ghost use Rattle.fg_report.specs.Text.{report_of};
-ghost use Rattle.fg_repair.specs.Engine.{CountsFor, CountsWrites, sums_of, told_finish, fault_finish};
+ghost use Rattle.fg_repair.specs.Engine.{CountsFor, CountsWrites, sums_of, told_place, told_finish, fault_finish};
 ghost use Rattle.fg_repair.specs.Repair.{IsFault, ReadsAll, Finishes, OutputsPart, finish_of};
 
 use crate::engine::Engine;
 use crate::fault::Fault;
+use crate::flow::Flow;
 use crate::laws::{no_records_have_results, one_flow_result};
 use fg_flows::Plan;
 use fg_io::laws::parts_of_writes;
@@ -19,7 +20,7 @@ use fg_io::{Outlet, Sink, Source};
 use fg_report::{FlowSum, Tail, write_report};
 use fg_trace::laws::one_trace;
 use fg_trace::{Finish, Reader, TraceFault};
-use std::alloc::Global;
+use std::alloc::{AllocError, Global};
 
 /// Repairs the flows of a trace, on the caller's thread.
 ///
@@ -95,12 +96,38 @@ fn repair<S: Source, K: Sink, O: Outlet>(
 {
     no_records_have_results();
     let mut reader = Reader::new(alloc, plan.max)?;
+    if let Some(place) = find_magic(&mut reader, input)? {
+        return Ok(Finish::NotTrace(place));
+    }
+    repair_records(alloc, plan, &mut reader, input, out, lanes)
+}
+
+/// Reads the magic; where it isn't there, it answers the place of the first byte that differs.
+fn find_magic<S: Source>(reader: &mut Reader, input: &mut S) -> Result<Option<u64>, Fault>
+    requires new { (first : Option (List ℕ)) → StandsBefore reader.old first first }
+    requires open { reader.old.kept ≡ None }
+    ensures found { IfOk result (λ place. IfNone place
+        (StandsAfter reader.new (S.left input.old) (S.left input.new) [])) }
+    ensures differs { IfOk result (λ place. IfSome place (λ n.
+        IfSome (S.left input.old) (λ bytes. IsTrace bytes reader.new.max [] (NoMagic n)))) }
+    ensures open { IfOk result (λ place. IfNone place (reader.new.kept ≡ None)) }
+    ensures max { reader.new.max ≡ reader.old.max }
+    ensures not_write { result ≢ Err Fault.Write }
+    ensures reads { CountsFor Fault.Read result (S.faults input.old) (S.faults input.new) }
+{
     match reader.start(input) {
-        Ok(()) => repair_records(alloc, plan, &mut reader, input, out, lanes),
-        Err(TraceFault::NotTrace(place)) => Ok(Finish::NotTrace(place)),
-        Err(TraceFault::ReadFault | TraceFault::Cut(_) | TraceFault::TooLong(_)) => {
-            Err(Fault::Read)
-        }
+        Ok(()) => Ok(None),
+        Err(fault) => place_of(fault),
+    }
+}
+
+/// The place of the first byte that differs from the magic, where that is the fault.
+fn place_of(fault: TraceFault) -> Result<Option<u64>, Fault>
+    ensures { result ≡ told_place fault }
+{
+    match fault {
+        TraceFault::NotTrace(place) => Ok(Some(place)),
+        TraceFault::ReadFault | TraceFault::Cut(_) | TraceFault::TooLong(_) => Err(Fault::Read),
     }
 }
 
@@ -140,7 +167,7 @@ fn repair_records<S: Source, K: Sink, O: Outlet>(
 fn report<K: Sink>(
     alloc: Global,
     engine: Engine,
-    mut sums: Vec<FlowSum>,
+    sums: Vec<FlowSum>,
     tail: Tail,
     out: &mut K,
 ) -> Result<(), Fault>
@@ -153,11 +180,19 @@ fn report<K: Sink>(
     ensures writes { CountsFor Fault.Write result (K.faults out.old) (K.faults out.new) }
 {
     parts_of_writes();
-    for flow in engine.flows {
-        sums.push(flow.sum)?;
-    }
+    let sums = add_sums(sums, engine.flows)?;
     write_report(alloc, &sums, engine.other, tail, out)?;
     Ok(())
+}
+
+/// Adds the flows' counts to `sums`.
+fn add_sums(mut sums: Vec<FlowSum>, flows: Vec<Flow>) -> Result<Vec<FlowSum>, AllocError>
+    ensures { IfOk result (λ all. all.items ≡ sums.items ++ sums_of flows.items) }
+{
+    for flow in flows {
+        sums.push(flow.sum)?;
+    }
+    Ok(sums)
 }
 
 /// The answer to a trace with this tail.

@@ -39,12 +39,7 @@ impl Engine {
         let count = plan.table.count();
         let mut flows = Vec::with_capacity(alloc, count)?;
         for i in 0..count {
-            flows.push(Flow::new(
-                alloc,
-                plan.table.port(i),
-                plan.window,
-                plan.depth,
-            )?)?;
+            flows.push(Flow::new(alloc, plan.table.port(i), plan.window, plan.depth)?)?;
         }
         let player = Player::new(alloc, plan.window)?;
         Ok(Engine {

@@ -2,8 +2,8 @@
 #![tactic(auto)]
 
 mod alone;
-mod engine;
 mod counts;
+mod engine;
 mod fault;
 mod flow;
 pub mod laws;

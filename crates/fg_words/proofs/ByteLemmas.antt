@@ -1,6 +1,6 @@
 -- A list of bytes after a vector was stored in it, and what is zero of it.
-use Rattle.std.proofs.Common.{◌≡◌, ℕ, zero, suc, ◌+◌, ◌-◌, ◌*◌, ◌/◌, ◌%◌, ◌<◌, ◌≤◌, ◌↔◌, List, [], ◌∷◌, ◌++◌, length, replicate, take, drop, get_or, bit_xor, bit_or, refl, sym, ap, ⊎_elim, ◌∙◌, arith, length-append, length-drop, below_more}
-use Rattle.std.specs.Int.Bits.{or_zero_l}
+use Rattle.std.proofs.Common.{◌≡◌, ℕ, zero, suc, ◌+◌, ◌-◌, ◌*◌, ◌/◌, ◌%◌, ◌<◌, ◌≤◌, ◌↔◌, List, [], ◌∷◌, ◌++◌, length, replicate, take, drop, get_or, bit_xor, bit_or, refl, sym, ap, subst, ⊎_elim, ◌∙◌, arith, length-append, length-drop, below_more}
+use Rattle.std.specs.Int.Bits.{or_zero_l, xor_assoc}
 use Rattle.std.specs.Simd.Lanes.{zip2, fold_l, chunk, put_chunk}
 use Rattle.std.proofs.lemmas.Nat.{le_or_l, le_or_r}
 use Rattle.std.proofs.lemmas.Bool.{cases_lt}
@@ -112,6 +112,60 @@ xor_vectors_more v n w start xs ys long other_long fits done ahead =
       λ i le. stepped-above (w * v) n w xs ys long other_long room i (omega arith) ∙ ahead i (omega arith),
       stepped_long (w * v) n w xs ys long other_long room,
     )
+
+-- A part of an XOR is the XOR of the parts.
+zip_nothing : (xs : List ℕ) → zip2 bit_xor xs [] ≡ []
+zip_nothing [] = refl
+zip_nothing (x ∷ xs) = refl
+
+take-zip : (n : ℕ) (xs ys : List ℕ) → take n (zip2 bit_xor xs ys) ≡ zip2 bit_xor (take n xs) (take n ys)
+take-zip zero xs ys = refl
+take-zip (suc n) [] ys = refl
+take-zip (suc n) (x ∷ xs) [] = refl
+take-zip (suc n) (x ∷ xs) (y ∷ ys) = ap (λ (l : List ℕ). bit_xor x y ∷ l) (take-zip n xs ys)
+
+drop-zip : (n : ℕ) (xs ys : List ℕ) → drop n (zip2 bit_xor xs ys) ≡ zip2 bit_xor (drop n xs) (drop n ys)
+drop-zip zero xs ys = refl
+drop-zip (suc n) [] ys = refl
+drop-zip (suc n) (x ∷ xs) [] = sym (zip_nothing (drop n xs))
+drop-zip (suc n) (x ∷ xs) (y ∷ ys) = drop-zip n xs ys
+
+chunk-zip : (a n w : ℕ) (xs ys : List ℕ)
+    → chunk 0 w (mid_of a n (zip2 bit_xor xs ys)) ≡ zip2 bit_xor (chunk 0 w (mid_of a n xs)) (chunk 0 w (mid_of a n ys))
+chunk-zip a n w xs ys =
+    ap (λ (l : List ℕ). take w (take n l)) (drop-zip a xs ys)
+    ∙ ap (λ (l : List ℕ). take w l) (take-zip n (drop a xs) (drop a ys))
+    ∙ take-zip w (take n (drop a xs)) (take n (drop a ys))
+
+-- The list after a vector of two lists' XOR was added.
+abbrev stored : ℕ → ℕ → ℕ → List ℕ → List ℕ → List ℕ
+stored a n w xs both = put_mid a (n - a) xs (put_chunk 0 (mid_of a (n - a) xs) (zip2 bit_xor (chunk 0 w (mid_of a (n - a) xs)) both))
+
+abbrev Steps : ℕ → ℕ → ℕ → List ℕ → List ℕ → List ℕ → Type 0
+Steps v n w start ys zs =
+    ((i : ℕ) → i < w * (v + 1) → get_or zs i 0 ≡ bit_xor (get_or start i 0) (get_or ys i 0))
+    × ((i : ℕ) → w * (v + 1) ≤ i → get_or zs i 0 ≡ get_or start i 0)
+    × (length zs ≡ n)
+
+pub xor_pairs_more : (v n w : ℕ) (start xs one other : List ℕ) → length xs ≡ n → length one ≡ n → length other ≡ n → w * (v + 1) ≤ n →
+    ((i : ℕ) → i < w * v → get_or xs i 0 ≡ bit_xor (get_or start i 0) (get_or (zip2 bit_xor one other) i 0)) →
+    ((i : ℕ) → w * v ≤ i → get_or xs i 0 ≡ get_or start i 0) →
+    Steps v n w start (zip2 bit_xor one other)
+    (stored (w * v) n w xs (zip2 bit_xor (chunk 0 w (mid_of (w * v) (n - w * v) one)) (chunk 0 w (mid_of (w * v) (n - w * v) other))))
+xor_pairs_more v n w start xs one other long one_long other_long fits done ahead =
+    subst (λ (both : List ℕ). Steps v n w start (zip2 bit_xor one other) (stored (w * v) n w xs both))
+    (chunk-zip (w * v) (n - w * v) w one other)
+    (xor_vectors_more v n w start xs (zip2 bit_xor one other) long
+    (length-zip2 bit_xor one other (one_long ∙ sym other_long) ∙ one_long) fits done ahead)
+
+-- Two bytes added one after the other.
+pub xor_both : (n : ℕ) (one other : List ℕ) (i a b c : ℕ) → length one ≡ n → length other ≡ n → i < n
+    → b ≡ bit_xor a (get_or one i 0) → c ≡ bit_xor b (get_or other i 0) → c ≡ bit_xor a (get_or (zip2 bit_xor one other) i 0)
+xor_both n one other i a b c one_long other_long within first second =
+    second
+    ∙ ap (λ (k : ℕ). bit_xor k (get_or other i 0)) first
+    ∙ xor_assoc a (get_or one i 0) (get_or other i 0)
+    ∙ ap (λ (k : ℕ). bit_xor a k) (sym (get_or-zip2 bit_xor one other i 0 0 0 (omega arith) (omega arith)))
 
 -- Bytes that are the XOR of two lists' bytes at each place.
 pub xor_of_bytes : (n : ℕ) (xs ys zs : List ℕ) → length xs ≡ n → length ys ≡ n → length zs ≡ n →

@@ -23,6 +23,37 @@ pub fn xor_bytes(bytes: &mut [u8; PAYLOAD_LIMIT], other: &[u8; PAYLOAD_LIMIT])
     xor_rest(bytes, other);
 }
 
+/// XORs the bytes of two others into these. One pass for both is less work than two.
+pub fn xor_two(
+    bytes: &mut [u8; PAYLOAD_LIMIT],
+    one: &[u8; PAYLOAD_LIMIT],
+    other: &[u8; PAYLOAD_LIMIT],
+)
+    ensures { bytes.new ≡ zip2 bit_xor bytes.old (zip2 bit_xor one.now other.now) }
+{
+    xor_two_whole(bytes, one, other);
+    xor_rest(bytes, one);
+    xor_rest(bytes, other);
+}
+
+/// XORs the bytes of two others that lie in whole vectors into these.
+fn xor_two_whole(
+    bytes: &mut [u8; PAYLOAD_LIMIT],
+    one: &[u8; PAYLOAD_LIMIT],
+    other: &[u8; PAYLOAD_LIMIT],
+)
+    ensures below { (i : ℕ) → i < WHOLE → slice_index bytes.new i
+        ≡ bit_xor (slice_index bytes.old i) (slice_index (zip2 bit_xor one.now other.now) i) }
+    ensures rest { (i : ℕ) → WHOLE ≤ i → slice_index bytes.new i ≡ slice_index bytes.old i }
+{
+    for vector in 0..VECTORS {
+        let at = LANES * vector;
+        let both = u8x32::from_slice(&one[at..]) ^ u8x32::from_slice(&other[at..]);
+        let sum = u8x32::from_slice(&bytes[at..]) ^ both;
+        sum.copy_to_slice(&mut bytes[at..]);
+    }
+}
+
 /// XORs those of the other bytes that lie in whole vectors into these.
 fn xor_whole(bytes: &mut [u8; PAYLOAD_LIMIT], other: &[u8; PAYLOAD_LIMIT])
     ensures below { (i : ℕ) → i < WHOLE

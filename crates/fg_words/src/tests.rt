@@ -63,6 +63,16 @@ fn xor_agrees_with_a_plain_loop(rt: HostRuntime) {
 }
 
 #[test]
+fn two_words_at_once_are_one_after_the_other(rt: HostRuntime) {
+    let mut sum = media(7);
+    sum.xor_in_two(&media(3), &media(4));
+    let mut single = media(7);
+    single.xor_in(&media(3));
+    single.xor_in(&media(4));
+    assert!(rt; sum.same(&single));
+}
+
+#[test]
 fn zero_words_are_zero_in_every_byte(rt: HostRuntime) {
     assert!(rt; Word::zero().is_zero());
     for at in [0, 31, 32, 1311, 1312, 1315] {

@@ -1,5 +1,5 @@
 -- The pieces one after another are the spelling.
-use Rattle.std.proofs.Common.{length, sym, ap, ◌∙◌, ◌++◌, arith}
+use Rattle.std.proofs.Common.{ap, ◌∙◌, ◌++◌, arith}
 use Rattle.fg_cli.specs.Help.{range_text, spelling}
 use Rattle.fg_cli.specs.Reading.{range_seen}
 use Rattle.fg_cli.proofs.HelpLemmas.{spelled}

@@ -7,7 +7,7 @@ use Rattle.fg_desk.proofs.lines.Lines.count.Goals as goal
 
 pub returns-clause-count : goal.returns-clause-count
 returns-clause-count c =
-    let n = count_live c.self.inside.open c.self.inside.settled c.self.invariant.serials in
+    let n = count_live c.self.inside.open c.self.inside.settled c.self.invariant.sound.serials in
     let v = ap (λ (s : LinesState). len s.live) c.self.view_is in
     let a = c.len.ensures in
     let b = c.len-2.ensures in
@@ -16,4 +16,4 @@ returns-clause-count c =
 pub returns-clause-facts : goal.returns-clause-facts
 returns-clause-facts c =
     subst (λ (s : LinesState). AreLines s) c.self.view_is
-    (are_lines c.self.inside.open c.self.inside.settled c.self.inside.places.items c.self.invariant)
+    (are_lines c.self.inside.open c.self.inside.settled c.self.inside.places.items c.self.invariant.sound)

@@ -1,11 +1,13 @@
-use Rattle.std.proofs.Common.{◌≡◌, ◌<◌, ℕ, List, Bool, None, false, get_or, ap, sym, ◌∙◌, subst, arith}
+use Rattle.std.proofs.Common.{◌≡◌, ◌<◌, ℕ, List, Bool, None, false, get_or, ap, sym, ◌∙◌, subst, ⊎_elim, arith}
 use Rattle.std.specs.FinMap.{get, len, insert}
 use Rattle.fg_peel.specs.declared.Line.{Line}
+use Rattle.fg_peel.specs.Slots.{equation_of}
+use Rattle.fg_desk.specs.State.{last_slot}
 use Rattle.fg_desk.specs.Lines.{LinesState, AreLines, IsLeastFreePlace}
 use Rattle.fg_desk.specs.LinesInside.{state_of, IsTaken, IsWithin}
 use Rattle.fg_desk.proofs.LinesViews.{count_live}
-use Rattle.fg_desk.proofs.LinesCalls.{are_lines}
-use Rattle.fg_desk.proofs.LinesInserts.{first_free_within, least_free, insert_sound, insert_is}
+use Rattle.fg_desk.proofs.LinesCalls.{are_lines, last_is}
+use Rattle.fg_desk.proofs.LinesInserts.{first_free_within, least_free, insert_sound, insert_is, is_or_stood}
 use Rattle.fg_desk.proofs.lines.Lines.insert.Goals as goal
 use Rattle.fg_desk.proofs.lines.Lines.insert.Goals.{After-first_free-place, After-insert_reserved}
 
@@ -24,7 +26,7 @@ below c place less =
 
 within : (c : After-first_free-place) → c.first_free-place.result < 512
 within c =
-    first_free_within c.self.inside.open c.self.inside.settled c.self.inside.places.items c.self.invariant
+    first_free_within c.self.inside.open c.self.inside.settled c.self.inside.places.items c.self.invariant.sound
     c.first_free-place.result (fewer c) (below c)
 
 fresh : (c : After-first_free-place) → get (state_of c.self.inside.open c.self.inside.settled).live c.args.serial ≡ None
@@ -45,27 +47,42 @@ is_within c = record { shape = c.requires.shape; base = c.requires.base; place =
 pub index_mut-requires : goal.index_mut-requires
 index_mut-requires c =
     let w = within (goal.at.index_mut-requires c).After-first_free-place in
-    omega (arith, w, c.self.invariant.count)
+    omega (arith, w, c.self.invariant.sound.count)
 
 pub insert_reserved-requires : goal.insert_reserved-requires
 insert_reserved-requires c =
     let d = (goal.at.insert_reserved-requires c).After-first_free-place in
-    let n = count_live c.self.inside.open c.self.inside.settled c.self.invariant.serials in
+    let n = count_live c.self.inside.open c.self.inside.settled c.self.invariant.sound.serials in
     let f = fewer d in
-    omega (arith, n, f, c.self.invariant.open_room)
+    omega (arith, n, f, c.self.invariant.sound.open_room)
 
 pub invariant_of-self : goal.invariant_of-self
 invariant_of-self c =
     let d = (goal.at.invariant_of-self c).After-first_free-place in
     let e = c.insert_reserved.ensures in
-    insert_sound c.self.inside.open c.self.inside.settled c.self.inside.places.items c.self.invariant
-    c.insert_reserved.new.self c.insert_reserved.result (line_of d) e.was_vacant e.updates e.len e.capacity (is_within d) (fresh d)
-    (free d) (fewer d)
+    let end = last_is (equation_of (line_of d)) c.last-end.result c.requires.shape c.last-end.ensures.slot c.last-end.ensures.greatest in
+    let least = c.min-self-inside.ensures in
+    let most = c.max-self-inside.ensures in
+    record {
+      sound = insert_sound c.self.inside.open c.self.inside.settled c.self.inside.places.items c.self.invariant.sound
+          c.insert_reserved.new.self c.insert_reserved.result (line_of d) e.was_vacant e.updates e.len e.capacity (is_within d) (fresh d)
+          (free d) (fewer d);
+      between = λ line stands. ⊎_elim
+          (λ new.
+          let same = ap (λ (l : Line). last_slot (equation_of l)) new in
+          (omega (arith, same, end, least), omega (arith, same, end, most)))
+          (λ old.
+          let was = c.self.invariant.between line old in
+          (omega (arith, was.0, least), omega (arith, was.1, most)))
+          (is_or_stood c.self.inside.open c.self.inside.settled c.self.inside.places.items c.self.invariant.sound
+          c.insert_reserved.new.self c.insert_reserved.result (line_of d) e.was_vacant e.updates e.len e.capacity (is_within d) (fresh d)
+          (free d) (fewer d) line stands);
+    }
 
 pub returns-clause-facts : goal.returns-clause-facts
 returns-clause-facts c =
     subst (λ (s : LinesState). AreLines s) c.self.view_is
-    (are_lines c.self.inside.open c.self.inside.settled c.self.inside.places.items c.self.invariant)
+    (are_lines c.self.inside.open c.self.inside.settled c.self.inside.places.items c.self.invariant.sound)
 
 pub returns-clause-added : goal.returns-clause-added
 returns-clause-added c =
@@ -73,10 +90,10 @@ returns-clause-added c =
     let e = c.insert_reserved.ensures in
     let old = state_of c.self.inside.open c.self.inside.settled in
     let least : IsLeastFreePlace old c.first_free-place.result =
-    least_free c.self.inside.open c.self.inside.settled c.self.inside.places.items c.self.invariant c.first_free-place.result
+    least_free c.self.inside.open c.self.inside.settled c.self.inside.places.items c.self.invariant.sound c.first_free-place.result
     (free d) (below d) in
     let is =
-    insert_is c.self.inside.open c.self.inside.settled c.self.inside.places.items c.self.invariant
+    insert_is c.self.inside.open c.self.inside.settled c.self.inside.places.items c.self.invariant.sound
     c.insert_reserved.new.self c.insert_reserved.result (line_of d) e.was_vacant e.updates e.len e.capacity (is_within d) (fresh d)
     (free d) (fewer d) in (
       c.first_free-place.result,

@@ -12,7 +12,7 @@ returns c =
     let first = c.self.inside.open in
     let second = c.self.inside.settled in
     let places = c.self.inside.places.items in
-    let sound = c.self.invariant in
+    let sound = c.self.invariant.sound in
     let P : LinesState → Type 0 = λ s. IsTrue c.is_empty.result
     ↔ ((serial : ℕ) → IsSome (get s.live serial) → IsTrue (set.contains s.settled serial)) in
     subst P c.self.view_is (

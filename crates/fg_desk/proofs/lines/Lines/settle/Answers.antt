@@ -2,16 +2,21 @@ use Rattle.std.proofs.Common.{subst}
 use Rattle.fg_desk.specs.Row.{row_words}
 use Rattle.fg_desk.specs.Lines.{LinesState, Settles}
 use Rattle.fg_desk.specs.LinesInside.{state_of}
-use Rattle.fg_desk.proofs.LinesCalls.{settles_sound, settles}
+use Rattle.fg_desk.proofs.LinesCalls.{settles_sound, settles, to}
 use Rattle.fg_desk.proofs.lines.Lines.settle.Goals as goal
 
 pub invariant_of-self : goal.invariant_of-self
 invariant_of-self c =
-    settles_sound c.self.inside.open c.self.inside.settled c.self.inside.places.items c.self.invariant (row_words c.args.row.now)
-    c.move_lines.new.source c.move_lines.new.target c.move_lines.ensures
+    record {
+      sound = settles_sound c.self.inside.open c.self.inside.settled c.self.inside.places.items c.self.invariant.sound (row_words c.args.row.now)
+          c.move_lines.new.source c.move_lines.new.target c.move_lines.ensures;
+      between = λ line stands. c.self.invariant.between line
+          (to c.self.inside.open c.self.inside.settled c.self.inside.places.items c.self.invariant.sound (row_words c.args.row.now)
+          c.move_lines.new.source c.move_lines.new.target c.move_lines.ensures line stands);
+    }
 
 pub returns : goal.returns
 returns c =
     let words = row_words c.args.row.now in
     subst (λ (s : LinesState). Settles words s (state_of c.move_lines.new.source c.move_lines.new.target)) c.self.view_is
-    (settles c.self.inside.open c.self.inside.settled c.self.inside.places.items c.self.invariant words c.move_lines.new.source c.move_lines.new.target c.move_lines.ensures)
+    (settles c.self.inside.open c.self.inside.settled c.self.inside.places.items c.self.invariant.sound words c.move_lines.new.source c.move_lines.new.target c.move_lines.ensures)

@@ -1,19 +1,56 @@
-use Rattle.std.proofs.Common.{◌≡◌, List, length, subst, ap, ◌∙◌, vec_len, arith}
+use Rattle.std.proofs.Common.{◌≡◌, List, length, subst, sym, ap, ◌∙◌, vec_len, arith}
 use Rattle.std.proofs.lemmas.List.{with_items_is}
 use Rattle.std.specs.FinMap.{empty}
 use Rattle.fg_peel.specs.declared.Slot.{Slot}
 use Rattle.fg_desk.specs.Row.{RowState}
-use Rattle.fg_desk.specs.RowEntries.{row_of, ForgetsFound}
-use Rattle.fg_desk.proofs.RowChanges.{forgotten_row}
+use Rattle.fg_desk.specs.RowEntries.{row_of, live_entries, StaysPast, AreStored, ForgetsFound}
+use Rattle.fg_desk.proofs.RowChanges.{forgotten_are, forgotten_row}
+use Rattle.fg_desk.proofs.RowStored.{live_long, stored_kept}
 use Rattle.fg_desk.proofs.row.Row.forget_cached.Goals as goal
+use Rattle.fg_desk.proofs.row.Row.forget_cached.Goals.{After-forget_live}
+
+module _ (c : After-forget_live) where
+  size : length c.forget_live.new.slots ≡ length c.self.inside.slots.items
+  size = omega (arith, ap (λ (s : List Slot). length s) c.deref_mut.ensures.value)
+
+  full : length c.forget_live.new.slots ≡ vec_len c.self.inside.slots
+  full = omega (arith, size)
+
+  stays : StaysPast c.self.inside.front c.self.inside.slots.items c.forget_live.new.slots
+  stays = subst (λ (s : List Slot). StaysPast c.self.inside.front s c.forget_live.new.slots) c.deref_mut.ensures.value c.forget_live.ensures.past
+
+  forgets : ForgetsFound (live_entries c.self.inside.front c.self.inside.slots.items) (live_entries c.self.inside.front c.forget_live.new.slots)
+  forgets =
+      subst (λ (s : List Slot). ForgetsFound (live_entries c.self.inside.front s) (live_entries c.self.inside.front c.forget_live.new.slots))
+      c.deref_mut.ensures.value c.forget_live.ensures.forgets
+
+  same_long : length (live_entries c.self.inside.front c.forget_live.new.slots) ≡ length (live_entries c.self.inside.front c.self.inside.slots.items)
+  same_long =
+      let low = c.self.invariant.near in
+      let some = c.self.invariant.some in
+      omega (
+        arith,
+        live_long c.self.inside.front c.self.inside.slots.items low some,
+        live_long c.self.inside.front c.forget_live.new.slots low (omega (arith, size, some)),
+        size,
+      )
+
+pub invariant_of-self : goal.invariant_of-self
+invariant_of-self c =
+    let d = (goal.at.invariant_of-self c).After-forget_live in
+    let old = c.self.inside.slots.items in
+    let new = c.forget_live.new.slots in
+    let front = c.self.inside.front in
+    subst (λ (s : List Slot). AreStored c.self.inside.mark front s) (sym (with_items_is c.self.inside.slots new (full d)))
+    (stored_kept c.self.inside.mark front old new c.self.invariant (size d) (stays d)
+    (forgotten_are c.self.inside.mark (live_entries front old) (live_entries front new) c.self.invariant.entries (same_long d) (forgets d)))
 
 pub returns : goal.returns
 returns c =
-    let items = c.self.inside.slots.items in
-    let new = c.forget_filled.new.slots in
-    let size : length new ≡ length items = omega (arith, ap (λ (s : List Slot). length s) c.deref_mut.ensures.value) in
-    let full : length new ≡ vec_len c.self.inside.slots = omega arith in
-    let forgets : ForgetsFound items new = subst (λ (s : List Slot). ForgetsFound s new) c.deref_mut.ensures.value c.forget_filled.ensures in
-    ap (row_of c.self.inside.mark) (with_items_is c.self.inside.slots new full)
-    ∙ forgotten_row c.self.inside.mark items new c.self.invariant size forgets
+    let d = (goal.at.returns c).After-forget_live in
+    let old = c.self.inside.slots.items in
+    let new = c.forget_live.new.slots in
+    let front = c.self.inside.front in
+    ap (λ (s : List Slot). row_of c.self.inside.mark (live_entries front s)) (with_items_is c.self.inside.slots new (full d))
+    ∙ forgotten_row c.self.inside.mark (live_entries front old) (live_entries front new) c.self.invariant.entries (same_long d) (forgets d)
     ∙ ap (λ (r : RowState). record r { cached = empty }) c.self.view_is

@@ -1,7 +1,7 @@
 use Rattle.std.proofs.Common.{◌+◌, ◌-◌, ◌≤◌, List, subst, ap, sym, ◌∙◌, arith}
 use Rattle.fg_peel.specs.declared.Slot.{Slot}
 use Rattle.fg_desk.specs.Row.{RowState, row_words, IsHighestWord}
-use Rattle.fg_desk.specs.RowEntries.{IsLastWord, HasNoWordFrom}
+use Rattle.fg_desk.specs.RowEntries.{IsLastWord, HasNoWordFrom, live_entries}
 use Rattle.fg_desk.proofs.RowChanges.{highest_row, no_highest_row}
 use Rattle.fg_desk.proofs.row.Row.highest.Goals as goal
 
@@ -10,8 +10,8 @@ returns-in-Some-clause-some c =
     let last = c.in-Some.last in
     let mark = c.self.inside.mark in
     subst (λ (r : RowState). IsHighestWord r (mark + (last - 100))) c.self.view_is
-    (highest_row mark c.self.inside.slots.items last c.self.invariant
-    (subst (λ (s : List Slot). IsLastWord s last) c.deref.ensures.value c.in-Some.ensures.some))
+    (highest_row mark (live_entries c.self.inside.front c.self.inside.slots.items) last c.self.invariant.entries
+    (subst (λ (s : List Slot). IsLastWord s last) (c.live.ensures ∙ ap (λ (s : List Slot). live_entries c.self.inside.front s) c.deref.ensures.value) c.in-Some.ensures.some))
 
 pub returns-in-None-clause-none : goal.returns-in-None-clause-none
 returns-in-None-clause-none c =
@@ -19,5 +19,5 @@ returns-in-None-clause-none c =
     let mark = c.self.inside.mark in
     let ahead : mark ≤ p = omega (arith, from, ap (λ (r : RowState). r.mark) c.self.view_is) in
     ap (λ (r : RowState). row_words r p) (sym c.self.view_is)
-    ∙ no_highest_row mark c.self.inside.slots.items c.self.invariant
-    (subst (λ (s : List Slot). HasNoWordFrom s 100) c.deref.ensures.value c.in-None.ensures.none) p ahead
+    ∙ no_highest_row mark (live_entries c.self.inside.front c.self.inside.slots.items) c.self.invariant.entries
+    (subst (λ (s : List Slot). HasNoWordFrom s 100) (c.live.ensures ∙ ap (λ (s : List Slot). live_entries c.self.inside.front s) c.deref.ensures.value) c.in-None.ensures.none) p ahead

@@ -1,7 +1,7 @@
-use Rattle.std.proofs.Common.{List, subst}
+use Rattle.std.proofs.Common.{List, subst, ap, ◌∙◌}
 use Rattle.fg_peel.specs.declared.Slot.{Slot}
 use Rattle.fg_desk.specs.Row.{RowState, Shows}
-use Rattle.fg_desk.specs.RowEntries.{ShowsEntries}
+use Rattle.fg_desk.specs.RowEntries.{ShowsEntries, live_entries}
 use Rattle.fg_desk.proofs.RowChanges.{shown_row}
 use Rattle.fg_desk.proofs.row.Row.show.Goals as goal
 
@@ -10,5 +10,5 @@ returns-clause-shows c =
     let count = c.args.count in
     let shown = c.show_entries.new.tray.shown in
     subst (λ (r : RowState). Shows r count shown) c.self.view_is
-    (shown_row c.self.inside.mark c.self.inside.slots.items count shown c.self.invariant
-    (subst (λ (s : List Slot). ShowsEntries s count shown) c.deref.ensures.value c.show_entries.ensures.shows))
+    (shown_row c.self.inside.mark (live_entries c.self.inside.front c.self.inside.slots.items) count shown c.self.invariant.entries
+    (subst (λ (s : List Slot). ShowsEntries s count shown) (c.live.ensures ∙ ap (λ (s : List Slot). live_entries c.self.inside.front s) c.deref.ensures.value) c.show_entries.ensures.shows))

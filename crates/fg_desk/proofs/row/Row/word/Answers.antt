@@ -1,11 +1,12 @@
 use Rattle.std.proofs.Common.{subst, ap, ◌∙◌, ◌≤◌, arith}
 use Rattle.fg_desk.specs.Row.{RowState, IsRow}
+use Rattle.fg_desk.specs.RowEntries.{live_entries}
 use Rattle.fg_desk.proofs.RowViews.{is_row, row_shared-ahead}
 use Rattle.fg_desk.proofs.row.Row.word.Goals as goal
 
 pub returns-in-None : goal.returns-in-None
 returns-in-None c =
     let row = c.args.self.now in
-    let is : IsRow row = subst (λ (r : RowState). IsRow r) c.self.view_is (is_row c.self.inside.mark c.self.inside.slots.items c.self.invariant) in
+    let is : IsRow row = subst (λ (r : RowState). IsRow r) c.self.view_is (is_row c.self.inside.mark (live_entries c.self.inside.front c.self.inside.slots.items) c.self.invariant.entries) in
     let from : row.mark ≤ c.args.position = omega (arith, ap (λ (r : RowState). r.mark) c.self.view_is) in
     c.in-None.ensures ∙ row_shared-ahead row is c.args.position from

@@ -1,53 +1,41 @@
-use Rattle.std.proofs.Common.{◌≡◌, ◌≤◌, ◌<◌, length, get_or, Option, Some, None, Bor, sym, ap, ◌∙◌, refl, arith}
+use Rattle.std.proofs.Common.{◌≡◌, ◌≤◌, ◌+◌, ◌*◌, ℕ, length, drop, sym, subst, arith}
 use Rattle.fg_peel.specs.Equation.{slots, sum_at}
 use Rattle.fg_peel.specs.Slots.{equation_of, words_from}
-use Rattle.fg_peel.proofs.Entries.{fits_base, fits_slot}
+use Rattle.fg_peel.specs.Recovery.{with_added}
 use Rattle.std.specs.Option.{option_copied}
 use Rattle.fg_shape.proofs.ShapeLemmas.{length-slots_of}
 use Rattle.fg_words.specs.declared.Word.{Word}
 use Rattle.fg_words.specs.Word.{word_xor}
-use Rattle.fg_peel.proofs.Adding.{short_xor, adding_more, adding_none, adding_done}
+use Rattle.fg_peel.proofs.Adding.{IsShort, short_added, adding_one, adding_done}
 use Rattle.fg_peel.proofs.row.Row.add_words.Goals as goal
-use Rattle.fg_peel.proofs.row.Row.add_words.Goals.{in-Some, in_default}
 
-no_copy : (r : Option (Bor Word)) → ((w : Bor Word) → r ≡ Some w → ⊥) → option_copied r ≡ None
-no_copy None not_some = refl
-no_copy (Some w) not_some = absurd (not_some w refl)
-
-pub slot-position-requires-clause-base : goal.slot-position-requires-clause-base
-slot-position-requires-clause-base c = fits_base c.args.self.now.start (length c.args.self.now.slots.now) c.args.line.now c.requires.line c.args.self.now.limit
-
-pub word-requires-clause-first : goal.word-requires-clause-first
-word-requires-clause-first c =
-    omega (arith, c.slot-position.ensures, fits_slot c.args.self.now.start (length c.args.self.now.slots.now) c.args.line.now c.loop-j.j c.requires.line c.loop-j-test.true)
-
-pub word-requires-clause-last : goal.word-requires-clause-last
-word-requires-clause-last c =
-    omega (arith, c.slot-position.ensures, fits_slot c.args.self.now.start (length c.args.self.now.slots.now) c.args.line.now c.loop-j.j c.requires.line c.loop-j-test.true)
-
-pub loop-j-preserved : goal.loop-j-preserved
-loop-j-preserved c =
+pub loop-pair-preserved : goal.loop-pair-preserved
+loop-pair-preserved c =
     let xs = slots (equation_of c.args.line.now) in
     let words = words_from c.args.self.now.start c.args.self.now.slots.now in
     let total = word_xor c.args.sum.now (sum_at words xs) in
-    let within : c.loop-j.j < length xs = omega (arith, length-slots_of c.args.line.now.base c.args.line.now.shape.offset c.args.line.now.shape.na) in
-    elim c.match-word.branch [
-      | in-Some w ↦
-          let known : words (get_or xs c.loop-j.j 0) ≡ Some w.in-Some.word.now =
-          ap words (sym c.slot-position.ensures) ∙ sym c.word.ensures ∙ ap option_copied w.in-Some.is in
-          rw (w.sum-is, w.xor_in.ensures) (
-            adding_more words xs c.loop-j.j c.loop-j.sum total w.in-Some.word.now within known c.loop-j.invariant.0,
-            short_xor c.loop-j.sum w.in-Some.word.now c.loop-j.invariant.1,
-          )
-      | in_default w ↦
-          let none : words (get_or xs c.loop-j.j 0) ≡ None =
-          ap words (sym c.slot-position.ensures) ∙ sym c.word.ensures ∙ no_copy c.word.result w.in_default.not-Some in
-          rw w.sum-is (adding_none words xs c.loop-j.j c.loop-j.sum total within none c.loop-j.invariant.0, c.loop-j.invariant.1)
-    ]
+    let count = length-slots_of c.args.line.now.base c.args.line.now.shape.offset c.args.line.now.shape.na in
+    let sum = c.loop-pair.sum in
+    let one = option_copied c.word_at-one.result in
+    let other = option_copied c.word_at-other.result in
+    let first : word_xor (with_added sum one) (sum_at words (drop (2 * c.loop-pair.pair + 1) xs)) ≡ total =
+    adding_one words xs (2 * c.loop-pair.pair) sum total one
+    (λ less. c.word_at-one.ensures.within (omega (arith, less, count)))
+    (λ more. c.word_at-one.ensures.past (omega (arith, more, count))) c.loop-pair.invariant.0 in
+    let second : word_xor (with_added (with_added sum one) other) (sum_at words (drop (2 * c.loop-pair.pair + 1 + 1) xs)) ≡ total =
+    adding_one words xs (2 * c.loop-pair.pair + 1) (with_added sum one) total other
+    (λ less. c.word_at-other.ensures.within (omega (arith, less, count)))
+    (λ more. c.word_at-other.ensures.past (omega (arith, more, count))) first in
+    let next : 2 * c.loop-pair.pair + 1 + 1 ≡ 2 * (c.loop-pair.pair + 1) = omega arith in
+    subst (λ (w : Word). (word_xor w (sum_at words (drop (2 * (c.loop-pair.pair + 1)) xs)) ≡ total) × IsShort w) (sym c.add_two.ensures) (
+      subst (λ (j : ℕ). word_xor (with_added (with_added sum one) other) (sum_at words (drop j xs)) ≡ total) next second,
+      short_added (with_added sum one) other (short_added sum one c.loop-pair.invariant.1),
+    )
 
 pub returns : goal.returns
 returns c =
     let xs = slots (equation_of c.args.line.now) in
     let words = words_from c.args.self.now.start c.args.self.now.slots.now in
-    let past : length xs ≤ c.loop-j.j = omega (arith, length-slots_of c.args.line.now.base c.args.line.now.shape.offset c.args.line.now.shape.na) in
-    adding_done words xs c.loop-j.j c.loop-j.sum (word_xor c.args.sum.now (sum_at words xs)) past c.loop-j.invariant.1 c.loop-j.invariant.0
+    let count = length-slots_of c.args.line.now.base c.args.line.now.shape.offset c.args.line.now.shape.na in
+    let past : length xs ≤ 2 * c.loop-pair.pair = omega (arith, count, c.div_ceil-pair-end.ensures, c.loop-pair-test.false) in
+    adding_done words xs (2 * c.loop-pair.pair) c.loop-pair.sum (word_xor c.args.sum.now (sum_at words xs)) past c.loop-pair.invariant.1 c.loop-pair.invariant.0

@@ -1,4 +1,4 @@
-use Rattle.std.proofs.Common.{◌≡◌, drop}
+use Rattle.std.proofs.Common.{◌≡◌, ◌*◌, drop}
 use Rattle.fg_shape.specs.Shape.{slots_of}
 use Rattle.fg_words.specs.Word.{word_xor}
 use Rattle.fg_peel.specs.Slots.{words_from}
@@ -7,8 +7,8 @@ use Rattle.fg_peel.proofs.Adding.{IsShort}
 use Rattle.fg_peel.proofs.row.Row.add_words.Given as goal
 
 -- the sum so far and the words at the slots that are left make the sum of all
-abbrev pub invariant-loop-j : goal.invariant-loop-j
-invariant-loop-j l =
+abbrev pub invariant-loop-pair : goal.invariant-loop-pair
+invariant-loop-pair l =
     let words = words_from l.self.start l.self.slots.now in
     let xs = slots_of l.line.base l.line.shape.offset l.line.shape.na in
-    (word_xor l.sum (sum_at words (drop l.j xs)) ≡ word_xor l.fn.sum (sum_at words xs)) × IsShort l.sum
+    (word_xor l.sum (sum_at words (drop (2 * l.pair) xs)) ≡ word_xor l.fn.sum (sum_at words xs)) × IsShort l.sum

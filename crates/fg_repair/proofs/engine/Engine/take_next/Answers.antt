@@ -1,4 +1,4 @@
-use Rattle.std.proofs.Common.{◌≡◌, ◌∙◌, Ok, Err, Some, None, sym, ap, subst, refl, [], List, ℕ, Option}
+use Rattle.std.proofs.Common.{◌∙◌, Ok, Err, ap, subst, refl, List, ℕ, Option}
 use Rattle.fg_report.specs.declared.tail.Tail.TheVariants as tail
 use Rattle.fg_trace.specs.Reader.{Answer, Walks}
 use Rattle.fg_trace.specs.Trace.{Ended, Cut, TooLong}
