@@ -57,17 +57,17 @@ pub fn answer<S: Source, K: Sink, O: Outlet>(
     ensures lanes_faults { O.faults lanes.old ≤ O.faults lanes.new }
 {
     match request {
-        Request::Asked(question) => tell_question(alloc, question, out),
-        Request::Ordered(Order::Repair(plan)) => repair_alone(
-            alloc, &plan, input, out, lanes,
-        ).into(),
+        Request::Asked(question) => answer_question(alloc, question, out),
+        Request::Ordered(Order::Repair(plan)) => {
+            repair_alone(alloc, &plan, input, out, lanes).into()
+        }
         Request::Ordered(_) => Why::NotBuilt(0),
         Request::Refused(fault) => Why::Words(fault),
     }
 }
 
 /// Writes the answer to a question, and tells why that ended.
-fn tell_question<K: Sink>(alloc: Global, question: Question, out: &mut K) -> Why
+fn answer_question<K: Sink>(alloc: Global, question: Question, out: &mut K) -> Why
     ensures whole { IsFault result ⊎ ((result ≡ Why.Done)
         × Gains (K.written out.old) (answer_text question) (K.written out.new)) }
     ensures part { IsFault result → GainsPart (K.written out.old) (answer_text question) (K.written out.new) }
