@@ -5,4 +5,5 @@ mod plain;
 mod plays;
 mod random;
 mod replies;
+mod runs;
 mod script;

@@ -102,6 +102,13 @@ module _ (words : ℕ → Option Word) (xs : List ℕ) (j : ℕ) (acc total : Wo
           ∙ ap (λ (l : List ℕ). word_xor acc (sum_at words l)) (drop_all (j + 1) xs (omega (arith, more)) ∙ sym (drop_all j xs more))
           ∙ so_far
 
+  pub adding_next :
+      (next : ℕ) → next ≡ j + 1 → (added : Option Word) → (j < length xs → added ≡ words (get_or xs j 0))
+      → (length xs ≤ j → added ≡ None) → word_xor acc (sum_at words (drop j xs)) ≡ total
+      → word_xor (with_added acc added) (sum_at words (drop next xs)) ≡ total
+  adding_next next is added within past so_far =
+      ap (λ (k : ℕ). word_xor (with_added acc added) (sum_at words (drop k xs))) is ∙ adding_one added within past so_far
+
 pub short_added : (a : Word) (added : Option Word) → IsShort a → IsShort (with_added a added)
 short_added a None short = short
 short_added a (Some b) short = short_xor a b short
@@ -111,3 +118,12 @@ pub added_both : (sum : Word) (one other : Option Word) (a b : Word) → one ≡
     → word_xor sum (word_xor a b) ≡ with_added (with_added sum one) other
 added_both sum one other a b is is' =
     sym (word_xor_assoc sum a b) ∙ (λ i. with_added (with_added sum (sym is i)) (sym is' i))
+
+pub added_all : (sum : Word) (first second third fourth : Option Word) (a b c d : Word)
+    → first ≡ Some a → second ≡ Some b → third ≡ Some c → fourth ≡ Some d
+    → word_xor sum (word_xor (word_xor a b) (word_xor c d))
+    ≡ with_added (with_added (with_added (with_added sum first) second) third) fourth
+added_all sum first second third fourth a b c d is is' is'' is''' =
+    sym (word_xor_assoc sum (word_xor a b) (word_xor c d))
+    ∙ ap (λ (w : Word). word_xor w (word_xor c d)) (added_both sum first second a b is is')
+    ∙ added_both (with_added (with_added sum first) second) third fourth c d is'' is'''

@@ -97,16 +97,19 @@ impl<'a> Row<'a> {
         sum.is_zero()
     }
 
-    /// Adds the words at a line's slots to a word, two at a time.
+    /// Adds the words at a line's slots to a word, four at a time.
     fn add_words(&self, sum: &mut Word, line: &Line)
         requires line { HasSlots self.now line.now }
         requires room { HasRoom sum.old }
         ensures { AddsWords (words_in self.now) (equation_of line.now) sum.old sum.new }
     {
-        for pair in 0..line.shape.na.div_ceil(2) {
-            let one = self.word_at(line, 2 * pair);
-            let other = self.word_at(line, 2 * pair + 1);
-            add_two(sum, one, other);
+        for group in 0..line.shape.na.div_ceil(4) {
+            let at = 4 * group;
+            let first = self.word_at(line, at);
+            let second = self.word_at(line, at + 1);
+            let third = self.word_at(line, at + 2);
+            let fourth = self.word_at(line, at + 3);
+            add_four(sum, first, second, third, fourth);
         }
     }
 
@@ -121,6 +124,29 @@ impl<'a> Row<'a> {
             self.word(slot(line.base, line.shape, j))
         } else {
             None
+        }
+    }
+}
+
+/// Adds four words to a sum. One that is missing adds nothing.
+fn add_four(
+    sum: &mut Word,
+    first: Option<&Word>,
+    second: Option<&Word>,
+    third: Option<&Word>,
+    fourth: Option<&Word>,
+)
+    ensures { sum.new ≡ with_added (with_added (with_added (with_added sum.old
+        (option_copied first.entry)) (option_copied second.entry)) (option_copied third.entry))
+        (option_copied fourth.entry) }
+{
+    match (first, second, third, fourth) {
+        (Some(first), Some(second), Some(third), Some(fourth)) => {
+            sum.xor_in_four(first, second, third, fourth);
+        }
+        _ => {
+            add_two(sum, first, second);
+            add_two(sum, third, fourth);
         }
     }
 }

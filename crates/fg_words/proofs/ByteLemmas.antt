@@ -158,6 +158,36 @@ xor_pairs_more v n w start xs one other long one_long other_long fits done ahead
     (xor_vectors_more v n w start xs (zip2 bit_xor one other) long
     (length-zip2 bit_xor one other (one_long ∙ sym other_long) ∙ one_long) fits done ahead)
 
+-- The same of four lists.
+abbrev pub all_of : List ℕ → List ℕ → List ℕ → List ℕ → List ℕ
+all_of first second third fourth = zip2 bit_xor (zip2 bit_xor first second) (zip2 bit_xor third fourth)
+
+pub all_long : (n : ℕ) (first second third fourth : List ℕ) → length first ≡ n → length second ≡ n → length third ≡ n → length fourth ≡ n
+    → length (all_of first second third fourth) ≡ n
+all_long n first second third fourth a b c d =
+    let one = length-zip2 bit_xor first second (a ∙ sym b) ∙ a in
+    let other = length-zip2 bit_xor third fourth (c ∙ sym d) ∙ c in
+    length-zip2 bit_xor (zip2 bit_xor first second) (zip2 bit_xor third fourth) (one ∙ sym other) ∙ one
+
+chunk-all : (a n w : ℕ) (first second third fourth : List ℕ)
+    → chunk 0 w (mid_of a n (all_of first second third fourth))
+    ≡ all_of (chunk 0 w (mid_of a n first)) (chunk 0 w (mid_of a n second)) (chunk 0 w (mid_of a n third)) (chunk 0 w (mid_of a n fourth))
+chunk-all a n w first second third fourth =
+    chunk-zip a n w (zip2 bit_xor first second) (zip2 bit_xor third fourth)
+    ∙ (λ i. zip2 bit_xor (chunk-zip a n w first second i) (chunk-zip a n w third fourth i))
+
+pub xor_fours_more : (v n w : ℕ) (start xs first second third fourth : List ℕ) → length xs ≡ n
+    → length first ≡ n → length second ≡ n → length third ≡ n → length fourth ≡ n → w * (v + 1) ≤ n →
+    ((i : ℕ) → i < w * v → get_or xs i 0 ≡ bit_xor (get_or start i 0) (get_or (all_of first second third fourth) i 0)) →
+    ((i : ℕ) → w * v ≤ i → get_or xs i 0 ≡ get_or start i 0) →
+    Steps v n w start (all_of first second third fourth)
+    (stored (w * v) n w xs (all_of (chunk 0 w (mid_of (w * v) (n - w * v) first)) (chunk 0 w (mid_of (w * v) (n - w * v) second))
+    (chunk 0 w (mid_of (w * v) (n - w * v) third)) (chunk 0 w (mid_of (w * v) (n - w * v) fourth))))
+xor_fours_more v n w start xs first second third fourth long a b c d fits done ahead =
+    subst (λ (all : List ℕ). Steps v n w start (all_of first second third fourth) (stored (w * v) n w xs all))
+    (chunk-all (w * v) (n - w * v) w first second third fourth)
+    (xor_vectors_more v n w start xs (all_of first second third fourth) long (all_long n first second third fourth a b c d) fits done ahead)
+
 -- Two bytes added one after the other.
 pub xor_both : (n : ℕ) (one other : List ℕ) (i a b c : ℕ) → length one ≡ n → length other ≡ n → i < n
     → b ≡ bit_xor a (get_or one i 0) → c ≡ bit_xor b (get_or other i 0) → c ≡ bit_xor a (get_or (zip2 bit_xor one other) i 0)
@@ -166,6 +196,18 @@ xor_both n one other i a b c one_long other_long within first second =
     ∙ ap (λ (k : ℕ). bit_xor k (get_or other i 0)) first
     ∙ xor_assoc a (get_or one i 0) (get_or other i 0)
     ∙ ap (λ (k : ℕ). bit_xor a k) (sym (get_or-zip2 bit_xor one other i 0 0 0 (omega arith) (omega arith)))
+
+-- And four.
+pub xor_all : (n : ℕ) (first second third fourth : List ℕ) (i x y z v w : ℕ) → length first ≡ n → length second ≡ n
+    → length third ≡ n → length fourth ≡ n → i < n
+    → y ≡ bit_xor x (get_or first i 0) → z ≡ bit_xor y (get_or second i 0)
+    → v ≡ bit_xor z (get_or third i 0) → w ≡ bit_xor v (get_or fourth i 0)
+    → w ≡ bit_xor x (get_or (all_of first second third fourth) i 0)
+xor_all n first second third fourth i x y z v w a b c d within one two three four =
+    xor_both n (zip2 bit_xor first second) (zip2 bit_xor third fourth) i x z w
+    (length-zip2 bit_xor first second (a ∙ sym b) ∙ a) (length-zip2 bit_xor third fourth (c ∙ sym d) ∙ c) within
+    (xor_both n first second i x y z a b within one two)
+    (xor_both n third fourth i z v w c d within three four)
 
 -- Bytes that are the XOR of two lists' bytes at each place.
 pub xor_of_bytes : (n : ℕ) (xs ys zs : List ℕ) → length xs ≡ n → length ys ≡ n → length zs ≡ n →

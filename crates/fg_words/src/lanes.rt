@@ -23,6 +23,47 @@ pub fn xor_bytes(bytes: &mut [u8; PAYLOAD_LIMIT], other: &[u8; PAYLOAD_LIMIT])
     xor_rest(bytes, other);
 }
 
+/// XORs the bytes of four others into these. One pass for all is less work than four.
+pub fn xor_four(
+    bytes: &mut [u8; PAYLOAD_LIMIT],
+    first: &[u8; PAYLOAD_LIMIT],
+    second: &[u8; PAYLOAD_LIMIT],
+    third: &[u8; PAYLOAD_LIMIT],
+    fourth: &[u8; PAYLOAD_LIMIT],
+)
+    ensures { bytes.new ≡ zip2 bit_xor bytes.old
+        (zip2 bit_xor (zip2 bit_xor first.now second.now) (zip2 bit_xor third.now fourth.now)) }
+{
+    xor_four_whole(bytes, first, second, third, fourth);
+    xor_rest(bytes, first);
+    xor_rest(bytes, second);
+    xor_rest(bytes, third);
+    xor_rest(bytes, fourth);
+}
+
+/// XORs the bytes of four others that lie in whole vectors into these.
+fn xor_four_whole(
+    bytes: &mut [u8; PAYLOAD_LIMIT],
+    first: &[u8; PAYLOAD_LIMIT],
+    second: &[u8; PAYLOAD_LIMIT],
+    third: &[u8; PAYLOAD_LIMIT],
+    fourth: &[u8; PAYLOAD_LIMIT],
+)
+    ensures below { (i : ℕ) → i < WHOLE → slice_index bytes.new i
+        ≡ bit_xor (slice_index bytes.old i) (slice_index
+        (zip2 bit_xor (zip2 bit_xor first.now second.now) (zip2 bit_xor third.now fourth.now)) i) }
+    ensures rest { (i : ℕ) → WHOLE ≤ i → slice_index bytes.new i ≡ slice_index bytes.old i }
+{
+    for vector in 0..VECTORS {
+        let at = LANES * vector;
+        let two = u8x32::from_slice(&first[at..]) ^ u8x32::from_slice(&second[at..]);
+        let others = u8x32::from_slice(&third[at..]) ^ u8x32::from_slice(&fourth[at..]);
+        let all = two ^ others;
+        let sum = u8x32::from_slice(&bytes[at..]) ^ all;
+        sum.copy_to_slice(&mut bytes[at..]);
+    }
+}
+
 /// XORs the bytes of two others into these. One pass for both is less work than two.
 pub fn xor_two(
     bytes: &mut [u8; PAYLOAD_LIMIT],

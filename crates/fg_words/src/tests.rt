@@ -63,12 +63,14 @@ fn xor_agrees_with_a_plain_loop(rt: HostRuntime) {
 }
 
 #[test]
-fn two_words_at_once_are_one_after_the_other(rt: HostRuntime) {
+fn several_words_at_once_are_one_after_another(rt: HostRuntime) {
     let mut sum = media(7);
     sum.xor_in_two(&media(3), &media(4));
+    sum.xor_in_four(&media(1), &media(2), &media(5), &media(6));
     let mut single = media(7);
-    single.xor_in(&media(3));
-    single.xor_in(&media(4));
+    for packets in 1..7u16 {
+        single.xor_in(&media(packets));
+    }
     assert!(rt; sum.same(&single));
 }
 

@@ -7,8 +7,8 @@ use Rattle.fg_peel.proofs.Adding.{IsShort}
 use Rattle.fg_peel.proofs.row.Row.add_words.Given as goal
 
 -- the sum so far and the words at the slots that are left make the sum of all
-abbrev pub invariant-loop-pair : goal.invariant-loop-pair
-invariant-loop-pair l =
+abbrev pub invariant-loop-group : goal.invariant-loop-group
+invariant-loop-group l =
     let words = words_from l.self.start l.self.slots.now in
     let xs = slots_of l.line.base l.line.shape.offset l.line.shape.na in
-    (word_xor l.sum (sum_at words (drop (2 * l.pair) xs)) ≡ word_xor l.fn.sum (sum_at words xs)) × IsShort l.sum
+    (word_xor l.sum (sum_at words (drop (4 * l.group) xs)) ≡ word_xor l.fn.sum (sum_at words xs)) × IsShort l.sum

@@ -1,0 +1,10 @@
+use Rattle.fg_words.proofs.ByteLemmas.{xor_fours_more}
+use Rattle.std.proofs.Common.{arith}
+use Rattle.fg_words.proofs.lanes.xor_four_whole.Goals as goal
+
+pub loop-vector-preserved : goal.loop-vector-preserved
+loop-vector-preserved c =
+    let more = xor_fours_more c.loop-vector.vector 1316 32 c.args.bytes.now c.loop-vector.bytes c.args.first.now c.args.second.now
+    c.args.third.now c.args.fourth.now c.loop-vector.invariant.long c.told-first c.told-second c.told-third c.told-fourth
+    (omega arith) c.loop-vector.invariant.done c.loop-vector.invariant.ahead in
+    record { long = more.2; done = more.0; ahead = more.1 }
