@@ -106,7 +106,8 @@ pub fn read(bytes: &[u8]) -> Result<Parity, FecFault>
 pub fn write(seq: u16, ts: u32, parity: &Parity, size: u16, into: &mut [u8; PARITY_LIMIT]) -> usize
     requires { CanBeWritten parity.now size }
     ensures size { result ≡ HEADERS_LENGTH + size }
-    ensures written { into.new ≡ parity_bytes seq ts parity.now size ++ drop result into.old }
+    ensures written { take result into.new ≡ parity_bytes seq ts parity.now size }
+    ensures behind { drop result into.new ≡ drop result into.old }
     ensures datagram { IsParityDatagram (take result into.new) parity.now }
 {
     let end = HEADERS_LENGTH + usize::from(size);
