@@ -89,26 +89,15 @@ impl Encoder {
         ensures settings { self.new.settings ≡ self.old.settings }
         ensures taken { self.new.taken ≡ self.old.taken + 1 }
     {
-        let at = next_moment(&self.settings, self.taken);
+        let settings = self.settings;
+        let at = next_moment(&settings, self.taken);
         fill(&mut self.word, at.ts, payload);
-        let seq = sequence_at(&self.settings, at.slot);
-        into.put_media(
-            at.time,
-            self.settings.port,
-            seq,
-            self.settings.ssrc,
-            &self.word,
-        );
-        add_to_column(&mut self.columns, &self.settings, at.slot, &self.word);
-        add_to_row(&mut self.row, &self.settings, at.slot, &self.word);
-        send_column(
-            &self.columns,
-            &self.settings,
-            at,
-            &mut self.columns_sent,
-            into,
-        );
-        send_row(&self.row, &self.settings, at, &mut self.rows_sent, into);
+        let seq = sequence_at(&settings, at.slot);
+        into.put_media(at.time, settings.port, seq, settings.ssrc, &self.word);
+        add_to_column(&mut self.columns, &settings, at.slot, &self.word);
+        add_to_row(&mut self.row, &settings, at.slot, &self.word);
+        send_column(&self.columns, &settings, at, &mut self.columns_sent, into);
+        send_row(&self.row, &settings, at, &mut self.rows_sent, into);
         self.taken += 1;
     }
 }
@@ -179,7 +168,8 @@ fn send(
     ensures sent { sent.new ≡ (sent.old + 1) % 2 ^ 16 }
 {
     let size = PACKET_LENGTH as u16 * u16::from(settings.packets);
-    into.put_parity(at.time, settings.port + above, *sent, at.ts, parity, size);
+    let Moment { time, ts, .. } = at;
+    into.put_parity(time, settings.port + above, *sent, ts, parity, size);
     *sent = sent.wrapping_add(1);
 }
 

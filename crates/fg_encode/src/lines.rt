@@ -60,15 +60,9 @@ pub fn add_to_column(columns: &mut [Parity], settings: &Settings, slot: u64, wor
     let Layout { l, d, .. } = settings.layout;
     let column = (slot % u64::from(l)) as usize;
     let begins = begins_column(&settings.layout, slot);
+    let base = sequence_at(settings, slot);
     let shape = Shape { offset: l, na: d };
-    add(
-        &mut columns[column],
-        begins,
-        sequence_at(settings, slot),
-        shape,
-        false,
-        word,
-    );
+    add(&mut columns[column], begins, base, shape, false, word);
 }
 
 /// Adds the word of a slot to the parity under way of the row, where rows are sent.
