@@ -27,8 +27,9 @@ pub record EncoderState : Type 0 where
 
 -- After the words of the first n slots, the parity under way with number c is that of a column's slots so far: of each
 -- column whose slot k is the last below n of those that stand l apart. Of the columns with this number, in whatever
--- matrices, each begins at the slot after the last of the one before it. So one of them is open at a time, in a staggered
--- layout too, and as many sums are open as there are columns. What stood there before a column's first slot is in none.
+-- matrices, each begins l slots after the last slot of the one before it. So one of them at most is open at a time, in a
+-- staggered layout too, and as many sums are open as there are columns. What stood there before a column's first slot is
+-- in none.
 abbrev pub ColumnsAreUnderWay : Settings → (ℕ → Word) → ℕ → List Parity → Type 0
 ColumnsAreUnderWay settings words n columns =
     (m c k : ℕ) (d : Parity) → c < settings.layout.l → k < settings.layout.d
