@@ -7,10 +7,12 @@ use Rattle.std.proofs.lemmas.Nat.{be_bytes_2, be_bytes_4, from_be_bytes-to_be_by
 use Rattle.std.proofs.lemmas.List.{get_or_append_left, get_or-append_right, get_or-take, get_or-drop, get_or-replicate, get_or_past, length-take, length-drop, length-replicate, take_at, drop_at, drop-drop, take-append-drop, ext_get_or}
 use Rattle.fg_words.specs.declared.Word.{Word}
 use Rattle.fg_words.proofs.WordLemmas.{word-ext}
+use Rattle.fg_words.specs.Word.{HasRoom}
 use Rattle.fg_shape.specs.Shape.{IsShape}
+use Rattle.fg_rtp.specs.Header.{plain_header}
 use Rattle.fg_fechead.specs.declared.Parity.{Parity}
 use Rattle.fg_fechead.specs.FecHeader.{row_bit, header_of, parity_of, IsExtended, IsPlainXor, HasShape}
-use Rattle.fg_fechead.specs.ParityDatagram.{IsParityDatagram, HasHeaders, IsVersionTwo, HasPayload, header_in}
+use Rattle.fg_fechead.specs.ParityDatagram.{IsParityDatagram, CanBeWritten, parity_bytes, HasHeaders, IsVersionTwo, HasPayload, header_in}
 
 -- Parities with equal fields are equal.
 pub parity-ext : (p q : Parity) → p.base ≡ q.base → p.shape.offset ≡ q.shape.offset → p.shape.na ≡ q.shape.na → p.row ≡ q.row → p.word ≡ q.word → p ≡ q
@@ -67,6 +69,30 @@ header_of-rules : (p : Parity) (mask : List ℕ) (ext_bits : ℕ) → length mas
     IsExtended (header_of p mask ext_bits) × IsPlainXor (header_of p mask ext_bits) × HasShape (header_of p mask ext_bits)
 header_of-rules p (m0 ∷ m1 ∷ m2 ∷ []) ext_bits long pt shape = (omega arith, row_bit-plain p.row, shape)
 header_of-rules p mask ext_bits long pt shape = absurd (omega arith)
+
+-- What is written for a parity is a parity datagram of it.
+pub written_datagram : (seq ts : ℕ) (p : Parity) (size : ℕ) → CanBeWritten p size → p.base < 2 ^ 16 → p.word.len < 2 ^ 16 → p.word.ts < 2 ^ 32 → HasRoom p.word →
+    IsParityDatagram (parity_bytes seq ts p size) p
+written_datagram seq ts p size can base len ts_fits room =
+    record {
+      rtp = plain_header 96 seq ts 0;
+      mask = 0 ∷ 0 ∷ 0 ∷ [];
+      ext_bits = 0;
+      size = size;
+      rtp_size = refl;
+      rtp_version = refl;
+      mask_size = refl;
+      some_payload = can.some_payload;
+      payload_limit = can.payload_limit;
+      base_size = base;
+      len_size = len;
+      pt_size = can.pt_size;
+      ts_size = ts_fits;
+      shape = can.shape;
+      room = room;
+      padded = can.padded;
+      spelled = refl;
+    }
 
 -- Where the header and the payload of a parity datagram are, and what rules it keeps.
 pub datagram_parts : (bytes : List ℕ) (p : Parity) (d : IsParityDatagram bytes p) →

@@ -1,9 +1,9 @@
 -- Parity datagrams (SMPTE ST 2022-1): an RTP header, a FEC header and a payload. The limits of the shape and of the
 -- payload are this project's profile.
-use Rattle.std.specs.Prelude.{◌≡◌, ℕ, ◌+◌, ◌<◌, ◌≤◌, ◌^◌, List, ◌++◌, length, take, slice_index, slice_range}
+use Rattle.std.specs.Prelude.{◌≡◌, ℕ, ◌+◌, ◌<◌, ◌≤◌, ◌^◌, List, [], ◌∷◌, ◌++◌, length, take, slice_index, slice_range}
 use Rattle.fg_words.specs.Word.{HasRoom}
 use Rattle.fg_shape.specs.Shape.{IsShape}
-use Rattle.fg_rtp.specs.Header.{version}
+use Rattle.fg_rtp.specs.Header.{plain_header, version}
 use Rattle.fg_fechead.specs.declared.FecFault.{FecFault}
 use Rattle.fg_fechead.specs.declared.FecFault.TheVariants.{Short, Version, NoExtension, OtherFec, Shape, Size}
 use Rattle.fg_fechead.specs.declared.Parity.{Parity}
@@ -30,6 +30,20 @@ pub record IsParityDatagram (bytes : List ℕ) (parity : Parity) : Type 0 where
   pub room : HasRoom parity.word
   pub padded : (i : ℕ) → size ≤ i → slice_index parity.word.bytes i ≡ 0
   pub spelled : bytes ≡ rtp ++ header_of parity mask ext_bits ++ take size parity.word.bytes
+
+-- What is asked of a parity that is written with so many bytes of payload: there are no others in its word.
+pub record CanBeWritten (parity : Parity) (size : ℕ) : Type 0 where
+  pub shape : IsShape parity.shape.offset parity.shape.na
+  pub pt_size : parity.word.pt < 2 ^ 7
+  pub some_payload : 1 ≤ size
+  pub payload_limit : size ≤ 1316
+  pub padded : (i : ℕ) → size ≤ i → slice_index parity.word.bytes i ≡ 0
+
+-- The bytes that are written for a parity: payload type 96, this sequence number and timestamp, and source 0; mask and
+-- ext bits 0; and so many bytes of the word.
+abbrev pub parity_bytes : ℕ → ℕ → Parity → ℕ → List ℕ
+parity_bytes seq ts parity size =
+    plain_header 96 seq ts 0 ++ header_of parity (0 ∷ 0 ∷ 0 ∷ []) 0 ++ take size parity.word.bytes
 
 -- What a parity datagram keeps, one rule for each fault, in the order in which faults are named.
 

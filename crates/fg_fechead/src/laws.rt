@@ -1,8 +1,13 @@
 //! Laws of the parity datagram. Each is the contract of a function that does nothing.
 
-ghost use Rattle.fg_fechead.specs.Laws.{ReadsOneWay};
+ghost use Rattle.fg_fechead.specs.Laws.{ReadsOneWay, WrittenIsRead};
 
 /// Bytes are a parity datagram of at most one parity.
 pub fn parity_datagrams_read_one_way()
     ensures { ReadsOneWay }
+{}
+
+/// What is written for a parity is read back as it was.
+pub fn what_is_written_is_read()
+    ensures { WrittenIsRead }
 {}

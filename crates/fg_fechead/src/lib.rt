@@ -1,16 +1,16 @@
 //! Parity datagrams of forward error correction (SMPTE ST 2022-1, from Pro-MPEG Code of Practice 3).
 #![tactic(auto)]
 
-ghost use Rattle.std.specs.Prelude.{◌≡◌, ◌≤◌, ◌↔◌, ◌++◌, IfErr, IfOk, IsErrOf, IsTrue, drop, length, slice_index};
-ghost use Rattle.fg_fechead.specs.FecHeader.{parity_of, IsPlainXor};
-ghost use Rattle.fg_fechead.specs.ParityDatagram.{FirstFault, HasHeaders, HasPayload, IsParityDatagram};
+ghost use Rattle.std.specs.Prelude.{◌≡◌, ◌≤◌, ◌<◌, ◌+◌, ◌^◌, ◌↔◌, [], ◌∷◌, ◌++◌, IfErr, IfOk, IsErrOf, IsTrue, drop, length, slice_index, take};
+ghost use Rattle.fg_fechead.specs.FecHeader.{header_of, parity_of, IsPlainXor};
+ghost use Rattle.fg_fechead.specs.ParityDatagram.{parity_bytes, CanBeWritten, FirstFault, HasHeaders, HasPayload, IsParityDatagram};
 
 pub mod laws;
 #[cfg(test)]
 mod tests;
 
 use byteorder::{BigEndian, ByteOrder};
-use fg_rtp::HEADER_LENGTH;
+use fg_rtp::{HEADER_LENGTH, header_bytes};
 use fg_shape::{Shape, shape_ok};
 use fg_words::{PAYLOAD_LIMIT, Word};
 
@@ -19,6 +19,18 @@ pub const FEC_HEADER_LENGTH: usize = 16;
 
 /// The bytes of both headers.
 const HEADERS_LENGTH: usize = HEADER_LENGTH + FEC_HEADER_LENGTH;
+
+/// The bytes of the largest parity datagram.
+pub const PARITY_LIMIT: usize = HEADERS_LENGTH + PAYLOAD_LIMIT;
+
+/// The RTP payload type that is written. It is a dynamic one (RFC 3551), and this project's own choice.
+const PARITY_TYPE: u8 = 96;
+
+/// E, in its byte.
+const EXTENSION: u8 = 0x80;
+
+/// D, in its byte.
+const ROW: u8 = 0x40;
 
 /// The version of RTP (RFC 3550).
 const RTP_VERSION: u8 = 2;
@@ -83,6 +95,57 @@ pub fn read(bytes: &[u8]) -> Result<Parity, FecFault>
         return Err(FecFault::Size);
     }
     Ok(fields(header, &bytes[HEADERS_LENGTH..]))
+}
+
+/// Writes a parity datagram with `size` bytes of payload to the front of `into`, and answers how many bytes that took: 28
+/// and the payload's.
+///
+/// The word's bytes from `size` on are zeros, so that what is read back is this parity. In the RTP header the payload type
+/// is 96, the source is 0 and all else but number and timestamp too. Mask and SNBase ext bits are 0. What `into` holds
+/// behind the datagram stays.
+pub fn write(seq: u16, ts: u32, parity: &Parity, size: u16, into: &mut [u8; PARITY_LIMIT]) -> usize
+    requires { CanBeWritten parity.now size }
+    ensures size { result ≡ HEADERS_LENGTH + size }
+    ensures written { take result into.new ≡ parity_bytes seq ts parity.now size }
+    ensures behind { drop result into.new ≡ drop result into.old }
+    ensures datagram { IsParityDatagram (take result into.new) parity.now }
+{
+    let end = HEADERS_LENGTH + usize::from(size);
+    let rtp = header_bytes(PARITY_TYPE, seq, ts, 0);
+    into[..HEADER_LENGTH].copy_from_slice(&rtp);
+    let fec = fec_header(parity.base, parity.shape, parity.row, &parity.word);
+    into[HEADER_LENGTH..HEADERS_LENGTH].copy_from_slice(&fec);
+    into[HEADERS_LENGTH..end].copy_from_slice(front(&parity.word.bytes, size));
+    end
+}
+
+/// The FEC header of a parity with these fields, mask and SNBase ext bits 0.
+fn fec_header(base: u16, shape: Shape, row: bool, word: &Word) -> [u8; FEC_HEADER_LENGTH]
+    requires { word.now.pt < 2 ^ 7 }
+    ensures header { result ≡ header_of (record { base = base; shape = shape; row = row; word = word.now })
+        (0 ∷ 0 ∷ 0 ∷ []) 0 }
+    ensures base { base < 2 ^ 16 }
+    ensures length { word.now.len < 2 ^ 16 }
+    ensures timestamp { word.now.ts < 2 ^ 32 }
+{
+    let [b0, b1] = base.to_be_bytes();
+    let [l0, l1] = word.len.to_be_bytes();
+    let pt = EXTENSION + word.pt;
+    let [t0, t1, t2, t3] = word.ts.to_be_bytes();
+    let row = if row { ROW } else { 0 };
+    let Shape { offset, na } = shape;
+    [
+        b0, b1, l0, l1, pt, 0, 0, 0, t0, t1, t2, t3, row, offset, na, 0,
+    ]
+}
+
+/// The first bytes of a word.
+fn front(bytes: &[u8; PAYLOAD_LIMIT], size: u16) -> &[u8]
+    requires { size ≤ PAYLOAD_LIMIT }
+    ensures front { result.now ≡ take size bytes.now }
+    ensures room { length bytes.now ≡ PAYLOAD_LIMIT }
+{
+    &bytes[..usize::from(size)]
 }
 
 /// Whether X, type and index are 0.

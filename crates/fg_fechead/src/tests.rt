@@ -1,9 +1,9 @@
 //! Parity datagrams by example.
 
-ghost use Rattle.std.specs.Prelude.{◌≤◌};
+ghost use Rattle.std.specs.Prelude.{◌≡◌, ◌≤◌, ℕ, slice_index};
 
-use crate::{FecFault, Parity, read};
-use fg_shape::Shape;
+use crate::{FecFault, PARITY_LIMIT, Parity, read, write};
+use fg_shape::{Shape, shape_ok};
 use fg_words::Word;
 
 /// The FEC header of a row of five datagrams from number 0x0102 on, with payloads of 1,316 bytes and
@@ -141,4 +141,89 @@ fn shapes_have_limits(rt: HostRuntime) {
     assert_eq!(rt; fault_of_shape(20, 6), Some(FecFault::Shape));
     assert!(rt; fault_of_shape(20, 5).is_none());
     assert!(rt; fault_of_shape(1, 20).is_none());
+}
+
+/// The sum of the words of so many of those datagrams, whose payloads are alike but for the last byte.
+fn sum(count: u32) -> Word
+    requires { count ≤ 5 }
+{
+    let mut sum = Word::zero();
+    for number in 1..count + 1 {
+        let mut word = Word::zero();
+        word.pt = 33;
+        word.ts = 1000 * number;
+        word.len = 1316;
+        word.bytes[0] = 0x47;
+        word.bytes[1315] = number as u8;
+        sum.xor_in(&word);
+    }
+    sum
+}
+
+/// The parity with these fields.
+fn parity(shape: Shape, row: bool, word: Word) -> Parity {
+    Parity {
+        base: 0x0102,
+        shape,
+        row,
+        word,
+    }
+}
+
+/// A word has no byte behind its last one.
+fn ends(bytes: &[u8; 1316])
+    ensures { (i : ℕ) → 1316 ≤ i → slice_index bytes.now i ≡ 0 }
+{
+    let _last = bytes[1315];
+}
+
+/// How many bytes were written with a whole payload, or none where the parity isn't one that is written.
+fn written(parity: &Parity, into: &mut [u8; PARITY_LIMIT]) -> Option<usize> {
+    let pt = parity.word.pt;
+    if !shape_ok(parity.shape) || pt > 127 {
+        return None;
+    }
+    ends(&parity.word.bytes);
+    Some(write(0x0a0b, 0x0c0d_0e0f, parity, 1316, into))
+}
+
+/// The bytes that are written with it, where the payload has zeros between these two bytes.
+fn expected(header: &[u8; 16], first: u8, last: u8) -> [u8; PARITY_LIMIT] {
+    let mut bytes = [0; PARITY_LIMIT];
+    bytes[..12].copy_from_slice(&[0x80, 0x60, 0x0a, 0x0b, 0x0c, 0x0d, 0x0e, 0x0f, 0, 0, 0, 0]);
+    bytes[12..28].copy_from_slice(header);
+    bytes[28] = first;
+    bytes[1343] = last;
+    bytes
+}
+
+#[test]
+fn a_row_is_written(rt: HostRuntime) {
+    let mut into = [0x55; PARITY_LIMIT];
+    let row = parity(Shape { offset: 1, na: 5 }, true, sum(5));
+    assert_eq!(rt; written(&row, &mut into), Some(1344));
+    assert!(rt; into == expected(&ROW, 0x47, 1));
+}
+
+#[test]
+fn a_column_is_written(rt: HostRuntime) {
+    let mut into = [0x55; PARITY_LIMIT];
+    let column = parity(Shape { offset: 5, na: 4 }, false, sum(4));
+    assert_eq!(rt; written(&column, &mut into), Some(1344));
+    assert!(rt; into == expected(&COLUMN, 0, 4));
+}
+
+#[test]
+fn what_is_written_is_read_back(rt: HostRuntime) {
+    let mut into = [0x55; PARITY_LIMIT];
+    let row = parity(Shape { offset: 1, na: 5 }, true, sum(5));
+    assert!(rt; written(&row, &mut into).is_some());
+    match read(&into) {
+        Ok(read) => {
+            assert_eq!(rt; read.base, 0x0102);
+            assert!(rt; read.shape == row.shape && read.row);
+            assert!(rt; read.word.same(&row.word));
+        }
+        Err(_) => assert!(rt; false),
+    }
 }

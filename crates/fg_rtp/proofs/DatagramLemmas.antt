@@ -1,5 +1,5 @@
 -- Bytes that keep every rule are a media datagram, and a media datagram keeps them.
-use Rattle.std.proofs.Common.{◌≡◌, ℕ, zero, suc, ◌+◌, ◌-◌, ◌*◌, ◌/◌, ◌%◌, ◌<◌, ◌≤◌, false, eqb, List, [], ◌∷◌, ◌++◌, length, replicate, take, drop, get_or, refl, sym, ap, ⊎_elim, ◌∙◌, arith, lit<, length-append}
+use Rattle.std.proofs.Common.{◌≡◌, ℕ, zero, suc, ◌+◌, ◌-◌, ◌*◌, ◌/◌, ◌%◌, ◌^◌, ◌<◌, ◌≤◌, false, eqb, List, [], ◌∷◌, ◌++◌, length, replicate, take, drop, get_or, refl, sym, ap, ⊎_elim, ◌∙◌, arith, lit<, length-append}
 use Rattle.std.specs.Int.{to_be_bytes, w16, w32}
 use Rattle.std.proofs.lemmas.Bool.{cases_lt, eqb-false}
 use Rattle.std.proofs.lemmas.Nat.{be_bytes_2, be_bytes_4}
@@ -7,7 +7,7 @@ use Rattle.std.proofs.lemmas.List.{get_or_append_left, get_or-append_right, get_
 use Rattle.fg_words.specs.declared.Word.{Word}
 use Rattle.fg_words.specs.Word.{IsMedia}
 use Rattle.fg_rtp.specs.Header.{header}
-use Rattle.fg_rtp.specs.MediaDatagram.{IsMediaDatagram, transport_word, HasHeader, IsVersionTwo, IsPlain, IsTransport, HasPackets, IsSynced}
+use Rattle.fg_rtp.specs.MediaDatagram.{IsMediaDatagram, media_bytes, transport_word, HasHeader, IsVersionTwo, IsPlain, IsTransport, HasPackets, IsSynced}
 
 -- A word is its four fields.
 word_of_fields : ℕ → ℕ → ℕ → List ℕ → Word
@@ -18,6 +18,11 @@ unfolding word_of_fields
 word-ext a b pt ts len bytes =
     ap (λ x. word_of_fields x a.ts a.len a.bytes) pt ∙ ap (λ x. word_of_fields b.pt x a.len a.bytes) ts
     ∙ ap (λ x. word_of_fields b.pt b.ts x a.bytes) len ∙ ap (λ x. word_of_fields b.pt b.ts b.len x) bytes
+
+-- What is written for a media word is a media datagram of it.
+pub written_datagram : (seq ssrc : ℕ) (word : Word) → seq < 2 ^ 16 → word.ts < 2 ^ 32 → ssrc < 2 ^ 32 → IsMedia word → IsMediaDatagram (media_bytes seq ssrc word) seq ssrc word
+written_datagram seq ssrc word seq_fits ts_fits ssrc_fits media =
+    record { marker = 0; marker_bit = lit< tt; seq_size = seq_fits; ts_size = ts_fits; ssrc_size = ssrc_fits; media = media; spelled = refl }
 
 -- The payload of a media datagram is what follows its header.
 pub datagram_payload : (bytes : List ℕ) (seq ssrc : ℕ) (word : Word) → IsMediaDatagram bytes seq ssrc word → (take word.len word.bytes ≡ drop 12 bytes) × (length bytes ≡ 12 + word.len)

@@ -5,8 +5,8 @@
 --     bytes 2-3    sequence number
 --     bytes 4-7    timestamp
 --     bytes 8-11   synchronization source
-use Rattle.std.specs.Prelude.{ℕ, ◌/◌, ◌%◌, ◌==◌, List, slice_index, slice_range}
-use Rattle.std.specs.Int.{from_be_bytes, w16, w32}
+use Rattle.std.specs.Prelude.{ℕ, ◌/◌, ◌%◌, ◌==◌, List, ◌∷◌, ◌++◌, slice_index, slice_range}
+use Rattle.std.specs.Int.{from_be_bytes, to_be_bytes, w16, w32}
 use Rattle.fg_rtp.specs.declared.Rtp.{Rtp}
 
 -- The version that a header's first byte names.
@@ -25,3 +25,8 @@ header bytes = record {
   ts = from_be_bytes w32 (slice_range bytes 4 8);
   ssrc = from_be_bytes w32 (slice_range bytes 8 12);
 }
+
+-- The header that is written, of this payload type, sequence number, timestamp and source: version 2, with no padding,
+-- no extension and no contributing source, and marker 0.
+abbrev pub plain_header : ℕ → ℕ → ℕ → ℕ → List ℕ
+plain_header pt seq ts ssrc = 0x80 ∷ pt ∷ (to_be_bytes w16 seq ++ to_be_bytes w32 ts ++ to_be_bytes w32 ssrc)

@@ -8,7 +8,7 @@ use Rattle.fg_rtp.specs.declared.RtpFault.{RtpFault}
 use Rattle.fg_rtp.specs.declared.RtpFault.TheVariants.{Short as NoHeader, Version as OtherVersion}
 use Rattle.fg_rtp.specs.declared.media.MediaFault.{MediaFault}
 use Rattle.fg_rtp.specs.declared.media.MediaFault.TheVariants.{Short, Version, Flags, PayloadType, Size, NoSync}
-use Rattle.fg_rtp.specs.Header.{version, header}
+use Rattle.fg_rtp.specs.Header.{version, header, plain_header}
 
 -- The payload of a word: as many of its bytes as its length says.
 abbrev pub payload_of : Word → List ℕ
@@ -34,6 +34,10 @@ transport_word ts payload = record {
   len = length payload;
   bytes = payload ++ replicate (1316 - length payload) 0;
 }
+
+-- The bytes that are written for it: the marker is 0.
+abbrev pub media_bytes : ℕ → ℕ → Word → List ℕ
+media_bytes seq ssrc word = plain_header 33 seq word.ts ssrc ++ payload_of word
 
 -- What a media datagram keeps, one rule for each fault, in the order in which faults are named.
 

@@ -3,7 +3,7 @@
 #![tactic(auto)]
 
 ghost use Rattle.std.specs.Prelude.{◌≡◌, ◌≤◌, ◌<◌, ◌≢◌, ◌↔◌, IfOk, IsErrOf, length};
-ghost use Rattle.fg_rtp.specs.Header.{header, version};
+ghost use Rattle.fg_rtp.specs.Header.{header, plain_header, version};
 
 pub mod laws;
 mod media;
@@ -11,10 +11,13 @@ mod media;
 mod tests;
 
 use byteorder::{BigEndian, ByteOrder};
-pub use media::{MediaFault, media_word, payload};
+pub use media::{MEDIA_LIMIT, MediaFault, media_word, payload, write_media};
 
 /// The bytes of the fixed header (RFC 3550).
 pub const HEADER_LENGTH: usize = 12;
+
+/// The first byte of a header of version 2 with no padding, no extension and no contributing source.
+const VERSION_TWO: u8 = 0x80;
 
 /// The fields of the fixed header of RTP (RFC 3550), but for the version.
 #[derive(Clone, Copy, Debug)]
@@ -79,4 +82,15 @@ fn fields(bytes: &[u8]) -> Rtp
         ts: BigEndian::read_u32(&bytes[4..8]),
         ssrc: BigEndian::read_u32(&bytes[8..12]),
     }
+}
+
+/// The bytes of a fixed header with these fields, version 2 and nothing else set: no padding, no extension, no
+/// contributing source, and marker 0.
+pub fn header_bytes(pt: u8, seq: u16, ts: u32, ssrc: u32) -> [u8; HEADER_LENGTH]
+    ensures { result ≡ plain_header pt seq ts ssrc }
+{
+    let [s0, s1] = seq.to_be_bytes();
+    let [t0, t1, t2, t3] = ts.to_be_bytes();
+    let [r0, r1, r2, r3] = ssrc.to_be_bytes();
+    [VERSION_TWO, pt, s0, s1, t0, t1, t2, t3, r0, r1, r2, r3]
 }

@@ -1,11 +1,15 @@
 //! Media datagrams.
 
-ghost use Rattle.std.specs.Prelude.{◌≡◌, ℕ, ◌≤◌, ◌↔◌, ◌++◌, IfErr, IfOk, IsErrOf, IsTrue, drop, length};
+ghost use Rattle.std.specs.Prelude.{◌≡◌, ℕ, ◌≤◌, ◌↔◌, ◌+◌, ◌++◌, IfErr, IfOk, IsErrOf, IsTrue, drop, length, take};
 ghost use Rattle.fg_words.specs.declared.Word.{Word};
-ghost use Rattle.fg_rtp.specs.MediaDatagram.{FirstFault, HasHeader, HasPackets, IsMediaDatagram, IsSynced, header_fault, payload_of, transport_word};
+ghost use Rattle.fg_rtp.specs.MediaDatagram.{FirstFault, HasHeader, HasPackets, IsMediaDatagram, IsSynced, header_fault, media_bytes, payload_of, transport_word};
+ghost use Rattle.fg_words.specs.Word.{IsMedia};
 
-use crate::{HEADER_LENGTH, RtpFault, read};
+use crate::{HEADER_LENGTH, RtpFault, header_bytes, read};
 use fg_words::{PACKET_LENGTH, PAYLOAD_LIMIT, SYNC_BYTE, TRANSPORT_TYPE, Word};
+
+/// The bytes of the largest media datagram.
+pub const MEDIA_LIMIT: usize = HEADER_LENGTH + PAYLOAD_LIMIT;
 
 /// Why bytes are no media datagram.
 #[derive(Clone, Copy, Debug, PartialEq, Eq)]
@@ -70,6 +74,22 @@ pub fn payload(bytes: &[u8]) -> &[u8]
         → result.now ≡ payload_of word }
 {
     bytes.get(HEADER_LENGTH..).unwrap_or(&[])
+}
+
+/// Writes the media datagram of a word to the front of `into`, and answers how many bytes that took: 12 and the
+/// payload's. The marker is 0. What `into` holds behind the datagram stays.
+pub fn write_media(seq: u16, ssrc: u32, word: &Word, into: &mut [u8; MEDIA_LIMIT]) -> usize
+    requires { IsMedia word.now }
+    ensures size { result ≡ HEADER_LENGTH + word.now.len }
+    ensures written { into.new ≡ media_bytes seq ssrc word.now ++ drop result into.old }
+    ensures datagram { IsMediaDatagram (take result into.new) seq ssrc word.now }
+{
+    let length = usize::from(word.len);
+    let end = HEADER_LENGTH + length;
+    let header = header_bytes(TRANSPORT_TYPE, seq, word.ts, ssrc);
+    into[..HEADER_LENGTH].copy_from_slice(&header);
+    into[HEADER_LENGTH..end].copy_from_slice(&word.bytes[..length]);
+    end
 }
 
 /// Whether the datagram's payload is 1 to 7 whole packets long.

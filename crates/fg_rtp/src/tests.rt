@@ -2,7 +2,7 @@
 
 ghost use Rattle.std.specs.Prelude.{◌≤◌};
 
-use crate::{MediaFault, RtpFault, media_word, payload, read};
+use crate::{MEDIA_LIMIT, MediaFault, RtpFault, media_word, payload, read, write_media};
 use fg_words::Word;
 
 /// The bytes of seven packets after a header that begins with these two bytes, with sequence number
@@ -103,4 +103,53 @@ fn eight_packets_are_too_many(rt: HostRuntime) {
         bytes[12 + 188 * packet] = 0x47;
     }
     assert!(rt; matches!(media_word(&bytes), Err(MediaFault::Size)));
+}
+
+/// A media word of one packet, whose second byte is this.
+fn one_packet(second: u8, ts: u32) -> Word {
+    let mut word = Word::zero();
+    word.pt = 33;
+    word.ts = ts;
+    word.len = 188;
+    word.bytes[0] = 0x47;
+    word.bytes[1] = second;
+    word
+}
+
+/// How many bytes were written, or none where the word is no media word.
+fn written(seq: u16, ssrc: u32, word: &Word, into: &mut [u8; MEDIA_LIMIT]) -> Option<usize> {
+    if word.is_media() {
+        Some(write_media(seq, ssrc, word, into))
+    } else {
+        None
+    }
+}
+
+// One packet with all numbers 0: 80 21, ten zeros, and the packet. What stands behind stays.
+#[test]
+fn a_media_datagram_is_written(rt: HostRuntime) {
+    let mut into = [0x55; MEDIA_LIMIT];
+    assert_eq!(rt; written(0, 0, &one_packet(0x99, 0), &mut into), Some(200));
+    let mut wanted = [0x55; MEDIA_LIMIT];
+    wanted[..200].copy_from_slice(&[0; 200]);
+    wanted[0] = 0x80;
+    wanted[1] = 0x21;
+    wanted[12] = 0x47;
+    wanted[13] = 0x99;
+    assert!(rt; into == wanted);
+}
+
+#[test]
+fn what_is_written_is_read_back(rt: HostRuntime) {
+    let word = one_packet(0x12, 0xfffe_fdfc);
+    let mut into = [0xff; MEDIA_LIMIT];
+    assert_eq!(rt; written(0xfedc, 0x8070_6050, &word, &mut into), Some(200));
+    match read_front(&into, 200) {
+        Ok((seq, ssrc, read)) => {
+            assert_eq!(rt; seq, 0xfedc);
+            assert_eq!(rt; ssrc, 0x8070_6050);
+            assert!(rt; read.same(&word));
+        }
+        Err(_) => assert!(rt; false),
+    }
 }

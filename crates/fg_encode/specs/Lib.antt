@@ -1,0 +1,6 @@
+pub mod Batch
+pub mod Encoder
+pub mod Encoding
+pub mod Ends
+pub mod Laws
+pub mod Lines

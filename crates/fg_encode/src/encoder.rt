@@ -1,0 +1,228 @@
+//! The encoder.
+ghost use Rattle.std.specs.Prelude.{◌≡◌, ◌+◌, ◌*◌, ◌<◌, ◌≤◌, ◌^◌, ◌%◌, ℕ, List, [], ◌∷◌, ◌++◌, IfOk, IfSome, length, map, get_or};
+ghost use Rattle.std.specs.Option.{option_to_list};
+ghost use Rattle.fg_ts.specs.Packets.{ArePackets};
+ghost use Rattle.fg_shape.specs.Layout.{ColumnEnds, RowEnds};
+ghost use Rattle.fg_fechead.specs.declared.Parity.{Parity};
+ghost use Rattle.fg_fechead.specs.ParityDatagram.{parity_bytes, CanBeWritten};
+ghost use Rattle.fg_trace.specs.Trace.{Record};
+ghost use Rattle.fg_encode.specs.Ends.{columns_ending, rows_ending};
+ghost use Rattle.fg_encode.specs.Encoding.{records_at, time_of, timestamp_of};
+ghost use Rattle.fg_encode.specs.Encoder.{CanEncode, StandsAfter};
+
+use crate::Batch;
+use crate::clock::{sequence_at, time_after, timestamp_after};
+use crate::lines::{add_to_column, add_to_row, fill};
+use fg_fechead::Parity;
+use fg_shape::{Layout, Settings, Shape};
+use fg_words::{PACKET_LENGTH, Word};
+use std::alloc::{AllocError, Global};
+use std::marker::Model;
+
+/// Makes media and parity datagrams of payloads, one after another.
+///
+/// It keeps running sums, one for each column and one for the row, and no payload.
+#[derive(Drop)]
+pub struct Encoder {
+    settings: Settings,
+    taken: u64,
+    columns: Vec<Parity>,
+    row: Parity,
+    columns_sent: u16,
+    rows_sent: u16,
+    word: Word,
+}
+
+impl Model for Encoder {
+    ghost use Rattle.fg_encode.specs.Encoder.{EncoderState};
+
+    ghost Value = { EncoderState };
+
+    ghost view = { λ a. record {
+      settings = a.settings;
+      taken = a.taken;
+      columns = a.columns.items;
+      row = a.row;
+      columns_sent = a.columns_sent;
+      rows_sent = a.rows_sent;
+    } };
+}
+
+impl Encoder {
+    /// An encoder that has taken no payload. All its memory is taken here.
+    pub fn new(alloc: Global, settings: Settings) -> Result<Encoder, AllocError>
+        requires { CanEncode settings }
+        ensures stands { IfOk result (λ encoder. StandsAfter encoder []) }
+        ensures settings { IfOk result (λ encoder. encoder.settings ≡ settings) }
+        ensures taken { IfOk result (λ encoder. encoder.taken ≡ 0) }
+    {
+        let empty = Parity {
+            base: 0,
+            shape: Shape { offset: 0, na: 0 },
+            row: false,
+            word: Word::zero(),
+        };
+        Ok(Encoder {
+            settings,
+            taken: 0,
+            columns: vec![in alloc; empty; usize::from(settings.layout.l)]?,
+            row: empty,
+            columns_sent: 0,
+            rows_sent: 0,
+            word: Word::zero(),
+        })
+    }
+
+    /// Takes the next payload of the stream, and fills the batch with what is sent for it.
+    ///
+    /// It has as many packets as the settings say, or fewer where it is the last. All payloads together have at most 2^40
+    /// bytes.
+    pub fn push(&mut self, payload: &[u8], into: &mut Batch)
+        requires stands { (payloads : List (List ℕ)) × StandsAfter self.old payloads }
+        requires packets { (k : ℕ) × (1 ≤ k) × (k ≤ self.old.settings.packets) × ArePackets payload.now k }
+        requires limit { 188 * self.old.settings.packets * self.old.taken + length payload.now ≤ 2 ^ 40 }
+        ensures batch { (payloads : List (List ℕ)) → StandsAfter self.old payloads
+            → into.new ≡ records_at self.old.settings (payloads ++ payload.now ∷ []) (length payloads) }
+        ensures stands { (payloads : List (List ℕ)) → StandsAfter self.old payloads
+            → length payload.now ≡ 188 * self.old.settings.packets
+            → StandsAfter self.new (payloads ++ payload.now ∷ []) }
+        ensures settings { self.new.settings ≡ self.old.settings }
+        ensures taken { self.new.taken ≡ self.old.taken + 1 }
+    {
+        let settings = self.settings;
+        let at = next_moment(&settings, self.taken);
+        fill(&mut self.word, at.ts, payload);
+        let seq = sequence_at(&settings, at.slot);
+        into.put_media(at.time, settings.port, seq, settings.ssrc, &self.word);
+        add_to_column(&mut self.columns, &settings, at.slot, &self.word);
+        add_to_row(&mut self.row, &settings, at.slot, &self.word);
+        send_column(&self.columns, &settings, at, &mut self.columns_sent, into);
+        send_row(&self.row, &settings, at, &mut self.rows_sent, into);
+        self.taken += 1;
+    }
+}
+
+/// The slot of a payload, and when its datagrams are sent.
+#[derive(Clone, Copy)]
+struct Moment {
+    slot: u64,
+    time: u64,
+    ts: u32,
+}
+
+/// When the datagrams of the next payload are sent, after so many whole ones.
+fn next_moment(settings: &Settings, taken: u64) -> Moment
+    requires packets { (1 ≤ settings.now.packets) × (settings.now.packets ≤ 7) }
+    requires rate { 1 ≤ settings.now.rate }
+    requires limit { 188 * settings.now.packets * taken ≤ 2 ^ 40 }
+    ensures slot { result.slot ≡ taken }
+    ensures time { result.time ≡ time_of settings.now (8 * (188 * settings.now.packets * taken)) }
+    ensures timestamp { result.ts ≡ timestamp_of settings.now (8 * (188 * settings.now.packets * taken)) }
+    ensures limit { taken ≤ 2 ^ 40 }
+{
+    let bits = 8 * (PACKET_LENGTH as u64 * u64::from(settings.packets) * taken);
+    Moment {
+        slot: taken,
+        time: time_after(settings, bits),
+        ts: timestamp_after(settings, bits),
+    }
+}
+
+/// The first slot of the column that ends at the slot.
+fn column_ending(layout: &Layout, slot: u64) -> Option<u64>
+    requires { slot ≤ 2 ^ 60 }
+    ensures list { columns_ending layout.now slot ≡ option_to_list result }
+    ensures ends { IfSome result (ColumnEnds layout.now slot) }
+{
+    layout.ending_at(slot).column
+}
+
+/// The first slot of the row that ends at the slot.
+fn row_ending(layout: &Layout, slot: u64) -> Option<u64>
+    requires { slot ≤ 2 ^ 60 }
+    ensures list { rows_ending layout.now slot ≡ option_to_list result }
+    ensures ends { IfSome result (RowEnds layout.now slot) }
+{
+    layout.ending_at(slot).row
+}
+
+/// Sends a parity, with the next number of its stream.
+fn send(
+    parity: &Parity,
+    settings: &Settings,
+    above: u16,
+    at: Moment,
+    sent: &mut u16,
+    into: &mut Batch,
+)
+    requires port { settings.now.port + above ≤ 65535 }
+    requires packets { settings.now.packets ≤ 7 }
+    requires can { CanBeWritten parity.now (188 * settings.now.packets) }
+    requires some { 1 ≤ length into.old }
+    requires room { length into.old < 3 }
+    ensures batch { into.new ≡ into.old ++ (record {
+      time = at.time;
+      port = settings.now.port + above;
+      datagram = parity_bytes sent.old at.ts parity.now (188 * settings.now.packets);
+    }) ∷ [] }
+    ensures sent { sent.new ≡ (sent.old + 1) % 2 ^ 16 }
+{
+    let size = PACKET_LENGTH as u16 * u16::from(settings.packets);
+    let Moment { time, ts, .. } = at;
+    into.put_parity(time, settings.port + above, *sent, ts, parity, size);
+    *sent = sent.wrapping_add(1);
+}
+
+/// Sends the parity of the column that ends at the slot, if one does.
+fn send_column(
+    columns: &[Parity],
+    settings: &Settings,
+    at: Moment,
+    sent: &mut u16,
+    into: &mut Batch,
+)
+    requires width { length columns.now ≡ settings.now.layout.l }
+    requires limit { at.slot ≤ 2 ^ 60 }
+    requires port { settings.now.port ≤ 65531 }
+    requires packets { settings.now.packets ≤ 7 }
+    requires can { (base : ℕ) (d : Parity) → ColumnEnds settings.now.layout at.slot base
+        → CanBeWritten (get_or columns.now (at.slot % settings.now.layout.l) d) (188 * settings.now.packets) }
+    requires some { 1 ≤ length into.old }
+    requires room { length into.old < 3 }
+    ensures batch { (d : Parity) → into.new ≡ into.old ++ map (λ base. record {
+      time = at.time;
+      port = settings.now.port + 2;
+      datagram = parity_bytes sent.old at.ts (get_or columns.now (at.slot % settings.now.layout.l) d) (188 * settings.now.packets);
+    }) (columns_ending settings.now.layout at.slot) }
+    ensures sent { sent.new ≡ (sent.old + length (columns_ending settings.now.layout at.slot)) % 2 ^ 16 }
+    ensures one { length into.new ≤ length into.old + 1 }
+    ensures more { length into.old ≤ length into.new }
+{
+    let _number = *sent;
+    if column_ending(&settings.layout, at.slot).is_some() {
+        let column = (at.slot % u64::from(settings.layout.l)) as usize;
+        send(&columns[column], settings, 2, at, sent, into);
+    }
+}
+
+/// Sends the parity of the row that ends at the slot, if one does.
+fn send_row(row: &Parity, settings: &Settings, at: Moment, sent: &mut u16, into: &mut Batch)
+    requires limit { at.slot ≤ 2 ^ 60 }
+    requires port { settings.now.port ≤ 65531 }
+    requires packets { settings.now.packets ≤ 7 }
+    requires can { (base : ℕ) → RowEnds settings.now.layout at.slot base
+        → CanBeWritten row.now (188 * settings.now.packets) }
+    requires some { 1 ≤ length into.old }
+    requires room { length into.old < 3 }
+    ensures batch { into.new ≡ into.old ++ map (λ base. record {
+      time = at.time;
+      port = settings.now.port + 4;
+      datagram = parity_bytes sent.old at.ts row.now (188 * settings.now.packets);
+    }) (rows_ending settings.now.layout at.slot) }
+    ensures sent { sent.new ≡ (sent.old + length (rows_ending settings.now.layout at.slot)) % 2 ^ 16 }
+{
+    let _number = *sent;
+    if row_ending(&settings.layout, at.slot).is_some() {
+        send(row, settings, 4, at, sent, into);
+    }
+}

@@ -1,0 +1,14 @@
+//! The encoder: a stream of transport packets as timed media and parity datagrams (RFC 2250, SMPTE ST 2022-1 and
+//! ST 2022-2).
+#![tactic(auto)]
+
+mod batch;
+mod clock;
+mod encoder;
+pub mod laws;
+mod lines;
+#[cfg(test)]
+mod tests;
+
+pub use batch::Batch;
+pub use encoder::Encoder;
