@@ -1,4 +1,5 @@
 -- The definitions that the contracts of this crate cite.
+pub mod Engine
 pub mod Flow
 pub mod Lanes
 pub mod Laws

@@ -2,6 +2,7 @@
 #![tactic(auto)]
 
 mod alone;
+mod engine;
 mod fault;
 mod flow;
 pub mod laws;

@@ -1,5 +1,5 @@
 -- What contracts see of a reader of a trace, and where it stands: this project's own rule.
-use Rattle.std.specs.Prelude.{◌≡◌, ◌+◌, ◌≤◌, ◌⊎◌, ℕ, Bool, true, false, Option, None, Some, IfSome, IsSome, Result, Ok, Err, List, [], ◌∷◌, ◌++◌, length, nat_lt, nat_eq, if◌then◌else◌}
+use Rattle.std.specs.Prelude.{◌≡◌, ◌+◌, ◌≤◌, ◌⊎◌, ℕ, ⊤, Bool, true, false, Option, None, Some, IfSome, IsSome, Result, Ok, Err, List, [], ◌∷◌, ◌++◌, length, nat_lt, nat_eq, if◌then◌else◌}
 use Rattle.std.specs.List.{AllByRecursion}
 use Rattle.fg_io.specs.Source.{Gives}
 use Rattle.fg_trace.specs.declared.step.Step.{Step}
@@ -95,6 +95,12 @@ kept_answer answer = Some answer
 abbrev pub ending_at : ℕ → ℕ → ℕ → Answer
 ending_at max place count =
     if nat_lt max (place + count) then Err (PastLimit place) else (if nat_eq count 0 then Ok End else Err (CutShort place))
+
+-- The endings that are found at the input's end.
+abbrev pub ReadsToEnd : Answer → Type 0
+ReadsToEnd (Ok End) = ⊤
+ReadsToEnd (Err (CutShort n)) = ⊤
+ReadsToEnd _ = ⊥
 
 -- The answer again of `start`: a fault that is kept, else that the magic was found.
 abbrev pub start_answer : Option Answer → Result (Unit {0}) TraceFault

@@ -1,11 +1,11 @@
 //! Walking a trace.
-ghost use Rattle.std.specs.Prelude.{◌≡◌, ◌+◌, ◌-◌, ◌*◌, ◌<◌, ◌≤◌, ◌⊎◌, ℕ, Option, List, [], length, take, drop, min, true, IsSome, IsNone, IsTrue, IsOk, IfOk, IfErr, IfSome, IfNone, OnOk, OnErr, None, Some};
+ghost use Rattle.std.specs.Prelude.{◌≡◌, ◌≢◌, ◌+◌, ◌-◌, ◌*◌, ◌<◌, ◌≤◌, ◌⊎◌, ℕ, Option, List, [], length, take, drop, min, true, IsSome, IsNone, IsTrue, IsOk, IfOk, IfErr, IfSome, IfNone, OnOk, OnErr, None, Some};
 ghost use Rattle.std.specs.Io.KnownBytes.{IsAtEnd};
 ghost use Rattle.fg_io.specs.Faults.{CountsFault};
 ghost use Rattle.fg_trace.specs.Header.{BeginsMagic};
 ghost use Rattle.fg_trace.specs.Trace.{Record};
 ghost use Rattle.fg_trace.specs.Window.{TakesMore};
-ghost use Rattle.fg_trace.specs.Reader.{StandsBefore, StandsAfter, Opens, Walks, payload_size, record_size, kept_answer, ending_at, start_answer, IsDecided, new_reader};
+ghost use Rattle.fg_trace.specs.Reader.{StandsBefore, StandsAfter, Opens, Walks, payload_size, record_size, kept_answer, ending_at, ReadsToEnd, start_answer, IsDecided, new_reader};
 ghost use Rattle.fg_trace.specs.Walk.{TakesIn, HoldsEnough, HoldsRecord, HoldsNone, after_record, after_magic};
 
 use crate::header::{HEADER, Header, LARGEST, MAGIC, differs_from_magic, read_header};
@@ -82,6 +82,7 @@ impl Reader {
         ensures bounded { self.new.place + length self.new.held ≤ self.new.max + 1 }
         ensures counted { result ≡ Err TraceFault.ReadFault
             → CountsFault (S.faults from.old) (S.faults from.new) }
+        ensures no_fault { result ≢ Err TraceFault.ReadFault → S.faults from.new ≡ S.faults from.old }
         ensures never_falls { S.faults from.old ≤ S.faults from.new }
     {
         if let Some(answer) = self.kept {
@@ -118,6 +119,10 @@ impl Reader {
         // What the answer tells, also where the source doesn't tell its bytes.
         ensures ending { IsSome self.new.kept
             → result ≡ ending_at self.new.max self.new.place (length self.new.held) }
+
+        // An ending that was found at the input's end leaves nothing of it.
+        ensures at_end { IsNone self.old.kept → ReadsToEnd result → IsAtEnd (S.left from.new) }
+
         ensures payload { length self.new.payload ≡ payload_size result }
         ensures place { self.new.place ≡ self.old.place + record_size result }
         ensures within { self.new.place ≤ self.new.max }
@@ -126,6 +131,7 @@ impl Reader {
         ensures started { self.new.started ≡ true }
         ensures counted { result ≡ Err TraceFault.ReadFault
             → CountsFault (S.faults from.old) (S.faults from.new) }
+        ensures no_fault { result ≢ Err TraceFault.ReadFault → S.faults from.new ≡ S.faults from.old }
         ensures never_falls { S.faults from.old ≤ S.faults from.new }
     {
         if let Some(answer) = self.kept {
@@ -161,6 +167,7 @@ impl Reader {
         ensures bounded { self.new.place + length self.new.held ≤ self.new.max + 1 }
         ensures filled { OnOk result (HoldsEnough self.new (S.left from.new) want) }
         ensures fault { IfErr result (λ fault. fault ≡ TraceFault.ReadFault) }
+        ensures no_fault { OnOk result (S.faults from.new ≡ S.faults from.old) }
         ensures counted { OnErr result (CountsFault (S.faults from.old) (S.faults from.new)) }
         ensures never_falls { S.faults from.old ≤ S.faults from.new }
     {
@@ -191,6 +198,7 @@ impl Reader {
             HoldsRecord self.new header.time header.port header.size)) }
         ensures none { IfOk result (λ found. IfNone found (HoldsNone self.new (S.left from.new))) }
         ensures fault { IfErr result (λ fault. fault ≡ TraceFault.ReadFault) }
+        ensures no_fault { OnOk result (S.faults from.new ≡ S.faults from.old) }
         ensures counted { OnErr result (CountsFault (S.faults from.old) (S.faults from.new)) }
         ensures never_falls { S.faults from.old ≤ S.faults from.new }
     {

@@ -100,6 +100,7 @@ impl Window {
         ensures payload { self.new.payload ≡ [] }
         ensures bounded { length self.new.held ≤ max most (length self.old.held) }
         ensures filled { OnOk result ((want ≤ length self.new.held) ⊎ IsAtEnd (S.left from.new)) }
+        ensures no_fault { OnOk result (S.faults from.new ≡ S.faults from.old) }
         ensures counted { OnErr result (CountsFault (S.faults from.old) (S.faults from.new)) }
         ensures never_falls { S.faults from.old ≤ S.faults from.new }
     {
@@ -151,6 +152,7 @@ impl Window {
         ensures bounded { length self.new.held ≤ most }
         ensures count { IfOk result (λ count. length self.new.held ≡ length self.old.held + count) }
         ensures end { IfOk result (λ count. count ≡ 0 → IsAtEnd (S.left from.new)) }
+        ensures no_fault { OnOk result (S.faults from.new ≡ S.faults from.old) }
         ensures counted { OnErr result (CountsFault (S.faults from.old) (S.faults from.new)) }
         ensures never_falls { S.faults from.old ≤ S.faults from.new }
     {
@@ -177,6 +179,7 @@ fn read_between<S: Source>(
         Gives (S.left from.old) (slice_range buffer.new.items at (at + count)) (S.left from.new)) }
     ensures end { IfOk result (λ count. count ≡ 0 → IsAtEnd (S.left from.new)) }
     ensures failed { OnErr result (S.left from.new ≡ S.left from.old) }
+    ensures no_fault { OnOk result (S.faults from.new ≡ S.faults from.old) }
     ensures counted { OnErr result (CountsFault (S.faults from.old) (S.faults from.new)) }
     ensures never_falls { S.faults from.old ≤ S.faults from.new }
 {

@@ -8,7 +8,7 @@ invariant-loop-self g l = record {
   payload : l.self.payload ≡ [];
   room : l.want ≤ l.self.room;
   bounded : length l.self.held ≤ max l.most (length l.fn.self.held);
-  faults : g.S.Source.faults l.fn.from ≤ g.S.Source.faults l.from;
+  faults : g.S.Source.faults l.from ≡ g.S.Source.faults l.fn.from;
 }
 
 abbrev pub decreases-loop-self : goal.decreases-loop-self

@@ -1,0 +1,195 @@
+-- How far a repair has come, over all flows. No public contract cites what stands here.
+use Rattle.std.specs.Prelude.{◌≡◌, ◌≢◌, ◌+◌, ◌≤◌, ◌<◌, ◌^◌, ◌⊎◌, ℕ, ⊤, Bool, true, false, Option, None, Some, IfSome, IsSome, Result, Err, List, [], ◌∷◌, ◌++◌, length, map, nat_lt, slice_index}
+use Rattle.std.specs.List.{Contains, slice_index_or}
+use Rattle.fg_io.specs.Faults.{CountsFault}
+use Rattle.fg_io.specs.Outlet.{Lanes, lane_of, lane_bytes, WhereTold}
+use Rattle.fg_trace.specs.Reader.{ReaderState, StandsAfter}
+use Rattle.fg_trace.specs.Trace.{Record, Ending, NotTrace, IsTrace}
+use Rattle.fg_flows.specs.declared.Plan.{Plan}
+use Rattle.fg_flows.specs.Plan.{PlanFits}
+use Rattle.fg_desk.specs.State.{State}
+use Rattle.fg_report.specs.declared.flow_sum.FlowSum.{FlowSum}
+use Rattle.fg_report.specs.declared.tail.Tail.{Tail}
+use Rattle.fg_report.specs.declared.tail.Tail.TheVariants as tail
+use Rattle.fg_repair.specs.declared.engine.Engine.{Engine}
+use Rattle.fg_repair.specs.declared.fault.Fault.{Fault}
+use Rattle.fg_repair.specs.declared.fault.Fault.TheVariants.{Write}
+use Rattle.fg_repair.specs.declared.flow.Flow.{Flow}
+use Rattle.fg_repair.specs.Flow.{FlowResult, IsFlowResult}
+use Rattle.fg_repair.specs.Lanes.{OthersStay, PutsAll, PutsAllPart}
+use Rattle.fg_repair.specs.Repair.{AreResults, lanes_of, others_of, tail_of}
+use Rattle.fg_repair.specs.Steps.{HasTaken, IsFrontOfLane, BeginsLane}
+
+-- Laws of one flow
+
+-- The records give a flow one result.
+abbrev pub OneFlowResult : Type 0
+OneFlowResult =
+    (window depth flow : ℕ) (records : List Record) (a b : FlowResult)
+    → IsFlowResult window depth records flow a → IsFlowResult window depth records flow b → a ≡ b
+
+-- What a flow has shown is the front of its lane in every trace that begins with the records taken.
+abbrev pub TakenIsFront : Type 0
+TakenIsFront =
+    (window depth flow : ℕ) (records : List Record) (state : State) (sum : FlowSum) (lane : List ℕ)
+    → HasTaken window depth flow records state sum lane → IsFrontOfLane window depth records flow lane
+
+-- The lanes
+
+-- The port's lane has gained the piece, and is still there if it was.
+pub record LaneGrown (before after : Lanes) (port : ℕ) (piece : List ℕ) : Type 0 where
+  pub bytes : lane_bytes after port ≡ lane_bytes before port ++ piece
+  pub kept : IsSome (lane_of before port) → IsSome (lane_of after port)
+
+-- So has each port's lane, of what is told for the port. All others are as they were.
+pub record LanesGrow (before : Lanes) (ports : List ℕ) (gained : ℕ → List ℕ) (after : Lanes) : Type 0 where
+  pub lanes : (port : ℕ) → Contains ports port → LaneGrown before after port (gained port)
+  pub others : OthersStay ports before after
+
+abbrev pub GrowAll : Option Lanes → List ℕ → (ℕ → List ℕ) → Option Lanes → Type 0
+GrowAll before ports gained after = WhereTold (λ old new. LanesGrow old ports gained new) before after
+
+-- Where the outlet tells its lanes, each port has one.
+abbrev pub AreThere : List ℕ → Option Lanes → Type 0
+AreThere ports lanes = IfSome lanes (λ told. (port : ℕ) → Contains ports port → IsSome (lane_of told port))
+
+-- While records are taken
+
+-- One flow has taken its part of these records and has shown these bytes.
+pub record FlowStands (plan : Plan) (records : List Record) (port : ℕ) (flow : Flow) (lane : List ℕ) : Type 0 where
+  pub port_is : flow.sum.port ≡ port
+  pub window_is : flow.desk.state.window ≡ plan.window
+  pub depth_is : flow.desk.state.depth ≡ plan.depth
+  pub taken : HasTaken plan.window plan.depth port records flow.desk.state flow.sum lane
+
+-- So has each flow of the plan, and the records of no flow are counted.
+pub record EngineStands (plan : Plan) (records : List Record) (engine : Engine) (gained : ℕ → List ℕ) : Type 0 where
+  pub count : length engine.flows.items ≡ length plan.table
+  pub flows : (k : ℕ) (d : Flow) → k < length plan.table
+      → FlowStands plan records (slice_index plan.table k) (slice_index_or engine.flows.items k d) (gained (slice_index plan.table k))
+  pub tray : engine.player.tray.window ≡ plan.window
+  pub other : engine.other ≡ others_of plan.table records
+
+-- It stands so after few records.
+pub record IsRunning (plan : Plan) (engine : Engine) : Type 0 where
+  pub records : List Record
+  pub gained : ℕ → List ℕ
+  pub stands : EngineStands plan records engine gained
+  pub few : length records < 2 ^ 43
+
+-- It stands so, and each flow's lane is there and has gained what the flow has shown.
+pub record HasCome (plan : Plan) (records : List Record) (engine : Engine) (before after : Option Lanes) : Type 0 where
+  pub gained : ℕ → List ℕ
+  pub stands : EngineStands plan records engine gained
+  pub grow : GrowAll before plan.table gained after
+  pub there : AreThere plan.table after
+
+-- A fault came: what each lane has gained is its front, in every trace that begins with these records.
+pub record BreaksAfter (plan : Plan) (records : List Record) (before after : Option Lanes) : Type 0 where
+  pub gained : ℕ → List ℕ
+  pub grow : GrowAll before plan.table gained after
+  pub fronts : (port : ℕ) → Contains plan.table port → IsFrontOfLane plan.window plan.depth records port (gained port)
+
+-- What a fault leaves of the lanes of the input's trace.
+pub record LanesPart (plan : Plan) (first : Option (List ℕ)) (before after : Option Lanes) : Type 0 where
+  pub others : WhereTold (OthersStay plan.table) before after
+  pub front : IfSome first (λ bytes. (records : List Record) (results : List FlowResult) (end : Ending)
+      → IsTrace bytes plan.max records end → AreResults plan records results
+      → PutsAllPart before plan.table (lanes_of results) after)
+
+-- The reader stands after the records that the engine has taken.
+pub record IsUnderway
+    (plan : Plan) (first now : Option (List ℕ)) (reader : ReaderState) (engine : Engine) (before after : Option Lanes) : Type 0 where
+  pub records : List Record
+  pub stands : StandsAfter reader first now records
+  pub come : HasCome plan records engine before after
+
+-- The trace is one, and ends so.
+abbrev pub TellsTail : Ending → Tail → Type 0
+TellsTail (NotTrace n) told = ⊥
+TellsTail end told = told ≡ tail_of end
+
+-- Such a tail is found at the input's end.
+abbrev pub IsReadToEnd : Tail → Type 0
+IsReadToEnd tail.Ended = ⊤
+IsReadToEnd (tail.Cut n) = ⊤
+IsReadToEnd (tail.TooLong n) = ⊥
+
+-- All records of the trace were taken, and it ends so.
+pub record TookAll
+    (plan : Plan) (first : Option (List ℕ)) (engine : Engine) (tail : Tail) (before after : Option Lanes) : Type 0 where
+  pub records : List Record
+  pub end : Ending
+  pub of_input : IfSome first (λ bytes. IsTrace bytes plan.max records end)
+  pub tells : TellsTail end tail
+  pub few : length records < 2 ^ 43
+  pub come : HasCome plan records engine before after
+
+-- At the end
+
+-- The engine has taken some records, as a plan has it.
+pub record IsReady (engine : Engine) (lanes : Option Lanes) : Type 0 where
+  pub plan : Plan
+  pub records : List Record
+  pub before : Option Lanes
+  pub fits : PlanFits plan
+  pub few : length records < 2 ^ 43
+  pub come : HasCome plan records engine before lanes
+
+-- One flow is flushed or not.
+abbrev pub FlowEnds : Bool → Plan → List Record → ℕ → Flow → List ℕ → Type 0
+FlowEnds true plan records port flow lane =
+    IsFlowResult plan.window plan.depth records port (record { lane = lane; sum = flow.sum })
+FlowEnds false plan records port flow lane = FlowStands plan records port flow lane
+
+-- The first flows are flushed.
+pub record IsFlushing
+    (plan : Plan) (records : List Record) (count : ℕ) (flows : List Flow) (before after : Option Lanes) : Type 0 where
+  pub gained : ℕ → List ℕ
+  pub ends : (k : ℕ) (d : Flow) → k < length plan.table
+      → FlowEnds (nat_lt k count) plan records (slice_index plan.table k) (slice_index_or flows k d) (gained (slice_index plan.table k))
+  pub grow : GrowAll before plan.table gained after
+  pub there : AreThere plan.table after
+
+-- A fault came meanwhile: what each lane has gained is its front in the trace of these records.
+pub record BreaksAtFlush (plan : Plan) (records : List Record) (before after : Option Lanes) : Type 0 where
+  pub gained : ℕ → List ℕ
+  pub grow : GrowAll before plan.table gained after
+  pub begin : (port : ℕ) → Contains plan.table port → BeginsLane plan.window plan.depth records port (gained port)
+
+-- The flows' counts.
+abbrev pub sums_of : List Flow → List FlowSum
+sums_of flows = map (λ flow. flow.sum) flows
+
+-- All flows are flushed: these are the results.
+pub record HasEnded
+    (plan : Plan) (records : List Record) (flows : List Flow) (before after : Option Lanes) : Type 0 where
+  pub results : List FlowResult
+  pub are_results : AreResults plan records results
+  pub sums : map (λ result. result.sum) results ≡ sums_of flows
+  pub puts : PutsAll before plan.table (lanes_of results) after
+
+-- The lanes are those of the input's trace.
+pub record LanesWhole
+    (plan : Plan) (first : Option (List ℕ)) (engine : Engine) (tail : Tail) (before after : Option Lanes) : Type 0 where
+  pub records : List Record
+  pub end : Ending
+  pub of_input : IfSome first (λ bytes. IsTrace bytes plan.max records end)
+  pub tells : TellsTail end tail
+  pub ended : HasEnded plan records engine.flows.items before after
+  pub other : engine.other ≡ others_of plan.table records
+
+-- Faults
+
+-- A count of faults over a call: it has counted one where the call answers this cause, and else it stands still.
+pub record CountsFor {A : Type 0} (cause : Fault) (result : Result A Fault) (before after : ℕ) : Type 0 where
+  pub counted : result ≡ Err cause → CountsFault before after
+  pub still : result ≢ Err cause → after ≡ before
+  pub rises : before ≤ after
+
+-- The counts of two objects that are written.
+pub record CountsWrites {A : Type 0} (result : Result A Fault) (one one' other other' : ℕ) : Type 0 where
+  pub counted : result ≡ Err Write → CountsFault one one' ⊎ CountsFault other other'
+  pub still : result ≢ Err Write → (one' ≡ one) × (other' ≡ other)
+  pub one_rises : one ≤ one'
+  pub other_rises : other ≤ other'

@@ -1,0 +1,232 @@
+//! All flows of a repair, from the first record to the end of the lanes.
+ghost use Rattle.std.specs.Prelude.{◌≡◌, ◌≢◌, ◌≤◌, ◌<◌, ◌^◌, ◌++◌, ℕ, Option, List, [], ◌∷◌, length, None, Err, IfOk, IfSome, IfNone, OnOk, OnErr};
+ghost use Rattle.std.specs.Io.KnownBytes.{IsAtEnd};
+ghost use Rattle.fg_io.specs.Faults.{CountsFault};
+ghost use Rattle.fg_io.specs.Outlet.{Lanes};
+ghost use Rattle.fg_trace.specs.Reader.{StandsAfter};
+ghost use Rattle.fg_trace.specs.Trace.{Record};
+ghost use Rattle.fg_flows.specs.declared.Plan.{Plan};
+ghost use Rattle.fg_flows.specs.Plan.{PlanFits};
+ghost use Rattle.fg_repair.specs.Engine.{EngineStands, IsRunning, HasCome, BreaksAfter, LanesPart, IsUnderway, TookAll, IsReadToEnd, IsReady, HasEnded, BreaksAtFlush, LanesWhole, GrowAll, AreThere, CountsFor};
+
+use crate::fault::Fault;
+use crate::flow::Flow;
+use crate::laws::{one_flow_result, taken_is_front};
+use crate::player::Player;
+use fg_flows::laws::one_flow_has_a_port;
+use fg_flows::{Plan, Table};
+use fg_io::{Failed, Outlet, Source};
+use fg_report::Tail;
+use fg_trace::laws::{one_trace, walks_the_front};
+use fg_trace::{Reader, Step, TraceFault};
+use std::alloc::{AllocError, Global};
+
+/// The flows in the order of the plan, and what they share.
+#[derive(Drop)]
+pub(crate) struct Engine {
+    pub(crate) flows: Vec<Flow>,
+    pub(crate) player: Player,
+    /// Records on a port of no flow.
+    pub(crate) other: u64,
+}
+
+impl Engine {
+    /// The flows of the plan, before the first record. All their memory is taken here.
+    pub(crate) fn new(alloc: Global, plan: &Plan) -> Result<Engine, AllocError>
+        requires { PlanFits plan.now }
+        ensures { IfOk result (λ engine. EngineStands plan.now [] engine (λ _. [])) }
+    {
+        let count = plan.table.count();
+        let mut flows = Vec::with_capacity(alloc, count)?;
+        for i in 0..count {
+            flows.push(Flow::new(
+                alloc,
+                plan.table.port(i),
+                plan.window,
+                plan.depth,
+            )?)?;
+        }
+        let player = Player::new(alloc, plan.window)?;
+        Ok(Engine {
+            flows,
+            player,
+            other: 0,
+        })
+    }
+
+    /// Takes a record: it goes to the flow that has its port, or is counted as one of no flow.
+    fn take<O: Outlet>(
+        &mut self,
+        alloc: Global,
+        plan: &Plan,
+        port: u16,
+        datagram: &[u8],
+        lanes: &mut O,
+    ) -> Result<(), Fault>
+        requires fits { PlanFits plan.now }
+        requires running { IsRunning plan.now self.old }
+        ensures takes { OnOk result ((before : Option Lanes) (records : List Record) (r : Record)
+            → HasCome plan.now records self.old before (O.lanes lanes.old)
+            → r.port ≡ port → r.datagram ≡ datagram.now
+            → HasCome plan.now (records ++ r ∷ []) self.new before (O.lanes lanes.new)) }
+        ensures breaks { OnErr result ((before : Option Lanes) (records : List Record) (r : Record)
+            → HasCome plan.now records self.old before (O.lanes lanes.old)
+            → r.port ≡ port → r.datagram ≡ datagram.now
+            → BreaksAfter plan.now (records ++ r ∷ []) before (O.lanes lanes.new)) }
+        ensures not_read { result ≢ Err Fault.Read }
+        ensures writes { CountsFor Fault.Write result (O.faults lanes.old) (O.faults lanes.new) }
+    {
+        taken_is_front();
+        one_flow_has_a_port();
+        match plan.table.find(port) {
+            Some((i, kind)) => {
+                self.flows[i].take(alloc, &mut self.player, kind, datagram, lanes)?;
+            }
+            None => self.other += 1,
+        }
+        Ok(())
+    }
+
+    /// Takes the next record, where there is one; else it answers how the trace ends.
+    fn take_next<S: Source, O: Outlet>(
+        &mut self,
+        alloc: Global,
+        plan: &Plan,
+        reader: &mut Reader,
+        input: &mut S,
+        lanes: &mut O,
+    ) -> Result<Option<Tail>, Fault>
+        requires fits { PlanFits plan.now }
+        requires underway { (first : Option (List ℕ)) × (before : Option Lanes)
+            × IsUnderway plan.now first (S.left input.old) reader.old self.old before (O.lanes lanes.old) }
+        requires open { reader.old.kept ≡ None }
+        requires max { reader.old.max ≡ plan.now.max }
+        ensures more { IfOk result (λ end. IfNone end ((first : Option (List ℕ)) (before : Option Lanes)
+            → IsUnderway plan.now first (S.left input.old) reader.old self.old before (O.lanes lanes.old)
+            → IsUnderway plan.now first (S.left input.new) reader.new self.new before (O.lanes lanes.new))) }
+        ensures ends { IfOk result (λ end. IfSome end (λ tail. (first : Option (List ℕ)) (before : Option Lanes)
+            → IsUnderway plan.now first (S.left input.old) reader.old self.old before (O.lanes lanes.old)
+            → TookAll plan.now first self.new tail before (O.lanes lanes.new))) }
+        ensures part { OnErr result ((first : Option (List ℕ)) (before : Option Lanes)
+            → IsUnderway plan.now first (S.left input.old) reader.old self.old before (O.lanes lanes.old)
+            → LanesPart plan.now first before (O.lanes lanes.new)) }
+        ensures all_read { IfOk result (λ end. IfSome end (λ tail. IsReadToEnd tail → IsAtEnd (S.left input.new))) }
+        ensures open { IfOk result (λ end. IfNone end (reader.new.kept ≡ None)) }
+        ensures max { reader.new.max ≡ reader.old.max }
+        ensures place { IfOk result (λ end. IfNone end (reader.old.place < reader.new.place)) }
+        ensures within { reader.new.place ≤ reader.new.max }
+        ensures reads { CountsFor Fault.Read result (S.faults input.old) (S.faults input.new) }
+        ensures writes { CountsFor Fault.Write result (O.faults lanes.old) (O.faults lanes.new) }
+    {
+        walks_the_front();
+        taken_is_front();
+        match reader.next(input) {
+            Ok(Step::Datagram { port, .. }) => {
+                self.take(alloc, plan, port, reader.payload(), lanes)?;
+                Ok(None)
+            }
+            Ok(Step::End) => Ok(Some(Tail::Ended)),
+            Err(TraceFault::Cut(place)) => Ok(Some(Tail::Cut(place))),
+            Err(TraceFault::TooLong(place)) => Ok(Some(Tail::TooLong(place))),
+            Err(TraceFault::ReadFault | TraceFault::NotTrace(_)) => Err(Fault::Read),
+        }
+    }
+
+    /// Takes all records that are left, and answers how the trace ends.
+    fn take_all<S: Source, O: Outlet>(
+        &mut self,
+        alloc: Global,
+        plan: &Plan,
+        reader: &mut Reader,
+        input: &mut S,
+        lanes: &mut O,
+    ) -> Result<Tail, Fault>
+        requires fits { PlanFits plan.now }
+        requires underway { (first : Option (List ℕ)) × (before : Option Lanes)
+            × IsUnderway plan.now first (S.left input.old) reader.old self.old before (O.lanes lanes.old) }
+        requires open { reader.old.kept ≡ None }
+        requires max { reader.old.max ≡ plan.now.max }
+        ensures whole { IfOk result (λ tail. (first : Option (List ℕ)) (before : Option Lanes)
+            → IsUnderway plan.now first (S.left input.old) reader.old self.old before (O.lanes lanes.old)
+            → TookAll plan.now first self.new tail before (O.lanes lanes.new)) }
+        ensures part { OnErr result ((first : Option (List ℕ)) (before : Option Lanes)
+            → IsUnderway plan.now first (S.left input.old) reader.old self.old before (O.lanes lanes.old)
+            → LanesPart plan.now first before (O.lanes lanes.new)) }
+        ensures all_read { IfOk result (λ tail. IsReadToEnd tail → IsAtEnd (S.left input.new)) }
+        ensures reads { CountsFor Fault.Read result (S.faults input.old) (S.faults input.new) }
+        ensures writes { CountsFor Fault.Write result (O.faults lanes.old) (O.faults lanes.new) }
+    {
+        loop {
+            if let Some(tail) = self.take_next(alloc, plan, reader, input, lanes)? {
+                return Ok(tail);
+            }
+        }
+    }
+
+    /// Flushes the flows, in their order.
+    fn flush<O: Outlet>(&mut self, lanes: &mut O) -> Result<(), Fault>
+        requires { IsReady self.old (O.lanes lanes.old) }
+        ensures ends { OnOk result ((plan : Plan) (records : List Record) (before : Option Lanes)
+            → PlanFits plan → HasCome plan records self.old before (O.lanes lanes.old)
+            → HasEnded plan records self.new.flows.items before (O.lanes lanes.new)) }
+        ensures breaks { OnErr result ((plan : Plan) (records : List Record) (before : Option Lanes)
+            → PlanFits plan → HasCome plan records self.old before (O.lanes lanes.old)
+            → BreaksAtFlush plan records before (O.lanes lanes.new)) }
+        ensures other { self.new.other ≡ self.old.other }
+        ensures not_read { result ≢ Err Fault.Read }
+        ensures writes { CountsFor Fault.Write result (O.faults lanes.old) (O.faults lanes.new) }
+    {
+        taken_is_front();
+        one_flow_result();
+        one_flow_has_a_port();
+        for flow in self.flows.iter_mut() {
+            flow.flush(&mut self.player, lanes)?;
+        }
+        Ok(())
+    }
+
+    /// Writes the lanes of a trace, whose magic the reader has found, and answers how the trace ends.
+    pub(crate) fn write_lanes<S: Source, O: Outlet>(
+        &mut self,
+        alloc: Global,
+        plan: &Plan,
+        reader: &mut Reader,
+        input: &mut S,
+        lanes: &mut O,
+    ) -> Result<Tail, Fault>
+        requires fits { PlanFits plan.now }
+        requires new { EngineStands plan.now [] self.old (λ _. []) }
+        requires begun { (first : Option (List ℕ)) × StandsAfter reader.old first (S.left input.old) [] }
+        requires open { reader.old.kept ≡ None }
+        requires max { reader.old.max ≡ plan.now.max }
+        ensures whole { IfOk result (λ tail. (first : Option (List ℕ))
+            → StandsAfter reader.old first (S.left input.old) []
+            → LanesWhole plan.now first self.new tail (O.lanes lanes.old) (O.lanes lanes.new)) }
+        ensures part { OnErr result ((first : Option (List ℕ)) → StandsAfter reader.old first (S.left input.old) []
+            → LanesPart plan.now first (O.lanes lanes.old) (O.lanes lanes.new)) }
+        ensures all_read { IfOk result (λ tail. IsReadToEnd tail → IsAtEnd (S.left input.new)) }
+        ensures reads { CountsFor Fault.Read result (S.faults input.old) (S.faults input.new) }
+        ensures writes { CountsFor Fault.Write result (O.faults lanes.old) (O.faults lanes.new) }
+    {
+        one_trace();
+        make_lanes(&plan.table, lanes)?;
+        let tail = self.take_all(alloc, plan, reader, input, lanes)?;
+        self.flush(lanes)?;
+        Ok(tail)
+    }
+}
+
+/// Makes each flow's lane, by an empty put.
+fn make_lanes<O: Outlet>(table: &Table, lanes: &mut O) -> Result<(), Failed>
+    ensures made { OnOk result (GrowAll (O.lanes lanes.old) table.now (λ _. []) (O.lanes lanes.new)) }
+    ensures there { OnOk result (AreThere table.now (O.lanes lanes.new)) }
+    ensures part { OnErr result (GrowAll (O.lanes lanes.old) table.now (λ _. []) (O.lanes lanes.new)) }
+    ensures no_fault { OnOk result (O.faults lanes.new ≡ O.faults lanes.old) }
+    ensures counted { OnErr result (CountsFault (O.faults lanes.old) (O.faults lanes.new)) }
+    ensures never_falls { O.faults lanes.old ≤ O.faults lanes.new }
+{
+    for i in 0..table.count() {
+        lanes.put(table.port(i), &[])?;
+    }
+    Ok(())
+}
