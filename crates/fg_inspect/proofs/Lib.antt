@@ -1,0 +1,5 @@
+-- Lemmas on the definitions of this crate.
+mod Readings
+mod Telling
+mod Texts
+mod Walking
