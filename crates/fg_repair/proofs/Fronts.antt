@@ -1,19 +1,14 @@
 -- What the records of a flow give: one reading, one run, and a lane that begins with what was shown so far.
-use Rattle.std.proofs.Common.{◌≡◌, ℕ, ◌+◌, Option, List, [], ◌∷◌, ◌++◌, refl, sym, ap, ◌∙◌, subst, arith, append_assoc}
-use Rattle.std.specs.List.{All, AllZip, filter, flat_map}
+use Rattle.std.proofs.Common.{◌≡◌, ℕ, List, [], ◌∷◌, ◌++◌, refl, sym, ap, ◌∙◌, subst, arith}
+use Rattle.std.specs.List.{All, AllZip, flat_map}
 use Rattle.std.proofs.lemmas.Grind.{flat_map-append}
 use Rattle.std.proofs.lemmas.List.Elements.{All-nil, All-cons, filter-append}
-use Rattle.fg_fechead.specs.declared.Parity.{Parity as ParityRead}
 use Rattle.fg_fechead.specs.Laws.{ReadsOneWay as ParityReadsOneWay}
-use Rattle.fg_io.specs.Prefix.{IsPrefix}
 use Rattle.fg_rtp.specs.Laws.{ReadsOneWay, ReadsMediaWords}
 use Rattle.fg_trace.specs.Trace.{Record}
 use Rattle.fg_flows.specs.declared.Kind.{Kind}
 use Rattle.fg_flows.specs.declared.Kind.TheVariants as kind
 use Rattle.fg_flows.specs.Flows.{port_of}
-use Rattle.fg_desk.specs.declared.reply.Reply.{Reply}
-use Rattle.fg_desk.specs.declared.run.Stream.{Stream}
-use Rattle.fg_desk.specs.Admission.{Parity}
 use Rattle.fg_desk.specs.Laws.{IsRead, OneRun, TakenPlaysComeFirst}
 use Rattle.fg_desk.specs.Play.{Play}
 use Rattle.fg_desk.specs.Run.{Arrival, carries, protects, refused, IsRun}

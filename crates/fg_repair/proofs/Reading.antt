@@ -1,143 +1,46 @@
--- How the records of a trace are taken, from where the reader stands.
-use Rattle.std.proofs.Common.{◌≡◌, ◌⊎◌, inl, inr, ℕ, suc, ◌+◌, ◌<◌, ◌≤◌, ◌^◌, Option, Some, None, IfSome, IsSome, Result, Ok, Err, List, [], ◌∷◌, ◌++◌, length, take, drop, refl, sym, ap, ◌∙◌, subst, arith, length-append}
-use Rattle.std.specs.List.{AllZip, Contains, flat_map}
-use Rattle.std.proofs.lemmas.List.{take-append-drop}
-use Rattle.fg_io.specs.Outlet.{Lanes, WhereTold}
-use Rattle.fg_flows.specs.declared.Plan.{Plan}
-use Rattle.fg_flows.specs.Plan.{PlanFits}
-use Rattle.fg_report.specs.declared.tail.Tail.{Tail}
-use Rattle.fg_report.specs.declared.tail.Tail.TheVariants as tail
-use Rattle.fg_trace.specs.declared.step.Step.TheVariants.{Datagram, End}
-use Rattle.fg_trace.specs.declared.step.TraceFault.{TraceFault}
-use Rattle.fg_trace.specs.declared.step.TraceFault.TheVariants as fault
-use Rattle.fg_trace.specs.Laws.{WalksTheFront}
-use Rattle.fg_trace.specs.Reader.{Answer, ReaderState, StandsAfter, Walks}
-use Rattle.fg_trace.specs.Trace.{Record, Ending, Ended, Cut, TooLong, IsTrace, spelling, trace_of}
-use Rattle.fg_repair.specs.declared.engine.Engine.{Engine}
-use Rattle.fg_repair.specs.Engine.{TakenIsFront, LanesGrow, LaneGrown, GrowAll, EngineStands, IsRunning, HasCome, BreaksAfter, LanesPart, IsUnderway, TookAll, TellsTail}
-use Rattle.fg_repair.specs.Flow.{FlowResult, IsFlowResult}
-use Rattle.fg_repair.specs.Lanes.{OthersStay, LaneGainsPart, LanesGainPart, PutsAllPart}
-use Rattle.fg_repair.specs.Repair.{AreResults, lanes_of}
-use Rattle.fg_repair.specs.Steps.{IsFrontOfLane}
-use Rattle.fg_repair.proofs.Growing.{told_map}
-use Rattle.fg_repair.proofs.Standing.{front_at}
+-- How the records of a flow are read: in one way each.
+use Rattle.std.proofs.Common.{◌≡◌, ◌≢◌, ℕ, List, [], Option, Some, None, refl, subst}
+use Rattle.fg_words.specs.declared.Word.{Word}
+use Rattle.fg_fechead.specs.declared.Parity.{Parity as ParityRead}
+use Rattle.fg_fechead.specs.ParityDatagram.{IsParityDatagram}
+use Rattle.fg_flows.specs.declared.Kind.{Kind}
+use Rattle.fg_flows.specs.declared.Kind.TheVariants.{Media, Column, Row}
+use Rattle.fg_desk.specs.declared.reply.Reply.{Reply}
+use Rattle.fg_desk.specs.State.{State}
+use Rattle.fg_desk.specs.Admission.{AdmitsParity}
+use Rattle.fg_desk.specs.Run.{Arrival, protects, refused, Takes}
+use Rattle.fg_repair.specs.Flow.{IsReadAs, stream_of, parity_of}
 
--- Few records
+pub parity_is_read :
+    (kind : Kind) (bytes : List ℕ) (parity : ParityRead) → kind ≢ Media → IsParityDatagram bytes parity
+    → IsReadAs kind bytes (protects (stream_of kind) (parity_of parity))
+parity_is_read Media bytes parity other is = absurd (other refl)
+parity_is_read Column bytes parity other is = (refl, (parity, is, refl))
+parity_is_read Row bytes parity other is = (refl, (parity, is, refl))
 
-spelled_some : (r : Record) → 1 ≤ length (spelling r)
-spelled_some r = omega arith
+parity_is_refused :
+    (kind : Kind) (bytes : List ℕ) → kind ≢ Media → ((parity : ParityRead) → ¬ IsParityDatagram bytes parity)
+    → IsReadAs kind bytes (refused (stream_of kind))
+parity_is_refused Media bytes other none = absurd (other refl)
+parity_is_refused Column bytes other none = (refl, none)
+parity_is_refused Row bytes other none = (refl, none)
 
--- a record is spelled by one byte at least
-few_spelled : (records : List Record) → length records ≤ length (flat_map spelling records)
-few_spelled [] = omega arith
-few_spelled (r ∷ records) = omega (arith, spelled_some r, few_spelled records, length-append (spelling r) (flat_map spelling records))
+-- A datagram on a parity port that was read so, and does so.
+abbrev ParityTakes : State → Kind → List ℕ → Option Reply → State → Type 0
+ParityTakes old kind bytes reply new = (arrival : Arrival) × IsReadAs kind bytes arrival × Takes old arrival [] reply new
 
-pub few_records : (plan : Plan) → PlanFits plan → (first now : Option (List ℕ)) (reader : ReaderState) (records : List Record) → reader.max ≡ plan.max → StandsAfter reader first now records → length records < 2 ^ 43
-few_records plan fits first now reader records max h =
-    let most : plan.max ≤ 2 ^ 42 = fits.max.1 in
-    let within : length (trace_of records) ≤ plan.max = subst (λ n. length (trace_of records) ≤ n) max (subst (λ n. n ≤ reader.max) h.place h.within) in
-    omega (arith, few_spelled records)
+pub refused_takes :
+    (old : State) (bytes : List ℕ) → ((parity : ParityRead) → ¬ IsParityDatagram bytes parity)
+    → (kind : Kind) → kind ≢ Media → ParityTakes old kind bytes None old
+refused_takes old bytes none kind other = (refused (stream_of kind), parity_is_refused kind bytes other none, (refl, refl))
 
-pub running : (plan : Plan) → PlanFits plan → (first now : Option (List ℕ)) (reader : ReaderState) (engine : Engine) (before after : Option Lanes) → reader.max ≡ plan.max → IsUnderway plan first now reader engine before after → IsRunning plan engine
-running plan fits first now reader engine before after max h = record {
-  records = h.records;
-  gained = h.come.gained;
-  stands = h.come.stands;
-  few = few_records plan fits first now reader h.records max h.stands;
-}
-
--- Parts
-
--- what holds of each port of a list and its result
-pub each_part : (old new : Lanes) (window depth : ℕ) (records : List Record) (ports : List ℕ) (results : List FlowResult) → AllZip (IsFlowResult window depth records) ports results → ((port : ℕ) → Contains ports port → (result : FlowResult) → IsFlowResult window depth records port result → LaneGainsPart old new port result.lane) → AllZip (LaneGainsPart old new) ports (lanes_of results)
-each_part old new window depth records [] [] h f = tt
-each_part old new window depth records [] (r ∷ results) h f = absurd h
-each_part old new window depth records (p ∷ ports) [] h f = absurd h
-each_part old new window depth records (p ∷ ports) (r ∷ results) h f =
-    (f p (0, omega arith, refl) r h.0, each_part old new window depth records ports results h.1 (λ port c. f port (suc c.0, omega (arith, c.1), c.2)))
-
-grown_part : (plan : Plan) (records later : List Record) (gained : ℕ → List ℕ) → ((port : ℕ) → Contains plan.table port → IsFrontOfLane plan.window plan.depth records port (gained port)) → (results : List FlowResult) → AreResults plan (records ++ later) results → (old new : Lanes) → LanesGrow old plan.table gained new → LanesGainPart old plan.table (lanes_of results) new
-grown_part plan records later gained fronts results are old new g = record {
-  lanes = each_part old new plan.window plan.depth (records ++ later) plan.table results are (λ port c result h. record {
-    part = gained port;
-    front = fronts port c later result h;
-    bytes = (g.lanes port c).bytes;
-    kept = (g.lanes port c).kept;
-  });
-  others = g.others;
-}
-
-pub others_told : (ports : List ℕ) (gained : ℕ → List ℕ) (before after : Option Lanes) → GrowAll before ports gained after → WhereTold (OthersStay ports) before after
-others_told ports gained before after g = told_map (λ old new. LanesGrow old ports gained new) (OthersStay ports) (λ old new h. h.others) before after g
-
-pub part_in : (plan : Plan) (records later all : List Record) (before after : Option Lanes) → BreaksAfter plan records before after → all ≡ records ++ later → (results : List FlowResult) → AreResults plan all results → PutsAllPart before plan.table (lanes_of results) after
-part_in plan records later all before after h e results are =
-    told_map (λ old new. LanesGrow old plan.table h.gained new) (λ old new. LanesGainPart old plan.table (lanes_of results) new)
-    (grown_part plan records later h.gained h.fronts results (subst (λ (rs : List Record). AreResults plan rs results) e are)) before after h.grow
-
-break_front : WalksTheFront → (plan : Plan) (first now : Option (List ℕ)) (reader : ReaderState) (records : List Record) (before after : Option Lanes) → reader.max ≡ plan.max → StandsAfter reader first now records → BreaksAfter plan records before after → IfSome first (λ bytes. (all : List Record) (results : List FlowResult) (end : Ending) → IsTrace bytes plan.max all end → AreResults plan all results → PutsAllPart before plan.table (lanes_of results) after)
-break_front law plan None now reader records before after max stands h = tt
-break_front law plan (Some bytes) now reader records before after max stands h = λ all results end trace are.
-    let walked : records ≡ take (length records) all = law reader bytes now records all end stands (subst (λ n. IsTrace bytes n all end) (sym max) trace) in
-    let split : all ≡ records ++ drop (length records) all = sym (take-append-drop (length records) all) ∙ ap (λ t. t ++ drop (length records) all) (sym walked) in
-    part_in plan records (drop (length records) all) all before after h split results are
-
-pub broken_part : WalksTheFront → (plan : Plan) (first now : Option (List ℕ)) (reader : ReaderState) (records : List Record) (before after : Option Lanes) → reader.max ≡ plan.max → StandsAfter reader first now records → BreaksAfter plan records before after → LanesPart plan first before after
-broken_part law plan first now reader records before after max stands h = record {
-  others = others_told plan.table h.gained before after h.grow;
-  front = break_front law plan first now reader records before after max stands h;
-}
-
--- A record
-
-pub part_at_record :
-    WalksTheFront → (plan : Plan) (first left now : Option (List ℕ)) (reader next : ReaderState) (engine : Engine) (before at after : Option Lanes) (answer : Answer) (time port size : ℕ) (datagram : List ℕ)
-    → next.max ≡ plan.max → answer ≡ Ok (Datagram time port size) → datagram ≡ next.payload
-    → ((records : List Record) → StandsAfter reader first left records → Walks answer next first now records)
-    → ((records : List Record) (r : Record) → HasCome plan records engine before at → r.port ≡ port → r.datagram ≡ datagram → BreaksAfter plan (records ++ r ∷ []) before after)
-    → IsUnderway plan first left reader engine before at → LanesPart plan first before after
-part_at_record law plan first left now reader next engine before at after answer time port size datagram max is payload walks breaks h =
-    let r : Record = record { time = time; port = port; datagram = next.payload } in
-    let stands : StandsAfter next first now (h.records ++ r ∷ []) = subst (λ (a : Answer). Walks a next first now h.records) is (walks h.records h.stands) in
-    broken_part law plan first now next (h.records ++ r ∷ []) before after max stands (breaks h.records r h.come refl (sym payload))
-
--- A read fault
-
-stands_still : (reader : ReaderState) (first now : Option (List ℕ)) (records : List Record) (why : TraceFault) → Walks (Err why) reader first now records → StandsAfter reader first now records
-stands_still reader first now records fault.ReadFault h = h
-stands_still reader first now records (fault.NotTrace n) h = h.0
-stands_still reader first now records (fault.TooLong n) h = h.0
-stands_still reader first now records (fault.Cut n) h = h.0
-
-come_breaks : TakenIsFront → (plan : Plan) (records : List Record) (engine : Engine) (before after : Option Lanes) → HasCome plan records engine before after → BreaksAfter plan records before after
-come_breaks law plan records engine before after h = record {
-  gained = h.gained;
-  grow = h.grow;
-  fronts = front_at law plan records engine h.gained h.stands;
-}
-
-pub part_at_fault :
-    WalksTheFront → TakenIsFront → (plan : Plan) (first left now : Option (List ℕ)) (reader next : ReaderState) (engine : Engine) (before at : Option Lanes) (why : TraceFault)
-    → next.max ≡ plan.max → ((records : List Record) → StandsAfter reader first left records → Walks (Err why) next first now records)
-    → IsUnderway plan first left reader engine before at → LanesPart plan first before at
-part_at_fault law front plan first left now reader next engine before at why max walks h =
-    broken_part law plan first now next h.records before at max (stands_still next first now h.records why (walks h.records h.stands)) (come_breaks front plan h.records engine before at h.come)
-
--- The end
-
-ended : (plan : Plan) (first : Option (List ℕ)) (reader : ReaderState) (records : List Record) (end : Ending) → reader.max ≡ plan.max → IfSome first (λ bytes. IsTrace bytes reader.max records end) → IfSome first (λ bytes. IsTrace bytes plan.max records end)
-ended plan first reader records end max h = subst (λ n. IfSome first (λ bytes. IsTrace bytes n records end)) max h
-
-pub took_all :
-    (plan : Plan) → PlanFits plan → (first left now : Option (List ℕ)) (reader next : ReaderState) (engine : Engine) (before at : Option Lanes) (end : Ending) (told : Tail)
-    → next.max ≡ plan.max → TellsTail end told
-    → ((records : List Record) → StandsAfter reader first left records → StandsAfter next first now records × IfSome first (λ bytes. IsTrace bytes next.max records end))
-    → IsUnderway plan first left reader engine before at → TookAll plan first engine told before at
-took_all plan fits first left now reader next engine before at end told max tells walks h = record {
-  records = h.records;
-  end = end;
-  of_input = ended plan first next h.records end max (walks h.records h.stands).1;
-  tells = tells;
-  few = few_records plan fits first now next h.records max (walks h.records h.stands).0;
-  come = h.come;
-}
+pub parity_takes :
+    (old : State) (bytes : List ℕ) (parity : ParityRead) (share : Word) (reply : Reply) (new : State)
+    → IsParityDatagram bytes parity → share ≡ parity.word
+    → AdmitsParity old (record (parity_of parity) { word = share }) reply new
+    → (kind : Kind) → kind ≢ Media → ParityTakes old kind bytes (Some reply) new
+parity_takes old bytes parity share reply new is same admits kind other = (
+  protects (stream_of kind) (parity_of parity),
+  parity_is_read kind bytes parity other is,
+  (refl, subst (λ (word : Word). AdmitsParity old (record (parity_of parity) { word = word }) reply new) same admits),
+)

@@ -1,5 +1,5 @@
 -- Answers of calls that may fail.
-use Rattle.std.proofs.Common.{Result, Ok, Err, OnErr, OnOk}
+use Rattle.std.proofs.Common.{Result, Ok, Err, OnErr}
 
 -- a fact for an `Err` that holds of any result
 pub on_err : {T E : Type 0} (r : Result T E) (P : Type 0) → P → OnErr r P

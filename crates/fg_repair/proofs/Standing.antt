@@ -1,6 +1,6 @@
 -- How the flows of a repair stand, record after record.
-use Rattle.std.proofs.Common.{◌≡◌, ◌≢◌, ◌⊎◌, inl, inr, ℕ, ◌+◌, ◌<◌, ◌==◌, ◌||◌, Bool, true, false, not, cond, Option, Some, None, List, [], ◌∷◌, ◌++◌, length, set, get_or, slice_index, refl, sym, ap, ◌∙◌, subst, arith, append_assoc, append-nil, zero-add, add-zero, ◌≤◌}
-use Rattle.std.specs.List.{All, AllZip, Contains, filter, count_by, list_any, slice_index_or}
+use Rattle.std.proofs.Common.{◌≡◌, ◌⊎◌, inl, inr, ℕ, ◌+◌, ◌<◌, Bool, true, false, not, cond, Option, List, [], ◌∷◌, ◌++◌, length, set, slice_index, refl, sym, ap, ◌∙◌, subst, arith, append_assoc, append-nil, zero-add, add-zero, ◌≤◌}
+use Rattle.std.specs.List.{AllZip, Contains, list_any, slice_index_or}
 use Rattle.std.specs.Vec.{with_item}
 use Rattle.std.proofs.lemmas.Bool.{cases_eq}
 use Rattle.std.proofs.lemmas.Bool.Decides.{nat_tests}
@@ -24,10 +24,10 @@ use Rattle.fg_repair.specs.declared.engine.Engine.{Engine}
 use Rattle.fg_repair.specs.declared.flow.Flow.{Flow}
 use Rattle.fg_repair.specs.declared.player.Player.{Player}
 use Rattle.fg_repair.specs.Engine.{TakenIsFront, FlowStands, EngineStands, HasCome, BreaksAfter}
-use Rattle.fg_repair.specs.Flow.{Arrives, records_of, is_of, IsFlowResult, FlowResult}
+use Rattle.fg_repair.specs.Flow.{Arrives, records_of, is_of, IsFlowResult}
 use Rattle.fg_repair.specs.Repair.{others_of}
 use Rattle.fg_repair.specs.Steps.{HasTaken, IsFrontOfLane, TakesRecord, BreaksAtRecord}
-use Rattle.fg_repair.proofs.Growing.{more, more_same, more_other, grow_more, there_more, contains_at}
+use Rattle.fg_repair.proofs.Lanes.{more, more_same, more_other, grow_more, there_more, contains_at}
 
 -- Before the first record
 
@@ -141,10 +141,10 @@ come_none plan engine port none before now records r h e =
 -- A record of a flow
 
 -- a fact of a flow's own settings, at the plan's
-moved : (P : ℕ → ℕ → ℕ → Type 0) (w w' d d' p p' : ℕ) → w ≡ w' → d ≡ d' → p ≡ p' → P w d p → P w' d' p'
+pub moved : (P : ℕ → ℕ → ℕ → Type 0) (w w' d d' p p' : ℕ) → w ≡ w' → d ≡ d' → p ≡ p' → P w d p → P w' d' p'
 moved P w w' d d' p p' ew ed ep h = subst (λ x. P x d' p') ew (subst (λ x. P w x p') ed (subst (λ x. P w d x) ep h))
 
-flow_taken : (plan : Plan) (records : List Record) (port : ℕ) (flow : Flow) (lane : List ℕ) → FlowStands plan records port flow lane → HasTaken flow.desk.state.window flow.desk.state.depth flow.sum.port records flow.desk.state flow.sum lane
+pub flow_taken : (plan : Plan) (records : List Record) (port : ℕ) (flow : Flow) (lane : List ℕ) → FlowStands plan records port flow lane → HasTaken flow.desk.state.window flow.desk.state.depth flow.sum.port records flow.desk.state flow.sum lane
 flow_taken plan records port flow lane h =
     moved (λ w d p. HasTaken w d p records flow.desk.state flow.sum lane) plan.window flow.desk.state.window plan.depth flow.desk.state.depth port flow.sum.port
     (sym h.window_is) (sym h.depth_is) (sym h.port_is) h.taken

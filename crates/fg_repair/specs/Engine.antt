@@ -1,19 +1,25 @@
 -- How far a repair has come, over all flows. No public contract cites what stands here.
-use Rattle.std.specs.Prelude.{◌≡◌, ◌≢◌, ◌+◌, ◌≤◌, ◌<◌, ◌^◌, ◌⊎◌, ℕ, ⊤, Bool, true, false, Option, None, Some, IfSome, IsSome, Result, Err, List, [], ◌∷◌, ◌++◌, length, map, nat_lt, slice_index}
+use Rattle.std.specs.Prelude.{◌≡◌, ◌≢◌, ◌≤◌, ◌<◌, ◌^◌, ◌⊎◌, ℕ, ⊤, Bool, true, false, Option, Some, IfSome, IsSome, Result, Ok, Err, List, [], ◌++◌, length, map, nat_lt, slice_index}
 use Rattle.std.specs.List.{Contains, slice_index_or}
 use Rattle.fg_io.specs.Faults.{CountsFault}
 use Rattle.fg_io.specs.Outlet.{Lanes, lane_of, lane_bytes, WhereTold}
+use Rattle.fg_trace.specs.declared.step.TraceFault.{TraceFault}
+use Rattle.fg_trace.specs.declared.step.TraceFault.TheVariants as fault
+use Rattle.fg_trace.specs.declared.step.Finish.{Finish}
+use Rattle.fg_trace.specs.declared.step.Finish.TheVariants as finish
 use Rattle.fg_trace.specs.Reader.{ReaderState, StandsAfter}
 use Rattle.fg_trace.specs.Trace.{Record, Ending, NotTrace, IsTrace}
 use Rattle.fg_flows.specs.declared.Plan.{Plan}
 use Rattle.fg_flows.specs.Plan.{PlanFits}
 use Rattle.fg_desk.specs.State.{State}
+use Rattle.fg_report.specs.declared.fault.ReportFault.{ReportFault}
+use Rattle.fg_report.specs.declared.fault.ReportFault.TheVariants.{WriteFault as NotWritten, Memory as NoMemory}
 use Rattle.fg_report.specs.declared.flow_sum.FlowSum.{FlowSum}
 use Rattle.fg_report.specs.declared.tail.Tail.{Tail}
 use Rattle.fg_report.specs.declared.tail.Tail.TheVariants as tail
 use Rattle.fg_repair.specs.declared.engine.Engine.{Engine}
 use Rattle.fg_repair.specs.declared.fault.Fault.{Fault}
-use Rattle.fg_repair.specs.declared.fault.Fault.TheVariants.{Write}
+use Rattle.fg_repair.specs.declared.fault.Fault.TheVariants.{Read, Write, Memory}
 use Rattle.fg_repair.specs.declared.flow.Flow.{Flow}
 use Rattle.fg_repair.specs.Flow.{FlowResult, IsFlowResult}
 use Rattle.fg_repair.specs.Lanes.{OthersStay, PutsAll, PutsAllPart}
@@ -127,15 +133,6 @@ pub record TookAll
 
 -- At the end
 
--- The engine has taken some records, as a plan has it.
-pub record IsReady (engine : Engine) (lanes : Option Lanes) : Type 0 where
-  pub plan : Plan
-  pub records : List Record
-  pub before : Option Lanes
-  pub fits : PlanFits plan
-  pub few : length records < 2 ^ 43
-  pub come : HasCome plan records engine before lanes
-
 -- One flow is flushed or not.
 abbrev pub FlowEnds : Bool → Plan → List Record → ℕ → Flow → List ℕ → Type 0
 FlowEnds true plan records port flow lane =
@@ -146,10 +143,21 @@ FlowEnds false plan records port flow lane = FlowStands plan records port flow l
 pub record IsFlushing
     (plan : Plan) (records : List Record) (count : ℕ) (flows : List Flow) (before after : Option Lanes) : Type 0 where
   pub gained : ℕ → List ℕ
+  pub long : length flows ≡ length plan.table
   pub ends : (k : ℕ) (d : Flow) → k < length plan.table
       → FlowEnds (nat_lt k count) plan records (slice_index plan.table k) (slice_index_or flows k d) (gained (slice_index plan.table k))
   pub grow : GrowAll before plan.table gained after
   pub there : AreThere plan.table after
+
+-- The flows have taken some records, as a plan has it, and none is flushed.
+pub record AreReady (flows : List Flow) (window : ℕ) (lanes : Option Lanes) : Type 0 where
+  pub plan : Plan
+  pub records : List Record
+  pub before : Option Lanes
+  pub fits : PlanFits plan
+  pub few : length records < 2 ^ 43
+  pub tray : window ≡ plan.window
+  pub flushing : IsFlushing plan records 0 flows before lanes
 
 -- A fault came meanwhile: what each lane has gained is its front in the trace of these records.
 pub record BreaksAtFlush (plan : Plan) (records : List Record) (before after : Option Lanes) : Type 0 where
@@ -178,6 +186,34 @@ pub record LanesWhole
   pub tells : TellsTail end tail
   pub ended : HasEnded plan records engine.flows.items before after
   pub other : engine.other ≡ others_of plan.table records
+
+-- The answer
+
+-- To a fault of the magic: the place of the first byte that differs, or a read fault.
+abbrev pub told_place : TraceFault → Result (Option ℕ) Fault
+told_place (fault.NotTrace n) = Ok (Some n)
+told_place why = Err Read
+
+-- To a trace with this tail.
+abbrev pub told_finish : Tail → Finish
+told_finish tail.Ended = finish.Done
+told_finish (tail.Cut n) = finish.Cut n
+told_finish (tail.TooLong n) = finish.TooLong n
+
+-- After a fault.
+abbrev pub fault_finish : Fault → Finish
+fault_finish Read = finish.ReadFault
+fault_finish Write = finish.WriteFault
+fault_finish Memory = finish.Memory
+
+-- A fault of the report.
+abbrev pub report_fault : ReportFault → Fault
+report_fault NotWritten = Write
+report_fault NoMemory = Memory
+
+-- What is no trace has a result for each flow too: that of no record.
+abbrev pub NoRecordsHaveResults : Type 0
+NoRecordsHaveResults = (plan : Plan) → (results : List FlowResult) × AreResults plan [] results
 
 -- Faults
 

@@ -12,22 +12,15 @@ use Rattle.fg_flows.specs.declared.Kind.TheVariants as kind
 use Rattle.fg_flows.specs.Flows.{port_of}
 use Rattle.fg_desk.specs.declared.reply.Reply.{Reply}
 use Rattle.fg_desk.specs.declared.reply.Reply.TheVariants.{Admitted, Duplicate, Conflict, Late, NotStarted, BeforeStart, Ahead, Crowded}
-use Rattle.fg_desk.specs.declared.reply.Outcome.{Outcome}
 use Rattle.fg_desk.specs.declared.reply.Outcome.TheVariants.{Repaired, Inconsistent}
 use Rattle.fg_desk.specs.declared.run.Stream.{Stream}
 use Rattle.fg_desk.specs.declared.run.Stream.TheVariants as stream
 use Rattle.fg_desk.specs.Admission.{Parity}
 use Rattle.fg_desk.specs.Play.{Play, Shown}
-use Rattle.fg_desk.specs.Run.{Arrival, carries, protects, refused, IsRun}
+use Rattle.fg_desk.specs.Run.{Arrival, carries, protects, refused, IsRun, count_of}
 use Rattle.fg_report.specs.declared.marks.Marks.{Marks}
 use Rattle.fg_report.specs.declared.flow_sum.FlowSum.{FlowSum}
 use Rattle.fg_report.specs.Gaps.{with_gap}
-
--- TEMP until fg_desk has it
-abbrev pub count_of : Stream → Option Reply → List Arrival → List (Option Reply) → ℕ
-count_of stream reply arrivals [] = 0
-count_of stream reply [] (r ∷ rs) = 0
-count_of stream reply (a ∷ arrivals) (r ∷ rs) = 1 + count_of stream reply arrivals rs
 
 -- The flow's records
 

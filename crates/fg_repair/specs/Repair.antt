@@ -1,5 +1,5 @@
 -- What a repair gives for the bytes of a trace: lanes and a report. This project's own. Threads are no part of it.
-use Rattle.std.specs.Prelude.{◌≡◌, ◌⊎◌, ℕ, ⊤, Bool, not, List, map, Option, None, Some, IfSome}
+use Rattle.std.specs.Prelude.{◌≡◌, ◌⊎◌, ℕ, ⊤, not, List, map, Option, IfSome}
 use Rattle.std.specs.List.{AllZip, count_by, list_any}
 use Rattle.fg_io.specs.Sink.{Gains, GainsPart}
 use Rattle.fg_io.specs.Outlet.{Lanes, WhereTold}

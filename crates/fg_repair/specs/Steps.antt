@@ -1,17 +1,23 @@
 -- How far a repair has come, for one flow. No public contract cites what stands here.
-use Rattle.std.specs.Prelude.{◌≡◌, ◌+◌, ◌≤◌, ◌<◌, ◌^◌, ℕ, Option, Some, None, IsSome, List, [], ◌∷◌, ◌++◌, length}
-use Rattle.std.specs.List.{AllZip}
+use Rattle.std.specs.Prelude.{◌≡◌, ◌+◌, ◌≤◌, ◌<◌, ◌^◌, ℕ, not, Option, Some, None, IsSome, List, [], ◌∷◌, ◌++◌, length}
+use Rattle.std.specs.List.{AllZip, count_by}
 use Rattle.fg_io.specs.Prefix.{IsPrefix}
 use Rattle.fg_io.specs.Outlet.{Lanes, lane_of as lane_at, lane_bytes, OthersStay, WhereTold}
 use Rattle.fg_trace.specs.Trace.{Record}
 use Rattle.fg_flows.specs.declared.Kind.{Kind}
-use Rattle.fg_flows.specs.Flows.{port_of}
+use Rattle.fg_flows.specs.declared.Kind.TheVariants as kind
+use Rattle.fg_desk.specs.declared.desk.Played.{Played}
 use Rattle.fg_desk.specs.declared.reply.Reply.{Reply}
+use Rattle.fg_desk.specs.declared.reply.Reply.TheVariants.{Admitted, Duplicate, Conflict, Late, NotStarted, BeforeStart, Ahead, Crowded}
+use Rattle.fg_desk.specs.Contents.{Holding}
 use Rattle.fg_desk.specs.State.{State, opening}
-use Rattle.fg_desk.specs.Play.{Play}
-use Rattle.fg_desk.specs.Run.{Arrival, TakesAll}
+use Rattle.fg_desk.specs.Play.{Play, Shown}
+use Rattle.fg_desk.specs.Run.{Arrival, carries, protects, refused, Takes, TakesAll}
+use Rattle.fg_desk.specs.Laws.{HavePlayed}
+use Rattle.fg_report.specs.declared.marks.Marks.{Marks}
 use Rattle.fg_report.specs.declared.flow_sum.FlowSum.{FlowSum}
-use Rattle.fg_repair.specs.Flow.{FlowResult, IsFlowResult, Arrives, records_of, lane_of, sum_of}
+use Rattle.fg_report.specs.Gaps.{gaps_end}
+use Rattle.fg_repair.specs.Flow.{FlowResult, IsFlowResult, IsReadAs, Arrives, records_of, all_shown, shows_word, is_inconsistent, lane_of, gaps_from, sum_of}
 
 -- The port's lane has gained the piece, and is still there if it was. All others are as they were.
 pub record LaneGrows (before : Lanes) (port : ℕ) (piece : List ℕ) (after : Lanes) : Type 0 where
@@ -82,3 +88,112 @@ pub record BreaksAtEnd
   pub part : List ℕ
   pub grows : Grows before flow part after
   pub begins : BeginsLane window depth records flow (lane ++ part)
+
+-- What one datagram adds to the counts, and what plays do
+
+-- The counts of a stream after one more reply; with none, the reader refused the datagram.
+abbrev pub with_reply : Marks → Option Reply → Marks
+with_reply marks (Some Admitted) = record marks { admitted = marks.admitted + 1 }
+with_reply marks (Some Duplicate) = record marks { duplicate = marks.duplicate + 1 }
+with_reply marks (Some Conflict) = record marks { conflict = marks.conflict + 1 }
+with_reply marks (Some Late) = record marks { late = marks.late + 1 }
+with_reply marks (Some NotStarted) = record marks { not_started = marks.not_started + 1 }
+with_reply marks (Some BeforeStart) = record marks { before_start = marks.before_start + 1 }
+with_reply marks (Some Ahead) = record marks { ahead = marks.ahead + 1 }
+with_reply marks (Some Crowded) = record marks { crowded = marks.crowded + 1 }
+with_reply marks None = record marks { bad = marks.bad + 1 }
+
+-- The flow's counts after one more reply to a datagram of this kind.
+abbrev pub with_answer : Kind → FlowSum → Option Reply → FlowSum
+with_answer kind.Media sum reply = record sum { media = with_reply sum.media reply }
+with_answer kind.Column sum reply = record sum { column = with_reply sum.column reply }
+with_answer kind.Row sum reply = record sum { row = with_reply sum.row reply }
+
+-- The flow's counts after more positions that show this, from a position on.
+abbrev pub with_shown : FlowSum → ℕ → List Shown → FlowSum
+with_shown sum first shown = record sum {
+  shown = sum.shown + count_by shows_word shown;
+  repaired = sum.repaired + count_by (λ shown. shown.repaired) shown;
+  missing = sum.missing + count_by (λ shown. not (shows_word shown)) shown;
+  gaps = gaps_from sum.gaps first shown;
+}
+
+-- And after more plays.
+abbrev pub with_plays : FlowSum → ℕ → List Play → FlowSum
+with_plays sum first plays = record (with_shown sum first (all_shown plays)) {
+  windows = sum.windows + length plays;
+  inconsistent = sum.inconsistent + count_by is_inconsistent plays;
+}
+
+-- Each count of replies has room for one more.
+pub record MarksHaveRoom (marks : Marks) : Type 0 where
+  pub admitted : marks.admitted < 2 ^ 44
+  pub duplicate : marks.duplicate < 2 ^ 44
+  pub conflict : marks.conflict < 2 ^ 44
+  pub late : marks.late < 2 ^ 44
+  pub not_started : marks.not_started < 2 ^ 44
+  pub before_start : marks.before_start < 2 ^ 44
+  pub ahead : marks.ahead < 2 ^ 44
+  pub crowded : marks.crowded < 2 ^ 44
+  pub bad : marks.bad < 2 ^ 44
+
+abbrev pub RepliesHaveRoom : FlowSum → Type 0
+RepliesHaveRoom sum = MarksHaveRoom sum.media × MarksHaveRoom sum.column × MarksHaveRoom sum.row
+
+-- No count of positions or plays is past the position that is played next.
+pub record CountsWithin (sum : FlowSum) (mark : ℕ) : Type 0 where
+  pub shown : sum.shown ≤ mark
+  pub repaired : sum.repaired ≤ mark
+  pub missing : sum.missing ≤ mark
+  pub windows : sum.windows ≤ mark
+  pub inconsistent : sum.inconsistent ≤ mark
+  pub gaps : gaps_end sum.gaps ≤ mark
+
+-- The play that the tray has.
+abbrev pub play_in : Played → Holding → Play
+play_in played tray = record { first = played.first; shown = tray.shown; outcome = played.verdict }
+
+-- The port's lane has gained a front of the piece.
+abbrev pub GrowsPart : Option Lanes → ℕ → List ℕ → Option Lanes → Type 0
+GrowsPart before port piece after = (part : List ℕ) × IsPrefix part piece × Grows before port part after
+
+-- Such plays were made from here. They are counted, and the lane has gained what they show.
+pub record HaveShown
+    (Are : List Play → State → Type 0) (old : State) (sum : FlowSum) (before : Option Lanes)
+    (new : State) (sum' : FlowSum) (after : Option Lanes) : Type 0 where
+  pub plays : List Play
+  pub are : Are plays new
+  pub mark : new.mark ≡ old.mark + length (all_shown plays)
+  pub grows : Grows before sum.port (lane_of plays) after
+  pub counts : sum' ≡ with_plays sum old.mark plays
+
+-- A fault came while they were made: the lane has gained a front of what they show.
+pub record BreakOff (Are : List Play → State → Type 0) (port : ℕ) (before after : Option Lanes) : Type 0 where
+  pub plays : List Play
+  pub now : State
+  pub are : Are plays now
+  pub part : GrowsPart before port (lane_of plays) after
+
+-- A datagram of this kind is read, the plays before it are made, and it is admitted or gets its reply.
+pub record AdmitsDatagram
+    (kind : Kind) (bytes : List ℕ) (old : State) (sum : FlowSum) (before : Option Lanes) (reply : Option Reply)
+    (new : State) (sum' : FlowSum) (after : Option Lanes) : Type 0 where
+  pub arrival : Arrival
+  pub due : List Play
+  pub read : IsReadAs kind bytes arrival
+  pub takes : Takes old arrival due reply new
+  pub grows : Grows before sum.port (lane_of due) after
+  pub counts : sum' ≡ with_plays sum old.mark due
+
+-- The plays that come before an arrival, so far. Only a media datagram makes plays due.
+abbrev pub PlaysBefore : State → Arrival → List Play → State → Type 0
+PlaysBefore old (carries seq word) due now = HavePlayed old seq due now
+PlaysBefore old (protects stream parity) due now = due ≡ []
+PlaysBefore old (refused stream) due now = due ≡ []
+
+-- A fault came while a datagram was taken.
+pub record BreaksAtDatagram
+    (kind : Kind) (bytes : List ℕ) (old : State) (port : ℕ) (before after : Option Lanes) : Type 0 where
+  pub arrival : Arrival
+  pub read : IsReadAs kind bytes arrival
+  pub off : BreakOff (PlaysBefore old arrival) port before after

@@ -7,7 +7,7 @@ ghost use Rattle.fg_trace.specs.Reader.{StandsAfter};
 ghost use Rattle.fg_trace.specs.Trace.{Record};
 ghost use Rattle.fg_flows.specs.declared.Plan.{Plan};
 ghost use Rattle.fg_flows.specs.Plan.{PlanFits};
-ghost use Rattle.fg_repair.specs.Engine.{EngineStands, IsRunning, HasCome, BreaksAfter, LanesPart, IsUnderway, TookAll, IsReadToEnd, IsReady, HasEnded, BreaksAtFlush, LanesWhole, GrowAll, AreThere, CountsFor};
+ghost use Rattle.fg_repair.specs.Engine.{EngineStands, IsRunning, HasCome, BreaksAfter, LanesPart, IsUnderway, TookAll, IsReadToEnd, IsFlushing, AreReady, HasEnded, BreaksAtFlush, LanesWhole, GrowAll, AreThere, CountsFor};
 
 use crate::fault::Fault;
 use crate::flow::Flow;
@@ -39,12 +39,7 @@ impl Engine {
         let count = plan.table.count();
         let mut flows = Vec::with_capacity(alloc, count)?;
         for i in 0..count {
-            flows.push(Flow::new(
-                alloc,
-                plan.table.port(i),
-                plan.window,
-                plan.depth,
-            )?)?;
+            flows.push(Flow::new(alloc, plan.table.port(i), plan.window, plan.depth)?)?;
         }
         let player = Player::new(alloc, plan.window)?;
         Ok(Engine {
@@ -163,28 +158,6 @@ impl Engine {
         }
     }
 
-    /// Flushes the flows, in their order.
-    fn flush<O: Outlet>(&mut self, lanes: &mut O) -> Result<(), Fault>
-        requires { IsReady self.old (O.lanes lanes.old) }
-        ensures ends { OnOk result ((plan : Plan) (records : List Record) (before : Option Lanes)
-            → PlanFits plan → HasCome plan records self.old before (O.lanes lanes.old)
-            → HasEnded plan records self.new.flows.items before (O.lanes lanes.new)) }
-        ensures breaks { OnErr result ((plan : Plan) (records : List Record) (before : Option Lanes)
-            → PlanFits plan → HasCome plan records self.old before (O.lanes lanes.old)
-            → BreaksAtFlush plan records before (O.lanes lanes.new)) }
-        ensures other { self.new.other ≡ self.old.other }
-        ensures not_read { result ≢ Err Fault.Read }
-        ensures writes { CountsFor Fault.Write result (O.faults lanes.old) (O.faults lanes.new) }
-    {
-        taken_is_front();
-        one_flow_result();
-        one_flow_has_a_port();
-        for flow in self.flows.iter_mut() {
-            flow.flush(&mut self.player, lanes)?;
-        }
-        Ok(())
-    }
-
     /// Writes the lanes of a trace, whose magic the reader has found, and answers how the trace ends.
     pub(crate) fn write_lanes<S: Source, O: Outlet>(
         &mut self,
@@ -211,7 +184,7 @@ impl Engine {
         one_trace();
         make_lanes(&plan.table, lanes)?;
         let tail = self.take_all(alloc, plan, reader, input, lanes)?;
-        self.flush(lanes)?;
+        flush(&mut self.flows, &mut self.player, lanes)?;
         Ok(tail)
     }
 }
@@ -227,6 +200,27 @@ fn make_lanes<O: Outlet>(table: &Table, lanes: &mut O) -> Result<(), Failed>
 {
     for i in 0..table.count() {
         lanes.put(table.port(i), &[])?;
+    }
+    Ok(())
+}
+
+/// Flushes the flows, in their order.
+fn flush<O: Outlet>(flows: &mut [Flow], player: &mut Player, lanes: &mut O) -> Result<(), Fault>
+    requires { AreReady flows.old player.old.tray.window (O.lanes lanes.old) }
+    ensures ends { OnOk result ((plan : Plan) (records : List Record) (before : Option Lanes) → PlanFits plan
+        → IsFlushing plan records 0 flows.old before (O.lanes lanes.old)
+        → HasEnded plan records flows.new before (O.lanes lanes.new)) }
+    ensures breaks { OnErr result ((plan : Plan) (records : List Record) (before : Option Lanes) → PlanFits plan
+        → IsFlushing plan records 0 flows.old before (O.lanes lanes.old)
+        → BreaksAtFlush plan records before (O.lanes lanes.new)) }
+    ensures not_read { result ≢ Err Fault.Read }
+    ensures writes { CountsFor Fault.Write result (O.faults lanes.old) (O.faults lanes.new) }
+{
+    taken_is_front();
+    one_flow_result();
+    one_flow_has_a_port();
+    for flow in flows.iter_mut() {
+        flow.flush(player, lanes)?;
     }
     Ok(())
 }

@@ -1,8 +1,10 @@
 //! Why a repair stops before the end of its trace is told.
 ghost use Rattle.std.specs.Prelude.{◌≡◌};
+ghost use Rattle.fg_repair.specs.Engine.{report_fault};
 ghost use Rattle.fg_repair.specs.declared.fault.Fault.TheVariants.{Write, Memory};
 
 use fg_io::Failed;
+use fg_report::ReportFault;
 use std::alloc::AllocError;
 
 /// A fault of the outside, or want of memory.
@@ -29,5 +31,16 @@ impl From<Failed> for Fault {
 
     fn from(_: Failed) -> Fault {
         Fault::Write
+    }
+}
+
+impl From<ReportFault> for Fault {
+    ghost from_gives = { λ from fault. fault ≡ report_fault from };
+
+    fn from(fault: ReportFault) -> Fault {
+        match fault {
+            ReportFault::WriteFault => Fault::Write,
+            ReportFault::Memory => Fault::Memory,
+        }
     }
 }

@@ -1,18 +1,36 @@
 //! One flow of a repair.
-ghost use Rattle.std.specs.Prelude.{◌≡◌, ◌≤◌, ℕ, List, [], IfOk, OnOk, OnErr, IsErrOf};
+ghost use Rattle.std.specs.Prelude.{◌≡◌, ◌≢◌, ◌≤◌, ◌<◌, ◌^◌, ℕ, List, [], ◌∷◌, length, IfOk, OnOk, OnErr, IsErrOf};
 ghost use Rattle.fg_io.specs.Faults.{CountsFault};
 ghost use Rattle.fg_trace.specs.Trace.{Record};
+ghost use Rattle.fg_fechead.specs.declared.Parity.{Parity as ParityRead};
+ghost use Rattle.fg_fechead.specs.ParityDatagram.{IsParityDatagram};
+ghost use Rattle.fg_flows.specs.declared.Kind.{Kind as KindOf};
 ghost use Rattle.fg_flows.specs.Flows.{port_of};
-ghost use Rattle.fg_desk.specs.State.{opening};
-ghost use Rattle.fg_repair.specs.Flow.{sum_of};
+ghost use Rattle.fg_desk.specs.State.{State, opening};
+ghost use Rattle.fg_desk.specs.Admission.{IsDue};
+ghost use Rattle.fg_desk.specs.Contents.{HasRoom};
+ghost use Rattle.fg_desk.specs.Run.{Arrival, ArePlaysDue, Takes, IsFlush};
+ghost use Rattle.fg_desk.specs.Laws.{HavePlayed, AreFlushSteps};
+ghost use Rattle.fg_desk.specs.Arrivals.{StaysWithin, FlushesWithin};
+ghost use Rattle.fg_repair.specs.Flow.{IsReadAs, lane_of, sum_of};
 ghost use Rattle.fg_repair.specs.Steps.{HasTaken, IsUnderway, TakesRecord, BreaksAtRecord, EndsFlow, BreaksAtEnd};
+ghost use Rattle.fg_repair.specs.Steps.{CountsWithin, Grows, GrowsPart, HaveShown, BreakOff, AdmitsDatagram, BreaksAtDatagram, with_plays, play_in};
 
+use crate::counts::count_answer;
 use crate::fault::Fault;
 use crate::player::Player;
-use fg_desk::Desk;
+use fg_desk::laws::{
+    counts_add, counts_stay_within, due_plays_come_next, each_gets_a_reply, flush_steps_come_next,
+    flushes_end, plays_reach_the_mark, runs_join, runs_stay_within, taken_plays_come_first,
+};
+use fg_desk::{Desk, Played, Reply};
+use fg_fechead::laws::parity_datagrams_read_one_way;
+use fg_fechead::read;
 use fg_flows::Kind;
 use fg_io::Outlet;
 use fg_report::{FlowSum, Gaps, Marks};
+use fg_rtp::laws::media_datagrams_read_one_way;
+use fg_rtp::media_word;
 use std::alloc::{AllocError, Global};
 
 /// A flow: its desk, and what is counted of it.
@@ -81,7 +99,19 @@ impl Flow {
         ensures memory { IsErrOf result Fault.Memory → O.faults lanes.new ≡ O.faults lanes.old }
         ensures never_falls { O.faults lanes.old ≤ O.faults lanes.new }
     {
-        Err(Fault::Memory)
+        runs_join();
+        runs_stay_within();
+        plays_reach_the_mark();
+        counts_add();
+        counts_stay_within();
+        each_gets_a_reply();
+        taken_plays_come_first();
+        due_plays_come_next();
+        media_datagrams_read_one_way();
+        parity_datagrams_read_one_way();
+        let reply = self.admit(alloc, player, kind, datagram, lanes)?;
+        count_answer(&mut self.sum, kind, reply);
+        Ok(())
     }
 
     /// Plays all that is left. What the plays show goes to the flow's lane.
@@ -111,6 +141,186 @@ impl Flow {
         ensures memory { IsErrOf result Fault.Memory → O.faults lanes.new ≡ O.faults lanes.old }
         ensures never_falls { O.faults lanes.old ≤ O.faults lanes.new }
     {
-        Err(Fault::Memory)
+        flushes_end();
+        runs_stay_within();
+        plays_reach_the_mark();
+        flush_steps_come_next();
+        media_datagrams_read_one_way();
+        parity_datagrams_read_one_way();
+        self.play_rest(player, lanes)
     }
+
+    /// Plays what is due before a datagram that came on the port of this kind, and admits it or says why not. There is no
+    /// reply where its reader refused it.
+    fn admit<O: Outlet>(
+        &mut self,
+        alloc: Global,
+        player: &mut Player,
+        kind: Kind,
+        datagram: &[u8],
+        lanes: &mut O,
+    ) -> Result<Option<Reply>, Fault>
+        requires within { StaysWithin self.old.desk.state }
+        requires counts { CountsWithin self.old.sum self.old.desk.state.mark }
+        requires tray { self.old.desk.state.window ≤ player.old.tray.window }
+        ensures admits { IfOk result (λ reply. AdmitsDatagram kind datagram.now self.old.desk.state self.old.sum
+            (O.lanes lanes.old) reply self.new.desk.state self.new.sum (O.lanes lanes.new)) }
+        ensures breaks { OnErr result (BreaksAtDatagram kind datagram.now self.old.desk.state self.old.sum.port
+            (O.lanes lanes.old) (O.lanes lanes.new)) }
+        ensures port { self.new.sum.port ≡ self.old.sum.port }
+        ensures settings { (self.new.desk.state.window ≡ self.old.desk.state.window)
+            × (self.new.desk.state.depth ≡ self.old.desk.state.depth) }
+        ensures tray { player.new.tray.window ≡ player.old.tray.window }
+        ensures not_read { IsErrOf result Fault.Read → ⊥ }
+        ensures counted { IsErrOf result Fault.Write → CountsFault (O.faults lanes.old) (O.faults lanes.new) }
+        ensures no_fault { OnOk result (O.faults lanes.new ≡ O.faults lanes.old) }
+        ensures memory { IsErrOf result Fault.Memory → O.faults lanes.new ≡ O.faults lanes.old }
+        ensures never_falls { O.faults lanes.old ≤ O.faults lanes.new }
+    {
+        match kind {
+            Kind::Media => self.admit_media(alloc, player, datagram, lanes),
+            _ => Ok(admit_parity(alloc, &mut self.desk, datagram)?),
+        }
+    }
+
+    /// Plays what is due before a media datagram, and admits it or says why not.
+    fn admit_media<O: Outlet>(
+        &mut self,
+        alloc: Global,
+        player: &mut Player,
+        datagram: &[u8],
+        lanes: &mut O,
+    ) -> Result<Option<Reply>, Fault>
+        requires within { StaysWithin self.old.desk.state }
+        requires counts { CountsWithin self.old.sum self.old.desk.state.mark }
+        requires tray { self.old.desk.state.window ≤ player.old.tray.window }
+        ensures admits { IfOk result (λ reply. AdmitsDatagram Kind.Media datagram.now self.old.desk.state self.old.sum
+            (O.lanes lanes.old) reply self.new.desk.state self.new.sum (O.lanes lanes.new)) }
+        ensures breaks { OnErr result (BreaksAtDatagram Kind.Media datagram.now self.old.desk.state self.old.sum.port
+            (O.lanes lanes.old) (O.lanes lanes.new)) }
+        ensures port { self.new.sum.port ≡ self.old.sum.port }
+        ensures settings { (self.new.desk.state.window ≡ self.old.desk.state.window)
+            × (self.new.desk.state.depth ≡ self.old.desk.state.depth) }
+        ensures tray { player.new.tray.window ≡ player.old.tray.window }
+        ensures not_read { IsErrOf result Fault.Read → ⊥ }
+        ensures counted { IsErrOf result Fault.Write → CountsFault (O.faults lanes.old) (O.faults lanes.new) }
+        ensures no_fault { OnOk result (O.faults lanes.new ≡ O.faults lanes.old) }
+        ensures memory { IsErrOf result Fault.Memory → O.faults lanes.new ≡ O.faults lanes.old }
+        ensures never_falls { O.faults lanes.old ≤ O.faults lanes.new }
+    {
+        let Ok((seq, _, word)) = media_word(datagram) else {
+            return Ok(None);
+        };
+        let share = word.share(alloc)?;
+        self.play_due(player, seq, lanes)?;
+        Ok(Some(self.desk.admit_media(seq, share)))
+    }
+
+    /// Plays while a play is due before a datagram of this sequence number.
+    fn play_due<O: Outlet>(
+        &mut self,
+        player: &mut Player,
+        seq: u16,
+        lanes: &mut O,
+    ) -> Result<(), Fault>
+        requires within { StaysWithin self.old.desk.state }
+        requires counts { CountsWithin self.old.sum self.old.desk.state.mark }
+        requires tray { self.old.desk.state.window ≤ player.old.tray.window }
+        ensures plays { OnOk result (HaveShown (ArePlaysDue self.old.desk.state seq) self.old.desk.state self.old.sum
+            (O.lanes lanes.old) self.new.desk.state self.new.sum (O.lanes lanes.new)) }
+        ensures none_due { OnOk result (¬ IsDue self.new.desk.state seq) }
+        ensures room { OnOk result (HasRoom self.new.desk.state) }
+        ensures breaks { OnErr result (BreakOff (HavePlayed self.old.desk.state seq) self.old.sum.port
+            (O.lanes lanes.old) (O.lanes lanes.new)) }
+        ensures port { self.new.sum.port ≡ self.old.sum.port }
+        ensures settings { (self.new.desk.state.window ≡ self.old.desk.state.window)
+            × (self.new.desk.state.depth ≡ self.old.desk.state.depth) }
+        ensures tray { player.new.tray.window ≡ player.old.tray.window }
+        ensures not_read { IsErrOf result Fault.Read → ⊥ }
+        ensures counted { IsErrOf result Fault.Write → CountsFault (O.faults lanes.old) (O.faults lanes.new) }
+        ensures no_fault { OnOk result (O.faults lanes.new ≡ O.faults lanes.old) }
+        ensures memory { IsErrOf result Fault.Memory → O.faults lanes.new ≡ O.faults lanes.old }
+        ensures never_falls { O.faults lanes.old ≤ O.faults lanes.new }
+    {
+        runs_join();
+        while self.desk.due(seq) {
+            let played = self.desk.play(&mut player.tray);
+            put_play(&mut self.sum, player, played, lanes)?;
+        }
+        Ok(())
+    }
+
+    /// Plays while something is left to be played.
+    fn play_rest<O: Outlet>(&mut self, player: &mut Player, lanes: &mut O) -> Result<(), Fault>
+        requires within { FlushesWithin self.old.desk.state }
+        requires counts { CountsWithin self.old.sum self.old.desk.state.mark }
+        requires tray { self.old.desk.state.window ≤ player.old.tray.window }
+        ensures plays { OnOk result ((empty : State) × HaveShown (IsFlush self.old.desk.state) self.old.desk.state
+            self.old.sum (O.lanes lanes.old) empty self.new.sum (O.lanes lanes.new)) }
+        ensures breaks { OnErr result (BreakOff (AreFlushSteps self.old.desk.state) self.old.sum.port
+            (O.lanes lanes.old) (O.lanes lanes.new)) }
+        ensures port { self.new.sum.port ≡ self.old.sum.port }
+        ensures tray { player.new.tray.window ≡ player.old.tray.window }
+        ensures not_read { IsErrOf result Fault.Read → ⊥ }
+        ensures counted { IsErrOf result Fault.Write → CountsFault (O.faults lanes.old) (O.faults lanes.new) }
+        ensures no_fault { OnOk result (O.faults lanes.new ≡ O.faults lanes.old) }
+        ensures memory { IsErrOf result Fault.Memory → O.faults lanes.new ≡ O.faults lanes.old }
+        ensures never_falls { O.faults lanes.old ≤ O.faults lanes.new }
+    {
+        flushes_end();
+        while let Some(played) = self.desk.flush_step(&mut player.tray) {
+            put_play(&mut self.sum, player, played, lanes)?;
+        }
+        Ok(())
+    }
+}
+
+/// Admits a parity datagram, or says why not. There is no reply where its reader refused it.
+fn admit_parity(
+    alloc: Global,
+    desk: &mut Desk,
+    datagram: &[u8],
+) -> Result<Option<Reply>, AllocError>
+    requires room { HasRoom desk.old.state }
+    ensures admits { IfOk result (λ reply. (kind : KindOf) → kind ≢ Kind.Media → (arrival : Arrival)
+        × IsReadAs kind datagram.now arrival × Takes desk.old.state arrival [] reply desk.new.state) }
+    ensures read { OnErr result ((parity : ParityRead) × IsParityDatagram datagram.now parity) }
+    ensures unchanged { OnErr result (desk.new ≡ desk.old) }
+    ensures settings { (desk.new.state.window ≡ desk.old.state.window)
+        × (desk.new.state.depth ≡ desk.old.state.depth) }
+{
+    let Ok(parity) = read(datagram) else {
+        return Ok(None);
+    };
+    let share = parity.word.share(alloc)?;
+    Ok(Some(desk.admit_parity(parity.base, parity.shape, share)))
+}
+
+/// Counts the play that the tray has, and puts its words' payloads to the flow's lane.
+fn put_play<O: Outlet>(
+    sum: &mut FlowSum,
+    player: &mut Player,
+    played: Played,
+    lanes: &mut O,
+) -> Result<(), Fault>
+    requires within { CountsWithin sum.old played.first }
+    requires limit { played.first < 2 ^ 61 }
+    requires count { played.count ≡ length player.old.tray.shown }
+    requires some { 1 ≤ played.count }
+    ensures counts { OnOk result (sum.new ≡ with_plays sum.old played.first (play_in played player.old.tray ∷ [])) }
+    ensures puts { OnOk result (Grows (O.lanes lanes.old) sum.old.port (lane_of (play_in played player.old.tray ∷ []))
+        (O.lanes lanes.new)) }
+    ensures part { OnErr result (GrowsPart (O.lanes lanes.old) sum.old.port
+        (lane_of (play_in played player.old.tray ∷ [])) (O.lanes lanes.new)) }
+    ensures port { sum.new.port ≡ sum.old.port }
+    ensures tray { player.new.tray ≡ player.old.tray }
+    ensures not_read { IsErrOf result Fault.Read → ⊥ }
+    ensures counted { IsErrOf result Fault.Write → CountsFault (O.faults lanes.old) (O.faults lanes.new) }
+    ensures no_fault { OnOk result (O.faults lanes.new ≡ O.faults lanes.old) }
+    ensures memory { IsErrOf result Fault.Memory → O.faults lanes.new ≡ O.faults lanes.old }
+    ensures never_falls { O.faults lanes.old ≤ O.faults lanes.new }
+{
+    player.fill(sum, played)?;
+    lanes.put(sum.port, player.lane.as_slice())?;
+    Ok(())
 }

@@ -1,9 +1,9 @@
 //! The laws that show the definition of a repair to be right. Each is the contract of a function that does nothing, or only
 //! calls laws of the crates below.
-ghost use Rattle.fg_repair.specs.Engine.{OneFlowResult, TakenIsFront};
+ghost use Rattle.fg_repair.specs.Engine.{OneFlowResult, TakenIsFront, NoRecordsHaveResults};
 ghost use Rattle.fg_repair.specs.Laws.{OneResult};
 
-use fg_desk::laws::{one_run, taken_plays_come_first};
+use fg_desk::laws::{live_equations, one_run, taken_plays_come_first};
 use fg_fechead::laws::parity_datagrams_read_one_way;
 use fg_rtp::laws::media_datagrams_read_one_way;
 use fg_trace::laws::one_trace;
@@ -32,4 +32,11 @@ pub(crate) fn taken_is_front()
     media_datagrams_read_one_way();
     parity_datagrams_read_one_way();
     taken_plays_come_first();
+}
+
+/// No record gives each flow a result too.
+pub(crate) fn no_records_have_results()
+    ensures { NoRecordsHaveResults }
+{
+    live_equations();
 }

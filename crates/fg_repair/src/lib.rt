@@ -2,6 +2,7 @@
 #![tactic(auto)]
 
 mod alone;
+mod counts;
 mod engine;
 mod fault;
 mod flow;

@@ -1,8 +1,12 @@
 //! What carries a play's words to the lane.
-ghost use Rattle.std.specs.Prelude.{◌≡◌, ◌≤◌, [], IfOk};
+ghost use Rattle.std.specs.Prelude.{◌≡◌, ◌+◌, ◌≤◌, ◌<◌, ◌^◌, [], ◌∷◌, IfOk, OnOk, length};
 ghost use Rattle.fg_rtp.specs.MediaDatagram.{payload_of};
+ghost use Rattle.fg_repair.specs.Flow.{lane_of};
+ghost use Rattle.fg_repair.specs.Steps.{CountsWithin, with_plays, play_in};
 
-use fg_desk::Tray;
+use crate::counts::{count_play, show};
+use fg_desk::{Played, Tray};
+use fg_report::FlowSum;
 use fg_words::{PAYLOAD_LIMIT, Word};
 use std::alloc::{AllocError, Global};
 
@@ -23,6 +27,32 @@ impl Player {
             tray: Tray::new(alloc, window)?,
             lane: Vec::with_capacity(alloc, window as usize * PAYLOAD_LIMIT)?,
         })
+    }
+
+    /// Counts the play that the tray has, and fills `lane` with the payloads of its words.
+    pub(crate) fn fill(&mut self, sum: &mut FlowSum, played: Played) -> Result<(), AllocError>
+        requires within { CountsWithin sum.old played.first }
+        requires limit { played.first < 2 ^ 61 }
+        requires count { played.count ≡ length self.old.tray.shown }
+        requires some { 1 ≤ played.count }
+        ensures counts { OnOk result (sum.new
+            ≡ with_plays sum.old played.first (play_in played self.old.tray ∷ [])) }
+        ensures lane { OnOk result (self.new.lane.items ≡ lane_of (play_in played self.old.tray ∷ [])) }
+        ensures tray { self.new.tray ≡ self.old.tray }
+        ensures port { sum.new.port ≡ sum.old.port }
+    {
+        self.lane.clear();
+        for i in 0..played.count {
+            show(
+                sum,
+                &mut self.lane,
+                played.first + u64::from(i),
+                self.tray.word(i),
+                self.tray.repaired(i),
+            )?;
+        }
+        count_play(sum, played.verdict);
+        Ok(())
     }
 }
 

@@ -77,6 +77,7 @@ impl Reader {
         ensures unchanged { IsDecided self.old → (self.new ≡ self.old) × (from.new ≡ from.old) }
 
         ensures started { IsOk result → self.new.started ≡ true }
+        ensures kept { IsOk result → self.new.kept ≡ self.old.kept }
         ensures payload { self.old.payload ≡ [] → self.new.payload ≡ [] }
         ensures max { self.new.max ≡ self.old.max }
         ensures bounded { self.new.place + length self.new.held ≤ self.new.max + 1 }

@@ -1,6 +1,6 @@
-use Rattle.std.proofs.Common.{◌≡◌, ℕ, [], ◌<◌, ◌∙◌, subst, length, slice_index, arith, refl}
+use Rattle.std.proofs.Common.{ℕ, [], ◌<◌, ◌∙◌, subst, length, slice_index, arith, refl}
 use Rattle.fg_io.specs.Outlet.{Puts, PutsPart}
-use Rattle.fg_repair.proofs.Growing.{grow_none, grow_still, made_none, made_more, made_all, contains_at, puts_grows, puts_part_grows}
+use Rattle.fg_repair.proofs.Lanes.{grow_none, grow_still, made_none, made_more, made_all, contains_at, puts_grows, puts_part_grows}
 use Rattle.fg_repair.proofs.Results.{on_err}
 use Rattle.fg_repair.proofs.engine.make_lanes.Goals as goal
 

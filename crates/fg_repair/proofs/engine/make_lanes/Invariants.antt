@@ -1,6 +1,6 @@
 use Rattle.std.proofs.Common.{◌≡◌, []}
 use Rattle.fg_repair.specs.Engine.{GrowAll}
-use Rattle.fg_repair.proofs.Growing.{AreMade}
+use Rattle.fg_repair.proofs.Lanes.{AreMade}
 use Rattle.fg_repair.proofs.engine.make_lanes.Given as goal
 
 abbrev pub invariant-loop-i : goal.invariant-loop-i

@@ -1,4 +1,4 @@
-use Rattle.std.proofs.Common.{◌≡◌, ◌+◌, List, [], length, sym, ap, ◌∙◌, subst}
+use Rattle.std.proofs.Common.{◌+◌, List, length, sym, ap, ◌∙◌, subst}
 use Rattle.std.proofs.lemmas.List.{length_push}
 use Rattle.fg_repair.specs.declared.flow.Flow.{Flow}
 use Rattle.fg_repair.proofs.Standing.{AreNew, new_more}

@@ -1,11 +1,11 @@
-use Rattle.std.proofs.Common.{◌≡◌, ◌∙◌, Ok, Err, Some, None, sym, ap, subst, refl, [], List, ℕ, Option}
+use Rattle.std.proofs.Common.{◌∙◌, Ok, Err, ap, subst, refl, List, ℕ, Option}
 use Rattle.fg_report.specs.declared.tail.Tail.TheVariants as tail
 use Rattle.fg_trace.specs.Reader.{Answer, Walks}
 use Rattle.fg_trace.specs.Trace.{Ended, Cut, TooLong}
 use Rattle.fg_io.specs.Outlet.{Lanes}
 use Rattle.fg_repair.specs.Engine.{IsUnderway, LanesPart}
 use Rattle.fg_repair.proofs.Results.{on_err}
-use Rattle.fg_repair.proofs.Reading.{running, part_at_record, part_at_fault, took_all}
+use Rattle.fg_repair.proofs.Walking.{running, part_at_record, part_at_fault, took_all}
 use Rattle.fg_repair.proofs.engine.Engine.take_next.Goals as goal
 
 pub take-requires-clause-running : goal.take-requires-clause-running

@@ -1,0 +1,199 @@
+-- How the flows of a repair are flushed, one after another.
+use Rattle.std.proofs.Common.{◌≡◌, ◌⊎◌, inl, inr, ℕ, suc, ◌+◌, ◌<◌, ◌≤◌, ◌^◌, nat_lt, Bool, true, false, Option, Some, None, IsSome, List, [], ◌∷◌, ◌++◌, length, map, set, slice_index, unwrap_or, refl, sym, ap, ◌∙◌, subst, arith, append-nil}
+use Rattle.std.specs.List.{AllZip, Contains, slice_index_or}
+use Rattle.std.proofs.lemmas.Bool.{cases_eq}
+use Rattle.std.proofs.lemmas.Bool.Decides.{nat_tests}
+use Rattle.std.proofs.lemmas.List.{get_or-set_same, get_or-set_other, get_or_default, length-set}
+use Rattle.fg_io.specs.Outlet.{Lanes, lane_of, lane_bytes}
+use Rattle.fg_flows.specs.declared.Plan.{Plan}
+use Rattle.fg_flows.specs.Flows.{IsTable}
+use Rattle.fg_flows.specs.Laws.{OneFlowHasAPort}
+use Rattle.fg_flows.specs.Plan.{PlanFits}
+use Rattle.fg_trace.specs.Trace.{Record}
+use Rattle.fg_repair.specs.declared.engine.Engine.{Engine}
+use Rattle.fg_repair.specs.declared.flow.Flow.{Flow}
+use Rattle.fg_repair.specs.Engine.{OneFlowResult, TakenIsFront, GrowAll, AreThere, FlowStands, FlowEnds, HasCome, IsFlushing, BreaksAtFlush, HasEnded, sums_of}
+use Rattle.fg_repair.specs.Flow.{FlowResult, IsFlowResult}
+use Rattle.fg_repair.specs.Lanes.{PutsAll}
+use Rattle.fg_repair.specs.Repair.{lanes_of}
+use Rattle.fg_repair.specs.Steps.{HasTaken, IsUnderway, BeginsLane, EndsFlow, BreaksAtEnd}
+use Rattle.fg_repair.proofs.Lanes.{more, more_same, more_other, grow_more, there_more, contains_at}
+use Rattle.fg_repair.proofs.Standing.{moved, flow_taken, ports_differ}
+
+-- Which flows are flushed
+
+none_before : (k : ℕ) → nat_lt k 0 ≡ false
+none_before k = grind (arith, nat_tests)
+
+not_yet : (i : ℕ) → nat_lt i i ≡ false
+not_yet i = grind (arith, nat_tests)
+
+just_now : (i : ℕ) → nat_lt i (i + 1) ≡ true
+just_now i = grind (arith, nat_tests)
+
+as_before : (i k : ℕ) → (k ≡ i → ⊥) → nat_lt k (i + 1) ≡ nat_lt k i
+as_before i k ne = grind (arith, nat_tests)
+
+by_now : (i k : ℕ) → k < i → nat_lt k i ≡ true
+by_now i k h = grind (arith, nat_tests)
+
+pub flushing_none : (plan : Plan) (records : List Record) (engine : Engine) (before now : Option Lanes) → HasCome plan records engine before now → IsFlushing plan records 0 engine.flows.items before now
+flushing_none plan records engine before now h = record {
+  gained = h.gained;
+  long = h.stands.count;
+  ends = λ k d below. subst (λ b. FlowEnds b plan records (slice_index plan.table k) (slice_index_or engine.flows.items k d) (h.gained (slice_index plan.table k))) (sym (none_before k)) (h.stands.flows k d below);
+  grow = h.grow;
+  there = h.there;
+}
+
+-- The flow that is next
+
+pub next_stands : (plan : Plan) (records : List Record) (i : ℕ) (items : List Flow) (before now : Option Lanes) (old : Flow) (h : IsFlushing plan records i items before now) → i < length items → old ≡ slice_index_or items i old → FlowStands plan records (slice_index plan.table i) old (h.gained (slice_index plan.table i))
+next_stands plan records i items before now old h short at =
+    let flow = slice_index plan.table i in
+    let here = h.ends i old (subst (λ n. i < n) h.long short) in
+    subst (λ (f : Flow). FlowStands plan records flow f (h.gained flow)) (sym at)
+    (subst (λ b. FlowEnds b plan records flow (slice_index_or items i old) (h.gained flow)) (not_yet i) here)
+
+pub underway : (plan : Plan) → PlanFits plan → (records : List Record) (port : ℕ) (flow : Flow) (lane : List ℕ) → length records < 2 ^ 43 → FlowStands plan records port flow lane → IsUnderway flow.desk.state.window flow.desk.state.depth flow.sum.port flow.desk.state flow.sum
+underway plan fits records port flow lane few h = record {
+  records = records;
+  lane = lane;
+  few = few;
+  taken = flow_taken plan records port flow lane h;
+  window_fits = subst (λ n. (1 ≤ n) × (n ≤ 100)) (sym h.window_is) fits.window;
+  depth_fits = subst (λ n. (n ≤ flow.desk.state.depth) × (flow.desk.state.depth ≤ 1000)) (sym h.window_is) (subst (λ n. (plan.window ≤ n) × (n ≤ 1000)) (sym h.depth_is) fits.depth);
+}
+
+-- what a flow does when it is flushed whole, or a fault stops it
+abbrev pub Ends : Flow → Flow → Option Lanes → Option Lanes → Type 0
+Ends old new now after =
+    (records : List Record) (lane : List ℕ)
+    → HasTaken old.desk.state.window old.desk.state.depth old.sum.port records old.desk.state old.sum lane
+    → EndsFlow old.desk.state.window old.desk.state.depth old.sum.port records lane new.sum now after
+
+abbrev pub Stops : Flow → Option Lanes → Option Lanes → Type 0
+Stops old now after =
+    (records : List Record) (lane : List ℕ)
+    → HasTaken old.desk.state.window old.desk.state.depth old.sum.port records old.desk.state old.sum lane
+    → BreaksAtEnd old.desk.state.window old.desk.state.depth old.sum.port records lane now after
+
+flow_ends : (plan : Plan) (records : List Record) (port : ℕ) (old new : Flow) (lane : List ℕ) (now after : Option Lanes) → Ends old new now after → FlowStands plan records port old lane → EndsFlow plan.window plan.depth port records lane new.sum now after
+flow_ends plan records port old new lane now after ends h =
+    moved (λ w d p. EndsFlow w d p records lane new.sum now after) old.desk.state.window plan.window old.desk.state.depth plan.depth old.sum.port port
+    h.window_is h.depth_is h.port_is (ends records lane (flow_taken plan records port old lane h))
+
+flow_stops : (plan : Plan) (records : List Record) (port : ℕ) (old : Flow) (lane : List ℕ) (now after : Option Lanes) → Stops old now after → FlowStands plan records port old lane → BreaksAtEnd plan.window plan.depth port records lane now after
+flow_stops plan records port old lane now after stops h =
+    moved (λ w d p. BreaksAtEnd w d p records lane now after) old.desk.state.window plan.window old.desk.state.depth plan.depth old.sum.port port
+    h.window_is h.depth_is h.port_is (stops records lane (flow_taken plan records port old lane h))
+
+-- It is flushed
+
+ends_each : OneFlowHasAPort → (plan : Plan) → IsTable plan.table → (records : List Record) (i : ℕ) (items : List Flow) (gained : ℕ → List ℕ) (new : Flow) (piece : List ℕ) → i < length items → i < length plan.table → FlowEnds true plan records (slice_index plan.table i) new (gained (slice_index plan.table i) ++ piece) → (k : ℕ) (d : Flow) → k < length plan.table → FlowEnds (nat_lt k i) plan records (slice_index plan.table k) (slice_index_or items k d) (gained (slice_index plan.table k)) → (k ≡ i) ⊎ (k ≡ i → ⊥) → FlowEnds (nat_lt k (i + 1)) plan records (slice_index plan.table k) (slice_index_or (set items i new) k d) (more gained (slice_index plan.table i) piece (slice_index plan.table k))
+ends_each law plan good records i items gained new piece short inside end k d below h (inl e) =
+    subst (λ j. FlowEnds (nat_lt j (i + 1)) plan records (slice_index plan.table j) (slice_index_or (set items i new) j d) (more gained (slice_index plan.table i) piece (slice_index plan.table j))) (sym e)
+    (subst (λ b. FlowEnds b plan records (slice_index plan.table i) (slice_index_or (set items i new) i d) (more gained (slice_index plan.table i) piece (slice_index plan.table i))) (sym (just_now i))
+    (subst (λ (f : Flow). FlowEnds true plan records (slice_index plan.table i) f (more gained (slice_index plan.table i) piece (slice_index plan.table i))) (sym (get_or-set_same items i new d short))
+    (subst (λ (lane : List ℕ). FlowEnds true plan records (slice_index plan.table i) new lane) (sym (more_same gained (slice_index plan.table i) piece)) end)))
+ends_each law plan good records i items gained new piece short inside end k d below h (inr ne) =
+    subst (λ b. FlowEnds b plan records (slice_index plan.table k) (slice_index_or (set items i new) k d) (more gained (slice_index plan.table i) piece (slice_index plan.table k))) (sym (as_before i k ne))
+    (subst (λ (f : Flow). FlowEnds (nat_lt k i) plan records (slice_index plan.table k) f (more gained (slice_index plan.table i) piece (slice_index plan.table k))) (sym (get_or-set_other items i k new d ne))
+    (subst (λ (lane : List ℕ). FlowEnds (nat_lt k i) plan records (slice_index plan.table k) (slice_index_or items k d) lane)
+    (sym (more_other gained (slice_index plan.table i) piece (slice_index plan.table k) (ports_differ law plan.table good i k inside below ne))) h))
+
+pub flushing_more :
+    OneFlowHasAPort → (plan : Plan) → IsTable plan.table → (records : List Record) (i : ℕ) (items : List Flow) (before now after : Option Lanes) (old new : Flow)
+    → i < length items → old ≡ slice_index_or items i old → Ends old new now after
+    → IsFlushing plan records i items before now → IsFlushing plan records (i + 1) (set items i new) before after
+flushing_more law plan good records i items before now after old new short at ends h =
+    let flow = slice_index plan.table i in
+    let inside : i < length plan.table = subst (λ n. i < n) h.long short in
+    let step : EndsFlow plan.window plan.depth flow records (h.gained flow) new.sum now after = flow_ends plan records flow old new (h.gained flow) now after ends (next_stands plan records i items before now old h short at) in
+    record {
+      gained = more h.gained flow step.piece;
+      long = length-set items i new ∙ h.long;
+      ends = λ k d below. ends_each law plan good records i items h.gained new step.piece short inside step.result k d below (h.ends k d below) (cases_eq k i);
+      grow = grow_more before now after plan.table h.gained flow step.piece (contains_at plan.table i inside) h.grow step.grows;
+      there = there_more now after plan.table flow step.piece h.there step.grows;
+    }
+
+-- A fault
+
+begins_of : OneFlowResult → TakenIsFront → (ended : Bool) (plan : Plan) (records : List Record) (port : ℕ) (flow : Flow) (lane : List ℕ) → FlowEnds ended plan records port flow lane → BeginsLane plan.window plan.depth records port lane
+begins_of one front true plan records port flow lane h result k =
+    let same : result ≡ record { lane = lane; sum = flow.sum } = one plan.window plan.depth port records result (record { lane = lane; sum = flow.sum }) k h in
+    ([], ap (λ (r : FlowResult). r.lane) same ∙ sym (append-nil lane))
+begins_of one front false plan records port flow lane h result k =
+    front plan.window plan.depth port records flow.desk.state flow.sum lane h.taken [] result
+    (subst (λ (rs : List Record). IsFlowResult plan.window plan.depth rs port result) (sym (append-nil records)) k)
+
+begins_at : OneFlowResult → TakenIsFront → (plan : Plan) (records : List Record) (i : ℕ) (items : List Flow) (before now : Option Lanes) (h : IsFlushing plan records i items before now) → Flow → (flow : ℕ) (part : List ℕ) → BeginsLane plan.window plan.depth records flow (h.gained flow ++ part) → (port : ℕ) → Contains plan.table port → (port ≡ flow) ⊎ (port ≡ flow → ⊥) → BeginsLane plan.window plan.depth records port (more h.gained flow part port)
+begins_at one front plan records i items before now h any flow part begins port c (inl e) =
+    subst (λ p. BeginsLane plan.window plan.depth records p (more h.gained flow part p)) (sym e)
+    (subst (λ (lane : List ℕ). BeginsLane plan.window plan.depth records flow lane) (sym (more_same h.gained flow part)) begins)
+begins_at one front plan records i items before now h any flow part begins port c (inr ne) =
+    let same : slice_index plan.table c.0 ≡ port = get_or_default plan.table c.0 0 port c.1 ∙ c.2 in
+    subst (λ (lane : List ℕ). BeginsLane plan.window plan.depth records port lane) (sym (more_other h.gained flow part port ne))
+    (subst (λ p. BeginsLane plan.window plan.depth records p (h.gained p)) same
+    (begins_of one front (nat_lt c.0 i) plan records (slice_index plan.table c.0) (slice_index_or items c.0 any) (h.gained (slice_index plan.table c.0)) (h.ends c.0 any c.1)))
+
+pub flushing_stops :
+    OneFlowResult → TakenIsFront → (plan : Plan) (records : List Record) (i : ℕ) (items : List Flow) (before now after : Option Lanes) (old : Flow)
+    → i < length items → old ≡ slice_index_or items i old → Stops old now after
+    → IsFlushing plan records i items before now → BreaksAtFlush plan records before after
+flushing_stops one front plan records i items before now after old short at stops h =
+    let flow = slice_index plan.table i in
+    let inside : i < length plan.table = subst (λ n. i < n) h.long short in
+    let step : BreaksAtEnd plan.window plan.depth flow records (h.gained flow) now after = flow_stops plan records flow old (h.gained flow) now after stops (next_stands plan records i items before now old h short at) in
+    record {
+      gained = more h.gained flow step.part;
+      grow = grow_more before now after plan.table h.gained flow step.part (contains_at plan.table i inside) h.grow step.grows;
+      begin = λ port c. begins_at one front plan records i items before now h old flow step.part step.begins port c (cases_eq port flow);
+    }
+
+-- All are flushed
+
+abbrev pub results_of : (ℕ → List ℕ) → List ℕ → List Flow → List FlowResult
+results_of gained [] flows = []
+results_of gained (p ∷ ports) [] = []
+results_of gained (p ∷ ports) (f ∷ flows) = record { lane = gained p; sum = f.sum } ∷ results_of gained ports flows
+
+each_result : (plan : Plan) (records : List Record) (gained : ℕ → List ℕ) (ports : List ℕ) (flows : List Flow) → length flows ≡ length ports → ((k : ℕ) (d : Flow) → k < length ports → FlowEnds true plan records (slice_index ports k) (slice_index_or flows k d) (gained (slice_index ports k))) → AllZip (IsFlowResult plan.window plan.depth records) ports (results_of gained ports flows)
+each_result plan records gained [] flows long f = tt
+each_result plan records gained (p ∷ ports) [] long f = absurd (omega arith)
+each_result plan records gained (p ∷ ports) (flow ∷ flows) long f =
+    (f 0 flow (omega arith), each_result plan records gained ports flows (omega arith) (λ k d below. f (suc k) d (omega arith)))
+
+each_sum : (gained : ℕ → List ℕ) (ports : List ℕ) (flows : List Flow) → length flows ≡ length ports → map (λ (r : FlowResult). r.sum) (results_of gained ports flows) ≡ sums_of flows
+each_sum gained [] [] long = refl
+each_sum gained [] (flow ∷ flows) long = absurd (omega arith)
+each_sum gained (p ∷ ports) [] long = absurd (omega arith)
+each_sum gained (p ∷ ports) (flow ∷ flows) long = ap (λ t. flow.sum ∷ t) (each_sum gained ports flows (omega arith))
+
+some_is : (lane : Option (List ℕ)) (bytes : List ℕ) → IsSome lane → unwrap_or lane [] ≡ bytes → lane ≡ Some bytes
+some_is None bytes s e = absurd cc
+some_is (Some x) bytes s e = ap Some e
+
+each_lane : (old new : Lanes) (gained : ℕ → List ℕ) (ports : List ℕ) (flows : List Flow) → length flows ≡ length ports → ((port : ℕ) → Contains ports port → lane_of new port ≡ Some (lane_bytes old port ++ gained port)) → AllZip (λ port piece. lane_of new port ≡ Some (lane_bytes old port ++ piece)) ports (lanes_of (results_of gained ports flows))
+each_lane old new gained [] flows long f = tt
+each_lane old new gained (p ∷ ports) [] long f = absurd (omega arith)
+each_lane old new gained (p ∷ ports) (flow ∷ flows) long f =
+    (f p (0, omega arith, refl), each_lane old new gained ports flows (omega arith) (λ port c. f port (suc c.0, omega (arith, c.1), c.2)))
+
+all_put : (ports : List ℕ) (gained : ℕ → List ℕ) (flows : List Flow) (before after : Option Lanes) → length flows ≡ length ports → GrowAll before ports gained after → AreThere ports after → PutsAll before ports (lanes_of (results_of gained ports flows)) after
+all_put ports gained flows (Some old) (Some new) long g t = record {
+  lanes = each_lane old new gained ports flows long (λ port c. some_is (lane_of new port) (lane_bytes old port ++ gained port) (t port c) (g.lanes port c).bytes);
+  others = g.others;
+}
+all_put ports gained flows (Some old) None long g t = absurd g
+all_put ports gained flows None (Some new) long g t = absurd g
+all_put ports gained flows None None long g t = tt
+
+pub flushing_all : (plan : Plan) (records : List Record) (i : ℕ) (items : List Flow) (before now : Option Lanes) → length items ≤ i → IsFlushing plan records i items before now → HasEnded plan records items before now
+flushing_all plan records i items before now all h = record {
+  results = results_of h.gained plan.table items;
+  are_results = each_result plan records h.gained plan.table items h.long (λ k d below. subst (λ b. FlowEnds b plan records (slice_index plan.table k) (slice_index_or items k d) (h.gained (slice_index plan.table k))) (by_now i k (omega (arith, h.long))) (h.ends k d below));
+  sums = each_sum h.gained plan.table items h.long;
+  puts = all_put plan.table h.gained items before now h.long h.grow h.there;
+}

@@ -1,0 +1,17 @@
+use Rattle.std.proofs.Common.{◌≡◌, ◌∙◌, ap}
+use Rattle.fg_trace.specs.Reader.{ReaderState}
+use Rattle.fg_repair.proofs.Results.{on_err}
+use Rattle.fg_repair.proofs.Finishing.{no_outputs, not_trace}
+use Rattle.fg_repair.proofs.alone.repair.Goals as goal
+
+pub returns-in_err-reader-clause-part : goal.returns-in_err-reader-clause-part
+returns-in_err-reader-clause-part g c = on_err _ _ (no_outputs c.args.plan.now _ _ g.K.Sink.written c.args.out.now)
+
+pub returns-in_err-place-clause-part : goal.returns-in_err-place-clause-part
+returns-in_err-place-clause-part g c = on_err _ _ (no_outputs c.args.plan.now _ _ g.K.Sink.written c.args.out.now)
+
+pub returns-in-Some-clause-whole : goal.returns-in-Some-clause-whole
+returns-in-Some-clause-whole g c =
+    let max : c.find_magic.new.reader.max ≡ c.args.plan.now.max = c.find_magic.ensures.max ∙ ap (λ (t : ReaderState). t.max) c.in_ok-reader.ensures.new in
+    let differs = rw c.in-Some.is at c.in_ok-place.ensures.differs in
+    not_trace c.no_records_have_results.ensures c.args.plan.now _ c.find_magic.new.reader.max _ _ c.in-Some.place max differs

@@ -1,0 +1,53 @@
+use Rattle.std.proofs.Common.{List, refl, ap, ◌∙◌}
+use Rattle.fg_desk.specs.Contents.{Holding}
+use Rattle.fg_desk.specs.State.{State}
+use Rattle.fg_desk.specs.Play.{Play}
+use Rattle.fg_desk.specs.Admission.{IsDue}
+use Rattle.fg_desk.specs.Run.{ArePlaysDue}
+use Rattle.fg_desk.specs.Laws.{HavePlayed}
+use Rattle.fg_repair.specs.Steps.{play_in}
+use Rattle.fg_repair.proofs.Showing.{retold, one_more_shown, breaks_off, within_one_more, due_after, fails, on_err}
+use Rattle.fg_repair.proofs.flow.Flow.play_due.Goals as goal
+
+pub loop-self-preserved : goal.loop-self-preserved
+loop-self-preserved g c =
+    let old = c.args.self.now in
+    let now = c.loop-self in
+    let play = play_in c.play-played.result c.play-played.new.tray in
+    let join = due_after old.desk.state now.self.desk.state c.play-played.new.self.state c.args.seq play c.runs_join.ensures.plays
+    (c.loop-self-test.ensures.0 refl) c.play-played.ensures.play in
+    let holds = (c.requires.within c.args.seq now.invariant.so.plays now.self.desk.state now.invariant.so.are).0 in
+    record {
+      so = one_more_shown (HavePlayed old.desk.state c.args.seq) old.desk.state old.sum (g.O.Outlet.lanes c.args.lanes.now)
+          now.self.desk.state.window now.self.desk.state c.play-played.new.self.state now.self.sum c.put_play.new.sum
+          (g.O.Outlet.lanes now.lanes) (g.O.Outlet.lanes c.put_play.new.lanes) play
+          now.invariant.so join c.play-played.ensures.play now.invariant.port c.in_ok-put_play.ensures.counts c.in_ok-put_play.ensures.puts;
+      counts = within_one_more now.self.desk.state.window now.self.desk.state c.play-played.new.self.state now.self.sum c.put_play.new.sum play
+          now.invariant.counts c.play-played.ensures.play holds.window.0 c.in_ok-put_play.ensures.counts;
+      port = c.in_ok-put_play.ensures.port ∙ now.invariant.port;
+      window = ap (λ (s : State). s.window) c.play-played.ensures.play.rest ∙ now.invariant.window;
+      depth = ap (λ (s : State). s.depth) c.play-played.ensures.play.rest ∙ now.invariant.depth;
+      tray = ap (λ (tray : Holding). tray.window) c.in_ok-put_play.ensures.tray ∙ c.play-played.ensures.tray ∙ now.invariant.tray;
+      faults = c.in_ok-put_play.ensures.no_fault ∙ now.invariant.faults;
+    }
+
+pub returns-in_err-put_play-clause-breaks : goal.returns-in_err-put_play-clause-breaks
+returns-in_err-put_play-clause-breaks g c =
+    let old = c.args.self.now in
+    let now = c.loop-self in
+    let play = play_in c.play-played.result c.play-played.new.tray in
+    let join = due_after old.desk.state now.self.desk.state c.play-played.new.self.state c.args.seq play c.runs_join.ensures.plays
+    (c.loop-self-test.ensures.0 refl) c.play-played.ensures.play in
+    on_err _ (breaks_off (HavePlayed old.desk.state c.args.seq) old.desk.state old.sum (g.O.Outlet.lanes c.args.lanes.now)
+    now.self.desk.state c.play-played.new.self.state now.self.sum (g.O.Outlet.lanes now.lanes) (g.O.Outlet.lanes c.put_play.new.lanes) play
+    now.invariant.so join now.invariant.port c.in_err-put_play.ensures.part)
+
+pub returns-clause-plays : goal.returns-clause-plays
+returns-clause-plays g c =
+    let old = c.args.self.now in
+    let now = c.loop-self in
+    let none = fails (IsDue now.self.desk.state c.args.seq) c.due.result c.loop-self-test.false c.due.ensures.1 in
+    retold (HavePlayed old.desk.state c.args.seq) (ArePlaysDue old.desk.state c.args.seq) old.desk.state now.self.desk.state old.sum now.self.sum
+    (g.O.Outlet.lanes c.args.lanes.now) (g.O.Outlet.lanes now.lanes)
+    (λ (plays : List Play) played. (c.runs_join.ensures.all_due old.desk.state now.self.desk.state c.args.seq plays).1 (played, none))
+    now.invariant.so

@@ -1,0 +1,19 @@
+use Rattle.std.proofs.Common.{◌≡◌, ◌-◌, ◌^◌}
+use Rattle.fg_desk.specs.Laws.{HavePlayed}
+use Rattle.fg_repair.specs.Steps.{CountsWithin, HaveShown}
+use Rattle.fg_repair.proofs.flow.Flow.play_due.Given as goal
+
+abbrev pub invariant-loop-self : goal.invariant-loop-self
+invariant-loop-self g l = record {
+  so : HaveShown (HavePlayed l.fn.self.desk.state l.seq) l.fn.self.desk.state l.fn.self.sum (g.O.Outlet.lanes l.fn.lanes)
+      l.self.desk.state l.self.sum (g.O.Outlet.lanes l.lanes);
+  counts : CountsWithin l.self.sum l.self.desk.state.mark;
+  port : l.self.sum.port ≡ l.fn.self.sum.port;
+  window : l.self.desk.state.window ≡ l.fn.self.desk.state.window;
+  depth : l.self.desk.state.depth ≡ l.fn.self.desk.state.depth;
+  tray : l.player.tray.window ≡ l.fn.player.tray.window;
+  faults : g.O.Outlet.faults l.lanes ≡ g.O.Outlet.faults l.fn.lanes;
+}
+
+abbrev pub decreases-loop-self : goal.decreases-loop-self
+decreases-loop-self g l = 2 ^ 61 - l.self.desk.state.mark
