@@ -1,4 +1,5 @@
 -- Lemmas on the definitions of this crate.
+mod Opening
 mod Readings
 mod Telling
 mod Texts

@@ -94,7 +94,9 @@ fn tell_trace<S: Source, K: Sink>(
     match reader.start(input) {
         Ok(()) => tell_records(&mut lines, table, &mut reader, input, out),
         Err(TraceFault::NotTrace(place)) => Ok(Finish::NotTrace(place)),
-        Err(_) => Err(Fault::Read),
+        Err(TraceFault::ReadFault | TraceFault::Cut(_) | TraceFault::TooLong(_)) => {
+            Err(Fault::Read)
+        }
     }
 }
 

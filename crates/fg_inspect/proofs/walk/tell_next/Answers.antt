@@ -1,6 +1,7 @@
-use Rattle.std.proofs.Common.{◌≡◌, ◌∙◌, Ok, Err, sym, ap, subst, refl, List, ℕ, Option}
+use Rattle.std.proofs.Common.{◌≡◌, ◌∙◌, Ok, Err, sym, ap, subst, refl, List, length, ℕ, Option}
 use Rattle.fg_trace.specs.declared.step.Finish.TheVariants as finish
-use Rattle.fg_trace.specs.Reader.{Answer, Walks}
+use Rattle.fg_trace.specs.declared.step.Step.{Step}
+use Rattle.fg_trace.specs.Reader.{Answer, Walks, payload_size}
 use Rattle.fg_trace.specs.Trace.{Ended, Cut, TooLong}
 use Rattle.fg_inspect.specs.Reading.{IsReading}
 use Rattle.fg_inspect.specs.Steps.{IsUnderway}
@@ -18,15 +19,17 @@ add-requires g c =
 pub returns-in_err-add-in-Ok-Datagram-clause-part : goal.returns-in_err-add-in-Ok-Datagram-clause-part
 returns-in_err-add-in-Ok-Datagram-clause-part g c =
     let read : IsReading c.args.table.now c.in-Ok-Datagram.port c.next.new.self.payload c.read_record-reading.result = subst (λ (b : List ℕ). IsReading c.args.table.now c.in-Ok-Datagram.port b c.read_record-reading.result) c.payload.ensures c.read_record-reading.ensures in
+    let sized : c.in-Ok-Datagram.size ≡ length c.next.new.self.payload = sym (ap (λ (s : Step). payload_size (Ok s)) c.in-Ok-Datagram.field-0-is) ∙ sym c.in-Ok-Datagram.ensures.payload in
     let part : (first : Option (List ℕ)) (before : Option (List ℕ)) → IsUnderway c.args.table.now first (g.S.Source.left c.args.input.now) c.args.reader.now c.args.lines.now before (g.K.Sink.written c.args.out.now) → TellsPart c.args.table.now c.args.reader.now.max first before (g.K.Sink.written c.add.new.out) = λ first before h. part_at_record c.walks_the_front.ensures c.one_text.ensures.front c.args.table.now c.requires.table first _ _ c.args.reader.now c.next.new.self c.args.lines.now before _ _ c.next.result c.in-Ok-Datagram.time c.in-Ok-Datagram.port c.in-Ok-Datagram.size c.read_record-reading.result
-    c.next.ensures.max (c.in-Ok-Datagram.is ∙ ap Ok c.in-Ok-Datagram.field-0-is) (c.next.ensures.walks first) read (sym c.in-Ok-Datagram.ensures.payload) c.in_err-add-in-Ok-Datagram.ensures.part h in
+    c.next.ensures.max (c.in-Ok-Datagram.is ∙ ap Ok c.in-Ok-Datagram.field-0-is) (c.next.ensures.walks first) read sized c.in_err-add-in-Ok-Datagram.ensures.part h in
     on_err _ _ part
 
 pub returns-in_ok-add-in-Ok-Datagram-clause-more : goal.returns-in_ok-add-in-Ok-Datagram-clause-more
 returns-in_ok-add-in-Ok-Datagram-clause-more g c = λ first before h.
     let read : IsReading c.args.table.now c.in-Ok-Datagram.port c.next.new.self.payload c.read_record-reading.result = subst (λ (b : List ℕ). IsReading c.args.table.now c.in-Ok-Datagram.port b c.read_record-reading.result) c.payload.ensures c.read_record-reading.ensures in
+    let sized : c.in-Ok-Datagram.size ≡ length c.next.new.self.payload = sym (ap (λ (s : Step). payload_size (Ok s)) c.in-Ok-Datagram.field-0-is) ∙ sym c.in-Ok-Datagram.ensures.payload in
     underway_more c.args.table.now first _ _ c.args.reader.now c.next.new.self c.args.lines.now c.add.new.self before _ _ c.next.result c.in-Ok-Datagram.time c.in-Ok-Datagram.port c.in-Ok-Datagram.size c.read_record-reading.result
-    (c.in-Ok-Datagram.is ∙ ap Ok c.in-Ok-Datagram.field-0-is) (c.next.ensures.walks first) read (sym c.in-Ok-Datagram.ensures.payload) c.in_ok-add-in-Ok-Datagram.ensures.sent c.in_ok-add-in-Ok-Datagram.ensures.number h
+    (c.in-Ok-Datagram.is ∙ ap Ok c.in-Ok-Datagram.field-0-is) (c.next.ensures.walks first) read sized c.in_ok-add-in-Ok-Datagram.ensures.sent c.in_ok-add-in-Ok-Datagram.ensures.number h
 
 pub returns-in-Ok-End-clause-ends : goal.returns-in-Ok-End-clause-ends
 returns-in-Ok-End-clause-ends g c = λ first before h.
