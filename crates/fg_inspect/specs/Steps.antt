@@ -1,11 +1,15 @@
 -- How far an inspection has come. No public contract cites what stands here.
-use Rattle.std.specs.Prelude.{◌≡◌, ◌≢◌, ◌≤◌, ℕ, Option, IfSome, Result, Err, List, [], ◌++◌, length}
+use Rattle.std.specs.Prelude.{◌≡◌, ◌≢◌, ◌≤◌, ℕ, Option, IfSome, Result, Ok, Err, List, [], ◌++◌, length}
 use Rattle.fg_io.specs.Faults.{CountsFault}
 use Rattle.fg_io.specs.Sink.{Gains, GainsPart}
 use Rattle.fg_trace.specs.declared.step.Finish.{Finish}
+use Rattle.fg_trace.specs.declared.step.Finish.TheVariants as finish
+use Rattle.fg_trace.specs.declared.step.TraceFault.{TraceFault}
+use Rattle.fg_trace.specs.declared.step.TraceFault.TheVariants as trace_fault
 use Rattle.fg_trace.specs.Reader.{ReaderState, StandsAfter}
 use Rattle.fg_trace.specs.Trace.{Record, Ending, IsTrace}
 use Rattle.fg_inspect.specs.declared.fault.Fault.{Fault}
+use Rattle.fg_inspect.specs.declared.fault.Fault.TheVariants.{Read}
 use Rattle.fg_inspect.specs.declared.lines.Lines.{Lines}
 use Rattle.fg_inspect.specs.Inspect.{finish_of}
 use Rattle.fg_inspect.specs.Text.{IsText}
@@ -49,6 +53,11 @@ pub record HasToldAll
   pub answer_is : answer ≡ finish_of end
   pub of_input : IfSome first (λ bytes. IsTrace bytes max records end)
   pub told : HasTold flows records lines before after
+
+-- The answer where the reader found no magic.
+abbrev pub answer_unopened : TraceFault → Result Finish Fault
+answer_unopened (trace_fault.NotTrace n) = Ok (finish.NotTrace n)
+answer_unopened why = Err Read
 
 -- A count of faults over a call: it has counted one where the call answers this cause, and else it stands still.
 pub record CountsFor {A : Type 0} (cause : Fault) (result : Result A Fault) (before after : ℕ) : Type 0 where

@@ -6,7 +6,7 @@ ghost use Rattle.fg_flows.specs.Flows.{IsTable};
 ghost use Rattle.fg_trace.specs.Reader.{StandsAfter};
 ghost use Rattle.fg_trace.specs.Trace.{Record, Ending, NotTrace as NoMagic, IsTrace};
 ghost use Rattle.fg_inspect.specs.Inspect.{IsFault, ReadsAll, Tells, TellsPart, finish_of};
-ghost use Rattle.fg_inspect.specs.Steps.{CountsFor, HasToldAll, IsNew, IsUnderway};
+ghost use Rattle.fg_inspect.specs.Steps.{CountsFor, HasToldAll, IsNew, IsUnderway, answer_unopened};
 
 use crate::fault::Fault;
 use crate::laws::one_text;
@@ -93,10 +93,17 @@ fn tell_trace<S: Source, K: Sink>(
     let mut lines = Lines::new(alloc)?;
     match reader.start(input) {
         Ok(()) => tell_records(&mut lines, table, &mut reader, input, out),
-        Err(TraceFault::NotTrace(place)) => Ok(Finish::NotTrace(place)),
-        Err(TraceFault::ReadFault | TraceFault::Cut(_) | TraceFault::TooLong(_)) => {
-            Err(Fault::Read)
-        }
+        Err(fault) => unopened(fault),
+    }
+}
+
+/// The answer where the reader found no magic.
+fn unopened(fault: TraceFault) -> Result<Finish, Fault>
+    ensures { result ≡ answer_unopened fault }
+{
+    match fault {
+        TraceFault::NotTrace(place) => Ok(Finish::NotTrace(place)),
+        TraceFault::ReadFault | TraceFault::Cut(_) | TraceFault::TooLong(_) => Err(Fault::Read),
     }
 }
 

@@ -1,9 +1,7 @@
-use Rattle.std.proofs.Common.{◌≡◌, ◌∙◌, Option, List, ℕ, Err, Result, ap, subst}
-use Rattle.fg_trace.specs.declared.step.Finish.TheVariants as finish
-use Rattle.fg_trace.specs.declared.step.TraceFault.{TraceFault}
-use Rattle.fg_trace.specs.Reader.{ReaderState, Opens}
+use Rattle.std.proofs.Common.{◌≡◌, ◌∙◌, Err, ap}
+use Rattle.fg_trace.specs.Reader.{ReaderState}
 use Rattle.fg_inspect.proofs.Telling.{on_err}
-use Rattle.fg_inspect.proofs.Opening.{never_refused, tells_none, none_is_part}
+use Rattle.fg_inspect.proofs.Opening.{never_refused, none_is_part, unopened_whole, unopened_reads}
 use Rattle.fg_inspect.proofs.walk.tell_trace.Goals as goal
 
 pub tell_records-requires-clause-begun : goal.tell_records-requires-clause-begun
@@ -16,12 +14,17 @@ returns-in-Ok-clause-refused g c =
     let left = g.S.Source.left c.args.input.now in
     never_refused _ left _ c.start.new.self c.args.max (c.in-Ok.ensures.opens left (c.in_ok-reader.ensures.opening left))
 
-pub returns-in-Err-NotTrace-clause-whole : goal.returns-in-Err-NotTrace-clause-whole
-returns-in-Err-NotTrace-clause-whole g c =
+pub returns-clause-whole : goal.returns-clause-whole
+returns-clause-whole g c =
     let left = g.S.Source.left c.args.input.now in
     let max : c.start.new.self.max ≡ c.args.max = c.start.ensures.max ∙ ap (λ (t : ReaderState). t.max) c.in_ok-reader.ensures.new in
-    let opens = subst (λ (why : TraceFault). Opens (Err why) c.start.new.self left (g.S.Source.left c.start.new.from)) c.in-Err-NotTrace.field-0-is (c.in-Err-NotTrace.ensures.opens left (c.in_ok-reader.ensures.opening left)) in
-    tells_none c.args.table.now left _ c.args.max c.in-Err-NotTrace.place _ _ max (ap finish.NotTrace c.in-Err-NotTrace.place-is) opens.1
+    unopened_whole c.unopened.result c.args.table.now c.args.max left _ _ c.start.new.self c.in-Err.fault c.unopened.ensures max (c.in-Err.ensures.opens left (c.in_ok-reader.ensures.opening left))
 
-pub returns : goal.returns
-returns g c = ?
+pub returns-clause-part : goal.returns-clause-part
+returns-clause-part g c = on_err _ _ (none_is_part c.args.table.now c.args.max _ _)
+
+pub returns-clause-reads : goal.returns-clause-reads
+returns-clause-reads g c =
+    let left = g.S.Source.left c.args.input.now in
+    unopened_reads c.unopened.result left _ c.start.new.self c.in-Err.fault _ _ c.unopened.ensures (c.in-Err.ensures.opens left (c.in_ok-reader.ensures.opening left))
+    (λ e. c.in-Err.ensures.counted (ap Err e)) (λ ne. c.in-Err.ensures.no_fault (λ e. ne cc)) c.start.ensures.never_falls
