@@ -1,5 +1,5 @@
 //! The worked example, and traces with each kind of line.
-ghost use Rattle.std.specs.Prelude.{◌≡◌, ◌≤◌, length};
+ghost use Rattle.std.specs.Prelude.{◌≤◌};
 
 use super::*;
 use fg_flows::Table;
@@ -39,14 +39,18 @@ fn magic(alloc: Global) -> Result<Vec<u8>, AllocError> {
     Vec::from_slice(alloc, b"FECTRAC1")
 }
 
-/// Adds a record to a trace.
-fn add(trace: &mut Vec<u8>, time: u64, port: u16, datagram: &[u8]) -> Result<(), AllocError>
-    requires { length datagram.now ≤ 65535 }
-{
+/// Adds a record with the first so many bytes of a datagram to a trace.
+fn add(
+    trace: &mut Vec<u8>,
+    time: u64,
+    port: u16,
+    datagram: &[u8],
+    size: u16,
+) -> Result<(), AllocError> {
     trace.extend_from_slice(&time.to_be_bytes())?;
     trace.extend_from_slice(&port.to_be_bytes())?;
-    trace.extend_from_slice(&(datagram.len() as u16).to_be_bytes())?;
-    trace.extend_from_slice(datagram)
+    trace.extend_from_slice(&size.to_be_bytes())?;
+    trace.extend_from_slice(datagram.get(..usize::from(size)).unwrap_or(&[]))
 }
 
 /// The answer for a source, and how the text begins that a sink of so much room and these failing writes has.
@@ -87,7 +91,7 @@ const MOST: u64 = 1_099_511_627_776;
 fn three(alloc: Global) -> Result<Vec<u8>, AllocError> {
     let mut trace = magic(alloc)?;
     for seq in 10..13 {
-        add(&mut trace, 0, 5000, &media(0x80, 0x21, seq))?;
+        add(&mut trace, 0, 5000, &media(0x80, 0x21, seq), 1328)?;
     }
     Ok(trace)
 }
@@ -129,17 +133,12 @@ fn no_trace(rt: HostRuntime) -> Result<(), Fail> {
 /// off has no line.
 fn kinds(alloc: Global) -> Result<Vec<u8>, AllocError> {
     let mut trace = magic(alloc)?;
-    add(&mut trace, 7, 6000, &media(0x80, 0xa1, 10)[..388])?;
-    add(
-        &mut trace,
-        u64::MAX,
-        5002,
-        &parity(0x80, 0x80, 0, 5)[..1344],
-    )?;
-    add(&mut trace, 0, 5004, &parity(0xbf, 0xff, 0, 20)[..29])?;
-    add(&mut trace, 0, 5001, &[])?;
-    add(&mut trace, 0, 5000, &parity(0x80, 0x80, 0, 5))?;
-    add(&mut trace, 0, 6004, &media(0x80, 0x21, 10))?;
+    add(&mut trace, 7, 6000, &media(0x80, 0xa1, 10), 388)?;
+    add(&mut trace, u64::MAX, 5002, &parity(0x80, 0x80, 0, 5), 1344)?;
+    add(&mut trace, 0, 5004, &parity(0xbf, 0xff, 0, 20), 29)?;
+    add(&mut trace, 0, 5001, &[], 0)?;
+    add(&mut trace, 0, 5000, &parity(0x80, 0x80, 0, 5), 1345)?;
+    add(&mut trace, 0, 6004, &media(0x80, 0x21, 10), 1328)?;
     trace.extend_from_slice(&[0; 11])?;
     Ok(trace)
 }
@@ -164,15 +163,15 @@ fn each_kind_and_a_cut_tail(rt: HostRuntime) -> Result<(), Fail> {
 /// Media datagrams with each fault, and the largest record.
 fn media_faults(alloc: Global) -> Result<Vec<u8>, AllocError> {
     let mut trace = magic(alloc)?;
-    add(&mut trace, 0, 5000, &media(0x90, 0x21, 0)[..11])?;
-    add(&mut trace, 0, 5000, &media(0x50, 0x22, 0))?;
-    add(&mut trace, 0, 5000, &media(0x90, 0x22, 0))?;
-    add(&mut trace, 0, 5000, &media(0x80, 0x22, 0))?;
-    add(&mut trace, 0, 5000, &media(0x80, 0x21, 0)[..1327])?;
+    add(&mut trace, 0, 5000, &media(0x90, 0x21, 0), 11)?;
+    add(&mut trace, 0, 5000, &media(0x50, 0x22, 0), 1328)?;
+    add(&mut trace, 0, 5000, &media(0x90, 0x22, 0), 1328)?;
+    add(&mut trace, 0, 5000, &media(0x80, 0x22, 0), 1328)?;
+    add(&mut trace, 0, 5000, &media(0x80, 0x21, 0), 1327)?;
     let mut unsynced = media(0x80, 0x21, 0);
     unsynced[200] = 0x46;
-    add(&mut trace, 0, 5000, &unsynced)?;
-    add(&mut trace, 0, 5000, &[0x80; 65_535])?;
+    add(&mut trace, 0, 5000, &unsynced, 1328)?;
+    add(&mut trace, 0, 5000, &[0x80; 65_535], 65_535)?;
     Ok(trace)
 }
 
@@ -197,12 +196,12 @@ fn each_fault_of_media(rt: HostRuntime) -> Result<(), Fail> {
 /// Parity datagrams with each fault.
 fn parity_faults(alloc: Global) -> Result<Vec<u8>, AllocError> {
     let mut trace = magic(alloc)?;
-    add(&mut trace, 0, 5002, &parity(0x40, 0, 0, 0)[..27])?;
-    add(&mut trace, 0, 5004, &parity(0x40, 0, 0, 0)[..28])?;
-    add(&mut trace, 0, 5002, &parity(0x80, 0x7f, 0x80, 0)[..28])?;
-    add(&mut trace, 0, 5004, &parity(0x80, 0x80, 0x80, 0)[..28])?;
-    add(&mut trace, 0, 5002, &parity(0x80, 0x80, 0x40, 21)[..28])?;
-    add(&mut trace, 0, 5004, &parity(0x80, 0x80, 0x40, 5)[..28])?;
+    add(&mut trace, 0, 5002, &parity(0x40, 0, 0, 0), 27)?;
+    add(&mut trace, 0, 5004, &parity(0x40, 0, 0, 0), 28)?;
+    add(&mut trace, 0, 5002, &parity(0x80, 0x7f, 0x80, 0), 28)?;
+    add(&mut trace, 0, 5004, &parity(0x80, 0x80, 0x80, 0), 28)?;
+    add(&mut trace, 0, 5002, &parity(0x80, 0x80, 0x40, 21), 28)?;
+    add(&mut trace, 0, 5004, &parity(0x80, 0x80, 0x40, 5), 28)?;
     Ok(trace)
 }
 
@@ -233,16 +232,16 @@ fn a_read_fails(rt: HostRuntime) -> Result<(), Fail> {
     Ok(())
 }
 
-/// So many records without a datagram, on a port of no flow. Each has a line of 15 bytes.
+/// So many records without a datagram, on a port of no flow.
 fn many(alloc: Global, count: u16) -> Result<Vec<u8>, AllocError> {
     let mut trace = magic(alloc)?;
     for number in 0..count {
-        add(&mut trace, 1_000_000 + u64::from(number), 1, &[])?;
+        add(&mut trace, 1_000_000 + u64::from(number), 1, &[], 0)?;
     }
     Ok(trace)
 }
 
-// The text has more than 40,000 bytes. It goes out in three writes, of which the third fails, or has room for 100 bytes.
+// The text has 44,890 bytes. It goes out in three writes, of which the third fails, or is more than the sink has room for.
 #[test]
 fn a_write_fails(rt: HostRuntime) -> Result<(), Fail> {
     let trace = many(rt.alloc(), 2000)?;
