@@ -1,20 +1,18 @@
 -- What is known once a reader has looked for the magic.
-use Rattle.std.proofs.Common.{◌≡◌, ◌≢◌, ◌⊎◌, inl, inr, ℕ, ◌<◌, ◌≤◌, Option, Some, None, IfSome, IfOk, OnErr, Result, Ok, Err, List, [], ◌++◌, length, slice_index, refl, sym, ap, ◌∙◌, subst, arith, append_assoc, append-nil, length-append}
+use Rattle.std.proofs.Common.{◌≡◌, ◌≢◌, ◌⊎◌, inl, inr, ℕ, ◌<◌, ◌≤◌, Option, Some, None, IfSome, IfOk, Result, Err, List, [], ◌++◌, length, slice_index, refl, sym, ap, ◌∙◌, subst, arith, append_assoc, append-nil, length-append}
 use Rattle.std.proofs.lemmas.List.{get_or_append_left}
 use Rattle.std.specs.Io.KnownBytes.{prepend_known}
 use Rattle.fg_io.specs.Faults.{CountsFault}
-use Rattle.fg_io.specs.Sink.{Gains, GainsPart}
 use Rattle.fg_trace.specs.declared.step.Finish.{Finish}
 use Rattle.fg_trace.specs.declared.step.Finish.TheVariants as finish
 use Rattle.fg_trace.specs.declared.step.TraceFault.{TraceFault}
 use Rattle.fg_trace.specs.declared.step.TraceFault.TheVariants as fault
 use Rattle.fg_trace.specs.Reader.{ReaderState, StandsAfter, Opens}
-use Rattle.fg_trace.specs.Trace.{Record, Ending, DiffersAt, IsTrace, NotTrace, magic}
+use Rattle.fg_trace.specs.Trace.{DiffersAt, IsTrace, NotTrace, magic}
 use Rattle.fg_inspect.specs.declared.fault.Fault.{Fault}
 use Rattle.fg_inspect.specs.declared.fault.Fault.TheVariants.{Read}
 use Rattle.fg_inspect.specs.Inspect.{Tells, TellsPart}
 use Rattle.fg_inspect.specs.Steps.{CountsFor, answer_unopened}
-use Rattle.fg_inspect.specs.Text.{IsText}
 use Rattle.fg_inspect.proofs.Telling.{gains_nothing}
 use Rattle.fg_inspect.proofs.Texts.{no_text}
 

@@ -8,7 +8,7 @@ use Rattle.fg_fechead.specs.declared.FecFault.{FecFault}
 use Rattle.fg_fechead.specs.declared.FecFault.TheVariants as fec
 use Rattle.fg_fechead.specs.declared.Parity.{Parity as ParityRead}
 use Rattle.fg_fechead.specs.Laws as fechead
-use Rattle.fg_fechead.specs.ParityDatagram.{IsParityDatagram, FirstFault as FirstFecFault}
+use Rattle.fg_fechead.specs.ParityDatagram.{FirstFault as FirstFecFault}
 use Rattle.fg_flows.specs.declared.Kind.{Kind}
 use Rattle.fg_flows.specs.declared.Kind.TheVariants as kind
 use Rattle.fg_flows.specs.Flows.{IsTable}

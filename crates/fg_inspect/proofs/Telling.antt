@@ -10,7 +10,7 @@ use Rattle.fg_inspect.specs.declared.reading.Reading.{Reading}
 use Rattle.fg_inspect.specs.Laws.{TextOfFront}
 use Rattle.fg_inspect.specs.Reading.{IsReading}
 use Rattle.fg_inspect.specs.Steps.{Sent, HasTold, HasPart, IsNew}
-use Rattle.fg_inspect.specs.Text.{line, line_of, IsText}
+use Rattle.fg_inspect.specs.Text.{line, line_of}
 use Rattle.fg_inspect.proofs.Texts.{text_more, no_text}
 
 -- a fact for an `Err` that holds of any result
@@ -35,11 +35,8 @@ gains_both (Some bytes) second third piece more once again =
 along : (text front held piece : List ℕ) → text ≡ front ++ held → text ++ piece ≡ front ++ (held ++ piece)
 along text front held piece rest = ap (λ bytes. bytes ++ piece) rest ∙ append_assoc front held piece
 
-pub sent_none : (written : Option (List ℕ)) (held : List ℕ) → Sent written held held written
+sent_none : (written : Option (List ℕ)) (held : List ℕ) → Sent written held held written
 sent_none written held = record { front = []; gained = gains_nothing written; rest = refl }
-
-pub sent_all : (before after : Option (List ℕ)) (held : List ℕ) → Gains before held after → Sent before held [] after
-sent_all before after held gained = record { front = held; gained = gained; rest = sym (append-nil held) }
 
 sent_more : (first second third : Option (List ℕ)) (text held piece next : List ℕ) → Sent first text held second → Sent second (held ++ piece) next third → Sent first (text ++ piece) next third
 sent_more first second third text held piece next once again = record {

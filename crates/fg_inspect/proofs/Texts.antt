@@ -1,5 +1,5 @@
 -- The text of records: what one more record adds, and that it is one.
-use Rattle.std.proofs.Common.{◌≡◌, ℕ, suc, ◌+◌, List, [], ◌∷◌, ◌++◌, length, refl, sym, ap, ◌∙◌, arith, append_assoc, append-nil}
+use Rattle.std.proofs.Common.{◌≡◌, ℕ, ◌+◌, List, [], ◌∷◌, ◌++◌, length, refl, sym, ap, ◌∙◌, arith, append_assoc, append-nil}
 use Rattle.std.specs.List.{AllZip}
 use Rattle.fg_io.specs.Prefix.{IsPrefix}
 use Rattle.fg_flows.specs.Flows.{IsTable}

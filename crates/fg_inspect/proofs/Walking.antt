@@ -1,11 +1,11 @@
 -- How the records of a trace are told, from where the reader stands.
-use Rattle.std.proofs.Common.{◌≡◌, ℕ, ◌+◌, ◌*◌, ◌<◌, ◌≤◌, ◌^◌, Option, Some, None, IfSome, Ok, Err, List, [], ◌∷◌, ◌++◌, length, take, drop, refl, sym, ap, ◌∙◌, subst, arith, length-append}
+use Rattle.std.proofs.Common.{◌≡◌, ℕ, ◌+◌, ◌<◌, ◌≤◌, ◌^◌, Option, Some, None, IfSome, Ok, Err, List, [], ◌∷◌, ◌++◌, length, take, drop, sym, ap, ◌∙◌, subst, arith, length-append}
 use Rattle.std.specs.List.{flat_map}
 use Rattle.std.proofs.lemmas.List.{take-append-drop}
 use Rattle.fg_io.specs.Sink.{Gains, GainsPart}
 use Rattle.fg_flows.specs.Flows.{IsTable}
 use Rattle.fg_trace.specs.declared.step.Finish.{Finish}
-use Rattle.fg_trace.specs.declared.step.Step.TheVariants.{Datagram, End}
+use Rattle.fg_trace.specs.declared.step.Step.TheVariants.{Datagram}
 use Rattle.fg_trace.specs.declared.step.TraceFault.{TraceFault}
 use Rattle.fg_trace.specs.declared.step.TraceFault.TheVariants as fault
 use Rattle.fg_trace.specs.Laws.{OneTrace, WalksTheFront}
@@ -16,7 +16,7 @@ use Rattle.fg_inspect.specs.declared.reading.Reading.{Reading}
 use Rattle.fg_inspect.specs.Inspect.{Tells, TellsPart, finish_of}
 use Rattle.fg_inspect.specs.Laws.{OneText, TextOfFront}
 use Rattle.fg_inspect.specs.Reading.{IsReading}
-use Rattle.fg_inspect.specs.Steps.{Sent, HasTold, HasPart, IsNew, IsUnderway, HasToldAll}
+use Rattle.fg_inspect.specs.Steps.{Sent, HasPart, IsNew, IsUnderway, HasToldAll}
 use Rattle.fg_inspect.specs.Text.{line, IsText}
 use Rattle.fg_inspect.proofs.Telling.{told_none, told_more, part_at_line, part_told, told_whole, told_part}
 
