@@ -1,0 +1,66 @@
+-- How far an inspection has come. No public contract cites what stands here.
+use Rattle.std.specs.Prelude.{◌≡◌, ◌≢◌, ◌≤◌, ℕ, Option, IfSome, Result, Ok, Err, List, [], ◌++◌, length}
+use Rattle.fg_io.specs.Faults.{CountsFault}
+use Rattle.fg_io.specs.Sink.{Gains, GainsPart}
+use Rattle.fg_trace.specs.declared.step.Finish.{Finish}
+use Rattle.fg_trace.specs.declared.step.Finish.TheVariants as finish
+use Rattle.fg_trace.specs.declared.step.TraceFault.{TraceFault}
+use Rattle.fg_trace.specs.declared.step.TraceFault.TheVariants as trace_fault
+use Rattle.fg_trace.specs.Reader.{ReaderState, StandsAfter}
+use Rattle.fg_trace.specs.Trace.{Record, Ending, IsTrace}
+use Rattle.fg_inspect.specs.declared.fault.Fault.{Fault}
+use Rattle.fg_inspect.specs.declared.fault.Fault.TheVariants.{Read}
+use Rattle.fg_inspect.specs.declared.lines.Lines.{Lines}
+use Rattle.fg_inspect.specs.Inspect.{finish_of}
+use Rattle.fg_inspect.specs.Text.{IsText}
+
+-- Since then the sink has gained the front of the text, and the rest of it is held.
+pub record Sent (before : Option (List ℕ)) (text held : List ℕ) (after : Option (List ℕ)) : Type 0 where
+  pub front : List ℕ
+  pub gained : Gains before front after
+  pub rest : text ≡ front ++ held
+
+-- The text of these records is told: the sink has gained its front since then, and the lines hold the rest.
+pub record HasTold
+    (flows : List ℕ) (records : List Record) (lines : Lines) (before after : Option (List ℕ)) : Type 0 where
+  pub text : List ℕ
+  pub is_text : IsText flows records text
+  pub number : lines.number ≡ length records
+  pub sent : Sent before text lines.text.items after
+
+-- No record is told.
+pub record IsNew (lines : Lines) : Type 0 where
+  pub empty : lines.text.items ≡ []
+  pub number : lines.number ≡ 0
+
+-- The sink has gained a prefix of the text of any records that begin with these.
+abbrev pub HasPart : List ℕ → List Record → Option (List ℕ) → Option (List ℕ) → Type 0
+HasPart flows records before after =
+    (later : List Record) (text : List ℕ) → IsText flows (records ++ later) text → GainsPart before text after
+
+-- The reader stands after the records whose text is told.
+pub record IsUnderway
+    (flows : List ℕ) (first now : Option (List ℕ)) (reader : ReaderState) (lines : Lines) (before after : Option (List ℕ)) : Type 0 where
+  pub records : List Record
+  pub stands : StandsAfter reader first now records
+  pub told : HasTold flows records lines before after
+
+-- All records of the trace are told, and this is the answer to its ending.
+pub record HasToldAll
+    (flows : List ℕ) (max : ℕ) (first : Option (List ℕ)) (answer : Finish) (lines : Lines) (before after : Option (List ℕ)) : Type 0 where
+  pub records : List Record
+  pub end : Ending
+  pub answer_is : answer ≡ finish_of end
+  pub of_input : IfSome first (λ bytes. IsTrace bytes max records end)
+  pub told : HasTold flows records lines before after
+
+-- The answer where the reader found no magic.
+abbrev pub answer_unopened : TraceFault → Result Finish Fault
+answer_unopened (trace_fault.NotTrace n) = Ok (finish.NotTrace n)
+answer_unopened why = Err Read
+
+-- A count of faults over a call: it has counted one where the call answers this cause, and else it stands still.
+pub record CountsFor {A : Type 0} (cause : Fault) (result : Result A Fault) (before after : ℕ) : Type 0 where
+  pub counted : result ≡ Err cause → CountsFault before after
+  pub still : result ≢ Err cause → after ≡ before
+  pub rises : before ≤ after

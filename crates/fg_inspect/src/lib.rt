@@ -1,0 +1,14 @@
+//! The inspection of a trace: one line of text for each record.
+#![tactic(auto)]
+
+mod fault;
+pub mod laws;
+mod lines;
+mod reading;
+mod walk;
+
+pub use reading::Reading;
+pub use walk::inspect;
+
+#[cfg(test)]
+mod tests;
