@@ -31,6 +31,7 @@ three_pieces a b p old x y z n end xa yb zp la lb lp far =
     let second : two ≡ (a ++ b) ++ drop 28 old =
     ap (λ (l : List ℕ). take 12 one ++ (l ++ drop 16 (drop 12 one))) yb ∙ written_behind a b old one 12 16 28 first la refl in
     let whole : now ≡ ((a ++ b) ++ p) ++ drop end old =
-    ap (λ (l : List ℕ). take 28 two ++ (l ++ drop (end - 28) (drop 28 two))) zp ∙ written_behind (a ++ b) p old two 28 n end second both far in
-    (ap (λ (l : List ℕ). take end l) whole ∙ take_at ((a ++ b) ++ p) (drop end old) end all,
-    ap (λ (l : List ℕ). drop end l) whole ∙ drop_at ((a ++ b) ++ p) (drop end old) end all)
+    ap (λ (l : List ℕ). take 28 two ++ (l ++ drop (end - 28) (drop 28 two))) zp ∙ written_behind (a ++ b) p old two 28 n end second both far in (
+      ap (λ (l : List ℕ). take end l) whole ∙ take_at ((a ++ b) ++ p) (drop end old) end all,
+      ap (λ (l : List ℕ). drop end l) whole ∙ drop_at ((a ++ b) ++ p) (drop end old) end all,
+    )

@@ -1,4 +1,4 @@
-use Rattle.std.proofs.Common.{◌≡◌, ℕ, ◌+◌, ◌-◌, ◌++◌, List, [], ◌∷◌, length, take, drop, refl, ap, sym, ◌∙◌, subst, arith, length-take}
+use Rattle.std.proofs.Common.{◌≡◌, ℕ, ◌+◌, List, [], ◌∷◌, length, take, refl, sym, ◌∙◌, subst, arith, length-take}
 use Rattle.fg_rtp.specs.Header.{plain_header}
 use Rattle.fg_fechead.specs.FecHeader.{header_of}
 use Rattle.fg_fechead.specs.ParityDatagram.{IsParityDatagram}
