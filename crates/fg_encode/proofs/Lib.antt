@@ -5,4 +5,8 @@ pub mod LineLemmas
 pub mod ListLemmas
 pub mod PushLemmas
 pub mod SlotLemmas
+pub mod StreamBuffer
+pub mod StreamCuts
+pub mod StreamEndings
+pub mod StreamWalks
 pub mod TakingLemmas

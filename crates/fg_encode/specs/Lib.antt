@@ -4,3 +4,6 @@ pub mod Encoding
 pub mod Ends
 pub mod Laws
 pub mod Lines
+pub mod Stream
+pub mod StreamReader
+pub mod StreamSteps

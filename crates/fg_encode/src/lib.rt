@@ -7,6 +7,7 @@ mod clock;
 mod encoder;
 pub mod laws;
 mod lines;
+pub mod stream;
 #[cfg(test)]
 mod tests;
 

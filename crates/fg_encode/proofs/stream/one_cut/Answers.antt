@@ -1,0 +1,5 @@
+use Rattle.fg_encode.proofs.StreamCuts.{one_cut}
+use Rattle.fg_encode.proofs.stream.one_cut.Goals as goal
+
+pub returns : goal.returns
+returns c = one_cut
