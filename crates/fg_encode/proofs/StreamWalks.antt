@@ -11,8 +11,8 @@ use Rattle.fg_ts.specs.declared.TsFault.TheVariants.{Ragged as RaggedPayload, No
 use Rattle.fg_ts.specs.Packets.{ArePackets, FirstFault}
 use Rattle.fg_encode.specs.declared.stream.StreamStep.TheVariants.{Payload, End}
 use Rattle.fg_encode.specs.declared.stream.StreamFault.TheVariants.{ReadFault, NotTransport, TooLong as PastLimit}
-use Rattle.fg_encode.specs.Stream.{payload_of, HasPayload, IsPastLimit, IsAcceptable, AreFirst, IsCut, Whole, TooLong, Ragged, NoSync}
-use Rattle.fg_encode.specs.StreamReader.{Answer, StreamState, IsEnding, KeepsEnding, IsPlaced, StandsAfter, ReadsAll, Walks, EndsHere}
+use Rattle.fg_encode.specs.Stream.{payload_of, IsAcceptable, AreFirst}
+use Rattle.fg_encode.specs.StreamReader.{Answer, StreamState, IsEnding, KeepsEnding, IsPlaced, StandsAfter, Walks, EndsHere}
 use Rattle.fg_encode.specs.StreamSteps.{TakesIn, HoldsEnough, Accepts, after_payload}
 use Rattle.fg_encode.proofs.ListLemmas.{range_more}
 use Rattle.fg_encode.proofs.StreamBuffer.{gives_trans}

@@ -1,4 +1,4 @@
-use Rattle.std.proofs.Common.{ℕ, Result, Err, ◌≡◌, ◌∙◌, ◌*◌, ◌≤◌, ◌+◌, ◌-◌, take, length, ap, refl, arith}
+use Rattle.std.proofs.Common.{ℕ, Result, Err, ◌≡◌, ◌∙◌, ◌*◌, ◌≤◌, ◌+◌, take, length, ap, arith}
 use Rattle.std.proofs.lemmas.List.{length-take}
 use Rattle.fg_ts.specs.declared.TsFault.{TsFault}
 use Rattle.fg_ts.specs.declared.TsFault.TheVariants.{Ragged, NoSync}

@@ -1,6 +1,5 @@
 use Rattle.std.proofs.Common.{◌≡◌, ◌≤◌, None, Some, ap, subst, arith}
-use Rattle.fg_encode.specs.StreamReader.{StreamState, EndsHere}
-use Rattle.fg_encode.specs.StreamSteps.{Accepts, HoldsEnough}
+use Rattle.fg_encode.specs.StreamReader.{StreamState}
 use Rattle.fg_encode.proofs.StreamWalks.{after_taking, walks_ending, walks_payload}
 use Rattle.fg_encode.proofs.stream.StreamReader.next.Goals as goal
 

@@ -1,4 +1,4 @@
-use Rattle.std.proofs.Common.{◌≡◌, ◌∙◌, ◌+◌, ◌-◌, ◌≤◌, length, false, ap, arith}
+use Rattle.std.proofs.Common.{◌∙◌, ◌+◌, ◌≤◌, length, ap, arith}
 use Rattle.fg_encode.specs.StreamSteps.{BufferState}
 use Rattle.fg_encode.proofs.StreamBuffer.{has_room}
 use Rattle.fg_encode.proofs.stream.buffer.PayloadBuffer.let_go.Goals.{then-self, else-self}

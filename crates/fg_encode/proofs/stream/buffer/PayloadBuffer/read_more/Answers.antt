@@ -1,4 +1,4 @@
-use Rattle.std.proofs.Common.{◌≡◌, ◌-◌, List, ℕ, sym, ap, length}
+use Rattle.std.proofs.Common.{◌-◌, sym, ap}
 use Rattle.fg_encode.specs.StreamSteps.{BufferState}
 use Rattle.fg_encode.proofs.StreamBuffer.{same_range, held_more, held_same, only_held}
 use Rattle.fg_encode.proofs.stream.buffer.PayloadBuffer.read_more.Goals as goal
