@@ -53,6 +53,9 @@ pub fn repair_alone<S: Source, K: Sink, O: Outlet>(
     ensures part { IsFault result → OutputsPart plan.now (S.left input.old) (O.lanes lanes.old)
         (O.lanes lanes.new) K.written out.old out.new }
 
+    // After a read fault no report was begun.
+    ensures no_report { result ≡ Finish.ReadFault → out.new ≡ out.old }
+
     // A fault of the outside is answered only where it was counted in this call, and with every other answer none was. No
     // count falls.
     ensures read_fault { result ≡ Finish.ReadFault → CountsFault (S.faults input.old) (S.faults input.new) }
@@ -90,6 +93,7 @@ fn repair<S: Source, K: Sink, O: Outlet>(
         → (lanes.new ≡ lanes.old) × (out.new ≡ out.old)) }
     ensures part { OnErr result (OutputsPart plan.now (S.left input.old) (O.lanes lanes.old)
         (O.lanes lanes.new) K.written out.old out.new) }
+    ensures no_report { result ≡ Err Fault.Read → out.new ≡ out.old }
     ensures reads { CountsFor Fault.Read result (S.faults input.old) (S.faults input.new) }
     ensures writes { CountsWrites result (K.faults out.old) (K.faults out.new)
         (O.faults lanes.old) (O.faults lanes.new) }
@@ -150,6 +154,7 @@ fn repair_records<S: Source, K: Sink, O: Outlet>(
     ensures all_read { IfOk result (λ finish. ReadsAll finish → IsAtEnd (S.left input.new)) }
     ensures part { OnErr result ((first : Option (List ℕ)) → StandsAfter reader.old first (S.left input.old) []
         → OutputsPart plan.now first (O.lanes lanes.old) (O.lanes lanes.new) K.written out.old out.new) }
+    ensures no_report { result ≡ Err Fault.Read → out.new ≡ out.old }
     ensures reads { CountsFor Fault.Read result (S.faults input.old) (S.faults input.new) }
     ensures writes { CountsWrites result (K.faults out.old) (K.faults out.new)
         (O.faults lanes.old) (O.faults lanes.new) }

@@ -45,6 +45,7 @@ pub fn answer<S: Source, K: Sink, O: Outlet>(
     ensures no_lane { MakesNoLane request → lanes.new ≡ lanes.old }
     ensures all_read { ReadsAll request result → IsAtEnd (S.left input.new) }
 
+    ensures no_report { result ≡ Why.ReadFault → out.new ≡ out.old }
     ensures read_fault { result ≡ Why.ReadFault → CountsFault (S.faults input.old) (S.faults input.new) }
     ensures write_fault { result ≡ Why.WriteFault
         → CountsFault (K.faults out.old) (K.faults out.new)

@@ -88,6 +88,7 @@ pub fn run<
 
     // What a request has no business with is left alone, whatever the answer. An input that isn't what the request reads
     // makes nothing.
+    ensures no_report { result.why ≡ Why.ReadFault → out.new ≡ out.old }
     ensures nothing_read { (request : AnyRequest) → Asks (map string_bytes words.now) request
         → ReadsNothing request → input.new ≡ input.old }
     ensures nothing_written { (request : AnyRequest) → Asks (map string_bytes words.now) request
