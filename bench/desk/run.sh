@@ -8,12 +8,8 @@ top=$(cd "$here/../.." && pwd)
 work=$(mktemp -d)
 trap 'rm -rf "$work"' EXIT
 mkdir -p "$work/crates/desk_work/src" "$work/crates/desk_work/proofs"
-for crate in fg_words fg_shape fg_unwrap fg_peel fg_desk; do
-    tar -C "$top/crates" --exclude=out --exclude=must-fail -cf - "$crate" | tar -C "$work/crates" -xf -
-done
-grep -E '^fg_(words|shape|unwrap|peel|desk):' "$top/crates.txt" > "$work/crates.txt"
+"$top/bench/copy_crates" "$work" fg_words fg_shape fg_unwrap fg_peel fg_desk
 echo 'desk_work: fg_words fg_shape fg_desk' >> "$work/crates.txt"
-cp "$top/HANDLES" "$work/"
 cp "$here/program.txt" "$work/crates/desk_work/src/main.rt"
 mkdir "$work/crates/desk_work/proofs/take_media" "$work/crates/desk_work/proofs/run_all"
 cat > "$work/crates/desk_work/proofs/take_media/Invariants.antt" <<'END'

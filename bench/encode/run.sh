@@ -7,13 +7,8 @@ top=$(cd "$here/../.." && pwd)
 work=$(mktemp -d)
 trap 'rm -rf "$work"' EXIT
 mkdir -p "$work/crates/encode_work/src" "$work/crates/encode_work/proofs/run_all"
-crates='words io shape ts rtp fechead trace encode'
-for crate in $crates; do
-    tar -C "$top/crates" --exclude=out --exclude=must-fail -cf - "fg_$crate" | tar -C "$work/crates" -xf -
-done
-grep -E "^fg_(${crates// /|}):" "$top/crates.txt" > "$work/crates.txt"
+"$top/bench/copy_crates" "$work" fg_words fg_io fg_shape fg_ts fg_rtp fg_fechead fg_trace fg_encode
 echo 'encode_work: fg_shape fg_ts fg_encode' >> "$work/crates.txt"
-cp "$top/HANDLES" "$work/"
 cp "$here/program.txt" "$work/crates/encode_work/src/main.rt"
 cat > "$work/crates/encode_work/proofs/run_all/Invariants.antt" <<'END'
 use Rattle.std.proofs.Common.{◌≡◌, ◌≤◌, ℕ, List}

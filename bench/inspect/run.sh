@@ -7,12 +7,8 @@ top=$(cd "$here/../.." && pwd)
 work=$(mktemp -d)
 trap 'rm -rf "$work"' EXIT
 mkdir -p "$work/crates/inspect_times/src"
-for crate in fg_words fg_shape fg_io fg_flows fg_rtp fg_fechead fg_trace fg_inspect; do
-    tar -C "$top/crates" --exclude=out --exclude=must-fail -cf - "$crate" | tar -C "$work/crates" -xf -
-    grep "^$crate:" "$top/crates.txt" >> "$work/crates.txt"
-done
+"$top/bench/copy_crates" "$work" fg_words fg_shape fg_io fg_flows fg_rtp fg_fechead fg_trace fg_inspect
 printf 'inspect_times: fg_io fg_flows fg_trace fg_inspect anyhow\n' >> "$work/crates.txt"
-cp "$top/HANDLES" "$work/"
 cp "$here/program.txt" "$work/crates/inspect_times/src/main.rt"
 cd "$work/crates/inspect_times"
 rt "${1:-run}" > "$work/log" 2>&1 || { cat "$work/log"; exit 1; }

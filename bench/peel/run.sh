@@ -8,12 +8,8 @@ top=$(cd "$here/../.." && pwd)
 work=$(mktemp -d)
 trap 'rm -rf "$work"' EXIT
 mkdir -p "$work/crates/peel_times/src" "$work/crates/peel_times/proofs"
-for crate in fg_words fg_shape fg_peel; do
-    tar -C "$top/crates" --exclude=out --exclude=must-fail -cf - "$crate" | tar -C "$work/crates" -xf -
-done
-grep -E '^fg_(words|shape|peel):' "$top/crates.txt" > "$work/crates.txt"
+"$top/bench/copy_crates" "$work" fg_words fg_shape fg_peel
 echo 'peel_times: fg_words fg_shape fg_peel slab' >> "$work/crates.txt"
-cp "$top/HANDLES" "$work/"
 cp "$here/program.txt" "$work/crates/peel_times/src/main.rt"
 # The walk through the lines is proved as in the peeler's own tests.
 for name in line_fits lines_fit; do

@@ -9,11 +9,8 @@ work=$(mktemp -d)
 file=$(mktemp -p /dev/shm trace.XXXXXX)
 trap 'rm -rf "$work" "$file"' EXIT
 mkdir -p "$work/crates/trace_times/src" "$work/crates/trace_times/proofs/walk_all"
-for crate in fg_io fg_trace; do
-    tar -C "$top/crates" --exclude=out --exclude=must-fail -cf - "$crate" | tar -C "$work/crates" -xf -
-done
-printf 'fg_io:\nfg_trace: fg_io\ntrace_times: fg_io fg_trace anyhow\n' > "$work/crates.txt"
-cp "$top/HANDLES" "$work/"
+"$top/bench/copy_crates" "$work" fg_io fg_trace
+echo 'trace_times: fg_io fg_trace anyhow' >> "$work/crates.txt"
 cp "$here/program.txt" "$work/crates/trace_times/src/main.rt"
 cat > "$work/crates/trace_times/proofs/walk_all/Invariants.antt" <<'END'
 use Rattle.std.proofs.Common.{◌≡◌, true}
