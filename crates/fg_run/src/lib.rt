@@ -80,15 +80,15 @@ pub fn run<
     ensures words { (fault : AnyWordFault) → result.why ≡ Why.Words fault
         → Asks (map string_bytes words.now) (Request.Refused fault) }
 
-    // After a fault or want of memory the outputs have gained parts.
+    // After a fault or want of memory the outputs have gained parts, and after a read fault no report was begun.
     ensures part { IsFault result.why → (request : AnyRequest)
         → Asks (map string_bytes words.now) request
         → AnswersPart request (S.left input.old) (O.lanes lanes.old) (O.lanes lanes.new)
         K.written out.old out.new }
+    ensures no_report { result.why ≡ Why.ReadFault → out.new ≡ out.old }
 
     // What a request has no business with is left alone, whatever the answer. An input that isn't what the request reads
     // makes nothing.
-    ensures no_report { result.why ≡ Why.ReadFault → out.new ≡ out.old }
     ensures nothing_read { (request : AnyRequest) → Asks (map string_bytes words.now) request
         → ReadsNothing request → input.new ≡ input.old }
     ensures nothing_written { (request : AnyRequest) → Asks (map string_bytes words.now) request
