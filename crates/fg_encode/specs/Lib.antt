@@ -4,6 +4,7 @@ pub mod Encoding
 pub mod Ends
 pub mod Laws
 pub mod Lines
+pub mod Payloads
 pub mod Stream
 pub mod StreamReader
 pub mod StreamSteps
