@@ -13,7 +13,10 @@
 use Rattle.std.specs.Prelude.{◌≡◌, ℕ, ◌+◌, ◌-◌, ◌/◌, ◌%◌, ◌==◌, Bool, true, false, List, [], ◌∷◌, ◌++◌, length, replicate, slice_index, slice_range}
 use Rattle.std.specs.Int.{from_be_bytes, to_be_bytes, w16, w32}
 use Rattle.fg_shape.specs.Shape.{IsShape}
+use Rattle.fg_words.specs.declared.Word.{Word}
+use Rattle.fg_words.specs.Word.{padded_word}
 use Rattle.fg_fechead.specs.declared.Parity.{Parity}
+use Rattle.fg_fechead.specs.declared.ParityHeader.{ParityHeader}
 
 -- D, in its byte.
 abbrev pub row_bit : Bool → ℕ
@@ -40,6 +43,14 @@ parity_of header payload = record {
     bytes = payload ++ replicate (1316 - length payload) 0;
   };
 }
+
+-- The parity of what a header says and a word.
+abbrev pub parity_from : ParityHeader → Word → Parity
+parity_from header word = record { base = header.base; shape = header.shape; row = header.row; word = word }
+
+-- And where the word is that of a payload.
+abbrev pub parity_with : ParityHeader → List ℕ → Parity
+parity_with header payload = parity_from header (padded_word header.pt header.ts header.len payload)
 
 -- What a header keeps that is read.
 

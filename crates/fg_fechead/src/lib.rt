@@ -1,8 +1,8 @@
 //! Parity datagrams of forward error correction (SMPTE ST 2022-1, from Pro-MPEG Code of Practice 3).
 #![tactic(auto)]
 
-ghost use Rattle.std.specs.Prelude.{◌≡◌, ◌≤◌, ◌<◌, ◌+◌, ◌^◌, ◌↔◌, [], ◌∷◌, ◌++◌, IfErr, IfOk, IsErrOf, IsTrue, drop, length, slice_index, take};
-ghost use Rattle.fg_fechead.specs.FecHeader.{header_of, parity_of, IsPlainXor};
+ghost use Rattle.std.specs.Prelude.{◌≡◌, ◌≤◌, ◌<◌, ◌+◌, ◌^◌, ◌↔◌, ℕ, List, [], ◌∷◌, ◌++◌, IfErr, IfOk, OnErr, IsErrOf, IsTrue, drop, length, slice_index, take};
+ghost use Rattle.fg_fechead.specs.FecHeader.{header_of, parity_of, parity_from, parity_with, IsPlainXor};
 ghost use Rattle.fg_fechead.specs.ParityDatagram.{parity_bytes, CanBeWritten, FirstFault, HasHeaders, HasPayload, IsParityDatagram};
 
 pub mod laws;
@@ -12,7 +12,8 @@ mod tests;
 use byteorder::{BigEndian, ByteOrder};
 use fg_rtp::{HEADER_LENGTH, header_bytes};
 use fg_shape::{Shape, shape_ok};
-use fg_words::{PAYLOAD_LIMIT, Word};
+use fg_words::{PAYLOAD_LIMIT, Shared, Word};
+use std::alloc::{AllocError, Global};
 
 /// The bytes of the FEC header (SMPTE ST 2022-1).
 pub const FEC_HEADER_LENGTH: usize = 16;
@@ -48,6 +49,23 @@ pub struct Parity {
     pub word: Word,
 }
 
+/// What the FEC header of a parity datagram says.
+#[derive(Clone, Copy)]
+pub struct ParityHeader {
+    /// The first protected sequence number (SNBase).
+    pub base: u16,
+    /// How many datagrams are protected, and how far apart (NA and Offset).
+    pub shape: Shape,
+    /// Whether it belongs to the rows' stream (D). Nothing depends on it.
+    pub row: bool,
+    /// The XOR of the protected datagrams' payload types (PT recovery).
+    pub pt: u8,
+    /// The XOR of their timestamps (TS recovery).
+    pub ts: u32,
+    /// The XOR of their payloads' lengths (length recovery).
+    pub len: u16,
+}
+
 /// Why bytes are no parity datagram that is read.
 #[derive(Clone, Copy, Debug, PartialEq, Eq)]
 pub enum FecFault {
@@ -65,12 +83,14 @@ pub enum FecFault {
     Size,
 }
 
-/// Reads a parity datagram.
+/// Reads the FEC header of a parity datagram, and copies nothing of its payload.
 ///
 /// Of the RTP header only the version is looked at, and of the FEC header neither the mask nor the
 /// SNBase ext bits. The fault is the first that applies, in the order of its variants.
-pub fn read(bytes: &[u8]) -> Result<Parity, FecFault>
-    ensures ok { IfOk result (λ parity. IsParityDatagram bytes.now parity) }
+pub fn parity_header(bytes: &[u8]) -> Result<ParityHeader, FecFault>
+    ensures ok { IfOk result (λ header. IsParityDatagram bytes.now
+        (parity_with header (drop HEADERS_LENGTH bytes.now))) }
+    ensures size { IfOk result (λ header. HasPayload bytes.now) }
     ensures faults { (fault : FecFault) → IsErrOf result fault ↔ FirstFault fault bytes.now }
     ensures refused { IfErr result (λ _. (parity : Parity)
         → IsParityDatagram bytes.now parity → ⊥) }
@@ -94,7 +114,45 @@ pub fn read(bytes: &[u8]) -> Result<Parity, FecFault>
     if !has_payload(bytes) {
         return Err(FecFault::Size);
     }
-    Ok(fields(header, &bytes[HEADERS_LENGTH..]))
+    Ok(fields(header))
+}
+
+/// Reads a parity datagram. The fault is that of `parity_header`.
+pub fn read(bytes: &[u8]) -> Result<Parity, FecFault>
+    ensures ok { IfOk result (λ parity. IsParityDatagram bytes.now parity) }
+    ensures faults { (fault : FecFault) → IsErrOf result fault ↔ FirstFault fault bytes.now }
+    ensures refused { IfErr result (λ _. (parity : Parity)
+        → IsParityDatagram bytes.now parity → ⊥) }
+{
+    let header = parity_header(bytes)?;
+    Ok(Parity {
+        base: header.base,
+        shape: header.shape,
+        row: header.row,
+        word: Word::of_payload(header.pt, header.ts, header.len, payload(bytes)),
+    })
+}
+
+/// Reads a parity datagram: its header and a share of its word. The payload is copied once, to where
+/// the share keeps it. The fault is that of `parity_header`, and there is no memory only for what is
+/// a parity datagram.
+pub fn parity_share(
+    alloc: Global,
+    bytes: &[u8],
+) -> Result<Result<(ParityHeader, Shared), FecFault>, AllocError>
+    ensures ok { IfOk result (λ read. IfOk read (λ t. IsParityDatagram bytes.now (parity_from t.0 t.1))) }
+    ensures faults { IfOk result (λ read. (fault : FecFault)
+        → IsErrOf read fault ↔ FirstFault fault bytes.now) }
+    ensures refused { IfOk result (λ read. IfErr read (λ _. (parity : Parity)
+        → IsParityDatagram bytes.now parity → ⊥)) }
+    ensures memory { OnErr result ((parity : Parity) × IsParityDatagram bytes.now parity) }
+{
+    let header = match parity_header(bytes) {
+        Ok(header) => header,
+        Err(fault) => return Ok(Err(fault)),
+    };
+    let share = Shared::of_payload(alloc, header.pt, header.ts, header.len, payload(bytes))?;
+    Ok(Ok((header, share)))
 }
 
 /// Writes a parity datagram with `size` bytes of payload to the front of `into`, and answers how many bytes that took: 28
@@ -177,29 +235,26 @@ fn shape_of(header: &[u8]) -> Shape
     }
 }
 
-/// The parity of a FEC header and of the payload after it.
-fn fields(header: &[u8], payload: &[u8]) -> Parity
-    requires header { 16 ≤ length header.now }
-    requires payload { length payload.now ≤ 1316 }
-    ensures { result ≡ parity_of header.now payload.now }
+/// The bytes after both headers.
+fn payload(bytes: &[u8]) -> &[u8]
+    requires { HasHeaders bytes.now }
+    ensures { result.now ≡ drop HEADERS_LENGTH bytes.now }
 {
-    let mut parity = Parity {
+    let (_, payload) = bytes.split_at(HEADERS_LENGTH);
+    payload
+}
+
+/// What a FEC header says.
+fn fields(header: &[u8]) -> ParityHeader
+    requires { 16 ≤ length header.now }
+    ensures { (payload : List ℕ) → parity_with result payload ≡ parity_of header.now payload }
+{
+    ParityHeader {
         base: BigEndian::read_u16(&header[0..2]),
         shape: shape_of(header),
         row: (header[12] >> 6) & 1 == 1,
-        word: Word::zero(),
-    };
-    parity.word.pt = header[4] & 0x7f;
-    parity.word.ts = BigEndian::read_u32(&header[8..12]);
-    parity.word.len = BigEndian::read_u16(&header[2..4]);
-    put_front(&mut parity.word.bytes, payload);
-    parity
-}
-
-/// Puts the payload at the front of the bytes.
-fn put_front(bytes: &mut [u8; PAYLOAD_LIMIT], payload: &[u8])
-    requires { length payload.now ≤ 1316 }
-    ensures { bytes.new ≡ payload.now ++ drop (length payload.now) bytes.old }
-{
-    bytes[..payload.len()].copy_from_slice(payload);
+        pt: header[4] & 0x7f,
+        ts: BigEndian::read_u32(&header[8..12]),
+        len: BigEndian::read_u16(&header[2..4]),
+    }
 }

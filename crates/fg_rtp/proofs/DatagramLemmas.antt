@@ -5,9 +5,9 @@ use Rattle.std.proofs.lemmas.Bool.{cases_lt, eqb-false}
 use Rattle.std.proofs.lemmas.Nat.{be_bytes_2, be_bytes_4}
 use Rattle.std.proofs.lemmas.List.{get_or_append_left, get_or-append_right, get_or-take, get_or-replicate, get_or_past, length-take, length-replicate, take_at, drop_at, ext_get_or}
 use Rattle.fg_words.specs.declared.Word.{Word}
-use Rattle.fg_words.specs.Word.{IsMedia}
+use Rattle.fg_words.specs.Word.{transport_word, IsMedia}
 use Rattle.fg_rtp.specs.Header.{header}
-use Rattle.fg_rtp.specs.MediaDatagram.{IsMediaDatagram, media_bytes, transport_word, HasHeader, IsVersionTwo, IsPlain, IsTransport, HasPackets, IsSynced}
+use Rattle.fg_rtp.specs.MediaDatagram.{IsMediaDatagram, media_bytes, HasHeader, IsVersionTwo, IsPlain, IsTransport, HasPackets, IsSynced}
 
 -- A word is its four fields.
 word_of_fields : ℕ → ℕ → ℕ → List ℕ → Word

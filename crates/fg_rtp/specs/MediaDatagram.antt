@@ -1,6 +1,6 @@
 -- Media datagrams: transport packets in RTP (RFC 3550, RFC 2250, RFC 3551, SMPTE ST 2022-2). The plain header,
 -- without padding, an extension or contributing sources, and at most seven packets are this project's profile.
-use Rattle.std.specs.Prelude.{◌≡◌, ℕ, ◌+◌, ◌-◌, ◌*◌, ◌<◌, ◌≤◌, ◌^◌, false, List, ◌∷◌, ◌++◌, take, length, replicate, slice_index}
+use Rattle.std.specs.Prelude.{◌≡◌, ℕ, ◌+◌, ◌*◌, ◌<◌, ◌≤◌, ◌^◌, false, List, ◌∷◌, ◌++◌, take, length, slice_index}
 use Rattle.std.specs.Int.{to_be_bytes, w16, w32}
 use Rattle.fg_words.specs.declared.Word.{Word}
 use Rattle.fg_words.specs.Word.{IsMedia}
@@ -26,16 +26,7 @@ pub record IsMediaDatagram (bytes : List ℕ) (seq ssrc : ℕ) (word : Word) : T
   pub spelled : bytes ≡ 0x80 ∷ (128 * marker + 33)
       ∷ (to_be_bytes w16 seq ++ to_be_bytes w32 word.ts ++ to_be_bytes w32 ssrc ++ payload_of word)
 
--- The word of a payload of transport packets: the payload, padded with zeros to seven packets.
-abbrev pub transport_word : ℕ → List ℕ → Word
-transport_word ts payload = record {
-  pt = 33;
-  ts = ts;
-  len = length payload;
-  bytes = payload ++ replicate (1316 - length payload) 0;
-}
-
--- The bytes that are written for it: the marker is 0.
+-- The bytes that are written for a word: the marker is 0.
 abbrev pub media_bytes : ℕ → ℕ → Word → List ℕ
 media_bytes seq ssrc word = plain_header 33 seq word.ts ssrc ++ payload_of word
 

@@ -11,7 +11,10 @@ mod media;
 mod tests;
 
 use byteorder::{BigEndian, ByteOrder};
-pub use media::{MEDIA_LIMIT, MediaFault, media_word, payload, write_media};
+pub use media::{
+    MEDIA_LIMIT, MediaFault, MediaHeader, media_header, media_share, media_word, payload,
+    write_media, write_payload,
+};
 
 /// The bytes of the fixed header (RFC 3550).
 pub const HEADER_LENGTH: usize = 12;

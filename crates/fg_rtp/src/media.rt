@@ -1,12 +1,14 @@
 //! Media datagrams.
 
-ghost use Rattle.std.specs.Prelude.{◌≡◌, ℕ, ◌≤◌, ◌↔◌, ◌+◌, ◌++◌, IfErr, IfOk, IsErrOf, IsTrue, drop, length, take};
+ghost use Rattle.std.specs.Prelude.{◌≡◌, ℕ, ◌≤◌, ◌↔◌, ◌+◌, ◌++◌, IfErr, IfOk, OnErr, IsErrOf, IsTrue, drop, length, take};
 ghost use Rattle.fg_words.specs.declared.Word.{Word};
-ghost use Rattle.fg_rtp.specs.MediaDatagram.{FirstFault, HasHeader, HasPackets, IsMediaDatagram, IsSynced, header_fault, media_bytes, payload_of, transport_word};
-ghost use Rattle.fg_words.specs.Word.{IsMedia};
+ghost use Rattle.fg_rtp.specs.MediaDatagram.{FirstFault, HasHeader, HasPackets, IsMediaDatagram, IsSynced, header_fault, media_bytes, payload_of};
+ghost use Rattle.fg_words.specs.Word.{transport_word, IsMedia};
+ghost use Rattle.fg_rtp.specs.Header.{plain_header};
 
 use crate::{HEADER_LENGTH, RtpFault, header_bytes, read};
-use fg_words::{PACKET_LENGTH, PAYLOAD_LIMIT, SYNC_BYTE, TRANSPORT_TYPE, Word};
+use fg_words::{PACKET_LENGTH, PAYLOAD_LIMIT, SYNC_BYTE, Shared, TRANSPORT_TYPE, Word};
+use std::alloc::{AllocError, Global};
 
 /// The bytes of the largest media datagram.
 pub const MEDIA_LIMIT: usize = HEADER_LENGTH + PAYLOAD_LIMIT;
@@ -39,14 +41,25 @@ impl From<RtpFault> for MediaFault {
     }
 }
 
-/// Reads a media datagram: its sequence number, its synchronization source and its word.
+/// The numbers of a media datagram.
+#[derive(Clone, Copy, Debug, PartialEq, Eq)]
+pub struct MediaHeader {
+    /// The sequence number.
+    pub seq: u16,
+    /// The timestamp, in units of 1/90,000 of a second.
+    pub ts: u32,
+    /// The synchronization source.
+    pub ssrc: u32,
+}
+
+/// Reads the numbers of a media datagram, and copies nothing of its payload, which `payload` gives.
 ///
 /// The fault is the first that applies, in the order of its variants.
-pub fn media_word(bytes: &[u8]) -> Result<(u16, u32, Word), MediaFault>
-    ensures ok { IfOk result (λ t. IsMediaDatagram bytes.now t.0 t.1 t.2) }
+pub fn media_header(bytes: &[u8]) -> Result<MediaHeader, MediaFault>
+    ensures ok { IfOk result (λ header. IsMediaDatagram bytes.now header.seq header.ssrc
+        (transport_word header.ts (drop HEADER_LENGTH bytes.now))) }
+    ensures size { IfOk result (λ header. HasPackets bytes.now) }
     ensures faults { (fault : MediaFault) → IsErrOf result fault ↔ FirstFault fault bytes.now }
-    ensures only { IfOk result (λ t. (seq ssrc : ℕ) (word : Word)
-        → IsMediaDatagram bytes.now seq ssrc word → (t.0 ≡ seq) × (t.1 ≡ ssrc) × (t.2 ≡ word)) }
     ensures refused { IfErr result (λ _. (seq ssrc : ℕ) (word : Word)
         → IsMediaDatagram bytes.now seq ssrc word → ⊥) }
 {
@@ -63,8 +76,50 @@ pub fn media_word(bytes: &[u8]) -> Result<(u16, u32, Word), MediaFault>
     if !is_synced(bytes) {
         return Err(MediaFault::NoSync);
     }
+    Ok(MediaHeader {
+        seq: header.seq,
+        ts: header.ts,
+        ssrc: header.ssrc,
+    })
+}
+
+/// Reads a media datagram: its sequence number, its synchronization source and its word.
+///
+/// The fault is the first that applies, in the order of its variants.
+pub fn media_word(bytes: &[u8]) -> Result<(u16, u32, Word), MediaFault>
+    ensures ok { IfOk result (λ t. IsMediaDatagram bytes.now t.0 t.1 t.2) }
+    ensures faults { (fault : MediaFault) → IsErrOf result fault ↔ FirstFault fault bytes.now }
+    ensures only { IfOk result (λ t. (seq ssrc : ℕ) (word : Word)
+        → IsMediaDatagram bytes.now seq ssrc word → (t.0 ≡ seq) × (t.1 ≡ ssrc) × (t.2 ≡ word)) }
+    ensures refused { IfErr result (λ _. (seq ssrc : ℕ) (word : Word)
+        → IsMediaDatagram bytes.now seq ssrc word → ⊥) }
+{
+    let header = media_header(bytes)?;
     let word = word_of(header.ts, payload(bytes));
     Ok((header.seq, header.ssrc, word))
+}
+
+/// Reads a media datagram: its sequence number, its synchronization source and a share of its word. The payload is copied
+/// once, to where the share keeps it.
+///
+/// The fault is the first that applies, in the order of its variants. There is no memory only for what is a media datagram.
+pub fn media_share(
+    alloc: Global,
+    bytes: &[u8],
+) -> Result<Result<(u16, u32, Shared), MediaFault>, AllocError>
+    ensures ok { IfOk result (λ read. IfOk read (λ t. IsMediaDatagram bytes.now t.0 t.1 t.2)) }
+    ensures faults { IfOk result (λ read. (fault : MediaFault) → IsErrOf read fault ↔ FirstFault fault bytes.now) }
+    ensures refused { IfOk result (λ read. IfErr read (λ _. (seq ssrc : ℕ) (word : Word)
+        → IsMediaDatagram bytes.now seq ssrc word → ⊥)) }
+    ensures memory { OnErr result ((seq : ℕ) × (ssrc : ℕ) × (word : Word)
+        × IsMediaDatagram bytes.now seq ssrc word) }
+{
+    let header = match media_header(bytes) {
+        Ok(header) => header,
+        Err(fault) => return Ok(Err(fault)),
+    };
+    let share = share_of(alloc, header.ts, payload(bytes))?;
+    Ok(Ok((header.seq, header.ssrc, share)))
 }
 
 /// The bytes of a datagram after the fixed header, which are a media datagram's payload; none where it is shorter.
@@ -85,10 +140,26 @@ pub fn write_media(seq: u16, ssrc: u32, word: &Word, into: &mut [u8; MEDIA_LIMIT
     ensures datagram { IsMediaDatagram (take result into.new) seq ssrc word.now }
 {
     let length = usize::from(word.len);
-    let end = HEADER_LENGTH + length;
-    let header = header_bytes(TRANSPORT_TYPE, seq, word.ts, ssrc);
+    write_payload(seq, word.ts, ssrc, &word.bytes[..length], into)
+}
+
+/// Writes the media datagram of transport packets to the front of `into`, and answers how many bytes that took: 12 and
+/// the packets'. `ts` is the timestamp, and the marker is 0. What `into` holds behind the datagram stays.
+pub fn write_payload(
+    seq: u16,
+    ts: u32,
+    ssrc: u32,
+    payload: &[u8],
+    into: &mut [u8; MEDIA_LIMIT],
+) -> usize
+    requires { length payload.now ≤ PAYLOAD_LIMIT }
+    ensures size { result ≡ HEADER_LENGTH + length payload.now }
+    ensures written { into.new ≡ (plain_header 33 seq ts ssrc ++ payload.now) ++ drop result into.old }
+{
+    let end = HEADER_LENGTH + payload.len();
+    let header = header_bytes(TRANSPORT_TYPE, seq, ts, ssrc);
     into[..HEADER_LENGTH].copy_from_slice(&header);
-    into[HEADER_LENGTH..end].copy_from_slice(&word.bytes[..length]);
+    into[HEADER_LENGTH..end].copy_from_slice(payload);
     end
 }
 
@@ -115,23 +186,18 @@ fn is_synced(bytes: &[u8]) -> bool
     true
 }
 
+/// A share of the word of transport packets with this timestamp.
+fn share_of(alloc: Global, ts: u32, payload: &[u8]) -> Result<Shared, AllocError>
+    requires { length payload.now ≤ 1316 }
+    ensures { IfOk result (λ share. share ≡ transport_word ts payload.now) }
+{
+    Shared::of_payload(alloc, TRANSPORT_TYPE, ts, payload.len() as u16, payload)
+}
+
 /// The word of transport packets with this timestamp.
 fn word_of(ts: u32, payload: &[u8]) -> Word
     requires { length payload.now ≤ 1316 }
     ensures { result ≡ transport_word ts payload.now }
 {
-    let mut word = Word::zero();
-    word.pt = TRANSPORT_TYPE;
-    word.ts = ts;
-    word.len = payload.len() as u16;
-    put_front(&mut word.bytes, payload);
-    word
-}
-
-/// Puts the payload at the front of the bytes.
-fn put_front(bytes: &mut [u8; PAYLOAD_LIMIT], payload: &[u8])
-    requires { length payload.now ≤ 1316 }
-    ensures { bytes.new ≡ payload.now ++ drop (length payload.now) bytes.old }
-{
-    bytes[..payload.len()].copy_from_slice(payload);
+    Word::of_payload(TRANSPORT_TYPE, ts, payload.len() as u16, payload)
 }

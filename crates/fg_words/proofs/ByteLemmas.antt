@@ -5,7 +5,7 @@ use Rattle.std.specs.Simd.Lanes.{zip2, fold_l, chunk, put_chunk}
 use Rattle.std.proofs.lemmas.Nat.{le_or_l, le_or_r}
 use Rattle.std.proofs.lemmas.Bool.{cases_lt}
 use Rattle.std.proofs.lemmas.Simd.{length-zip2, get_or-zip2, length-chunk, get_or-chunk, put_chunk_is, length-replicate, get_or-replicate}
-use Rattle.std.proofs.lemmas.List.{ext_get_or, get_or_append_left, get_or-append_right, get_or-take, get_or-drop, get_or_past, take_all, drop_all, length-take, append-nil, drop-drop}
+use Rattle.std.proofs.lemmas.List.{ext_get_or, get_or_append_left, get_or-append_right, get_or-take, get_or-drop, get_or_past, take_all, drop_all, length-take, append-nil, drop-append-le, drop-drop, take-append-le, take-take}
 use borrow.Rule.Slice.PartMut.{put_mid, mid_of}
 
 -- The list with zs in the place of as many elements from the a-th on.
@@ -158,6 +158,56 @@ xor_pairs_more v n w start xs one other long one_long other_long fits done ahead
     (xor_vectors_more v n w start xs (zip2 bit_xor one other) long
     (length-zip2 bit_xor one other (one_long ∙ sym other_long) ∙ one_long) fits done ahead)
 
+-- Zeros are zero at each place.
+pub bytes_of_zeros : (n : ℕ) (xs : List ℕ) → xs ≡ replicate n 0 → (i : ℕ) → get_or xs i 0 ≡ 0
+bytes_of_zeros n xs e i = ap (λ (l : List ℕ). get_or l i 0) e ∙ ⊎_elim
+    (λ (lt : i < n). get_or-replicate n i 0 0 lt)
+    (λ (le : n ≤ i). get_or_past (replicate n 0) i 0 (omega (arith, length-replicate {A = ℕ} n 0)))
+    (cases_lt i n)
+
+-- A shorter list, padded with zeros.
+abbrev pub padded : ℕ → List ℕ → List ℕ
+padded n front = front ++ replicate (n - length front) 0
+
+pub padded_long : (n : ℕ) (front : List ℕ) → length front ≤ n → length (padded n front) ≡ n
+padded_long n front fits = length-append front (replicate (n - length front) 0) ∙ omega (arith, length-replicate {A = ℕ} (n - length front) 0)
+
+-- The bytes are the same, since a list has zeros past its end.
+pub padded_at : (n : ℕ) (front : List ℕ) (i : ℕ) → get_or (padded n front) i 0 ≡ get_or front i 0
+padded_at n front i =
+    let tail : List ℕ = replicate (n - length front) 0 in
+    ⊎_elim
+    (λ (inside : i < length front). get_or_append_left front tail 0 i inside)
+    (λ (past : length front ≤ i).
+    get_or-append_right front tail (length front) i 0 refl past
+    ∙ bytes_of_zeros (n - length front) tail refl (i - length front)
+    ∙ sym (get_or_past front i 0 past))
+    (cases_lt i (length front))
+
+padded_chunk : (a n w : ℕ) (front : List ℕ) → a + w ≤ length front → length front ≤ n → chunk 0 w (mid_of a (n - a) (padded n front)) ≡ chunk a w front
+padded_chunk a n w front fits limit =
+    let tail : List ℕ = replicate (n - length front) 0 in
+    let long = length-drop a front in
+    take-take w (n - a) (drop a (padded n front)) (omega arith)
+    ∙ ap (λ (l : List ℕ). take w l) (drop-append-le a front tail (omega arith))
+    ∙ take-append-le w (drop a front) tail (omega (arith, long))
+
+pub xor_fronts_more : (v n w : ℕ) (start xs front : List ℕ) → length xs ≡ n → length front ≤ n → w * (v + 1) ≤ length front →
+    ((i : ℕ) → i < w * v → get_or xs i 0 ≡ bit_xor (get_or start i 0) (get_or front i 0)) →
+    ((i : ℕ) → w * v ≤ i → get_or xs i 0 ≡ get_or start i 0) →
+    Steps v n w start front (stored (w * v) n w xs (chunk (w * v) w front))
+xor_fronts_more v n w start xs front long limit fits done ahead =
+    let whole : List ℕ = padded n front in
+    let steps : Steps v n w start whole (stored (w * v) n w xs (chunk (w * v) w front)) =
+    subst (λ (both : List ℕ). Steps v n w start whole (stored (w * v) n w xs both))
+    (padded_chunk (w * v) n w front (omega arith) limit)
+    (xor_vectors_more v n w start xs whole long (padded_long n front limit) (omega arith)
+    (λ i lt. done i lt ∙ ap (λ (k : ℕ). bit_xor (get_or start i 0) k) (sym (padded_at n front i))) ahead) in (
+      λ i lt. steps.0 i lt ∙ ap (λ (k : ℕ). bit_xor (get_or start i 0) k) (padded_at n front i),
+      steps.1,
+      steps.2,
+    )
+
 -- The same of four lists.
 abbrev pub all_of : List ℕ → List ℕ → List ℕ → List ℕ → List ℕ
 all_of first second third fourth = zip2 bit_xor (zip2 bit_xor first second) (zip2 bit_xor third fourth)
@@ -223,12 +273,6 @@ pub zeros_of_bytes : (n : ℕ) (xs : List ℕ) → length xs ≡ n → ((i : ℕ
 zeros_of_bytes n xs long each = ext_get_or 0 xs (replicate n 0) (long ∙ sym (length-replicate {A = ℕ} n 0)) (λ i lt.
     let below : i < n = omega arith in
     each i below ∙ sym (get_or-replicate n i 0 0 below))
-
-pub bytes_of_zeros : (n : ℕ) (xs : List ℕ) → xs ≡ replicate n 0 → (i : ℕ) → get_or xs i 0 ≡ 0
-bytes_of_zeros n xs e i = ap (λ (l : List ℕ). get_or l i 0) e ∙ ⊎_elim
-    (λ (lt : i < n). get_or-replicate n i 0 0 lt)
-    (λ (le : n ≤ i). get_or_past (replicate n 0) i 0 (omega (arith, length-replicate {A = ℕ} n 0)))
-    (cases_lt i n)
 
 -- An OR is zero exactly where both are.
 or_zero : (a b : ℕ) → (bit_or a b ≡ 0) ↔ ((a ≡ 0) × (b ≡ 0))

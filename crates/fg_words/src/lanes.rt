@@ -1,6 +1,6 @@
 //! The payload's bytes, a vector at a time.
 
-ghost use Rattle.std.specs.Prelude.{◌≡◌, ℕ, ◌<◌, ◌≤◌, ◌↔◌, IsTrue, bit_xor, replicate, slice_index};
+ghost use Rattle.std.specs.Prelude.{◌≡◌, ℕ, ◌-◌, ◌*◌, ◌<◌, ◌≤◌, ◌++◌, ◌↔◌, IsTrue, bit_xor, length, replicate, slice_index};
 ghost use Rattle.std.specs.Simd.Lanes.{zip2};
 
 use crate::PAYLOAD_LIMIT;
@@ -21,6 +21,43 @@ pub fn xor_bytes(bytes: &mut [u8; PAYLOAD_LIMIT], other: &[u8; PAYLOAD_LIMIT])
 {
     xor_whole(bytes, other);
     xor_rest(bytes, other);
+}
+
+/// XORs bytes into the front of these.
+pub fn xor_front(bytes: &mut [u8; PAYLOAD_LIMIT], front: &[u8])
+    requires { length front.now ≤ PAYLOAD_LIMIT }
+    ensures { bytes.new ≡ zip2 bit_xor bytes.old (front.now ++ replicate (1316 - length front.now) 0) }
+{
+    let vectors = front.len() / LANES;
+    xor_front_whole(bytes, front, vectors);
+    xor_front_rest(bytes, front, LANES * vectors);
+}
+
+/// XORs the first vectors of the front into these.
+fn xor_front_whole(bytes: &mut [u8; PAYLOAD_LIMIT], front: &[u8], vectors: usize)
+    requires front { LANES * vectors ≤ length front.now }
+    requires limit { length front.now ≤ PAYLOAD_LIMIT }
+    ensures below { (i : ℕ) → i < LANES * vectors
+        → slice_index bytes.new i ≡ bit_xor (slice_index bytes.old i) (slice_index front.now i) }
+    ensures rest { (i : ℕ) → LANES * vectors ≤ i → slice_index bytes.new i ≡ slice_index bytes.old i }
+{
+    for vector in 0..vectors {
+        let at = LANES * vector;
+        let sum = u8x32::from_slice(&bytes[at..]) ^ u8x32::from_slice(&front[at..]);
+        sum.copy_to_slice(&mut bytes[at..]);
+    }
+}
+
+/// XORs the bytes of the front from `start` on into these.
+fn xor_front_rest(bytes: &mut [u8; PAYLOAD_LIMIT], front: &[u8], start: usize)
+    requires { length front.now ≤ PAYLOAD_LIMIT }
+    ensures below { (i : ℕ) → i < start → slice_index bytes.new i ≡ slice_index bytes.old i }
+    ensures rest { (i : ℕ) → start ≤ i
+        → slice_index bytes.new i ≡ bit_xor (slice_index bytes.old i) (slice_index front.now i) }
+{
+    for at in start..front.len() {
+        bytes[at] ^= front[at];
+    }
 }
 
 /// XORs the bytes of four others into these. One pass for all is less work than four.

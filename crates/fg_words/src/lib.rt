@@ -1,8 +1,8 @@
 //! Words, the units that forward error correction recovers.
 #![tactic(auto)]
 
-ghost use Rattle.std.specs.Prelude.{◌≡◌, ℕ, ◌*◌, ◌<◌, ◌≤◌, ◌↔◌, IfOk, IsTrue, slice_index};
-ghost use Rattle.fg_words.specs.Word.{zero_word, word_xor, IsMedia};
+ghost use Rattle.std.specs.Prelude.{◌≡◌, ℕ, ◌*◌, ◌-◌, ◌<◌, ◌≤◌, ◌↔◌, ◌++◌, IfOk, IsTrue, length, replicate, slice_index};
+ghost use Rattle.fg_words.specs.Word.{padded_word, transport_word, zero_word, word_xor, IsMedia};
 
 mod lanes;
 pub mod laws;
@@ -56,6 +56,16 @@ impl Word {
         }
     }
 
+    /// The word with these fields and this payload, padded with zeros.
+    pub fn of_payload(pt: u8, ts: u32, len: u16, payload: &[u8]) -> Word
+        requires { length payload.now ≤ PAYLOAD_LIMIT }
+        ensures { result ≡ padded_word pt ts len payload.now }
+    {
+        let mut word = Word::zero();
+        word.fill(pt, ts, len, payload);
+        word
+    }
+
     /// XORs the other word into this one, field by field and byte by byte.
     pub fn xor_in(&mut self, other: &Word)
         ensures { self.new ≡ word_xor self.old other.now }
@@ -64,6 +74,19 @@ impl Word {
         self.ts ^= other.ts;
         self.len ^= other.len;
         lanes::xor_bytes(&mut self.bytes, &other.bytes);
+    }
+
+    /// XORs the word of transport packets into this one, without making that word first.
+    ///
+    /// `ts` is its timestamp. The packets have at most 1,316 bytes.
+    pub fn xor_transport(&mut self, ts: u32, payload: &[u8])
+        requires { length payload.now ≤ PAYLOAD_LIMIT }
+        ensures { self.new ≡ word_xor self.old (transport_word ts payload.now) }
+    {
+        self.pt ^= TRANSPORT_TYPE;
+        self.ts ^= ts;
+        self.len ^= payload.len() as u16;
+        lanes::xor_front(&mut self.bytes, payload);
     }
 
     /// XORs two other words into this one. One call for both is less work than two.
@@ -126,12 +149,32 @@ impl Word {
         begins_with_sync(&self.bytes, packets) && lanes::is_zero_from(&self.bytes, length)
     }
 
+    /// Sets all fields, the bytes to a payload that is padded with zeros.
+    pub(crate) fn fill(&mut self, pt: u8, ts: u32, len: u16, payload: &[u8])
+        requires { length payload.now ≤ PAYLOAD_LIMIT }
+        ensures { self.new ≡ padded_word pt ts len payload.now }
+    {
+        self.pt = pt;
+        self.ts = ts;
+        self.len = len;
+        put_padded(&mut self.bytes, payload);
+    }
+
     /// Puts the word where several owners share it. Answers want of memory alone.
     pub fn share(self, alloc: Global) -> Result<Shared, AllocError>
         ensures { IfOk result (λ shared. shared ≡ self) }
     {
         Shared::new(alloc, self)
     }
+}
+
+/// Puts the payload at the front of the bytes, and zeros after it.
+fn put_padded(bytes: &mut [u8; PAYLOAD_LIMIT], payload: &[u8])
+    requires { length payload.now ≤ PAYLOAD_LIMIT }
+    ensures { bytes.new ≡ payload.now ++ replicate (1316 - length payload.now) 0 }
+{
+    bytes[..payload.len()].copy_from_slice(payload);
+    bytes[payload.len()..].fill(0);
 }
 
 /// Whether each of the first `packets` transport packets begins with the sync byte.

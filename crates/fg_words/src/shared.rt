@@ -1,11 +1,11 @@
 //! Words with several owners.
 
-ghost use Rattle.std.specs.Prelude.{◌≡◌, IfOk};
+ghost use Rattle.std.specs.Prelude.{◌≡◌, ◌≤◌, IfOk, length};
 ghost use Rattle.fg_words.specs.declared.Word.{Word};
-ghost use Rattle.fg_words.specs.Word.{HasRoom};
+ghost use Rattle.fg_words.specs.Word.{HasRoom, padded_word};
 ghost use Rattle.std.specs.Arc.{arc_value};
 
-use crate::Word;
+use crate::{PAYLOAD_LIMIT, Word};
 use std::alloc::{AllocError, Global};
 use std::marker::Model;
 use std::sync::Arc;
@@ -33,6 +33,25 @@ impl Shared {
             Ok(word) => Ok(Shared { word }),
             Err(_) => Err(AllocError),
         }
+    }
+
+    /// The first share of a word with these fields and this payload, which is copied once, to where
+    /// the share keeps it. Answers want of memory alone.
+    pub fn of_payload(
+        alloc: Global,
+        pt: u8,
+        ts: u32,
+        len: u16,
+        payload: &[u8],
+    ) -> Result<Shared, AllocError>
+        requires { length payload.now ≤ PAYLOAD_LIMIT }
+        ensures { IfOk result (λ shared. shared ≡ padded_word pt ts len payload.now) }
+    {
+        let Ok(mut word) = Arc::new(alloc, Word::zero()) else {
+            return Err(AllocError);
+        };
+        Arc::make_mut(&mut word)?.fill(pt, ts, len, payload);
+        Ok(Shared { word })
     }
 
     /// The word.

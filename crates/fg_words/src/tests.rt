@@ -63,6 +63,15 @@ fn xor_agrees_with_a_plain_loop(rt: HostRuntime) {
 }
 
 #[test]
+fn packets_are_added_as_their_word(rt: HostRuntime) {
+    let other = media(3);
+    let mut sum = media(7);
+    sum.xor_in(&other);
+    sum.xor_transport(other.ts, &other.bytes[..564]);
+    assert!(rt; sum.same(&media(7)));
+}
+
+#[test]
 fn several_words_at_once_are_one_after_another(rt: HostRuntime) {
     let mut sum = media(7);
     sum.xor_in_two(&media(3), &media(4));

@@ -1,24 +1,20 @@
-use Rattle.std.proofs.Common.{◌≡◌, ℕ, ◌-◌, ◌<◌, ◌≤◌, sym, ap, ◌∙◌, subst, List, length, get_or, drop, take, arith}
-use Rattle.std.proofs.lemmas.List.{take_all, length-drop}
+use Rattle.std.proofs.Common.{ℕ, ◌<◌, sym, subst, get_or, drop}
 use Rattle.fg_shape.specs.Shape.{IsShape}
 use Rattle.fg_fechead.specs.declared.Parity.{Parity}
-use Rattle.fg_fechead.specs.FecHeader.{parity_of, HasShape}
+use Rattle.fg_fechead.specs.FecHeader.{HasShape}
 use Rattle.fg_fechead.specs.ParityDatagram.{IsParityDatagram, header_in, HasHeaders, IsVersionTwo}
 use Rattle.fg_fechead.proofs.DatagramLemmas.{datagram_keeps_rules, datagram_of_rules}
-use Rattle.fg_fechead.proofs.read.Goals as goal
+use Rattle.fg_fechead.proofs.parity_header.Goals as goal
 
--- src/lib.rt:73:9
 pub returns-then-header-ne1-clause-refused : goal.returns-then-header-ne1-clause-refused
 returns-then-header-ne1-clause-refused c p d = c.if-header-ne1.true (datagram_keeps_rules _ p d).2
 
--- src/lib.rt:76:9
 pub returns-then-not-is_plain_xor-clause-refused : goal.returns-then-not-is_plain_xor-clause-refused
 returns-then-not-is_plain_xor-clause-refused c p d =
     let plain = c.is_plain_xor.ensures.1 (datagram_keeps_rules _ p d).3 in
     let other = c.if-not-is_plain_xor.true in
     cc
 
--- src/lib.rt:79:9
 pub returns-then-not-shape_ok-clause-refused : goal.returns-then-not-shape_ok-clause-refused
 returns-then-not-shape_ok-clause-refused c p d =
     let header = header_in c.args.bytes.now in
@@ -28,7 +24,6 @@ returns-then-not-shape_ok-clause-refused c p d =
     let other = c.if-not-shape_ok.true in
     cc
 
--- src/lib.rt:60:1
 pub returns-clause-ok : goal.returns-clause-ok
 returns-clause-ok c =
     let bytes = c.args.bytes.now in
@@ -40,8 +35,5 @@ returns-clause-ok c =
     (subst (λ (n : ℕ). IsShape c.shape_of.result.offset n) c.shape_of.ensures.na (c.shape_ok.ensures.0 c.if-not-shape_ok.false)) in
     let sized = c.has_payload.ensures.0 c.if-not-has_payload.false in
     let fits : (i : ℕ) → get_or bytes i 0 < 256 = λ i. (c.type_inv.bytes i).fits in
-    let rest : length (drop 28 bytes) ≤ length bytes - 28 = omega (arith, length-drop 28 bytes) in
-    let payload : take (length bytes - 28) (drop 28 bytes) ≡ drop 28 bytes = take_all (length bytes - 28) (drop 28 bytes) rest in
-    let says : c.fields.result ≡ parity_of header (drop 28 bytes) = c.fields.ensures ∙ ap (λ (l : List ℕ). parity_of header l) payload in
-    subst (λ (p : Parity). IsParityDatagram bytes p) (sym says)
+    subst (λ (p : Parity). IsParityDatagram bytes p) (sym (c.fields.ensures (drop 28 bytes)))
     (datagram_of_rules bytes fits long two c.if-header-ne1.false plain shape sized)
