@@ -2,7 +2,7 @@
 use Rattle.std.proofs.Common.{◌≡◌, ◌≢◌, ◌⊎◌, inl, inr, ℕ, ◌<◌, ◌≤◌, Option, Some, None, IfSome, IfOk, Result, Err, List, [], ◌++◌, length, slice_index, refl, sym, ap, ◌∙◌, subst, arith, append_assoc, append-nil, length-append}
 use Rattle.std.proofs.lemmas.List.{get_or_append_left}
 use Rattle.std.specs.Io.KnownBytes.{prepend_known}
-use Rattle.fg_io.specs.Faults.{CountsFault}
+use Rattle.fg_io.specs.Faults.{CountsFault, CountsFor}
 use Rattle.fg_trace.specs.declared.step.Finish.{Finish}
 use Rattle.fg_trace.specs.declared.step.Finish.TheVariants as finish
 use Rattle.fg_trace.specs.declared.step.TraceFault.{TraceFault}
@@ -12,7 +12,7 @@ use Rattle.fg_trace.specs.Trace.{DiffersAt, IsTrace, NotTrace, magic}
 use Rattle.fg_inspect.specs.declared.fault.Fault.{Fault}
 use Rattle.fg_inspect.specs.declared.fault.Fault.TheVariants.{Read}
 use Rattle.fg_inspect.specs.Inspect.{Tells, TellsPart}
-use Rattle.fg_inspect.specs.Steps.{CountsFor, answer_unopened}
+use Rattle.fg_inspect.specs.Steps.{answer_unopened}
 use Rattle.fg_inspect.proofs.Telling.{gains_nothing}
 use Rattle.fg_inspect.proofs.Texts.{no_text}
 

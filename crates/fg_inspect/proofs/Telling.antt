@@ -3,13 +3,14 @@ use Rattle.std.proofs.Common.{◌≡◌, ℕ, ◌+◌, Option, None, Some, Resul
 use Rattle.std.specs.Io.KnownBytes.{append_known}
 use Rattle.fg_io.specs.Prefix.{IsPrefix}
 use Rattle.fg_io.specs.Sink.{Gains, GainsPart}
+use Rattle.fg_io.specs.Sent.{Sent}
 use Rattle.fg_flows.specs.Flows.{IsTable}
 use Rattle.fg_trace.specs.Trace.{Record}
 use Rattle.fg_inspect.specs.declared.lines.Lines.{Lines}
 use Rattle.fg_inspect.specs.declared.reading.Reading.{Reading}
 use Rattle.fg_inspect.specs.Laws.{TextOfFront}
 use Rattle.fg_inspect.specs.Reading.{IsReading}
-use Rattle.fg_inspect.specs.Steps.{Sent, HasTold, HasPart, IsNew}
+use Rattle.fg_inspect.specs.Steps.{HasTold, HasPart, IsNew}
 use Rattle.fg_inspect.specs.Text.{line, line_of}
 use Rattle.fg_inspect.proofs.Texts.{text_more, no_text}
 

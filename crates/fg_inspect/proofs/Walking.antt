@@ -3,6 +3,7 @@ use Rattle.std.proofs.Common.{◌≡◌, ℕ, ◌+◌, ◌<◌, ◌≤◌, ◌^�
 use Rattle.std.specs.List.{flat_map}
 use Rattle.std.proofs.lemmas.List.{take-append-drop}
 use Rattle.fg_io.specs.Sink.{Gains, GainsPart}
+use Rattle.fg_io.specs.Sent.{Sent}
 use Rattle.fg_flows.specs.Flows.{IsTable}
 use Rattle.fg_trace.specs.declared.step.Finish.{Finish}
 use Rattle.fg_trace.specs.declared.step.Step.TheVariants.{Datagram}
@@ -11,12 +12,13 @@ use Rattle.fg_trace.specs.declared.step.TraceFault.TheVariants as fault
 use Rattle.fg_trace.specs.Laws.{OneTrace, WalksTheFront}
 use Rattle.fg_trace.specs.Reader.{Answer, ReaderState, StandsAfter, Walks}
 use Rattle.fg_trace.specs.Trace.{Record, Ending, IsTrace, spelling, trace_of}
+use Rattle.fg_trace.specs.Finish.{finish_of}
 use Rattle.fg_inspect.specs.declared.lines.Lines.{Lines}
 use Rattle.fg_inspect.specs.declared.reading.Reading.{Reading}
-use Rattle.fg_inspect.specs.Inspect.{Tells, TellsPart, finish_of}
+use Rattle.fg_inspect.specs.Inspect.{Tells, TellsPart}
 use Rattle.fg_inspect.specs.Laws.{OneText, TextOfFront}
 use Rattle.fg_inspect.specs.Reading.{IsReading}
-use Rattle.fg_inspect.specs.Steps.{Sent, HasPart, IsNew, IsUnderway, HasToldAll}
+use Rattle.fg_inspect.specs.Steps.{HasPart, IsNew, IsUnderway, HasToldAll}
 use Rattle.fg_inspect.specs.Text.{line, IsText}
 use Rattle.fg_inspect.proofs.Telling.{told_none, told_more, part_at_line, part_told, told_whole, told_part}
 

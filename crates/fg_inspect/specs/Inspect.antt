@@ -1,30 +1,10 @@
 -- What an inspection of a trace comes to. This project's own.
-use Rattle.std.specs.Prelude.{◌≡◌, ℕ, ⊤, List, Option, IfSome}
+use Rattle.std.specs.Prelude.{◌≡◌, ℕ, List, Option, IfSome}
 use Rattle.fg_io.specs.Sink.{Gains, GainsPart}
 use Rattle.fg_trace.specs.declared.step.Finish.{Finish}
-use Rattle.fg_trace.specs.declared.step.Finish.TheVariants as finish
-use Rattle.fg_trace.specs.Trace.{Record, Ending, Ended, NotTrace, Cut, TooLong, IsTrace}
+use Rattle.fg_trace.specs.Finish.{finish_of}
+use Rattle.fg_trace.specs.Trace.{Record, Ending, IsTrace}
 use Rattle.fg_inspect.specs.Text.{IsText}
-
--- The answer to a trace of this ending, where nothing fails and memory is there.
-abbrev pub finish_of : Ending → Finish
-finish_of Ended = finish.Done
-finish_of (NotTrace n) = finish.NotTrace n
-finish_of (Cut n) = finish.Cut n
-finish_of (TooLong n) = finish.TooLong n
-
--- A fault of the outside, or want of memory.
-abbrev pub IsFault : Finish → Type 0
-IsFault finish.ReadFault = ⊤
-IsFault finish.WriteFault = ⊤
-IsFault finish.Memory = ⊤
-IsFault _ = ⊥
-
--- The answers after which nothing of the input is left.
-abbrev pub ReadsAll : Finish → Type 0
-ReadsAll finish.Done = ⊤
-ReadsAll (finish.Cut n) = ⊤
-ReadsAll _ = ⊥
 
 -- The sink has gained the text of all records of the input's trace, and the answer is that of its ending. What is no trace
 -- has no records, and their text is empty.

@@ -1,24 +1,18 @@
 -- How far an inspection has come. No public contract cites what stands here.
-use Rattle.std.specs.Prelude.{◌≡◌, ◌≢◌, ◌≤◌, ℕ, Option, IfSome, Result, Ok, Err, List, [], ◌++◌, length}
-use Rattle.fg_io.specs.Faults.{CountsFault}
-use Rattle.fg_io.specs.Sink.{Gains, GainsPart}
+use Rattle.std.specs.Prelude.{◌≡◌, ℕ, Option, IfSome, Result, Ok, Err, List, [], ◌++◌, length}
+use Rattle.fg_io.specs.Sent.{Sent}
+use Rattle.fg_io.specs.Sink.{GainsPart}
 use Rattle.fg_trace.specs.declared.step.Finish.{Finish}
 use Rattle.fg_trace.specs.declared.step.Finish.TheVariants as finish
 use Rattle.fg_trace.specs.declared.step.TraceFault.{TraceFault}
 use Rattle.fg_trace.specs.declared.step.TraceFault.TheVariants as trace_fault
 use Rattle.fg_trace.specs.Reader.{ReaderState, StandsAfter}
 use Rattle.fg_trace.specs.Trace.{Record, Ending, IsTrace}
+use Rattle.fg_trace.specs.Finish.{finish_of}
 use Rattle.fg_inspect.specs.declared.fault.Fault.{Fault}
 use Rattle.fg_inspect.specs.declared.fault.Fault.TheVariants.{Read}
 use Rattle.fg_inspect.specs.declared.lines.Lines.{Lines}
-use Rattle.fg_inspect.specs.Inspect.{finish_of}
 use Rattle.fg_inspect.specs.Text.{IsText}
-
--- Since then the sink has gained the front of the text, and the rest of it is held.
-pub record Sent (before : Option (List ℕ)) (text held : List ℕ) (after : Option (List ℕ)) : Type 0 where
-  pub front : List ℕ
-  pub gained : Gains before front after
-  pub rest : text ≡ front ++ held
 
 -- The text of these records is told: the sink has gained its front since then, and the lines hold the rest.
 pub record HasTold
@@ -58,9 +52,3 @@ pub record HasToldAll
 abbrev pub answer_unopened : TraceFault → Result Finish Fault
 answer_unopened (trace_fault.NotTrace n) = Ok (finish.NotTrace n)
 answer_unopened why = Err Read
-
--- A count of faults over a call: it has counted one where the call answers this cause, and else it stands still.
-pub record CountsFor {A : Type 0} (cause : Fault) (result : Result A Fault) (before after : ℕ) : Type 0 where
-  pub counted : result ≡ Err cause → CountsFault before after
-  pub still : result ≢ Err cause → after ≡ before
-  pub rises : before ≤ after

@@ -1,9 +1,9 @@
 //! The lines of an inspection: made one after another, held in one buffer, and written in large pieces.
 ghost use Rattle.std.specs.Prelude.{◌≡◌, ◌≢◌, ◌+◌, ◌≤◌, ◌<◌, ◌^◌, ◌++◌, [], Err, IfOk, OnOk, OnErr};
 ghost use Rattle.std.specs.Fmt.{decimal};
-ghost use Rattle.fg_io.specs.Faults.{CountsFault};
+ghost use Rattle.fg_io.specs.Faults.{CountsFault, CountsFor};
 ghost use Rattle.fg_io.specs.Sink.{Gains, GainsPart};
-ghost use Rattle.fg_inspect.specs.Steps.{Sent, CountsFor};
+ghost use Rattle.fg_io.specs.Sent.{Sent};
 ghost use Rattle.fg_inspect.specs.Text.{kind_word, media_fault_number, fec_fault_number, reading_text, line};
 
 use crate::fault::Fault;

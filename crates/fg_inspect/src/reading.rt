@@ -1,9 +1,9 @@
 //! Reading a record's datagram as what its port carries.
 ghost use Rattle.fg_inspect.specs.Reading.{IsReadAsMedia, IsReadAsParity, IsReading};
 
-use fg_fechead::{FecFault, read};
+use fg_fechead::{FecFault, parity_header};
 use fg_flows::{Kind, Table};
-use fg_rtp::{MediaFault, media_word};
+use fg_rtp::{MediaFault, media_header, payload};
 
 /// What a record's datagram is read as.
 #[derive(Clone, Copy, Debug, PartialEq, Eq)]
@@ -49,8 +49,11 @@ pub(crate) fn read_record(table: &Table, port: u16, datagram: &[u8]) -> Reading
 fn read_media(datagram: &[u8]) -> Reading
     ensures { IsReadAsMedia datagram.now result }
 {
-    match media_word(datagram) {
-        Ok((seq, _, word)) => Reading::Media { seq, len: word.len },
+    match media_header(datagram) {
+        Ok(header) => Reading::Media {
+            seq: header.seq,
+            len: payload(datagram).len() as u16,
+        },
         Err(fault) => Reading::NoMedia(fault),
     }
 }
@@ -59,12 +62,12 @@ fn read_media(datagram: &[u8]) -> Reading
 fn read_parity(kind: Kind, datagram: &[u8]) -> Reading
     ensures { IsReadAsParity kind datagram.now result }
 {
-    match read(datagram) {
-        Ok(parity) => Reading::Parity {
+    match parity_header(datagram) {
+        Ok(header) => Reading::Parity {
             kind,
-            base: parity.base,
-            offset: parity.shape.offset,
-            na: parity.shape.na,
+            base: header.base,
+            offset: header.shape.offset,
+            na: header.shape.na,
         },
         Err(fault) => Reading::NoParity(kind, fault),
     }

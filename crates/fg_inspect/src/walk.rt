@@ -1,12 +1,13 @@
 //! Walking a trace, and telling its records.
 ghost use Rattle.std.specs.Prelude.{◌≡◌, ◌≢◌, ◌⊎◌, ◌≤◌, ◌<◌, ◌^◌, ℕ, Option, List, [], None, IfOk, IfSome, IfNone, OnErr};
 ghost use Rattle.std.specs.Io.KnownBytes.{IsAtEnd};
-ghost use Rattle.fg_io.specs.Faults.{CountsFault};
+ghost use Rattle.fg_io.specs.Faults.{CountsFault, CountsFor};
 ghost use Rattle.fg_flows.specs.Flows.{IsTable};
 ghost use Rattle.fg_trace.specs.Reader.{StandsAfter};
 ghost use Rattle.fg_trace.specs.Trace.{Record, Ending, NotTrace as NoMagic, IsTrace};
-ghost use Rattle.fg_inspect.specs.Inspect.{IsFault, ReadsAll, Tells, TellsPart, finish_of};
-ghost use Rattle.fg_inspect.specs.Steps.{CountsFor, HasToldAll, IsNew, IsUnderway, answer_unopened};
+ghost use Rattle.fg_trace.specs.Finish.{IsFault, ReadsAll, finish_of};
+ghost use Rattle.fg_inspect.specs.Inspect.{Tells, TellsPart};
+ghost use Rattle.fg_inspect.specs.Steps.{HasToldAll, IsNew, IsUnderway, answer_unopened};
 
 use crate::fault::Fault;
 use crate::laws::one_text;

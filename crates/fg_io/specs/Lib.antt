@@ -10,6 +10,7 @@ pub mod OpenFiles
 pub mod Outlet
 pub mod Prefix
 pub mod Safe
+pub mod Sent
 pub mod Sink
 pub mod Source
 pub mod Standard

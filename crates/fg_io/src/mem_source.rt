@@ -63,6 +63,10 @@ impl Source for MemSource {
 
     ghost faults = { λ source. source.calls.faults };
 
+    ghost Fixed = { Unit {0} };
+
+    ghost fixed = { λ _. tt };
+
     fn read(&mut self, into: &mut [u8]) -> Result<usize, Failed>
         // What each source ensures.
         ensures bound { IfOk result (λ count. count ≤ length into.new) }

@@ -50,6 +50,10 @@ impl Source for SafeSource {
 
     ghost faults = { λ _. 0 };
 
+    ghost Fixed = { Unit {0} };
+
+    ghost fixed = { λ _. tt };
+
     fn read(&mut self, into: &mut [u8]) -> Result<usize, Failed>
         // What each source ensures of a call that is Ok, as each one is.
         ensures bound { IfOk result (λ count. count ≤ length into.new) }

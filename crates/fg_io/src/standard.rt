@@ -61,6 +61,10 @@ impl<R: Read> Source for ReaderSource<R> {
 
     ghost faults = { source_faults };
 
+    ghost Fixed = { Unit {0} };
+
+    ghost fixed = { λ _. tt };
+
     fn read(&mut self, into: &mut [u8]) -> Result<usize, Failed>
         // What each source ensures.
         ensures bound { IfOk result (λ count. count ≤ length into.new) }

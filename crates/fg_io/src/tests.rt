@@ -33,6 +33,21 @@ fn source_gives_pieces(rt: HostRuntime) -> Result<(), Fail> {
     Ok(())
 }
 
+fn read_through<S: Source>(source: &mut S, into: &mut [u8]) -> Result<usize, Failed> {
+    source.read(into)
+}
+
+#[test]
+fn source_is_borrowed(rt: HostRuntime) -> Result<(), Fail> {
+    let mut source = MemSource::new(rt.alloc(), b"abc", 2, &[1])?;
+    let mut into = [b'-'; 2];
+    assert_eq!(rt; read_through(&mut &mut source, &mut into), Ok(2));
+    assert_eq!(rt; read_through(&mut &mut source, &mut into), Err(Failed));
+    assert_eq!(rt; source.read(&mut into), Ok(1));
+    assert_eq!(rt; into, *b"cb");
+    Ok(())
+}
+
 #[test]
 fn sink_takes_what_fits(rt: HostRuntime) -> Result<(), Fail> {
     let mut sink = MemSink::new(rt.alloc(), 5, &[1])?;

@@ -6,7 +6,7 @@ use Rattle.std.proofs.lemmas.Grind.{flat_map-append}
 use Rattle.std.proofs.lemmas.List.{take-append-drop}
 use Rattle.fg_io.specs.Sink.{Gains, GainsPart}
 use Rattle.fg_io.proofs.SinkLemmas.{Gains-nil, Gains-trans, GainsPart-longer, GainsPart-trans, GainsPart-whole}
-use Rattle.fg_report.specs.Sent.{Sent}
+use Rattle.fg_io.specs.Sent.{Sent}
 use Rattle.fg_report.specs.Text.{flow_lines, gap_line, flow_text, other_line, tail_text, report_of}
 use Rattle.fg_report.specs.declared.tail.Tail.{Tail}
 use Rattle.fg_report.specs.declared.flow_sum.FlowSum.{FlowSum}

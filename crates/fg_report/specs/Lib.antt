@@ -2,5 +2,4 @@
 pub mod Fits
 pub mod Gaps
 pub mod Laws
-pub mod Sent
 pub mod Text

@@ -3,7 +3,7 @@ ghost use Rattle.std.specs.Prelude.{◌≡◌, ℕ, ◌≤◌, ◌++◌, [], OnO
 ghost use Rattle.std.specs.List.{flat_map};
 ghost use Rattle.fg_io.specs.Faults.{CountsFault};
 ghost use Rattle.fg_io.specs.Sink.{Gains, GainsPart};
-ghost use Rattle.fg_report.specs.Sent.{Sent};
+ghost use Rattle.fg_io.specs.Sent.{Sent};
 ghost use Rattle.fg_report.specs.Text.{gap_line, flow_text, report_of};
 
 use crate::fault::ReportFault;

@@ -1,4 +1,5 @@
 -- The definitions that the contracts of this crate cite.
+pub mod Finish
 pub mod Header
 pub mod Laws
 pub mod Reader

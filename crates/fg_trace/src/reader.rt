@@ -85,6 +85,7 @@ impl Reader {
             → CountsFault (S.faults from.old) (S.faults from.new) }
         ensures no_fault { result ≢ Err TraceFault.ReadFault → S.faults from.new ≡ S.faults from.old }
         ensures never_falls { S.faults from.old ≤ S.faults from.new }
+        ensures fixed { S.fixed from.new ≡ S.fixed from.old }
     {
         if let Some(answer) = self.kept {
             return answer.map(|_| ());
@@ -134,6 +135,7 @@ impl Reader {
             → CountsFault (S.faults from.old) (S.faults from.new) }
         ensures no_fault { result ≢ Err TraceFault.ReadFault → S.faults from.new ≡ S.faults from.old }
         ensures never_falls { S.faults from.old ≤ S.faults from.new }
+        ensures fixed { S.fixed from.new ≡ S.fixed from.old }
     {
         if let Some(answer) = self.kept {
             return answer;
@@ -171,6 +173,7 @@ impl Reader {
         ensures no_fault { OnOk result (S.faults from.new ≡ S.faults from.old) }
         ensures counted { OnErr result (CountsFault (S.faults from.old) (S.faults from.new)) }
         ensures never_falls { S.faults from.old ≤ S.faults from.new }
+        ensures fixed { S.fixed from.new ≡ S.fixed from.old }
     {
         let within = self.within();
         match self.window.fill(from, want.min(within + 1), within + 1) {
@@ -202,6 +205,7 @@ impl Reader {
         ensures no_fault { OnOk result (S.faults from.new ≡ S.faults from.old) }
         ensures counted { OnErr result (CountsFault (S.faults from.old) (S.faults from.new)) }
         ensures never_falls { S.faults from.old ≤ S.faults from.new }
+        ensures fixed { S.fixed from.new ≡ S.fixed from.old }
     {
         self.fill(from, HEADER)?;
         let Some(header) = read_header(self.window.held()) else {

@@ -103,6 +103,7 @@ impl Window {
         ensures no_fault { OnOk result (S.faults from.new ≡ S.faults from.old) }
         ensures counted { OnErr result (CountsFault (S.faults from.old) (S.faults from.new)) }
         ensures never_falls { S.faults from.old ≤ S.faults from.new }
+        ensures fixed { S.fixed from.new ≡ S.fixed from.old }
     {
         self.make_room(want);
         while self.held().len() < want {
@@ -155,6 +156,7 @@ impl Window {
         ensures no_fault { OnOk result (S.faults from.new ≡ S.faults from.old) }
         ensures counted { OnErr result (CountsFault (S.faults from.old) (S.faults from.new)) }
         ensures never_falls { S.faults from.old ≤ S.faults from.new }
+        ensures fixed { S.fixed from.new ≡ S.fixed from.old }
     {
         let end = BUFFER.min(self.from + most);
         let count = read_between(from, &mut self.buffer, self.to, end)?;
@@ -182,6 +184,7 @@ fn read_between<S: Source>(
     ensures no_fault { OnOk result (S.faults from.new ≡ S.faults from.old) }
     ensures counted { OnErr result (CountsFault (S.faults from.old) (S.faults from.new)) }
     ensures never_falls { S.faults from.old ≤ S.faults from.new }
+    ensures fixed { S.fixed from.new ≡ S.fixed from.old }
 {
     from.read(&mut buffer[at..end])
 }

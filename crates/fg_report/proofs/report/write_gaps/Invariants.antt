@@ -1,6 +1,6 @@
 use Rattle.std.proofs.Common.{◌≡◌, ◌++◌, take}
 use Rattle.std.specs.List.{flat_map}
-use Rattle.fg_report.specs.Sent.{Sent}
+use Rattle.fg_io.specs.Sent.{Sent}
 use Rattle.fg_report.specs.Text.{gap_line}
 use Rattle.fg_report.proofs.report.write_gaps.Given as goal
 

@@ -1,4 +1,4 @@
--- How far the writing of a text has come: what is written of it, and what is held to be written next.
+-- How far the writing of a text has come: what is written of it, and what is held to be written next. This project's own.
 use Rattle.std.specs.Prelude.{◌≡◌, ℕ, Option, List, ◌++◌}
 use Rattle.fg_io.specs.Sink.{Gains}
 
