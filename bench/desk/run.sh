@@ -1,7 +1,7 @@
 #!/usr/bin/env bash
-# Counts the instructions of a desk's work a media datagram: admission, plays and tray, for 10 columns and 10 rows. Each
-# run is made twice under callgrind, with the desk and without it, and the difference is told. Outside the gate. It wants
-# valgrind.
+# Counts the instructions of a desk's work a media datagram: admission, plays and tray, and the same without a tray, for
+# 10 columns and 10 rows. Each run is made under callgrind with the desk and without it, and the difference is told.
+# Outside the gate. It wants valgrind.
 set -euo pipefail
 here=$(cd "$(dirname "$0")" && pwd)
 top=$(cd "$here/../.." && pwd)
@@ -36,9 +36,10 @@ for loss in 0 3; do
     for depth in 400 1000; do
         for window in 100 10 1; do
             with=$(count desk "$depth" "$window" "$loss")
+            place=$(count place "$depth" "$window" "$loss")
             without=$(count bare "$depth" "$window" "$loss")
             echo "loss $loss depth $depth window $window: $(((with - without) / 40000)) instructions a media datagram," \
-                "$(out/desk_work desk "$depth" "$window" "$loss")"
+                "$(((place - without) / 40000)) without a tray, $(out/desk_work desk "$depth" "$window" "$loss")"
         done
     done
 done

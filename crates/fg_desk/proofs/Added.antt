@@ -51,7 +51,7 @@ module _ (old : State) (place : ℕ) (equation : Equation) where
       (cases_eq s old.admitted)
 
 pub flip_slots : (one other : Equation) → HaveSameSlots one other → HaveSameSlots other one
-flip_slots one other same = record { base = sym same.base; offset = sym same.offset; count = sym same.count }
+flip_slots one other same = record { base_is = sym same.base_is; offset_is = sym same.offset_is; count_is = sym same.count_is }
 
 -- Without a twin, no live equation has the same slots.
 pub no_twin_apart :

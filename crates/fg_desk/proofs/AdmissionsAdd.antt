@@ -96,7 +96,7 @@ module _ (old : State) (place : ℕ) (equation : Equation) (holds : Holds old) w
 pub parity_adds : ParityAdds
 parity_adds old new parity holds admits =
     let a = some_and (position_on old parity.base)
-    (λ position. (place : ℕ) × IsLeastFree old place × (new ≡ with_equation old place (equation_at position parity))) admits.after in
+    (λ position. (place : ℕ) × IsLeastFree old.equations place × (new ≡ with_equation old place (equation_at position parity))) admits.after in
     let equation : Equation = equation_at a.0 parity in (
       a.0,
       a.1,

@@ -136,7 +136,7 @@ pub within_parity :
     → IsAfterParity old parity reply new → Within deep (most + 1) due new
 within_parity deep most due old new parity Admitted w after =
     let a = some_and (position_on old parity.base)
-    (λ position. (place : ℕ) × IsLeastFree old place × (new ≡ with_equation old place (equation_at position parity))) after in
+    (λ position. (place : ℕ) × IsLeastFree old.equations place × (new ≡ with_equation old place (equation_at position parity))) after in
     let calls = w.calls in
     subst (Within deep (most + 1) due) (sym a.2.2) (record {
       window = w.window;

@@ -35,7 +35,7 @@ with_line parts lines = record parts { lines = lines; admitted = parts.admitted 
 module _
     (parts : Parts) (sound : AreSound parts) (lines : AreLines parts.lines) (place : ℕ) (equation : Equation)
     (shape : IsShape equation.offset equation.count) (base_limit : equation.base ≤ 2 ^ 62)
-    (replies : IsEquationReply (state_of parts) equation Admitted) (least : IsLeastFree (state_of parts) place)
+    (replies : IsEquationReply (state_of parts) equation Admitted) (least : IsLeastFree parts.lines.live place)
     (opened : parts.top ≢ None) (calls : parts.calls < 2 ^ 62) where
   is_new : IsNew (state_of parts) place equation
   is_new =

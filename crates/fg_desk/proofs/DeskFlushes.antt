@@ -92,12 +92,12 @@ module _
 
   pub highest_of : FoundKeepsClosure → MaximalPeelingsEndAtClosure → (highest : ℕ) → IsHighestWord row highest → IsHighest (state_of parts) highest
   highest_of found filled highest is = record {
-    inside = (has_closure parts sound row answer recovered found filled highest).0 is.word;
-    greatest = λ other inside. is.greatest other ((has_closure parts sound row answer recovered found filled other).1 inside);
+    inside = (has_closure parts sound row answer recovered found filled highest).0 is.1.inside;
+    greatest = λ other inside. is.1.greatest other ((has_closure parts sound row answer recovered found filled other).1 inside);
   }
 
   pub more_of : (highest : ℕ) → IsHighestWord row highest → parts.row.mark ≤ highest
-  more_of highest is = let same = mark_stays in let ahead = is.ahead in omega (arith, same, ahead)
+  more_of highest is = let same = mark_stays in let ahead = is.0 in omega (arith, same, ahead)
 
 some_of_either : (one other : Option Word) → IsSome (either one other) → IsSome one ⊎ IsSome other
 some_of_either None other some = inr some
@@ -109,7 +109,7 @@ highest_limit row facts highest is =
     let limit = facts.limit in
     let some : IsSome (either (get row.media highest) (get row.cached highest)) =
     subst (λ (o : Option Word). IsSome o)
-    (if-not_less highest row.mark (get row.kept highest) (either (get row.media highest) (get row.cached highest)) is.ahead) is.word in
+    (if-not_less highest row.mark (get row.kept highest) (either (get row.media highest) (get row.cached highest)) is.0) is.1.inside in
     ⊎_elim
     (λ received. let near = (facts.media highest received).1 in omega (arith, near, limit))
     (λ found. let near = (facts.cached highest found).1 in omega (arith, near, limit))

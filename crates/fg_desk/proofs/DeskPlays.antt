@@ -2,6 +2,7 @@
 use Rattle.std.proofs.Common.{◌≡◌, ◌+◌, ◌<◌, ◌≤◌, ◌^◌, ◌&&◌, ℕ, Bool, cond, ltb, leb, not, is_some, List, [], filter, Option, Some, None, IsSome, IsTrue, refl, sym, ap, subst, ◌∙◌, ⊎_elim, arith}
 use Rattle.std.specs.Prelude.{nat_le}
 use Rattle.std.proofs.lemmas.Bool.{cases_lt}
+use Rattle.std.proofs.lemmas.List.FromFn.{length-map-range_with_len}
 use Rattle.std.specs.FinMap.{get, get-empty}
 use Rattle.std.specs.Ordering.{nat_cmp}
 use Rattle.fg_words.specs.declared.Word.{Word}
@@ -13,15 +14,15 @@ use Rattle.fg_desk.specs.declared.reply.Outcome.TheVariants.{Repaired, Inconsist
 use Rattle.fg_desk.specs.State.{Top, Live, Words, known, live_equations}
 use Rattle.fg_desk.specs.Admission.{kept_count}
 use Rattle.fg_desk.specs.Facts.{Holds}
-use Rattle.fg_desk.specs.Contents.{epoch_after}
+use Rattle.fg_desk.specs.Contents.{epoch_after, kept_shown}
 use Rattle.fg_desk.specs.Solution.{IsSolution}
-use Rattle.fg_desk.specs.Play.{Shown, IsPlay}
+use Rattle.fg_desk.specs.Play.{IsPlay}
 use Rattle.fg_desk.specs.Laws.{SolvedStaysPeeled}
 use Rattle.fg_desk.specs.Inside.{Parts, AreSound, SettledComeOut, state_of}
-use Rattle.fg_desk.specs.Row.{RowState, row_words}
+use Rattle.fg_desk.specs.Row.{RowState, row_words, row_known, row_kept_from, Advances}
 use Rattle.fg_desk.specs.Lines.{LinesState, no_lines}
-use Rattle.fg_desk.specs.Window.{IsRecovered, Keeps, Passes, without_found}
-use Rattle.fg_desk.proofs.Advancing.{words_below, words_ahead, words_before, none_found}
+use Rattle.fg_desk.specs.Window.{IsRecovered, Keeps, without_found}
+use Rattle.fg_desk.proofs.Advancing.{words_below, words_ahead, words_before, shows_kept, none_found}
 use Rattle.fg_desk.proofs.DeskRecovers.{desk_solution, desk_solvable, all_peeled}
 use Rattle.fg_desk.proofs.DeskWords.{words_without_cache, known_are_media}
 use Rattle.fg_desk.proofs.Equations.{live_at}
@@ -86,7 +87,7 @@ epoch_rises Inconsistent epoch calls limit = omega (arith, limit)
 module _
     (parts : Parts) (sound : AreSound parts) (cached : Words) (answer : Bool)
     (recovered : IsRecovered (live_equations (state_of parts)) parts.row (with_found parts cached) answer)
-    (found : FoundKeepsSolutions) (count : ℕ) (shown : List Shown) (new : RowState) (left : LinesState) where
+    (found : FoundKeepsSolutions) (count : ℕ) (new : RowState) (left : LinesState) where
   limited :
       (outcome : Outcome) → parts.row.mark < 2 ^ 61 → parts.calls < 2 ^ 62 → count ≤ 100 → new.mark ≡ parts.row.mark + count
       → new.reach ≡ parts.row.reach → AreLimited (played parts outcome new left)
@@ -103,23 +104,23 @@ module _
         epoch_limit = epoch_rises outcome parts.epoch parts.calls sound.epoch_limit;
       }
 
-  module _ (passes : Passes count (with_found parts cached) new shown)
+  module _ (advances : Advances count (with_found parts cached) new) (most : count ≤ 100)
       (keeps : Keeps (row_words (with_found parts cached)) new.mark new.kept parts.lines left) (solved : IsTrue answer) where
     pub repaired_play :
-        IsPlay count (state_of parts) (record { first = parts.row.mark; shown = shown; outcome = Repaired })
+        IsPlay count (state_of parts) (record { first = parts.row.mark; shown = row_kept_from new parts.row.mark count; outcome = Repaired })
         (state_of (played parts Repaired new left))
     repaired_play = record {
       words = row_words (with_found parts cached);
       decides = desk_solution parts sound (with_found parts cached) answer recovered found solved;
       first = refl;
-      length_is = passes.shows.length_is;
-      shows = passes.shows.each;
-      mark = passes.advances.mark;
+      length_is = length-map-range_with_len (kept_shown (row_known new) new.bare) parts.row.mark count;
+      shows = shows_kept count (with_found parts cached) new advances most;
+      mark = advances.mark;
       kept = λ q.
-          (passes.advances.kept q
+          (advances.kept q
           ∙ ap (λ (o : Option Word). cond (ltb q new.mark && leb new.mark (q + kept_count)) o None)
           (row_words-play (with_found parts cached) q));
-      media = passes.advances.media;
+      media = advances.media;
       equations = λ serial live. (
         λ is. (let r = (keeps.live serial live).0 is in (r.0, refl, r.1)),
         λ r. (keeps.live serial live).1 (r.0, r.2),
@@ -133,7 +134,7 @@ module _
     repaired_media : AreMedia (row_words new)
     repaired_media q word is =
         words_are_media (state_of parts) Repaired (row_words (with_found parts cached)) (orderly_from_holds (state_of parts) sound.facts)
-        solution q word (words_before count (with_found parts cached) new passes.advances q word is)
+        solution q word (words_before count (with_found parts cached) new advances q word is)
 
     repaired_peeled :
         PeelingsAppend → SolvedStaysPeeled
@@ -141,15 +142,15 @@ module _
     repaired_peeled append stays =
         let all = all_peeled parts sound (with_found parts cached) answer recovered append in
         let s = stays count (state_of parts) (state_of (played parts Repaired new left))
-        (record { first = parts.row.mark; shown = shown; outcome = Repaired }) all.0 sound.facts repaired_play refl all.1 in
+        (record { first = parts.row.mark; shown = row_kept_from new parts.row.mark count; outcome = Repaired }) all.0 sound.facts repaired_play refl all.1 in
         let rest : List Step = filter (λ (step : Step). nat_le new.mark step.position) all.0 in
         let same : (q : ℕ) → row_words new q ≡ end_of (known (state_of (played parts Repaired new left))) rest q =
         λ q. ⊎_elim
         (λ below.
-        words_below count (with_found parts cached) new passes.advances q below
+        words_below count (with_found parts cached) new advances q below
         ∙ sym (known_below (state_of (played parts Repaired new left)) q below) ∙ sym (s.2 q below))
         (λ ahead.
-        words_ahead count (with_found parts cached) new passes.advances q ahead
+        words_ahead count (with_found parts cached) new advances q ahead
         ∙ ap (λ (f : ℕ → Option Word). f q) all.2 ∙ sym (s.1 q ahead))
         (cases_lt q new.mark) in
         (rest, s.0, λ i q. same q i)
@@ -160,10 +161,10 @@ module _
         → IsComplete (row_words new) live.equation
     left_complete serial live is complete q c = ⊎_elim
         (λ below.
-        subst (λ (o : Option Word). IsSome o) (sym (words_below count (with_found parts cached) new passes.advances q below))
+        subst (λ (o : Option Word). IsSome o) (sym (words_below count (with_found parts cached) new advances q below))
         (((keeps.live serial live).0 is).1.based q c below))
         (λ ahead.
-        subst (λ (o : Option Word). IsSome o) (sym (words_ahead count (with_found parts cached) new passes.advances q ahead))
+        subst (λ (o : Option Word). IsSome o) (sym (words_ahead count (with_found parts cached) new advances q ahead))
         (complete q c))
         (cases_lt q new.mark)
 
@@ -172,25 +173,25 @@ module _
         let complete = keeps.settled serial live is settled in
         let listed = live_at (state_of parts) serial live ((keeps.live serial live).0 is).0 in
         settled_back (row_words new) (row_words (with_found parts cached)) live.equation
-        (words_before count (with_found parts cached) new passes.advances) (left_complete serial live is complete)
+        (words_before count (with_found parts cached) new advances) (left_complete serial live is complete)
         (complete, solution.sums live.equation listed (λ q c. (solution.domain q).0 (complete q c)))
 
     pub repaired_sound :
-        PeelingsAppend → SolvedStaysPeeled → parts.row.mark < 2 ^ 61 → parts.calls < 2 ^ 62 → count ≤ 100
+        PeelingsAppend → SolvedStaysPeeled → parts.row.mark < 2 ^ 61 → parts.calls < 2 ^ 62
         → Holds (state_of (played parts Repaired new left)) → AreSound (played parts Repaired new left)
-    repaired_sound append stays mark calls most facts =
+    repaired_sound append stays mark calls facts =
         sound_from (played parts Repaired new left)
-        (limited Repaired mark calls most passes.advances.mark passes.advances.reach)
+        (limited Repaired mark calls most advances.mark advances.reach)
         facts repaired_media (repaired_peeled append stays) repaired_settled
 
-  module _ (passes : Passes count (without_found (with_found parts cached)) new shown) (none_left : left ≡ no_lines)
+  module _ (advances : Advances count (without_found (with_found parts cached)) new) (most : count ≤ 100) (none_left : left ≡ no_lines)
       (unsolved : ¬ IsTrue answer) where
     nothing_left : (serial : ℕ) (live : Live) → get left.live serial ≡ Some live → ⊥
     nothing_left serial live is =
         nothing_in_empty serial live (sym (ap (λ (l : LinesState). get l.live serial) none_left) ∙ is)
 
     pub received_play :
-        IsPlay count (state_of parts) (record { first = parts.row.mark; shown = shown; outcome = Inconsistent })
+        IsPlay count (state_of parts) (record { first = parts.row.mark; shown = row_kept_from new parts.row.mark count; outcome = Inconsistent })
         (state_of (played parts Inconsistent new left))
     received_play = record {
       words = get parts.row.media;
@@ -199,19 +200,19 @@ module _
         refl,
       );
       first = refl;
-      length_is = passes.shows.length_is;
+      length_is = length-map-range_with_len (kept_shown (row_known new) new.bare) parts.row.mark count;
       shows = λ i less.
           (let q = parts.row.mark + i in
-          passes.shows.each i less
+          shows_kept count (without_found (with_found parts cached)) new advances most i less
           ∙ ap (λ (o : Option Word). record { word = o; repaired = is_some o && not (is_some (get parts.row.media q)) })
           (row_words-received (without_found (with_found parts cached)) q refl (omega arith)));
-      mark = passes.advances.mark;
+      mark = advances.mark;
       kept = λ q.
-          (passes.advances.kept q
+          (advances.kept q
           ∙ ap (λ (o : Option Word). cond (ltb q new.mark && leb new.mark (q + kept_count)) o None)
           (ap (λ (f : ℕ → Option Word). f q)
           (words_without_cache (without_found (with_found parts cached)) (get-empty nat_cmp))));
-      media = passes.advances.media;
+      media = advances.media;
       equations = λ serial live. (
         λ is. absurd (nothing_left serial live is),
         λ r. (let never : Inconsistent ≡ Repaired = r.1 in absurd (cc)),
@@ -220,10 +221,10 @@ module _
     }
 
     pub received_sound :
-        parts.row.mark < 2 ^ 61 → parts.calls < 2 ^ 62 → count ≤ 100
+        parts.row.mark < 2 ^ 61 → parts.calls < 2 ^ 62
         → Holds (state_of (played parts Inconsistent new left)) → AreSound (played parts Inconsistent new left)
-    received_sound mark calls most facts =
+    received_sound mark calls facts =
         sound_without_found (played parts Inconsistent new left)
-        (limited Inconsistent mark calls most passes.advances.mark passes.advances.reach) facts
-        (none_found count (without_found (with_found parts cached)) new passes.advances refl)
+        (limited Inconsistent mark calls most advances.mark advances.reach) facts
+        (none_found count (without_found (with_found parts cached)) new advances refl)
         (λ serial live is settled. absurd (nothing_left serial live is))

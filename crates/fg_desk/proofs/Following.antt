@@ -67,7 +67,7 @@ media_keeps_mark old new seq word reply after = ap (λ (s : State). s.mark) afte
 pub parity_keeps_mark : (old new : State) (parity : Parity) (reply : Reply) → IsAfterParity old parity reply new → new.mark ≡ old.mark
 parity_keeps_mark old new parity Admitted after =
     let a = some_and (position_on old parity.base)
-    (λ position. (place : ℕ) × IsLeastFree old place × (new ≡ with_equation old place (equation_at position parity))) after in
+    (λ position. (place : ℕ) × IsLeastFree old.equations place × (new ≡ with_equation old place (equation_at position parity))) after in
     ap (λ (s : State). s.mark) a.2.2
 parity_keeps_mark old new parity reply after = ap (λ (s : State). s.mark) after
 

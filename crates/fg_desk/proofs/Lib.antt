@@ -51,6 +51,7 @@ pub mod RowViews
 pub mod RunFacts
 pub mod SettledEquations
 pub mod SettledWords
+pub mod Shown
 pub mod SlotRange
 pub mod StaysPeeled
 pub mod Survivors

@@ -15,7 +15,8 @@ use Rattle.fg_peel.specs.Equation.{Equation, slots, IsComplete}
 use Rattle.fg_words.specs.declared.Word.{Word}
 use Rattle.fg_desk.specs.State.{Live, Words, last_slot}
 use Rattle.fg_desk.specs.Play.{Survives}
-use Rattle.fg_desk.specs.Lines.{AreLines, AreOpen, IsLiveLine, Settles, Reopens, Retires, SettledAreBased, IsFreePlace, live_of}
+use Rattle.fg_desk.specs.Admission.{IsFree}
+use Rattle.fg_desk.specs.Lines.{AreLines, AreOpen, IsLiveLine, Settles, Reopens, Retires, SettledAreBased, live_of}
 use Rattle.fg_desk.specs.LinesInside.{state_of, Holds, Stands, IsOneEach, IsWithin, AreSound, Moves, IsCompleteAs, IsBased, Drops}
 use Rattle.fg_desk.proofs.Lists.{Contains-here, Contains-nil}
 use Rattle.fg_desk.proofs.RowLoops.{length-slots_of}
@@ -101,7 +102,7 @@ module _ (first second : Slab Line) (places : List Bool) (sound : AreSound first
   -- no line has a place where none of either slab has it
   pub free_place_of :
       (place : ℕ) → ((line : Line) → Stands first second line → line.place ≡ place → ⊥)
-      → IsFreePlace (state_of first second) place
+      → IsFree (state_of first second).live place
   free_place_of place none serial live is same =
       let r = standing_of first second serial live is in
       none r.0 r.1 (sym (ap (λ (l : Live). l.place) r.3) ∙ same)

@@ -9,7 +9,8 @@ use Rattle.slab.specs.Slab.{Slab, get, slab_len, Updates}
 use Rattle.fg_peel.specs.declared.Line.{Line}
 use Rattle.fg_desk.specs.State.{State, Live, opening}
 use Rattle.fg_desk.specs.Admission.{live_limit}
-use Rattle.fg_desk.specs.Lines.{LinesState, no_lines, IsFreePlace, IsLeastFreePlace, live_of}
+use Rattle.fg_desk.specs.Admission.{IsFree, IsLeastFree}
+use Rattle.fg_desk.specs.Lines.{LinesState, no_lines, live_of}
 use Rattle.fg_desk.specs.LinesInside.{live_in, serials_in, state_of, Stands, IsWithin, IsTaken, AreSound}
 use Rattle.fg_desk.proofs.Options.{same_options, inserted, beside_inserted}
 use Rattle.fg_desk.proofs.Places.{free_place}
@@ -20,7 +21,7 @@ use Rattle.fg_desk.proofs.LinesCalls.{free_place_of}
 
 module _ (first second : Slab Line) (places : List Bool) (sound : AreSound first second places) where
   -- a free place is not taken, and one that is taken isn't free
-  not_free : (place : ℕ) → IsTaken places place → IsFreePlace (state_of first second) place → ⊥
+  not_free : (place : ℕ) → IsTaken places place → IsFree (state_of first second).live place → ⊥
   not_free place taken free =
       let r = sound.by_line place taken in
       free r.0.serial (live_of r.0) (live_standing first second sound.serials r.0 r.1) r.2
@@ -39,7 +40,7 @@ module _ (first second : Slab Line) (places : List Bool) (sound : AreSound first
 
   pub least_free :
       (place : ℕ) → get_or places place false ≡ false → ((other : ℕ) → other < place → IsTaken places other)
-      → IsLeastFreePlace (state_of first second) place
+      → IsLeastFree (state_of first second).live place
   least_free place free below = (
     free_place_of first second places sound place
         (λ line stands same.

@@ -30,7 +30,7 @@ one_after_media old seq word Admitted new new' a b = at (position_on old seq) a 
     at (Some p) a b = a ∙ sym b
 one_after_media old seq word reply new new' a b = a ∙ sym b
 
-least_is_one : (old : State) (one other : ℕ) → IsLeastFree old one → IsLeastFree old other → one ≡ other
+least_is_one : (old : State) (one other : ℕ) → IsLeastFree old.equations one → IsLeastFree old.equations other → one ≡ other
 least_is_one old one other a b =
     let up = a.1 other b.0 in
     let down = b.1 one a.0 in
@@ -43,8 +43,8 @@ one_after_parity old parity Admitted new new' a b = at (position_on old parity.b
   where
     at :
         (o : Option ℕ)
-        → IsSomeAnd o (λ position. (place : ℕ) × IsLeastFree old place × (new ≡ with_equation old place (equation_at position parity)))
-        → IsSomeAnd o (λ position. (place : ℕ) × IsLeastFree old place × (new' ≡ with_equation old place (equation_at position parity)))
+        → IsSomeAnd o (λ position. (place : ℕ) × IsLeastFree old.equations place × (new ≡ with_equation old place (equation_at position parity)))
+        → IsSomeAnd o (λ position. (place : ℕ) × IsLeastFree old.equations place × (new' ≡ with_equation old place (equation_at position parity)))
         → new ≡ new'
     at None a b = absurd a
     at (Some position) a b =

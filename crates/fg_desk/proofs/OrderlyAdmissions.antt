@@ -66,7 +66,7 @@ pub orderly_after_parity :
     → IsAfterParity old parity reply new → IsOrderly new
 orderly_after_parity old new parity Admitted orderly some_offset replies after =
     let a = some_and (position_on old parity.base)
-    (λ position. (place : ℕ) × IsLeastFree old place × (new ≡ with_equation old place (equation_at position parity))) after in
+    (λ position. (place : ℕ) × IsLeastFree old.equations place × (new ≡ with_equation old place (equation_at position parity))) after in
     let is = is_admitted old parity a.0 replies a.1 in
     subst IsOrderly (sym a.2.2)
     (orderly_with_equation old a.2.0 (equation_at a.0 parity) orderly is.replies.0.0 is.replies.1 some_offset)

@@ -57,7 +57,7 @@ pub record IsNew (old : State) (place : ℕ) (equation : Equation) : Type 0 wher
   pub timely : IsTimely old equation
   pub no_twin : ¬ HasTwin old equation (λ _. ⊤)
   pub placed : place < live_limit
-  pub free : IsFree old place
+  pub free : IsFree old.equations place
 
 flip_apart : (one other : Live) → AreApart one other → AreApart other one
 flip_apart one other apart = record {
@@ -156,7 +156,7 @@ admitted_holds :
     → IsParityReply old parity Admitted → IsAfterParity old parity Admitted new → Holds new
 admitted_holds old new parity holds room shape replies after =
     let a = some_and (position_on old parity.base)
-    (λ position. (place : ℕ) × IsLeastFree old place × (new ≡ with_equation old place (equation_at position parity))) after in
+    (λ position. (place : ℕ) × IsLeastFree old.equations place × (new ≡ with_equation old place (equation_at position parity))) after in
     let is = is_admitted old parity a.0 replies a.1 in
     let equation : Equation = equation_at a.0 parity in
     let most : a.0 ≤ is.top.position + 32767 = position_most is.top.position is.top.seq parity.base a.0 is.at in

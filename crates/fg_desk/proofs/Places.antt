@@ -59,7 +59,7 @@ length-places : (es : List (ℕ × Live)) → length (map (λ (e : ℕ × Live).
 length-places [] = refl
 length-places (e ∷ es) = ap suc (length-places es)
 
-pub free_place : (desk : State) (limit : ℕ) → len desk.equations < limit → (place : ℕ) × (place < limit) × IsFree desk place
+pub free_place : (desk : State) (limit : ℕ) → len desk.equations < limit → (place : ℕ) × (place < limit) × IsFree desk.equations place
 free_place desk limit fewer =
     let es = entries desk.equations in
     let r = left_out (map (λ (e : ℕ × Live). e.1.place) es) limit (omega (arith, length-places es, len-entries desk.equations, fewer)) in (

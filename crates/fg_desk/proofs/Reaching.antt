@@ -73,7 +73,7 @@ media_keeps_window old new seq word reply after = ap (λ (s : State). s.window) 
 parity_keeps_window : (old new : State) (parity : Parity) (reply : Reply) → IsAfterParity old parity reply new → new.window ≡ old.window
 parity_keeps_window old new parity Admitted after =
     let a = some_and (position_on old parity.base)
-    (λ position. (place : ℕ) × IsLeastFree old place × (new ≡ with_equation old place (equation_at position parity))) after in
+    (λ position. (place : ℕ) × IsLeastFree old.equations place × (new ≡ with_equation old place (equation_at position parity))) after in
     ap (λ (s : State). s.window) a.2.2
 parity_keeps_window old new parity reply after = ap (λ (s : State). s.window) after
 

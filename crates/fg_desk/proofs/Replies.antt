@@ -70,7 +70,7 @@ module _ (desk : State) (orderly : IsOrderly desk) (equation : Equation) where
   twins_agree P Q a b = ⊎_elim
       (λ same. same_Some a.1 b.1 (sym a.2 ∙ ap (λ (s : ℕ). get desk.equations s) same ∙ b.2))
       (λ differ. absurd (orderly.apart a.0 b.0 a.1 b.1 a.2 b.2 differ
-      (record { base = a.3.base ∙ sym b.3.base; offset = a.3.offset ∙ sym b.3.offset; count = a.3.count ∙ sym b.3.count })))
+      (record { base_is = a.3.base_is ∙ sym b.3.base_is; offset_is = a.3.offset_is ∙ sym b.3.offset_is; count_is = a.3.count_is ∙ sym b.3.count_is })))
       (cases_eq a.0 b.0)
 
   two_parities : HasTwin desk equation (λ parity. parity ≡ equation.parity) → HasTwin desk equation (λ parity. parity ≢ equation.parity) → ⊥

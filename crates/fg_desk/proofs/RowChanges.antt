@@ -9,9 +9,8 @@ use Rattle.fg_words.specs.declared.Word.{Word}
 use Rattle.fg_peel.specs.declared.Slot.{Slot}
 use Rattle.fg_peel.specs.declared.Slot.TheVariants.{Empty, Media, Solved, Filled}
 use Rattle.fg_peel.specs.Slots.{word_in}
-use Rattle.fg_desk.specs.Play.{Shown}
-use Rattle.fg_desk.specs.Row.{row_words, receives, Shows, Advances, IsHighestWord, opened_row}
-use Rattle.fg_desk.specs.RowEntries.{entry_at, received_in, found_in, is_alone, row_of, AreEntries, forgotten, ForgetsFound, ShowsEntries, HasNoWordFrom, IsLastWord}
+use Rattle.fg_desk.specs.Row.{row_words, receives, Advances, IsHighestWord, opened_row}
+use Rattle.fg_desk.specs.RowEntries.{entry_at, received_in, found_in, is_alone, row_of, AreEntries, forgotten, ForgetsFound, HasNoWordFrom, IsLastWord}
 use Rattle.fg_desk.proofs.RowMaps.{if-less, if-not_less, get-insert_same, get-insert_other, get-remove_same, get-remove_other}
 use Rattle.fg_desk.proofs.RowViews.{entry_at-row, entry_at-before, get-kept, get-media, get-cached, contains-bare, same_row, row_words-entry, entry_own, none_not_some, some_along}
 
@@ -339,52 +338,31 @@ module _
       bare = bare_after;
     }
 
--- What the row shows.
-pub shown_row :
-    (mark : ℕ) (entries : List Slot) (count : ℕ) (shown : List Shown) → AreEntries mark entries
-    → ShowsEntries entries count shown → Shows (row_of mark entries) count shown
-shown_row mark entries count shown are shows = record {
-  length_is = shows.length_is;
-  each = λ i less.
-      (let up : mark ≤ mark + i + 100 = omega arith in
-      let from : mark ≤ mark + i = omega arith in
-      let index : mark + i + 100 - mark ≡ 100 + i = omega arith in
-      let entry : entry_at mark entries (mark + i) ≡ get_or entries (100 + i) Empty =
-      entry_at-row mark entries (mark + i) up ∙ ap (λ k. get_or entries k Empty) index in
-      let words : row_words (row_of mark entries) (mark + i) ≡ word_in (get_or entries (100 + i) Empty) =
-      row_words-entry mark entries are (mark + i) ∙ ap word_in entry in
-      let media : map.get (row_of mark entries).media (mark + i) ≡ received_in (get_or entries (100 + i) Empty) =
-      get-media mark entries (mark + i) ∙ if-not_less (mark + i) mark None _ from ∙ ap received_in entry in
-      shows.each i less
-      ∙ (λ k. record {
-        word = sym words k;
-        repaired = is_some (sym words k) && not (is_some (sym media k));
-      }));
-}
-
 -- The highest word.
 pub highest_row :
     (mark : ℕ) (entries : List Slot) (last : ℕ) → AreEntries mark entries → IsLastWord entries last
     → IsHighestWord (row_of mark entries) (mark + (last - 100))
-highest_row mark entries last are is = record {
-  ahead = omega arith;
-  word =
-      (let up : mark ≤ mark + (last - 100) + 100 = omega arith in
-      let index : mark + (last - 100) + 100 - mark ≡ last = omega (arith, is.ahead) in
-      some_along _ _
-      (sym (row_words-entry mark entries are (mark + (last - 100)) ∙ ap word_in (entry_at-row mark entries (mark + (last - 100)) up)
-      ∙ ap (λ k. word_in (get_or entries k Empty)) index)) is.word);
-  greatest = λ other some.
-      ⊎_elim
-      (λ past.
-      let up : mark ≤ other + 100 = omega arith in
-      let later : last + 1 ≤ other + 100 - mark = omega (arith, past, is.ahead) in
-      absurd (none_not_some _
-      (row_words-entry mark entries are other ∙ ap word_in (entry_at-row mark entries other up)
-      ∙ is.none_later (other + 100 - mark) later) some))
-      (λ within. within)
-      (cases_lt (mark + (last - 100)) other);
-}
+highest_row mark entries last are is = (
+  omega arith,
+  record {
+    inside =
+        (let up : mark ≤ mark + (last - 100) + 100 = omega arith in
+        let index : mark + (last - 100) + 100 - mark ≡ last = omega (arith, is.ahead) in
+        some_along _ _
+        (sym (row_words-entry mark entries are (mark + (last - 100)) ∙ ap word_in (entry_at-row mark entries (mark + (last - 100)) up)
+        ∙ ap (λ k. word_in (get_or entries k Empty)) index)) is.word);
+    greatest = λ other some.
+        ⊎_elim
+        (λ past.
+        let up : mark ≤ other + 100 = omega arith in
+        let later : last + 1 ≤ other + 100 - mark = omega (arith, past, is.ahead) in
+        absurd (none_not_some _
+        (row_words-entry mark entries are other ∙ ap word_in (entry_at-row mark entries other up)
+        ∙ is.none_later (other + 100 - mark) later) some))
+        (λ within. within)
+        (cases_lt (mark + (last - 100)) other);
+  },
+)
 
 pub no_highest_row :
     (mark : ℕ) (entries : List Slot) → AreEntries mark entries → HasNoWordFrom entries 100 → (p : ℕ) → mark ≤ p

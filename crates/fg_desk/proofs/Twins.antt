@@ -7,8 +7,9 @@ use Rattle.fg_words.specs.declared.Word.{Word}
 use Rattle.fg_peel.specs.declared.Line.{Line}
 use Rattle.fg_peel.specs.Equation.{Equation}
 use Rattle.fg_desk.specs.State.{State, Live}
-use Rattle.fg_desk.specs.Admission.{HasTwin}
-use Rattle.fg_desk.specs.Lines.{LinesState, IsLiveLine, HasSlots, live_of}
+use Rattle.fg_peel.specs.Slots.{equation_of}
+use Rattle.fg_desk.specs.Admission.{HasSlots, HasTwin}
+use Rattle.fg_desk.specs.Lines.{LinesState, IsLiveLine, live_of}
 use Rattle.fg_desk.proofs.SettledEquations.{line_with}
 
 module _ (desk : State) (lines : LinesState) (same : lines.live ≡ desk.equations) (equation : Equation) where
@@ -16,18 +17,18 @@ module _ (desk : State) (lines : LinesState) (same : lines.live ≡ desk.equatio
   stands serial = ap (λ (m : FinMap nat_cmp Live). get m serial) same
 
   pub twin_of :
-      (P : Word → Type 0) (line : Line) → IsLiveLine lines line → HasSlots equation.base equation.offset equation.count line
+      (P : Word → Type 0) (line : Line) → IsLiveLine lines line → HasSlots equation.base equation.offset equation.count (equation_of line)
       → P line.parity → HasTwin desk equation P
   twin_of P line live slots holds = (
     line.serial,
     live_of line,
     sym (stands line.serial) ∙ live,
-    record { base = slots.0; offset = slots.1; count = slots.2 },
+    slots,
     holds,
   )
 
   pub no_twin :
-      ((line : Line) → IsLiveLine lines line → ¬ HasSlots equation.base equation.offset equation.count line)
+      ((line : Line) → IsLiveLine lines line → ¬ HasSlots equation.base equation.offset equation.count (equation_of line))
       → ¬ HasTwin desk equation (λ _. ⊤)
   no_twin none twin =
-      none (line_with twin.0 twin.1) (stands twin.0 ∙ twin.2) (twin.3.base, twin.3.offset, twin.3.count)
+      none (line_with twin.0 twin.1) (stands twin.0 ∙ twin.2) twin.3

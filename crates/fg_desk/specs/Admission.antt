@@ -1,10 +1,12 @@
 -- Which reply a datagram gets, and what the desk is then. This project's own.
 use Rattle.std.specs.Prelude.{◌≡◌, ◌≢◌, ◌+◌, ◌<◌, ◌≤◌, ◌⊎◌, ℕ, ⊤, Option, Some, None, MatchOption, IsSomeAnd, nat_lt, if◌then◌else◌}
 use Rattle.std.specs.List.{Contains}
-use Rattle.std.specs.FinMap.{get, insert, len}
+use Rattle.std.specs.Ordering.{nat_cmp}
+use Rattle.std.specs.FinMap.{FinMap, get, insert, len}
 use Rattle.fg_words.specs.declared.Word.{Word}
 use Rattle.fg_unwrap.specs.Position.{position_of}
 use Rattle.fg_peel.specs.Equation.{Equation, slots}
+use Rattle.fg_peel.specs.Verdict.{IsLeast}
 use Rattle.fg_desk.specs.declared.reply.Reply.{Reply}
 use Rattle.fg_desk.specs.declared.reply.Reply.TheVariants.{Admitted, Duplicate, Conflict, Late, NotStarted, BeforeStart, Ahead, Crowded}
 use Rattle.fg_desk.specs.State.{State, Top, Live, last_slot}
@@ -89,11 +91,15 @@ IsLate desk equation =
 abbrev pub IsAhead : State → Equation → Type 0
 IsAhead desk equation = desk.mark + desk.depth + kept_count ≤ last_slot equation
 
+-- An equation of this base and shape.
+pub record HasSlots (base offset count : ℕ) (equation : Equation) : Type 0 where
+  pub base_is : equation.base ≡ base
+  pub offset_is : equation.offset ≡ offset
+  pub count_is : equation.count ≡ count
+
 -- Two equations have the same base and shape.
-pub record HaveSameSlots (one other : Equation) : Type 0 where
-  pub base : one.base ≡ other.base
-  pub offset : one.offset ≡ other.offset
-  pub count : one.count ≡ other.count
+abbrev pub HaveSameSlots : Equation → Equation → Type 0
+HaveSameSlots one other = HasSlots other.base other.offset other.count one
 
 -- A live equation of the same base and shape, with a parity word of which this holds.
 abbrev pub HasTwin : State → Equation → (Word → Type 0) → Type 0
@@ -143,14 +149,13 @@ IsParityReply desk parity reply =
     MatchOption (position_of top.position top.seq parity.base) (reply ≡ BeforeStart) (λ position.
     IsEquationReply desk (equation_at position parity) reply))
 
--- No live equation has the place.
-abbrev pub IsFree : State → ℕ → Type 0
-IsFree desk place =
-    (serial : ℕ) (live : Live) → get desk.equations serial ≡ Some live → live.place ≢ place
+-- None of these equations has the place.
+abbrev pub IsFree : FinMap nat_cmp Live → ℕ → Type 0
+IsFree equations place = (serial : ℕ) (live : Live) → get equations serial ≡ Some live → live.place ≢ place
 
 -- It is the least such place.
-abbrev pub IsLeastFree : State → ℕ → Type 0
-IsLeastFree desk place = IsFree desk place × ((other : ℕ) → IsFree desk other → place ≤ other)
+abbrev pub IsLeastFree : FinMap nat_cmp Live → ℕ → Type 0
+IsLeastFree equations = IsLeast (IsFree equations)
 
 -- The desk with one more equation.
 abbrev pub with_equation : State → ℕ → Equation → State
@@ -164,7 +169,7 @@ with_equation desk place equation = record desk {
 abbrev pub IsAfterParity : State → Parity → Reply → State → Type 0
 IsAfterParity old parity Admitted new =
     IsSomeAnd (position_on old parity.base) (λ position.
-    (place : ℕ) × IsLeastFree old place × (new ≡ with_equation old place (equation_at position parity)))
+    (place : ℕ) × IsLeastFree old.equations place × (new ≡ with_equation old place (equation_at position parity)))
 IsAfterParity old parity _ new = new ≡ counted old
 
 pub record AdmitsParity (old : State) (parity : Parity) (reply : Reply) (new : State) : Type 0 where

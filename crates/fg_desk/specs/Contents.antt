@@ -1,5 +1,6 @@
 -- What contracts see of a desk and of a tray.
-use Rattle.std.specs.Prelude.{◌≡◌, ◌+◌, ◌<◌, ◌^◌, ◌&&◌, ℕ, not, is_some, List, nat_lt, Option, None, IfSome, if◌then◌else◌}
+use Rattle.std.specs.Prelude.{◌≡◌, ◌+◌, ◌<◌, ◌^◌, ◌&&◌, ℕ, not, is_some, List, map, nat_lt, Option, None, IfSome, if◌then◌else◌}
+use Rattle.std.specs.List.{range_with_len}
 use Rattle.std.specs.Ordering.{nat_cmp}
 use Rattle.std.specs.FinMap.{get}
 use Rattle.std.specs.FinSet.{FinSet, contains, empty}
@@ -43,6 +44,14 @@ IsBareAfter old new =
 abbrev pub epoch_after : ℕ → Outcome → ℕ
 epoch_after epoch Repaired = epoch
 epoch_after epoch Inconsistent = epoch + 1
+
+-- What words show at a position, if those at the bare positions were repaired.
+abbrev pub kept_shown : (ℕ → Option Word) → FinSet nat_cmp → ℕ → Shown
+kept_shown words bare position = record { word = words position; repaired = contains bare position }
+
+-- What a desk keeps at `count` positions from a first one on. After a play it keeps what it showed.
+abbrev pub kept_from : Contents → ℕ → ℕ → List Shown
+kept_from desk first count = map (kept_shown (known desk.state) desk.bare) (range_with_len first count)
 
 -- A tray: how many positions it has room for, and what the last play showed.
 pub record Holding : Type 0 where

@@ -1,5 +1,5 @@
 -- The live equations of a desk, and which of them are settled.
-use Rattle.std.specs.Prelude.{◌≡◌, ◌≢◌, ◌⊎◌, ◌<◌, ◌≤◌, ◌↔◌, ◌^◌, ℕ, false, Option, Some, IsSome, IsTrue}
+use Rattle.std.specs.Prelude.{◌≡◌, ◌⊎◌, ◌<◌, ◌≤◌, ◌↔◌, ◌^◌, ℕ, false, Option, Some, IsSome, IsTrue}
 use Rattle.std.specs.List.{Contains}
 use Rattle.std.specs.Ordering.{nat_cmp}
 use Rattle.std.specs.FinMap.{FinMap, get, len, empty}
@@ -37,18 +37,6 @@ abbrev pub AreOpen : LinesState → Slab Line → Type 0
 AreOpen lines open_lines =
     (line : Line) → Contains (lines_of open_lines) line
     ↔ (IsLiveLine lines line × (set.contains lines.settled line.serial ≡ false))
-
--- A line of this base and shape.
-abbrev pub HasSlots : ℕ → ℕ → ℕ → Line → Type 0
-HasSlots base offset count line = (line.base ≡ base) × (line.shape.offset ≡ offset) × (line.shape.na ≡ count)
-
--- No live equation has the place.
-abbrev pub IsFreePlace : LinesState → ℕ → Type 0
-IsFreePlace lines place = (serial : ℕ) (live : Live) → get lines.live serial ≡ Some live → live.place ≢ place
-
--- It is the least such place.
-abbrev pub IsLeastFreePlace : LinesState → ℕ → Type 0
-IsLeastFreePlace lines place = IsFreePlace lines place × ((other : ℕ) → IsFreePlace lines other → place ≤ other)
 
 -- The same equations are live, and those are settled that were, or that are complete in these words.
 pub record Settles (words : ℕ → Option Word) (old new : LinesState) : Type 0 where

@@ -73,10 +73,14 @@ pub record IsPlay (count : ℕ) (old : State) (play : Play) (new : State) : Type
 abbrev pub HasMore : State → Type 0
 HasMore desk = (position : ℕ) × InClosure desk position × (desk.mark ≤ position)
 
+-- The greatest number with a property.
+pub record IsGreatest (P : ℕ → Type 0) (n : ℕ) : Type 0 where
+  pub inside : P n
+  pub greatest : (other : ℕ) → P other → other ≤ n
+
 -- The highest position of the closure.
-pub record IsHighest (desk : State) (position : ℕ) : Type 0 where
-  pub inside : InClosure desk position
-  pub greatest : (other : ℕ) → InClosure desk other → other ≤ position
+abbrev pub IsHighest : State → ℕ → Type 0
+IsHighest desk = IsGreatest (InClosure desk)
 
 -- A flush step plays up to the closure's highest position, and at most a window.
 pub record IsFlushStep (old : State) (play : Play) (new : State) : Type 0 where

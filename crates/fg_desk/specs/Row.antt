@@ -1,6 +1,6 @@
 -- The row of a desk: the words at the 100 positions before the mark, and at those from the mark on.
-use Rattle.std.specs.Prelude.{◌≡◌, ◌+◌, ◌<◌, ◌≤◌, ◌^◌, ℕ, true, ◌&&◌, not, is_some, nat_lt, nat_le, Option, Some, None, IsSome, List, length, slice_index_or, if◌then◌else◌}
-use Rattle.std.specs.List.{Contains}
+use Rattle.std.specs.Prelude.{◌≡◌, ◌+◌, ◌<◌, ◌≤◌, ◌^◌, ℕ, true, ◌&&◌, not, is_some, nat_lt, nat_le, Option, Some, None, IsSome, List, map, if◌then◌else◌}
+use Rattle.std.specs.List.{Contains, range_with_len}
 use Rattle.std.specs.Ordering.{nat_cmp}
 use Rattle.std.specs.FinMap.{get, empty, insert, remove}
 use Rattle.std.specs.FinSet as set
@@ -10,9 +10,10 @@ use Rattle.fg_shape.specs.Shape.{IsShape}
 use Rattle.fg_peel.specs.declared.Line.{Line}
 use Rattle.fg_peel.specs.Equation.{slots}
 use Rattle.fg_peel.specs.Slots.{equation_of, lines_of}
-use Rattle.fg_desk.specs.State.{Words}
+use Rattle.fg_desk.specs.State.{Words, words_around}
 use Rattle.fg_desk.specs.Admission.{kept_count}
-use Rattle.fg_desk.specs.Play.{Shown, nothing_shown}
+use Rattle.fg_desk.specs.Play.{Shown, IsGreatest}
+use Rattle.fg_desk.specs.Contents.{kept_shown}
 
 pub record RowState : Type 0 where
   -- The first position that isn't played yet.
@@ -46,7 +47,7 @@ row_words row position =
 
 -- Those of them that a desk tells.
 abbrev pub row_known : RowState → ℕ → Option Word
-row_known row position = (if nat_lt position row.mark then get row.kept position else get row.media position)
+row_known row = words_around row.mark row.kept row.media
 
 -- Those of these that have shares.
 abbrev pub row_shared : RowState → ℕ → Option Word
@@ -81,22 +82,12 @@ abbrev pub AllLieIn : RowState → Slab Line → Type 0
 AllLieIn row lines = (line : Line) → Contains (lines_of lines) line → LiesIn row line
 
 -- The greatest position with a word, at the mark or past it.
-pub record IsHighestWord (row : RowState) (position : ℕ) : Type 0 where
-  pub ahead : row.mark ≤ position
-  pub word : IsSome (row_words row position)
-  pub greatest : (other : ℕ) → IsSome (row_words row other) → other ≤ position
+abbrev pub IsHighestWord : RowState → ℕ → Type 0
+IsHighestWord row position = (row.mark ≤ position) × IsGreatest (λ other. IsSome (row_words row other)) position
 
--- What the row shows at a position.
-abbrev pub row_shows : RowState → ℕ → Shown
-row_shows row position = record {
-  word = row_words row position;
-  repaired = is_some (row_words row position) && not (is_some (get row.media position));
-}
-
--- A list of what the row shows at `count` positions from the mark on.
-pub record Shows (row : RowState) (count : ℕ) (shown : List Shown) : Type 0 where
-  pub length_is : length shown ≡ count
-  pub each : (i : ℕ) → i < count → slice_index_or shown i nothing_shown ≡ row_shows row (row.mark + i)
+-- What the row keeps at `count` positions from a first one on.
+abbrev pub row_kept_from : RowState → ℕ → ℕ → List Shown
+row_kept_from row first count = map (kept_shown (row_known row) row.bare) (range_with_len first count)
 
 -- The mark has moved on by `count` positions: the words of the row at the 100 positions before it are kept, and what was
 -- received and found is left at the mark and past it.

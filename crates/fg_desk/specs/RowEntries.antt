@@ -1,5 +1,5 @@
 -- A row of entries, the first of which stands for 100 positions before the mark, and what it is seen as.
-use Rattle.std.specs.Prelude.{◌≡◌, ◌≢◌, ◌+◌, ◌-◌, ◌<◌, ◌≤◌, ◌^◌, ℕ, zero, suc, Bool, true, false, List, take, drop, length, nat_lt, slice_index_or, Option, Some, None, IsSome, IsTrue, is_some, not, ◌&&◌, refl, if◌then◌else◌}
+use Rattle.std.specs.Prelude.{◌≡◌, ◌≢◌, ◌+◌, ◌-◌, ◌<◌, ◌≤◌, ◌^◌, ℕ, zero, suc, Bool, true, false, List, take, drop, length, nat_lt, slice_index_or, Option, Some, None, IsSome, IsTrue, refl, if◌then◌else◌}
 use Rattle.std.specs.Ordering.{nat_cmp}
 use Rattle.std.specs.Coded.{Coded, code_by, coded×, coded_ℕ, coded_bool, coded_list, coded_option}
 use Rattle.std.specs.FinMap as map
@@ -16,7 +16,7 @@ use Rattle.fg_peel.specs.Slots.{word_in, equations_of, OnlyFills}
 use Rattle.fg_desk.specs.State.{Words}
 use Rattle.fg_desk.specs.Admission.{kept_count}
 use Rattle.fg_desk.specs.Contents.{Holding}
-use Rattle.fg_desk.specs.Play.{Shown, nothing_shown}
+use Rattle.fg_desk.specs.Play.{Shown}
 use Rattle.fg_desk.specs.Row.{RowState}
 
 -- The entry of a position.
@@ -127,20 +127,6 @@ pub record Recovers (mark : ℕ) (lines : Slab Line) (old new : List Slot) (answ
   pub solvable :
       (solution : ℕ → Option Word) → IsSolution (words_of mark old) (equations_of lines) solution
       → IsTrue answer × (words_of mark new ≡ solution)
-
--- What an entry shows.
-abbrev pub shown_in : Slot → Shown
-shown_in entry = record {
-  word = word_in entry;
-  repaired = is_some (word_in entry) && not (is_some (received_in entry));
-}
-
--- What the first entries from the mark on show.
-pub record ShowsEntries (entries : List Slot) (count : ℕ) (shown : List Shown) : Type 0 where
-  pub length_is : length shown ≡ count
-  pub each :
-      (i : ℕ) → i < count
-      → slice_index_or shown i nothing_shown ≡ shown_in (slice_index_or entries (kept_count + i) Empty)
 
 -- An entry without a found word.
 abbrev pub forgotten : Slot → Slot

@@ -53,10 +53,14 @@ opening window depth = record {
   calls = 0;
 }
 
+-- The words of two maps: those of the first below the mark, and those of the second from it on.
+abbrev pub words_around : ℕ → Words → Words → ℕ → Option Word
+words_around mark before after position =
+    (if nat_lt position mark then get before position else get after position)
+
 -- The words that need no equation: those kept, and those received.
 abbrev pub known : State → ℕ → Option Word
-known desk position =
-    (if nat_lt position desk.mark then get desk.kept position else get desk.media position)
+known desk = words_around desk.mark desk.kept desk.media
 
 -- What the live equations say, in the order of admission.
 abbrev pub live_equations : State → List Equation

@@ -11,8 +11,8 @@ use Rattle.fg_peel.specs.Solution.{IsSolution}
 use Rattle.fg_desk.specs.declared.reply.Outcome.{Outcome}
 use Rattle.fg_desk.specs.declared.reply.Outcome.TheVariants.{Repaired, Inconsistent}
 use Rattle.fg_desk.specs.State.{Live, Words}
-use Rattle.fg_desk.specs.Play.{Shown, Survives}
-use Rattle.fg_desk.specs.Row.{RowState, row_words, receives, Shows, Advances}
+use Rattle.fg_desk.specs.Play.{Survives}
+use Rattle.fg_desk.specs.Row.{RowState, row_words, receives, Advances}
 use Rattle.fg_desk.specs.Lines.{LinesState, no_lines, Reopens}
 
 -- What the live equations say.
@@ -52,20 +52,15 @@ pub record Keeps (words : ℕ → Option Word) (mark : ℕ) (kept : Words) (old 
       ↔ ((get old.live serial ≡ Some live) × Survives mark kept live.equation)
   pub settled : EachSettled new (IsComplete words)
 
--- The row shows `count` positions, and the mark moves past them.
-pub record Passes (count : ℕ) (old new : RowState) (shown : List Shown) : Type 0 where
-  pub shows : Shows old count shown
-  pub advances : Advances count old new
-
 -- The row without the words that were found ahead of their play.
 abbrev pub without_found : RowState → RowState
 without_found row = record row { cached = empty }
 
--- A play of `count` positions with this outcome.
-abbrev pub Closes : Outcome → ℕ → RowState → LinesState → RowState → LinesState → List Shown → Type 0
-Closes Repaired count old lines new left shown =
-    Passes count old new shown × Keeps (row_words old) new.mark new.kept lines left
-Closes Inconsistent count old lines new left shown = Passes count (without_found old) new shown × (left ≡ no_lines)
+-- The mark has moved on by `count` positions in a play of this outcome.
+abbrev pub Closes : Outcome → ℕ → RowState → LinesState → RowState → LinesState → Type 0
+Closes Repaired count old lines new left =
+    Advances count old new × Keeps (row_words old) new.mark new.kept lines left
+Closes Inconsistent count old lines new left = Advances count (without_found old) new × (left ≡ no_lines)
 
 -- A word is received where none or the same one was found ahead.
 pub record TakesWord (position : ℕ) (word : Word) (row new : RowState) (lines left : LinesState) : Type 0 where

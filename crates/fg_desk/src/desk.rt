@@ -3,13 +3,14 @@
 ghost use Rattle.std.specs.Prelude.{◌≡◌, ◌≢◌, ◌+◌, ◌↔◌, ◌<◌, ◌≤◌, ◌^◌, ℕ, length, Option, Some, None, IsTrue, IsSome, IfOk, IfSome, IfNone, option_map};
 ghost use Rattle.std.specs.Option.{option_copied};
 ghost use Rattle.std.specs.FinMap.{get, len};
+ghost use Rattle.std.specs.FinSet.{contains};
 ghost use Rattle.fg_words.specs.Word.{IsMedia};
 ghost use Rattle.fg_shape.specs.Shape.{IsShape};
 ghost use Rattle.fg_peel.specs.declared.Line.{Line as LiveLine};
 ghost use Rattle.fg_desk.specs.State.{known, Top as TopState, Live};
 ghost use Rattle.fg_desk.specs.Facts.{Holds};
 ghost use Rattle.fg_desk.specs.Lines.{live_of};
-ghost use Rattle.fg_desk.specs.Contents.{opened, HasRoom, shared_at, IsBareAfter, epoch_after};
+ghost use Rattle.fg_desk.specs.Contents.{opened, HasRoom, shared_at, kept_from, IsBareAfter, epoch_after};
 ghost use Rattle.fg_desk.specs.Admission.{IsDue, IsReplyAt, IsEquationReply, IsLeastFree, AdmitsMedia, AdmitsParity, farther as farther_top, with_media, with_equation};
 ghost use Rattle.fg_desk.specs.Play.{IsPlay, Flushes};
 ghost use Rattle.fg_desk.specs.Inside.{IsLateAt};
@@ -140,6 +141,13 @@ impl Desk {
         self.row.share(slot)
     }
 
+    /// Whether the word kept at a position was repaired, so that it stands alone.
+    pub fn repaired(&self, slot: u64) -> bool
+        ensures { result ≡ contains self.now.bare slot }
+    {
+        self.row.is_bare(slot)
+    }
+
     /// The position and the sequence number of the farthest media datagram. None before the first
     /// one.
     pub fn top(&self) -> Option<(u64, u16)>
@@ -252,9 +260,7 @@ impl Desk {
         }
     }
 
-    /// Plays a window.
-    ///
-    /// The tray then has the words, and which of them were repaired.
+    /// Plays a window. The tray then has the words, and which of them were repaired.
     pub fn play(&mut self, tray: &mut Tray) -> Played
         requires room { HasRoom self.old.state }
         requires started { IsSome self.old.state.top }
@@ -267,12 +273,32 @@ impl Desk {
         ensures bare { IsBareAfter self.old self.new }
         ensures epoch { self.new.epoch ≡ epoch_after self.old.epoch result.verdict }
     {
+        let played = self.play_in_place();
+        self.row.show(played.first, played.count, tray);
+        played
+    }
+
+    /// Plays a window and copies nothing: the desk keeps the words, so `word` tells what each position
+    /// showed, and `repaired` whether the word was repaired. 100 positions are kept, and a play has no
+    /// more.
+    pub fn play_in_place(&mut self) -> Played
+        requires room { HasRoom self.old.state }
+        requires started { IsSome self.old.state.top }
+        ensures play { IsPlay self.old.state.window self.old.state (record {
+          first = result.first;
+          shown = kept_from self.new result.first result.count;
+          outcome = result.verdict;
+        }) self.new.state }
+        ensures count { result.count ≡ self.old.state.window }
+        ensures bare { IsBareAfter self.old self.new }
+        ensures epoch { self.new.epoch ≡ epoch_after self.old.epoch result.verdict }
+    {
         found_words_may_be_known();
         peelings_fill_the_closure();
         solved_stays_peeled();
         let first = self.row.mark();
         let solved = recover(&mut self.row, &self.lines);
-        let verdict = close(&mut self.row, &mut self.lines, solved, self.window, tray);
+        let verdict = close(&mut self.row, &mut self.lines, solved, self.window);
         self.calls += 1;
         self.epoch = next_epoch(self.epoch, verdict);
         Played {
@@ -299,6 +325,28 @@ impl Desk {
             × (tray.new ≡ tray.old)) }
         ensures tray { tray.new.window ≡ tray.old.window }
     {
+        let Some(step) = self.flush_step_in_place() else {
+            return None;
+        };
+        self.row.show(step.first, step.count, tray);
+        Some(step)
+    }
+
+    /// A flush step that copies nothing: the desk keeps the words, as after `play_in_place`. None where
+    /// none is left to be played.
+    pub fn flush_step_in_place(&mut self) -> Option<Played>
+        requires room { HasRoom self.old.state }
+        ensures flushes { Flushes self.old.state (option_map (λ played. record {
+          first = played.first;
+          shown = kept_from self.new played.first played.count;
+          outcome = played.verdict;
+        }) result) self.new.state }
+        ensures some { IfSome result (λ played. (1 ≤ played.count)
+            × (played.count ≤ self.old.state.window)
+            × IsBareAfter self.old self.new
+            × (self.new.epoch ≡ epoch_after self.old.epoch played.verdict)) }
+        ensures none { IfNone result (self.new ≡ record self.old { state = self.new.state }) }
+    {
         found_words_may_be_known();
         peelings_fill_the_closure();
         solved_stays_peeled();
@@ -309,7 +357,7 @@ impl Desk {
             return None;
         };
         let count = u64::from(self.window).min(highest + 1 - first) as u32;
-        let verdict = close(&mut self.row, &mut self.lines, solved, count, tray);
+        let verdict = close(&mut self.row, &mut self.lines, solved, count);
         self.epoch = next_epoch(self.epoch, verdict);
         Some(Played {
             first,
@@ -344,7 +392,7 @@ impl Desk {
             (record { base = base; offset = shape.offset; count = shape.na; parity = share })
             Reply.Admitted }
         requires calls { self.old.state.calls < 2 ^ 62 }
-        ensures { (place : ℕ) × IsLeastFree self.old.state place × (self.new ≡ record self.old {
+        ensures { (place : ℕ) × IsLeastFree self.old.state.equations place × (self.new ≡ record self.old {
           state = with_equation self.old.state place
               (record { base = base; offset = shape.offset; count = shape.na; parity = share });
         }) }

@@ -12,7 +12,8 @@ ghost use Rattle.fg_peel.specs.Slots.{equation_of};
 ghost use Rattle.fg_desk.specs.State.{last_slot};
 ghost use Rattle.fg_desk.specs.Play.{Survives};
 ghost use Rattle.fg_desk.specs.Row.{row_words};
-ghost use Rattle.fg_desk.specs.Lines.{no_lines, AreLines, AreOpen, HasSlots, IsFreePlace, IsLeastFreePlace, IsLiveLine, Settles, Reopens, SettledAreBased, Retires};
+ghost use Rattle.fg_desk.specs.Admission.{HasSlots, IsFree, IsLeastFree};
+ghost use Rattle.fg_desk.specs.Lines.{no_lines, AreLines, AreOpen, IsLiveLine, Settles, Reopens, SettledAreBased, Retires};
 ghost use Rattle.fg_desk.specs.LinesInside.{Holds, Stands, IsTaken, AreWithin, Moves, IsCompleteAs, IsBased, IsLost, Drops};
 
 use crate::row::Row;
@@ -95,9 +96,9 @@ impl Lines {
         requires shape { IsShape shape.offset shape.na }
         requires base { base ≤ 2 ^ 62 }
         ensures some { IfSome result (λ line. IsLiveLine self.now line.now
-            × HasSlots base shape.offset shape.na line.now) }
+            × HasSlots base shape.offset shape.na (equation_of line.now)) }
         ensures none { IfNone result ((line : LiveLine) → IsLiveLine self.now line
-            → ¬ HasSlots base shape.offset shape.na line) }
+            → ¬ HasSlots base shape.offset shape.na (equation_of line)) }
     {
         if last(base, shape) > self.latest {
             return None;
@@ -112,7 +113,7 @@ impl Lines {
     pub(crate) fn at(&self, place: u32) -> Option<&Line>
         ensures some { IfSome result (λ line. IsLiveLine self.now line.now
             × (line.now.place ≡ place)) }
-        ensures none { IfNone result (IsFreePlace self.now place) }
+        ensures none { IfNone result (IsFree self.now.live place) }
     {
         match find_place(&self.open, place) {
             Some(line) => Some(line),
@@ -127,7 +128,7 @@ impl Lines {
         requires base { base ≤ 2 ^ 62 }
         requires fresh { get self.old.live serial ≡ None }
         ensures facts { AreLines self.old }
-        ensures added { (place : ℕ) × IsLeastFreePlace self.old place
+        ensures added { (place : ℕ) × IsLeastFree self.old.live place
             × (self.new ≡ record self.old {
               live = insert self.old.live serial (record {
                 place = place;
@@ -194,9 +195,9 @@ impl Lines {
 /// The line of this base and shape.
 fn find_in(lines: &Slab<Line>, base: u64, shape: Shape) -> Option<&Line>
     ensures some { IfSome result (λ line. Holds lines.now line.now
-        × HasSlots base shape.offset shape.na line.now) }
+        × HasSlots base shape.offset shape.na (equation_of line.now)) }
     ensures none { IfNone result ((line : LiveLine) → Holds lines.now line
-        → ¬ HasSlots base shape.offset shape.na line) }
+        → ¬ HasSlots base shape.offset shape.na (equation_of line)) }
 {
     for (_, line) in lines.iter() {
         if line.base == base && line.shape.offset == shape.offset && line.shape.na == shape.na {

@@ -3,13 +3,14 @@
 ghost use Rattle.std.specs.Prelude.{◌≡◌, ◌+◌, ◌<◌, ◌≤◌, ◌^◌, ◌↔◌, ◌++◌, ◌∷◌, [], ℕ, pos, ◌-ℤ◌, length, slice_index_or, unwrap_or, Option, None, IsSome, IsTrue, IfOk, IfSome, IfNone};
 ghost use Rattle.std.specs.Option.{option_copied};
 ghost use Rattle.std.specs.FinMap.{empty};
+ghost use Rattle.std.specs.FinSet as set;
 ghost use Rattle.fg_shape.specs.Shape.{IsShape};
 ghost use Rattle.fg_peel.specs.Solution.{IsSolution};
 ghost use Rattle.fg_peel.specs.Equation.{AreMedia, IsComplete};
 ghost use Rattle.fg_peel.specs.Peeling.{EndsPeeling};
 ghost use Rattle.fg_peel.specs.Slots.{word_in, equation_of, equations_of};
-ghost use Rattle.fg_desk.specs.Row.{opened_row, row_words, row_known, row_shared, IsRow, receives, AllLieIn, IsHighestWord, Shows, Advances};
-ghost use Rattle.fg_desk.specs.RowEntries.{entry_at, words_of, row_of, live_entries, IsEmptyPast, StaysPast, received_in, shown_in, AreEntries, Recovers, ShowsEntries, IsLastWord, HasNoWordFrom, ForgetsFound};
+ghost use Rattle.fg_desk.specs.Row.{opened_row, row_words, row_known, row_shared, IsRow, receives, AllLieIn, IsHighestWord, row_kept_from, Advances};
+ghost use Rattle.fg_desk.specs.RowEntries.{entry_at, words_of, row_of, live_entries, IsEmptyPast, StaysPast, received_in, is_alone, AreEntries, Recovers, IsLastWord, HasNoWordFrom, ForgetsFound};
 
 use crate::tray::Tray;
 use fg_peel::{Line, Slot, Verdict, peel};
@@ -101,6 +102,13 @@ impl Row {
         share_at(self.mark, live(&self.slots, self.front), position)
     }
 
+    /// Whether a kept word stands alone at a position, so that no share of it is there.
+    pub(crate) fn is_bare(&self, position: u64) -> bool
+        ensures { result ≡ set.contains self.now.bare position }
+    {
+        position < self.mark && is_alone_at(self.mark, live(&self.slots, self.front), position)
+    }
+
     /// The word at a position, also where it was found ahead of its play.
     pub(crate) fn any_word(&self, position: u64) -> Option<&Word>
         ensures { option_copied result ≡ row_words self.now position }
@@ -168,14 +176,18 @@ impl Row {
         recover_live(self.mark, &mut self.slots, self.front, lines)
     }
 
-    /// Copies the words at the first positions from the mark on to a tray.
-    pub(crate) fn show(&self, count: u32, tray: &mut Tray)
+    /// Copies what the row keeps at `count` positions to a tray.
+    pub(crate) fn show(&self, first: u64, count: u32, tray: &mut Tray)
         requires room { count ≤ tray.old.window }
-        requires near { count ≤ self.now.reach }
-        ensures shows { Shows self.now count tray.new.shown }
-        ensures window { tray.new.window ≡ tray.old.window }
+        requires limit { first + count ≤ 2 ^ 62 }
+        ensures { tray.new
+            ≡ record { window = tray.old.window; shown = row_kept_from self.now first count } }
     {
-        show_entries(live(&self.slots, self.front), count, tray);
+        tray.clear();
+        for i in 0..count {
+            let position = first + u64::from(i);
+            tray.show(self.word(position), self.is_bare(position));
+        }
     }
 
     /// Moves the mark on. What is played stays as long as it is kept.
@@ -240,6 +252,14 @@ fn share_of(slot: &Slot) -> Option<&Shared>
     }
 }
 
+/// Whether the word at a position stands alone in its entry.
+fn is_alone_at(mark: u64, slots: &[Slot], position: u64) -> bool
+    requires { mark + length slots.now ≤ 2 ^ 62 }
+    ensures { result ≡ is_alone (entry_at mark slots.now position) }
+{
+    matches!(entry(mark, slots, position), Some(Slot::Filled(_)))
+}
+
 /// The position of the first entry.
 fn low_of(mark: u64) -> i64
     requires { mark ≤ 2 ^ 62 }
@@ -255,7 +275,7 @@ fn recover_words(mark: u64, slots: &mut [Slot], lines: &Slab<Line>) -> bool
     requires media { AreMedia (words_of mark slots.old) }
     ensures { Recovers mark lines.now slots.old slots.new result }
 {
-    match peel(low_of(mark), slots, lines) {
+    match peel(low_of(mark), slots, lines, true) {
         Verdict::Sound => true,
         _ => false,
     }
@@ -308,32 +328,6 @@ fn forget_filled(slots: &mut [Slot])
         if let Slot::Filled(_) = slots[i] {
             slots[i] = Slot::Empty;
         }
-    }
-}
-
-/// Shows the word of an entry at a tray's next position.
-fn show_entry(slot: &Slot, tray: &mut Tray)
-    requires { length tray.old.shown < tray.old.window }
-    ensures { tray.new ≡ record tray.old { shown = tray.old.shown ++ shown_in slot.now ∷ [] } }
-{
-    match slot {
-        Slot::Empty => tray.show(None, false),
-        Slot::Media(share) => tray.show(Some(share.word()), false),
-        Slot::Solved(share) => tray.show(Some(share.word()), true),
-        Slot::Filled(word) => tray.show(Some(word), true),
-    }
-}
-
-/// Shows the first `count` entries from the mark on.
-fn show_entries(slots: &[Slot], count: u32, tray: &mut Tray)
-    requires room { count ≤ tray.old.window }
-    requires within { KEPT + count ≤ length slots.now }
-    ensures shows { ShowsEntries slots.now count tray.new.shown }
-    ensures window { tray.new.window ≡ tray.old.window }
-{
-    tray.clear();
-    for i in 0..count {
-        show_entry(&slots[KEPT + i as usize], tray);
     }
 }
 

@@ -3,14 +3,13 @@
 ghost use Rattle.std.specs.Prelude.{◌≡◌, ◌⊎◌, ◌+◌, ◌<◌, ◌≤◌, ◌^◌, ◌↔◌, length, IsTrue};
 ghost use Rattle.fg_peel.specs.Equation.{AreMedia, IsComplete, IsSettled};
 ghost use Rattle.fg_desk.specs.declared.reply.Outcome.{Outcome as OutcomeValue};
-ghost use Rattle.fg_desk.specs.Row.{row_words};
+ghost use Rattle.fg_desk.specs.Row.{row_words, Advances};
 ghost use Rattle.fg_desk.specs.Lines.{no_lines};
-ghost use Rattle.fg_desk.specs.Window.{equations_in, AreInRow, EachSettled, IsRecovered, Keeps, Passes, Closes, TakesWord, TakesAnew, IsOther, without_found};
+ghost use Rattle.fg_desk.specs.Window.{equations_in, AreInRow, EachSettled, IsRecovered, Keeps, Closes, TakesWord, TakesAnew, IsOther, without_found};
 
 use crate::lines::Lines;
 use crate::reply::Outcome;
 use crate::row::Row;
-use crate::tray::Tray;
 use fg_peel::laws::{peelings_fill_the_closure, peelings_stay, settled_equations_add_nothing};
 use fg_words::Shared;
 
@@ -32,63 +31,49 @@ pub(crate) fn recover(row: &mut Row, lines: &Lines) -> bool
 }
 
 /// Plays the first `count` positions. `solved` tells that the row's words are a solution.
-pub(crate) fn close(
-    row: &mut Row,
-    lines: &mut Lines,
-    solved: bool,
-    count: u32,
-    tray: &mut Tray,
-) -> Outcome
+pub(crate) fn close(row: &mut Row, lines: &mut Lines, solved: bool, count: u32) -> Outcome
     requires some { 1 ≤ count }
-    requires room { count ≤ tray.old.window }
     requires near { count ≤ row.old.reach }
     requires limit { row.old.mark + count + row.old.reach + 100 ≤ 2 ^ 62 }
     requires within { AreInRow row.old lines.old }
     requires settled { EachSettled lines.old (IsComplete (row_words row.old)) }
-    ensures closes { Closes result count row.old lines.old row.new lines.new tray.new.shown }
+    ensures closes { Closes result count row.old lines.old row.new lines.new }
     ensures outcome { (result ≡ Outcome.Repaired) ↔ IsTrue solved }
-    ensures window { tray.new.window ≡ tray.old.window }
 {
     if solved {
-        show_repaired(row, lines, count, tray);
+        close_repaired(row, lines, count);
         Outcome::Repaired
     } else {
-        show_received(row, lines, count, tray);
+        close_received(row, lines, count);
         Outcome::Inconsistent
     }
 }
 
-/// Shows the row's words at the first `count` positions. Those equations stay live that survive.
-fn show_repaired(row: &mut Row, lines: &mut Lines, count: u32, tray: &mut Tray)
+/// Plays the row's words at the first `count` positions. Those equations stay live that survive.
+fn close_repaired(row: &mut Row, lines: &mut Lines, count: u32)
     requires some { 1 ≤ count }
-    requires room { count ≤ tray.old.window }
     requires near { count ≤ row.old.reach }
     requires limit { row.old.mark + count + row.old.reach + 100 ≤ 2 ^ 62 }
     requires within { AreInRow row.old lines.old }
     requires settled { EachSettled lines.old (IsComplete (row_words row.old)) }
-    ensures passes { Passes count row.old row.new tray.new.shown }
+    ensures advances { Advances count row.old row.new }
     ensures lines { Keeps (row_words row.old) row.new.mark row.new.kept lines.old lines.new }
-    ensures window { tray.new.window ≡ tray.old.window }
 {
     lines.settle(row);
-    row.show(count, tray);
     row.advance(count);
     lines.retire(row);
 }
 
-/// Shows the received words at the first `count` positions. No equation stays live.
-fn show_received(row: &mut Row, lines: &mut Lines, count: u32, tray: &mut Tray)
+/// Plays the received words at the first `count` positions. No equation stays live.
+fn close_received(row: &mut Row, lines: &mut Lines, count: u32)
     requires some { 1 ≤ count }
-    requires room { count ≤ tray.old.window }
     requires near { count ≤ row.old.reach }
     requires limit { row.old.mark + count + row.old.reach + 100 ≤ 2 ^ 62 }
-    ensures passes { Passes count (without_found row.old) row.new tray.new.shown }
+    ensures advances { Advances count (without_found row.old) row.new }
     ensures lines { lines.new ≡ no_lines }
-    ensures window { tray.new.window ≡ tray.old.window }
 {
     row.forget_cached();
     lines.clear();
-    row.show(count, tray);
     row.advance(count);
 }
 

@@ -12,7 +12,7 @@ use Rattle.fg_peel.specs.declared.Slot.{Slot}
 use Rattle.fg_peel.specs.declared.Slot.TheVariants.{Empty, Filled}
 use Rattle.fg_peel.specs.declared.Verdict.{Verdict}
 use Rattle.fg_peel.specs.Equation.{Equation, AreAdmissible, AreMedia}
-use Rattle.fg_peel.specs.Slots.{first_position, from_first, before_first, words_at, known_at, recovered_at, equation_of, equations_of, AllFit, AllFitFrom, OnlyFills}
+use Rattle.fg_peel.specs.Slots.{first_position, from_first, before_first, words_from, words_at, known_at, recovered_at, equation_of, equations_of, AllFit, AllFitFrom, OnlyFills}
 use Rattle.fg_peel.specs.Peeling.{ArePeeled}
 use Rattle.fg_peel.specs.Verdict.{TellsSolution}
 use Rattle.fg_peel.specs.Recovery.{IsPeel, IsPeelAfter}
@@ -151,6 +151,22 @@ fits_below (negsuc n) below lines old under least fit =
     let least' : below ≡ min (length old) (n + 1) = omega (arith, least) in
     let P : List Slot → Type 0 = λ es. AllFitFrom 0 es lines in
     subst P (sym (same_rest n below old least')) fit
+
+-- Words that are media words from the first position on.
+pub media_up :
+    (low : ℤ) (old : List Slot) → lt_z low (pos 0) ≡ false → AreMedia (words_at low old)
+    → AreMedia (words_from (nat_abs low) old)
+media_up (pos n) old above media = media
+media_up (negsuc n) old above media = absurd (cc)
+
+pub media_below :
+    (low : ℤ) (below : ℕ) (old : List Slot) → lt_z low (pos 0) ≡ true → below ≡ min (length old) (nat_abs low)
+    → AreMedia (words_at low old) → AreMedia (words_from 0 (drop below old))
+media_below (pos n) below old under least media = absurd (omega (arith, ltb-true n 0 under))
+media_below (negsuc n) below old under least media =
+    let least' : below ≡ min (length old) (n + 1) = omega (arith, least) in
+    let P : List Slot → Type 0 = λ es. AreMedia (words_from 0 es) in
+    subst P (sym (same_rest n below old least')) media
 
 -- Lines that fit have offsets, so that their slots differ.
 admissible_at :

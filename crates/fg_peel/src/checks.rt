@@ -22,11 +22,16 @@ fn recovers_media(slot: &Slot) -> bool
     }
 }
 
-/// The least position whose recovered word is no media word.
-fn first_not_media(row: &Row<'_>) -> Option<u64>
+/// The least position whose recovered word is no media word. `all_media` tells that there is none, but
+/// where some were filled in.
+fn first_not_media(row: &Row<'_>, all_media: bool, filled: bool) -> Option<u64>
+    requires { IsTrue all_media → filled ≡ false → AreMedia (recovered_words_in row.now) }
     ensures least { IfSome result (IsLeast (IsNoMedia (recovered_words_in row.now))) }
     ensures none { IfNone result (AreMedia (recovered_words_in row.now)) }
 {
+    if all_media && !filled {
+        return None;
+    }
     for (i, slot) in row.slots.iter().enumerate() {
         if !recovers_media(slot) {
             return Some(row.start + i as u64);
@@ -75,13 +80,20 @@ fn is_new_least(place: u32, least: Option<u32>) -> bool
     }
 }
 
-/// The verdict on the words of a row.
-pub(crate) fn verdict_on(row: &Row<'_>, lines: &Slab<Line>) -> Verdict
-    requires { HasAllSlots row.now lines.now }
+/// The verdict on the words of a row. `all_media` tells that the recovered ones are media words, but
+/// where some were filled in.
+pub(crate) fn verdict_on(
+    row: &Row<'_>,
+    lines: &Slab<Line>,
+    all_media: bool,
+    filled: bool,
+) -> Verdict
+    requires lines { HasAllSlots row.now lines.now }
+    requires media { IsTrue all_media → filled ≡ false → AreMedia (recovered_words_in row.now) }
     ensures { IsVerdict (recovered_words_in row.now)
         (words_in row.now) lines.now result }
 {
-    if let Some(slot) = first_not_media(row) {
+    if let Some(slot) = first_not_media(row, all_media, filled) {
         return Verdict::NotMedia { slot };
     }
     match first_broken(row, lines) {

@@ -7,7 +7,7 @@ ghost use Rattle.std.specs.Option.{option_copied};
 ghost use Rattle.fg_peel.specs.Closure.{InClosure};
 ghost use Rattle.fg_peel.specs.Equation.{AreMedia};
 ghost use Rattle.fg_peel.specs.Peeling.{ArePeeled, EndsPeeling};
-ghost use Rattle.fg_peel.specs.Slots.{word_in, before_first, words_at, known_at, recovered_at, equations_of, AllFit, AllFitFrom, OnlyFills};
+ghost use Rattle.fg_peel.specs.Slots.{word_in, before_first, words_from, words_at, known_at, recovered_at, equations_of, AllFit, AllFitFrom, OnlyFills};
 ghost use Rattle.fg_peel.specs.Verdict.{IsVerdict, TellsSolution};
 ghost use Rattle.fg_peel.specs.Recovery.{IsPeel, IsPeelAfter};
 
@@ -93,12 +93,16 @@ pub enum Verdict {
 ///
 /// A payload is read only to be summed: a recovered word costs one copy, of the parity word, and
 /// one XOR in place for each other slot of its equation, and each equation without an `Empty` slot
-/// is summed once more for the verdict. Each equation is looked at once, and once more for each of
+/// is summed once more for the verdict. Each equation is looked at twice, and once more for each of
 /// its slots that is filled.
-pub fn peel(low: i64, slots: &mut [Slot], lines: &Slab<Line>) -> Verdict
+///
+/// `all_media` tells that all words that are there are media words. Then the entries are not looked
+/// over where nothing follows.
+pub fn peel(low: i64, slots: &mut [Slot], lines: &Slab<Line>, all_media: bool) -> Verdict
     requires first { negsuc 99 ≤ℤ low }
     requires last { (low +ℤ pos (length slots.old)) ≤ℤ pos (2 ^ 62) }
     requires lines { AllFit low slots.old lines.now }
+    requires media { IsTrue all_media → AreMedia (words_at low slots.old) }
 
     // Only empty entries change, and the words are then those of exactly the closure.
     ensures fills { OnlyFills slots.old slots.new }
@@ -121,29 +125,31 @@ pub fn peel(low: i64, slots: &mut [Slot], lines: &Slab<Line>) -> Verdict
 {
     if low < 0 {
         let below = slots.len().min(low.unsigned_abs() as usize);
-        peel_after(below, slots, lines)
+        peel_after(below, slots, lines, all_media)
     } else {
-        peel_from(low as u64, slots, lines)
+        peel_from(low as u64, slots, lines, all_media)
     }
 }
 
 /// `peel` past so many entries that stand for no position.
-fn peel_after(below: usize, slots: &mut [Slot], lines: &Slab<Line>) -> Verdict
+fn peel_after(below: usize, slots: &mut [Slot], lines: &Slab<Line>, all_media: bool) -> Verdict
     requires within { below ≤ length slots.old }
     requires lines { AllFitFrom 0 (drop below slots.old) lines.now }
     requires limit { length slots.old ≤ 2 ^ 62 }
+    requires media { IsTrue all_media → AreMedia (words_from 0 (drop below slots.old)) }
     ensures { IsPeelAfter below lines.now slots.old slots.new result }
 {
     let (_, rest) = slots.split_at_mut(below);
-    peel_from(0, rest, lines)
+    peel_from(0, rest, lines, all_media)
 }
 
 /// `peel` where the first entry stands for the position `start`.
-fn peel_from(start: u64, slots: &mut [Slot], lines: &Slab<Line>) -> Verdict
+fn peel_from(start: u64, slots: &mut [Slot], lines: &Slab<Line>, all_media: bool) -> Verdict
     requires lines { AllFitFrom start slots.old lines.now }
     requires limit { start + length slots.old ≤ 2 ^ 62 }
+    requires media { IsTrue all_media → AreMedia (words_from start slots.old) }
     ensures { IsPeel start lines.now slots.old slots.new result }
 {
-    fill_all(start, slots, lines);
-    verdict_on(&Row { start, slots }, lines)
+    let filled = fill_all(start, slots, lines);
+    verdict_on(&Row { start, slots }, lines, all_media, filled)
 }

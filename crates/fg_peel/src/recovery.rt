@@ -1,8 +1,9 @@
 //! Filling empty entries from the equations that miss one word.
 
-ghost use Rattle.std.specs.Prelude.{◌≡◌, ◌≢◌, ◌+◌, ◌^◌, ◌<◌, ◌≤◌, length, Contains, slice_set};
+ghost use Rattle.std.specs.Prelude.{false, ◌≡◌, ◌≢◌, ◌+◌, ◌^◌, ◌<◌, ◌≤◌, length, Contains, slice_set};
 ghost use Rattle.fg_peel.specs.Slots.{word_in, words_from, equation_of, equations_of, lines_of};
 ghost use Rattle.fg_peel.specs.Slots.{Fits, AllFitFrom, IsMissing};
+ghost use Rattle.fg_peel.specs.Row.{words_in, HasAllSlots};
 ghost use Rattle.fg_peel.specs.Recovery.{IsPeeled, Fills, with_word, AddsWord};
 ghost use Rattle.fg_peel.specs.Recovery.{NothingFollows, AllClosed, AllClosedAt, StayClosed};
 
@@ -99,17 +100,35 @@ fn follow(start: u64, slots: &mut [Slot], lines: &Slab<Line>, filled: u64)
     }
 }
 
-/// Fills entries until no line misses just one word.
+/// Whether some line misses just one word, so that it follows.
+fn some_word_follows(row: &Row<'_>, lines: &Slab<Line>) -> bool
+    requires { HasAllSlots row.now lines.now }
+    ensures { result ≡ false → AllClosed (words_in row.now) lines.now }
+{
+    for (_, line) in lines.iter() {
+        if let Missing::One(_) = row.missing(line) {
+            return true;
+        }
+    }
+    false
+}
+
+/// Fills entries until no line misses just one word, and tells whether any was filled.
 ///
 /// Each line is visited once, and once more for each of its slots that is filled, at the moment
 /// that it is. A filled entry costs a pass of tests on numbers over the lines.
-pub(crate) fn fill_all(start: u64, slots: &mut [Slot], lines: &Slab<Line>)
+pub(crate) fn fill_all(start: u64, slots: &mut [Slot], lines: &Slab<Line>) -> bool
     requires lines { AllFitFrom start slots.old lines.now }
     requires limit { start + length slots.old ≤ 2 ^ 62 }
     ensures peeled { IsPeeled start (equations_of lines.now) slots.old slots.new }
     ensures closed { AllClosed (words_from start slots.new) lines.now }
+    ensures untouched { result ≡ false → slots.new ≡ slots.old }
 {
+    if !some_word_follows(&Row { start, slots }, lines) {
+        return false;
+    }
     for (_, line) in lines.iter() {
         visit(start, slots, lines, line);
     }
+    true
 }

@@ -1,7 +1,8 @@
 //! Plays: when one is due, what it shows, what it keeps, and which equations stay live.
 
 use super::script::Step::{
-    Due, Epoch, Flush, Flushed, Known, Live, Mark, Media, Parities, Parity, Place, Play, Plays, Run,
+    Due, Epoch, Flush, FlushInPlace, Flushed, Known, Live, Mark, Media, Parities, Parity, Place,
+    Play, PlayInPlace, Plays, Run,
 };
 use super::script::follows;
 use crate::Outcome::{Inconsistent, Repaired};
@@ -94,6 +95,22 @@ fn words_are_kept_at_a_hundred_positions(rt: HostRuntime) -> Result<(), Fail> {
         Known(101, false, false),
     ];
     follows(&rt, rt.alloc(), 50, 100, &script)
+}
+
+#[test]
+fn plays_that_copy_nothing(rt: HostRuntime) -> Result<(), Fail> {
+    let script = [
+        Run(0, 6, 0b10100),
+        Parity(1, 1, 3, 1, Admitted),
+        PlayInPlace(Repaired, 4),
+        Known(1, true, true),
+        Known(2, true, false),
+        FlushInPlace(Repaired, 2),
+        Known(4, false, false),
+        Known(5, true, true),
+        FlushInPlace(Repaired, 0),
+    ];
+    follows(&rt, rt.alloc(), 4, 8, &script)
 }
 
 #[test]

@@ -34,6 +34,11 @@ pub(super) enum Step {
     Flush(Outcome, u32, u128, u128, u128),
     /// A flush step that plays nothing.
     Flushed,
+    /// A play that copies nothing: its outcome, and how many positions it has.
+    PlayInPlace(Outcome, u32),
+    /// A flush step that copies nothing: its outcome, and how many positions it has. With none it plays
+    /// nothing.
+    FlushInPlace(Outcome, u32),
     /// The mark.
     Mark(u64),
     /// How many equations are live.
@@ -114,6 +119,40 @@ pub(super) fn flush(desk: &mut Desk, alloc: Global) -> Result<Option<(Played, Tr
     match desk.flush_step(&mut tray) {
         Some(played) => Ok(Some((played, tray))),
         None => Ok(None),
+    }
+}
+
+/// Whether a window of this many positions is played in place.
+fn plays_in_place(desk: &mut Desk, outcome: Outcome, count: u32) -> bool {
+    if !desk.room() || desk.top().is_none() {
+        return false;
+    }
+    let first = desk.mark();
+    let played = desk.play_in_place();
+    played
+        == Played {
+            first,
+            count,
+            verdict: outcome,
+        }
+}
+
+/// Whether a flush step plays this many positions in place.
+fn flushes_in_place(desk: &mut Desk, outcome: Outcome, count: u32) -> bool {
+    if !desk.room() {
+        return false;
+    }
+    let first = desk.mark();
+    match desk.flush_step_in_place() {
+        Some(played) => {
+            played
+                == Played {
+                    first,
+                    count,
+                    verdict: outcome,
+                }
+        }
+        None => count == 0,
     }
 }
 
@@ -224,7 +263,9 @@ fn is_known(desk: &Desk, position: u64, known: bool, shared: bool) -> bool {
         Some(word) => known && word.same(&word_of((position % 1_000_000) as u32)),
         None => !known,
     };
-    right && desk.share(position).is_some() == shared
+    right
+        && desk.share(position).is_some() == shared
+        && desk.repaired(position) == (known && !shared)
 }
 
 fn is_at(desk: &Desk, place: u32, base: Option<u64>) -> bool {
@@ -280,6 +321,8 @@ fn answers(desk: &mut Desk, alloc: Global, step: Step) -> Result<bool, AllocErro
             Ok(is_shown(mark, flush(desk, alloc)?, want))
         }
         Step::Flushed => Ok(flush(desk, alloc)?.is_none()),
+        Step::PlayInPlace(outcome, count) => Ok(plays_in_place(desk, outcome, count)),
+        Step::FlushInPlace(outcome, count) => Ok(flushes_in_place(desk, outcome, count)),
         _ => Ok(tells(desk, step)),
     }
 }

@@ -2,7 +2,7 @@ use Rattle.std.proofs.Common.{◌≡◌, length, min, ap, ◌∙◌, w64, arith}
 use Rattle.std.proofs.Math.IntN.{nat_abs}
 use Rattle.std.proofs.lemmas.Int.{to_z-of_z}
 use Rattle.fg_peel.specs.Slots.{words_at, equations_of}
-use Rattle.fg_peel.proofs.Low.{PeelsAt, peels_up, fits_up, peels_below, fits_below, fills_after, same_before, same_before_up, tells_at}
+use Rattle.fg_peel.proofs.Low.{PeelsAt, peels_up, fits_up, peels_below, fits_below, media_up, media_below, fills_after, same_before, same_before_up, tells_at}
 use Rattle.fg_peel.proofs.Whole.{ends_at_closure}
 use Rattle.fg_peel.proofs.peel.Goals as goal
 use Rattle.fg_peel.proofs.peel.Goals.{After-min-below, After-peel_after, After-peel_from}
@@ -32,6 +32,16 @@ pub peel_from-requires-clause-lines : goal.peel_from-requires-clause-lines
 peel_from-requires-clause-lines c =
     rw (to_z-of_z w64 c.args.low c.ranges.low)
     (fits_up c.args.low c.args.lines.now c.args.slots.now (rw (to_z-of_z w64 c.args.low c.ranges.low) at c.if-low-lt0.false) c.requires.lines)
+
+pub peel_after-requires-clause-media : goal.peel_after-requires-clause-media
+peel_after-requires-clause-media c = λ media.
+    media_below c.args.low c.min-below.result c.args.slots.now (rw (to_z-of_z w64 c.args.low c.ranges.low) at c.if-low-lt0.true)
+    (least (goal.at.peel_after-requires-clause-media c).After-min-below) (c.requires.media media)
+
+pub peel_from-requires-clause-media : goal.peel_from-requires-clause-media
+peel_from-requires-clause-media c =
+    rw (to_z-of_z w64 c.args.low c.ranges.low)
+    (λ media. media_up c.args.low c.args.slots.now (rw (to_z-of_z w64 c.args.low c.ranges.low) at c.if-low-lt0.false) (c.requires.media media))
 
 pub returns-then-low-lt0-clause-fills : goal.returns-then-low-lt0-clause-fills
 returns-then-low-lt0-clause-fills c =

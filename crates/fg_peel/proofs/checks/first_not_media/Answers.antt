@@ -25,3 +25,6 @@ returns-then-not-recovers_media-clause-least c =
 
 pub returns-clause-none : goal.returns-clause-none
 returns-clause-none c = wrong_none c.args.row.now.start c.args.row.now.slots.now (λ k less. c.loop-i.invariant k (omega (arith, less)))
+
+pub returns-then-not-filled-clause-none : goal.returns-then-not-filled-clause-none
+returns-then-not-filled-clause-none c = c.requires c.if-all_media.true c.if-not-filled.true

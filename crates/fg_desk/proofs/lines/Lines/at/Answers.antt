@@ -1,5 +1,6 @@
 use Rattle.std.proofs.Common.{◌≡◌, Option, Some, None, Bor, IfSome, IfNone, ⊎_elim, subst}
-use Rattle.fg_desk.specs.Lines.{LinesState, IsLiveLine, IsFreePlace}
+use Rattle.fg_desk.specs.Admission.{IsFree}
+use Rattle.fg_desk.specs.Lines.{LinesState, IsLiveLine}
 use Rattle.fg_peel.specs.declared.Line.{Line}
 use Rattle.slab.specs.Slab.{Slab}
 use Rattle.fg_desk.specs.LinesInside.{Holds}
@@ -38,9 +39,9 @@ pub returns-in-None-clause-none : goal.returns-in-None-clause-none
 returns-in-None-clause-none c =
     let IsSought : Line → Type 0 = (λ (l : Line). l.place ≡ c.args.place) in
     told_none ((line : Line) → Holds c.self.inside.settled line → IsSought line → ⊥)
-    (IsFreePlace c.args.self.now c.args.place) c.find_place-in-None.result
+    (IsFree c.args.self.now.live c.args.place) c.find_place-in-None.result
     (λ none.
-    subst (λ (s : LinesState). IsFreePlace s c.args.place) c.self.view_is
+    subst (λ (s : LinesState). IsFree s.live c.args.place) c.self.view_is
     (free_place_of c.self.inside.open c.self.inside.settled c.self.inside.places.items c.self.invariant.sound c.args.place
     (λ line stands. ⊎_elim (λ a. c.in-None.ensures.none line a) (λ b. none line b) stands)))
     c.find_place-in-None.ensures.none

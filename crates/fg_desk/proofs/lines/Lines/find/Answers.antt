@@ -2,7 +2,8 @@ use Rattle.std.proofs.Common.{◌≡◌, ◌+◌, ◌-◌, ◌*◌, Option, Some
 use Rattle.fg_peel.specs.Equation.{Equation}
 use Rattle.fg_peel.specs.Slots.{equation_of}
 use Rattle.fg_desk.specs.State.{last_slot}
-use Rattle.fg_desk.specs.Lines.{LinesState, IsLiveLine, HasSlots}
+use Rattle.fg_desk.specs.Admission.{HasSlots}
+use Rattle.fg_desk.specs.Lines.{LinesState, IsLiveLine}
 use Rattle.fg_peel.specs.declared.Line.{Line}
 use Rattle.slab.specs.Slab.{Slab}
 use Rattle.fg_desk.specs.LinesInside.{Holds}
@@ -11,7 +12,7 @@ use Rattle.fg_desk.proofs.lines.Lines.find.Goals as goal
 
 pub returns-in-Some-clause-some : goal.returns-in-Some-clause-some
 returns-in-Some-clause-some c =
-    let IsSought : Line → Type 0 = (HasSlots c.args.base c.args.shape.offset c.args.shape.na) in
+    let IsSought : Line → Type 0 = (λ (line : Line). HasSlots c.args.base c.args.shape.offset c.args.shape.na (equation_of line)) in
     let line = c.in-Some.line.now in
     subst (λ (s : LinesState). IsLiveLine s line × IsSought line) c.self.view_is
     (found_first c.self.inside.open c.self.inside.settled c.self.inside.places.items c.self.invariant.sound IsSought line c.in-Some.ensures.some)
@@ -29,7 +30,7 @@ told_none P Q (Some line) f h = h
 
 pub returns-in-None-clause-some : goal.returns-in-None-clause-some
 returns-in-None-clause-some c =
-    let IsSought : Line → Type 0 = (HasSlots c.args.base c.args.shape.offset c.args.shape.na) in
+    let IsSought : Line → Type 0 = (λ (line : Line). HasSlots c.args.base c.args.shape.offset c.args.shape.na (equation_of line)) in
     told_some IsSought (λ (line : Line). IsLiveLine c.args.self.now line × IsSought line) c.self.inside.settled
     c.find_in-in-None.result
     (λ line found.
@@ -39,7 +40,7 @@ returns-in-None-clause-some c =
 
 pub returns-in-None-clause-none : goal.returns-in-None-clause-none
 returns-in-None-clause-none c =
-    let IsSought : Line → Type 0 = (HasSlots c.args.base c.args.shape.offset c.args.shape.na) in
+    let IsSought : Line → Type 0 = (λ (line : Line). HasSlots c.args.base c.args.shape.offset c.args.shape.na (equation_of line)) in
     told_none ((line : Line) → Holds c.self.inside.settled line → IsSought line → ⊥)
     ((line : Line) → IsLiveLine c.args.self.now line → IsSought line → ⊥) c.find_in-in-None.result
     (λ none.
@@ -51,7 +52,7 @@ returns-in-None-clause-none c =
 pub returns-then-last-self-clause-none : goal.returns-then-last-self-clause-none
 returns-then-last-self-clause-none c line is same =
     let equation : Equation = record { base = c.args.base; offset = c.args.shape.offset; count = c.args.shape.na; parity = line.parity } in
-    let at : last_slot (equation_of line) ≡ last_slot equation = λ i. same.0 i + (same.2 i - 1) * same.1 i in
+    let at : last_slot (equation_of line) ≡ last_slot equation = λ i. same.base_is i + (same.count_is i - 1) * same.offset_is i in
     let end : c.last.result ≡ last_slot equation = last_is equation c.last.result c.requires.shape c.last.ensures.slot c.last.ensures.greatest in
     let both : last_slot (equation_of line) ≡ c.last.result = at ∙ sym end in
     let stands = stands_live c.self.inside.open c.self.inside.settled c.self.inside.places.items c.self.invariant.sound line

@@ -3,7 +3,8 @@ use Rattle.std.specs.FinMap.{get, len, insert}
 use Rattle.fg_peel.specs.declared.Line.{Line}
 use Rattle.fg_peel.specs.Slots.{equation_of}
 use Rattle.fg_desk.specs.State.{last_slot}
-use Rattle.fg_desk.specs.Lines.{LinesState, AreLines, IsLeastFreePlace}
+use Rattle.fg_desk.specs.Admission.{IsLeastFree}
+use Rattle.fg_desk.specs.Lines.{LinesState, AreLines}
 use Rattle.fg_desk.specs.LinesInside.{state_of, IsTaken, IsWithin}
 use Rattle.fg_desk.proofs.LinesViews.{count_live}
 use Rattle.fg_desk.proofs.LinesCalls.{are_lines, last_is}
@@ -89,7 +90,7 @@ returns-clause-added c =
     let d = (goal.at.returns-clause-added c).After-first_free-place in
     let e = c.insert_reserved.ensures in
     let old = state_of c.self.inside.open c.self.inside.settled in
-    let least : IsLeastFreePlace old c.first_free-place.result =
+    let least : IsLeastFree old.live c.first_free-place.result =
     least_free c.self.inside.open c.self.inside.settled c.self.inside.places.items c.self.invariant.sound c.first_free-place.result
     (free d) (below d) in
     let is =
@@ -97,7 +98,7 @@ returns-clause-added c =
     c.insert_reserved.new.self c.insert_reserved.result (line_of d) e.was_vacant e.updates e.len e.capacity (is_within d) (fresh d)
     (free d) (fewer d) in (
       c.first_free-place.result,
-      subst (λ (s : LinesState). IsLeastFreePlace s c.first_free-place.result) c.self.view_is least,
+      subst (λ (s : LinesState). IsLeastFree s.live c.first_free-place.result) c.self.view_is least,
       is
           ∙ ap
           (λ (s : LinesState). record s {

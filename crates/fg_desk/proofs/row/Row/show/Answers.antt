@@ -1,14 +1,30 @@
-use Rattle.std.proofs.Common.{List, subst, ap, ◌∙◌}
-use Rattle.fg_peel.specs.declared.Slot.{Slot}
-use Rattle.fg_desk.specs.Row.{RowState, Shows}
-use Rattle.fg_desk.specs.RowEntries.{ShowsEntries, live_entries}
-use Rattle.fg_desk.proofs.RowChanges.{shown_row}
+use Rattle.std.proofs.Common.{◌+◌, ℕ, length, ap, ◌∙◌, arith}
+use Rattle.std.proofs.lemmas.List.FromFn.{length-map-range_with_len}
+use Rattle.std.specs.Option.{option_copied}
+use Rattle.fg_desk.specs.Contents.{Holding, kept_shown}
+use Rattle.fg_desk.specs.Row.{row_known}
+use Rattle.fg_desk.proofs.Shown.{one_more_shown}
 use Rattle.fg_desk.proofs.row.Row.show.Goals as goal
 
-pub returns-clause-shows : goal.returns-clause-shows
-returns-clause-shows c =
-    let count = c.args.count in
-    let shown = c.show_entries.new.tray.shown in
-    subst (λ (r : RowState). Shows r count shown) c.self.view_is
-    (shown_row c.self.inside.mark (live_entries c.self.inside.front c.self.inside.slots.items) count shown c.self.invariant.entries
-    (subst (λ (s : List Slot). ShowsEntries s count shown) (c.live.ensures ∙ ap (λ (s : List Slot). live_entries c.self.inside.front s) c.deref.ensures.value) c.show_entries.ensures.shows))
+pub overflow_add-position : goal.overflow_add-position
+overflow_add-position c = omega (arith, c.from.ensures, c.loop-i-test.true, c.requires.limit)
+
+pub show-requires : goal.show-requires
+show-requires c =
+    let row = c.args.self.now in
+    let size = length-map-range_with_len (kept_shown (row_known row) row.bare) c.args.first c.loop-i.i in
+    omega (
+      arith,
+      ap (λ (h : Holding). length h.shown) c.loop-i.invariant,
+      ap (λ (h : Holding). h.window) c.loop-i.invariant,
+      size,
+      c.loop-i-test.true,
+      c.requires.room,
+    )
+
+pub loop-i-preserved : goal.loop-i-preserved
+loop-i-preserved c =
+    c.show.ensures
+    ∙ one_more_shown c.args.self.now c.args.first c.loop-i.i c.args.tray.now.window (c.args.first + c.from.result) c.loop-i.tray
+    (option_copied c.word.result) c.is_bare.result c.loop-i.invariant (ap (λ (k : ℕ). c.args.first + k) c.from.ensures)
+    c.word.ensures c.is_bare.ensures

@@ -1,5 +1,5 @@
 use Rattle.fg_desk.proofs.Survivors.{settled_are_based, keeps}
-use Rattle.fg_desk.proofs.window.show_repaired.Goals as goal
+use Rattle.fg_desk.proofs.window.close_repaired.Goals as goal
 
 pub retire-requires : goal.retire-requires
 retire-requires c =
