@@ -5,11 +5,11 @@ use Rattle.std.proofs.lemmas.Bool.{eqb-true}
 use Rattle.std.proofs.lemmas.List.{take-append-le, get_or_append_left}
 use Rattle.std.proofs.Math.Nat.{mul-le-mul_right}
 use Rattle.fg_words.specs.declared.Word.{Word}
-use Rattle.fg_words.specs.Word.{word_sum}
+use Rattle.fg_words.specs.Word.{transport_word, word_sum}
 use Rattle.fg_shape.specs.declared.Shape.{Shape}
 use Rattle.fg_shape.specs.declared.encoding.Settings.{Settings}
 use Rattle.fg_shape.specs.Shape.{slots_of}
-use Rattle.fg_rtp.specs.MediaDatagram.{media_bytes, transport_word}
+use Rattle.fg_rtp.specs.MediaDatagram.{media_bytes}
 use Rattle.fg_fechead.specs.declared.Parity.{Parity}
 use Rattle.fg_fechead.specs.ParityDatagram.{parity_bytes}
 use Rattle.fg_trace.specs.Trace.{Record}

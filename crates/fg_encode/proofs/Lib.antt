@@ -3,10 +3,13 @@ pub mod EndLemmas
 pub mod LaterLemmas
 pub mod LineLemmas
 pub mod ListLemmas
+pub mod PlaceLemmas
 pub mod PushLemmas
+pub mod SizeLemmas
 pub mod SlotLemmas
 pub mod StreamBuffer
 pub mod StreamCuts
 pub mod StreamEndings
+pub mod StreamPayloads
 pub mod StreamWalks
 pub mod TakingLemmas

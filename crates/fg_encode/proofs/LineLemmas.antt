@@ -8,18 +8,18 @@ use Rattle.std.proofs.lemmas.Grind.{get_or-set_at}
 use Rattle.std.proofs.lemmas.Nat.{div-add-mod', mod-mul-add, same_from_place}
 use Rattle.fg_words.specs.declared.Word.{Word}
 use Rattle.fg_words.specs.Word.{word_sum, word_xor, HasRoom}
-use Rattle.fg_words.proofs.WordLemmas.{word_xor-zero_left}
+use Rattle.fg_words.specs.Laws.{SumAppends, XorHasZero}
 use Rattle.fg_shape.specs.declared.Shape.{Shape}
 use Rattle.fg_shape.specs.declared.layouts.Layout.{Layout}
 use Rattle.fg_shape.specs.declared.encoding.Settings.{Settings}
 use Rattle.fg_shape.specs.Layout.{column_base, first_row, ColumnEnds}
 use Rattle.fg_shape.specs.Shape.{slots_of}
-use Rattle.fg_shape.proofs.LayoutLemmas.{column_last, column_ends}
 use Rattle.fg_fechead.specs.declared.Parity.{Parity}
 use Rattle.fg_encode.specs.Encoder.{ColumnsAreUnderWay, RowIsUnderWay}
 use Rattle.fg_encode.specs.Encoding.{column_shape, parity_over, row_shape, sequence_of}
 use Rattle.fg_encode.specs.Lines.{added}
 use Rattle.fg_encode.proofs.ListLemmas.{bool_cases}
+use Rattle.fg_encode.proofs.PlaceLemmas.{column_last, column_ends}
 use Rattle.fg_encode.proofs.SlotLemmas.{sum_more}
 
 -- A column begins at a slot exactly where one ends a column's length behind it.
@@ -51,18 +51,18 @@ begins_once layout m c k n d cl dl within same =
     omega (arith, wrong.1)
 
 -- The parity of one slot more.
-went_on : (settings : Settings) (words : ℕ → Word) (base n offset k : ℕ) (shape : Shape) (row : Bool) (old : Parity) (begins : Bool) → ((s : ℕ) → HasRoom (words s)) → base + k * offset ≡ n
+went_on : SumAppends → XorHasZero → (settings : Settings) (words : ℕ → Word) (base n offset k : ℕ) (shape : Shape) (row : Bool) (old : Parity) (begins : Bool) → ((s : ℕ) → HasRoom (words s)) → base + k * offset ≡ n
     → (k ≡ 0 → begins ≡ true) → (0 < k → (begins ≡ false) × (old ≡ parity_over settings words base shape row (slots_of base offset k)))
     → added old begins (record { base = sequence_of settings n; shape = shape; row = row; word = words n }) ≡ parity_over settings words base shape row (slots_of base offset (k + 1))
-went_on settings words base n offset zero shape row old begins room there starts goes =
+went_on appends has_zero settings words base n offset zero shape row old begins room there starts goes =
     let here : n ≡ base = omega arith in
     let fresh : Parity = record { base = sequence_of settings n; shape = shape; row = row; word = words n } in
     let made : ℕ → Word → Parity = λ b w. record { base = sequence_of settings b; shape = shape; row = row; word = w } in
     let sum : words n ≡ word_sum (map words (slots_of base offset 1)) =
-    ap (λ (s : ℕ). words s) (sym there) ∙ sym (sum_more words base offset 0 room ∙ word_xor-zero_left (words (base + 0 * offset)) (room (base + 0 * offset))) in
+    ap (λ (s : ℕ). words s) (sym there) ∙ sym (has_zero (words (base + 0 * offset)) (room (base + 0 * offset))) in
     ap (λ (b : Bool). added old b fresh) (starts refl)
     ∙ ap (λ (b : ℕ). made b (words n)) here ∙ ap (λ (w : Word). made base w) sum
-went_on settings words base n offset (suc j) shape row old begins room there starts goes =
+went_on appends has_zero settings words base n offset (suc j) shape row old begins room there starts goes =
     let k : ℕ = suc j in
     let both = goes (omega arith) in
     let fresh : Parity = record { base = sequence_of settings n; shape = shape; row = row; word = words n } in
@@ -70,9 +70,9 @@ went_on settings words base n offset (suc j) shape row old begins room there sta
     ap (λ (b : Bool). added old b fresh) both.0
     ∙ ap (λ (p : Parity). added p false fresh) both.1
     ∙ ap (λ (s : ℕ). made (word_xor (word_sum (map words (slots_of base offset k))) (words s))) (sym there)
-    ∙ ap made (sym (sum_more words base offset k room))
+    ∙ ap made (sym (sum_more appends has_zero words base offset k room))
 
-pub column_step : (settings : Settings) (words : ℕ → Word) (n : ℕ) (old : List Parity) (first : Parity) (begins : Bool) (place : ℕ) (next : Parity) (seq : ℕ) (word : Word)
+pub column_step : SumAppends → XorHasZero → (settings : Settings) (words : ℕ → Word) (n : ℕ) (old : List Parity) (first : Parity) (begins : Bool) (place : ℕ) (next : Parity) (seq : ℕ) (word : Word)
     → place ≡ n % settings.layout.l → seq ≡ sequence_of settings n → word ≡ words n
     → next ≡ added (get_or old place first) begins (record { base = seq; shape = column_shape settings.layout; row = false; word = word })
     → length old ≡ settings.layout.l
@@ -80,7 +80,7 @@ pub column_step : (settings : Settings) (words : ℕ → Word) (n : ℕ) (old : 
     → (((m c : ℕ) × (c < settings.layout.l) × (n ≡ column_base settings.layout m c)) → begins ≡ true)
     → ((s : ℕ) → HasRoom (words s)) → ColumnsAreUnderWay settings words n old
     → ColumnsAreUnderWay settings words (n + 1) (set old place next)
-column_step settings words n old first begins place next seq word at numbered given now width begun begin room before m c k d cl kd below reach =
+column_step appends has_zero settings words n old first begins place next seq word at numbered given now width begun begin room before m c k d cl kd below reach =
     let layout = settings.layout in
     let l = layout.l in
     let base = column_base layout m c in
@@ -99,7 +99,7 @@ column_step settings words n old first begins place next seq word at numbered gi
     ∙ now
     ∙ ap (λ (x : ℕ). added (get_or old place first) begins (let p : Parity = record { base = x; shape = column_shape layout; row = false; word = word } in p)) numbered
     ∙ ap (λ (w : Word). added (get_or old place first) begins (let p : Parity = record { base = sequence_of settings n; shape = column_shape layout; row = false; word = w } in p)) given
-    ∙ went_on settings words base n l k (column_shape layout) false (get_or old place first) begins room there
+    ∙ went_on appends has_zero settings words base n l k (column_shape layout) false (get_or old place first) begins room there
     (λ start. begin (m, c, cl, (let here : n ≡ base = omega (arith, ap (λ (x : ℕ). x * l) start) in here)))
     (λ some.
     let j : ℕ = k - 1 in
@@ -115,13 +115,13 @@ column_step settings words n old first begins place next seq word at numbered gi
     )))
     (cases_lt (base + k * l) n)
 
-pub row_step : (settings : Settings) (words : ℕ → Word) (n : ℕ) (old : Parity) (begins : Bool) (next : Parity) (seq : ℕ) (word : Word)
+pub row_step : SumAppends → XorHasZero → (settings : Settings) (words : ℕ → Word) (n : ℕ) (old : Parity) (begins : Bool) (next : Parity) (seq : ℕ) (word : Word)
     → seq ≡ sequence_of settings n → word ≡ words n
     → next ≡ added old begins (record { base = seq; shape = row_shape settings.layout; row = true; word = word })
     → (begins ≡ true → n % settings.layout.l ≡ 0) → (n % settings.layout.l ≡ 0 → begins ≡ true)
     → ((s : ℕ) → HasRoom (words s)) → RowIsUnderWay settings words n old
     → RowIsUnderWay settings words (n + 1) next
-row_step settings words n old begins next seq word numbered given now begun begin room before q k kl reach =
+row_step appends has_zero settings words n old begins next seq word numbered given now begun begin room before q k kl reach =
     let layout = settings.layout in
     let l = layout.l in
     let base = q * l in
@@ -130,7 +130,7 @@ row_step settings words n old begins next seq word numbered given now begun begi
     now
     ∙ ap (λ (x : ℕ). added old begins (let p : Parity = record { base = x; shape = row_shape layout; row = true; word = word } in p)) numbered
     ∙ ap (λ (w : Word). added old begins (let p : Parity = record { base = sequence_of settings n; shape = row_shape layout; row = true; word = w } in p)) given
-    ∙ went_on settings words base n 1 k (row_shape layout) true old begins room there
+    ∙ went_on appends has_zero settings words base n 1 k (row_shape layout) true old begins room there
     (λ start. begin (rest ∙ start))
     (λ some.
     let j : ℕ = k - 1 in

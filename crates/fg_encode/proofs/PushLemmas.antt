@@ -14,13 +14,13 @@ use Rattle.fg_shape.specs.declared.layouts.Layout.{Layout}
 use Rattle.fg_shape.specs.declared.encoding.Settings.{Settings}
 use Rattle.fg_shape.specs.Layout.{column_base, first_row, ColumnEnds, RowEnds}
 use Rattle.fg_shape.specs.Shape.{slots_of, IsShape}
-use Rattle.fg_shape.proofs.LayoutLemmas.{column_last, row_last}
 use Rattle.fg_fechead.specs.declared.Parity.{Parity}
 use Rattle.fg_fechead.specs.ParityDatagram.{CanBeWritten}
 use Rattle.fg_encode.specs.Encoder.{ColumnsAreUnderWay, RowIsUnderWay}
 use Rattle.fg_encode.specs.Encoding.{bits_before, column_shape, longest, parity_over, payload_at, row_shape, sequence_of, word_at}
 use Rattle.fg_encode.proofs.LaterLemmas.{bits_later, payload_later, word_later}
 use Rattle.fg_encode.proofs.SlotLemmas.{longest_first, slots_same}
+use Rattle.fg_encode.proofs.PlaceLemmas.{column_last, row_last}
 
 -- Payloads of one size.
 sum_of_whole : (size : ℕ) (payloads : List (List ℕ)) → ((slot : ℕ) → slot < length payloads → length (payload_at payloads slot) ≡ size) → sum_by (λ payload. length payload) payloads ≡ size * length payloads

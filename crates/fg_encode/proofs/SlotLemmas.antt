@@ -1,12 +1,12 @@
 -- Sums over the slots of an equation.
-use Rattle.std.proofs.Common.{◌≡◌, ℕ, zero, suc, ◌+◌, ◌*◌, ◌<◌, ◌≤◌, List, [], ◌∷◌, ◌++◌, length, map, max, refl, sym, ap, ◌∙◌, arith}
+use Rattle.std.proofs.Common.{◌≡◌, ℕ, zero, suc, ◌+◌, ◌*◌, ◌<◌, ◌≤◌, List, [], ◌∷◌, ◌++◌, length, map, get_or, max, refl, sym, ap, ◌∙◌, arith}
 use Rattle.std.specs.List.{range_with_len}
 use Rattle.std.proofs.lemmas.List.{map-append}
 use Rattle.std.proofs.lemmas.List.FromFn.{map-range_with_len_more}
-use Rattle.std.proofs.lemmas.List.Elements.{All-nil, All-cons}
+use Rattle.std.proofs.lemmas.List.Elements.{All-nil, All-cons, All-map}
 use Rattle.fg_words.specs.declared.Word.{Word}
 use Rattle.fg_words.specs.Word.{word_sum, word_xor, HasRoom}
-use Rattle.fg_words.proofs.WordLemmas.{word_sum-append, word_sum-one}
+use Rattle.fg_words.specs.Laws.{SumAppends, XorHasZero}
 use Rattle.fg_shape.specs.Shape.{slots_of}
 use Rattle.fg_encode.specs.Encoding.{longest, payload_at}
 use Rattle.fg_encode.proofs.ListLemmas.{map-map, map_range_same}
@@ -15,14 +15,14 @@ pub slots_more : (base offset k : ℕ) → slots_of base offset (k + 1) ≡ slot
 slots_more base offset k = map-range_with_len_more (λ j. base + j * offset) 0 k k (omega arith)
 
 -- One slot more adds its word.
-pub sum_more : (words : ℕ → Word) (base offset k : ℕ) → ((s : ℕ) → HasRoom (words s)) →
+pub sum_more : SumAppends → XorHasZero → (words : ℕ → Word) (base offset k : ℕ) → ((s : ℕ) → HasRoom (words s)) →
     word_sum (map words (slots_of base offset (k + 1))) ≡ word_xor (word_sum (map words (slots_of base offset k))) (words (base + k * offset))
-sum_more words base offset k room =
+sum_more appends has_zero words base offset k room =
     let slot : ℕ = base + k * offset in
     ap (λ (l : List ℕ). word_sum (map words l)) (slots_more base offset k)
     ∙ ap (λ (l : List Word). word_sum l) (map-append words (slots_of base offset k) (slot ∷ []))
-    ∙ word_sum-append (map words (slots_of base offset k)) (words slot ∷ []) (All-cons HasRoom (words slot) [] (room slot) (All-nil HasRoom))
-    ∙ ap (λ (w : Word). word_xor (word_sum (map words (slots_of base offset k))) w) (word_sum-one (words slot) (room slot))
+    ∙ appends (map words (slots_of base offset k)) (words slot ∷ []) (All-map HasRoom words (slots_of base offset k) (λ i d lt. room (get_or (slots_of base offset k) i d))) (All-cons HasRoom (words slot) [] (room slot) (All-nil HasRoom))
+    ∙ ap (λ (w : Word). word_xor (word_sum (map words (slots_of base offset k))) w) (has_zero (words slot) (room slot))
 
 -- The words at the slots are alike where two functions are.
 pub slots_same : (f g : ℕ → Word) (base offset na : ℕ) → ((j : ℕ) → j < na → f (base + j * offset) ≡ g (base + j * offset)) →

@@ -4,11 +4,10 @@ use Rattle.std.specs.List.{flat_map, range_with_len}
 use Rattle.std.proofs.lemmas.Bool.{cases_lt}
 use Rattle.std.proofs.Math.Nat.{mul-le-mul_right}
 use Rattle.fg_words.specs.declared.Word.{Word}
-use Rattle.fg_words.specs.Word.{HasRoom}
+use Rattle.fg_words.specs.Word.{transport_word, HasRoom}
 use Rattle.fg_shape.specs.Layout.{ColumnEnds, RowEnds}
 use Rattle.fg_shape.specs.Shape.{slots_of}
-use Rattle.fg_shape.proofs.LayoutLemmas.{column_last, row_last}
-use Rattle.fg_rtp.specs.MediaDatagram.{media_bytes, transport_word}
+use Rattle.fg_rtp.specs.MediaDatagram.{media_bytes}
 use Rattle.fg_fechead.specs.declared.Parity.{Parity}
 use Rattle.fg_fechead.specs.ParityDatagram.{parity_bytes, CanBeWritten}
 use Rattle.fg_trace.specs.Trace.{Record}
@@ -19,6 +18,7 @@ use Rattle.fg_encode.proofs.LaterLemmas.{payload_later}
 use Rattle.fg_encode.proofs.ListLemmas.{flat_more_at}
 use Rattle.fg_encode.proofs.EndLemmas.{columns_same, rows_same}
 use Rattle.fg_encode.proofs.PushLemmas.{bits_of_whole, column_is_whole, column_shape_is_read, columns_later, last_payload, longest_is_whole, payloads_at_most, row_is_whole, row_later, row_shape_is_read, sum_can_be_written, word_has_room}
+use Rattle.fg_encode.proofs.PlaceLemmas.{column_last, row_last}
 
 -- The payloads with one more.
 abbrev pub with : List (List ℕ) → List ℕ → List (List ℕ)

@@ -4,12 +4,12 @@
 use Rattle.std.specs.Prelude.{ℕ, ◌+◌, ◌*◌, ◌/◌, ◌%◌, ◌^◌, Bool, true, false, List, [], ◌∷◌, ◌++◌, length, map, max, take, get_or}
 use Rattle.std.specs.List.{flat_map, range_with_len, sum_by}
 use Rattle.fg_words.specs.declared.Word.{Word}
-use Rattle.fg_words.specs.Word.{word_sum}
+use Rattle.fg_words.specs.Word.{transport_word, word_sum}
 use Rattle.fg_shape.specs.declared.Shape.{Shape}
 use Rattle.fg_shape.specs.declared.layouts.Layout.{Layout}
 use Rattle.fg_shape.specs.declared.encoding.Settings.{Settings}
 use Rattle.fg_shape.specs.Shape.{slots_of}
-use Rattle.fg_rtp.specs.MediaDatagram.{media_bytes, transport_word}
+use Rattle.fg_rtp.specs.MediaDatagram.{media_bytes}
 use Rattle.fg_fechead.specs.declared.Parity.{Parity}
 use Rattle.fg_fechead.specs.ParityDatagram.{parity_bytes}
 use Rattle.fg_trace.specs.Trace.{Record}

@@ -1,13 +1,12 @@
 //! The datagrams that are sent for one payload.
 ghost use Rattle.std.specs.Prelude.{◌≡◌, ◌+◌, ◌<◌, ◌≤◌, [], ◌∷◌, ◌++◌, IfOk, Some, length, slice_get};
-ghost use Rattle.fg_words.specs.Word.{IsMedia};
+ghost use Rattle.fg_words.specs.Word.{transport_word};
 ghost use Rattle.fg_rtp.specs.MediaDatagram.{media_bytes};
 ghost use Rattle.fg_fechead.specs.ParityDatagram.{parity_bytes, CanBeWritten};
 ghost use Rattle.fg_trace.specs.Trace.{Record};
 
 use fg_fechead::{PARITY_LIMIT, Parity, write};
-use fg_rtp::{MEDIA_LIMIT, write_media};
-use fg_words::Word;
+use fg_rtp::{MEDIA_LIMIT, write_payload};
 use std::alloc::{AllocError, Global};
 use std::marker::Model;
 
@@ -104,11 +103,23 @@ impl Batch {
     }
 
     /// Empties the batch, and puts a media datagram in.
-    pub(crate) fn put_media(&mut self, time: u64, port: u16, seq: u16, ssrc: u32, word: &Word)
-        requires { IsMedia word.now }
-        ensures { self.new ≡ (record { time = time; port = port; datagram = media_bytes seq ssrc word.now }) ∷ [] }
+    pub(crate) fn put_media(
+        &mut self,
+        time: u64,
+        port: u16,
+        seq: u16,
+        ts: u32,
+        ssrc: u32,
+        payload: &[u8],
+    )
+        requires { length payload.now ≤ 1316 }
+        ensures { self.new ≡ (record {
+          time = time;
+          port = port;
+          datagram = media_bytes seq ssrc (transport_word ts payload.now);
+        }) ∷ [] }
     {
-        self.media.size = write_media(seq, ssrc, word, &mut self.media.bytes);
+        self.media.size = write_payload(seq, ts, ssrc, payload, &mut self.media.bytes);
         self.media.time = time;
         self.media.port = port;
         self.count = 1;

@@ -12,7 +12,8 @@ ghost use Rattle.fg_encode.specs.Encoder.{CanEncode, StandsAfter};
 
 use crate::Batch;
 use crate::clock::{sequence_at, time_after, timestamp_after};
-use crate::lines::{add_to_column, add_to_row, fill};
+use crate::laws::ends_are_the_layouts;
+use crate::lines::{add_to_column, add_to_row};
 use fg_fechead::Parity;
 use fg_shape::{Layout, Settings, Shape};
 use fg_words::{PACKET_LENGTH, Word};
@@ -30,7 +31,6 @@ pub struct Encoder {
     row: Parity,
     columns_sent: u16,
     rows_sent: u16,
-    word: Word,
 }
 
 impl Model for Encoder {
@@ -69,7 +69,6 @@ impl Encoder {
             row: empty,
             columns_sent: 0,
             rows_sent: 0,
-            word: Word::zero(),
         })
     }
 
@@ -91,11 +90,10 @@ impl Encoder {
     {
         let settings = self.settings;
         let at = next_moment(&settings, self.taken);
-        fill(&mut self.word, at.ts, payload);
         let seq = sequence_at(&settings, at.slot);
-        into.put_media(at.time, settings.port, seq, settings.ssrc, &self.word);
-        add_to_column(&mut self.columns, &settings, at.slot, &self.word);
-        add_to_row(&mut self.row, &settings, at.slot, &self.word);
+        into.put_media(at.time, settings.port, seq, at.ts, settings.ssrc, payload);
+        add_to_column(&mut self.columns, &settings, at.slot, at.ts, payload);
+        add_to_row(&mut self.row, &settings, at.slot, at.ts, payload);
         send_column(&self.columns, &settings, at, &mut self.columns_sent, into);
         send_row(&self.row, &settings, at, &mut self.rows_sent, into);
         self.taken += 1;
@@ -134,6 +132,7 @@ fn column_ending(layout: &Layout, slot: u64) -> Option<u64>
     ensures list { columns_ending layout.now slot ≡ option_to_list result }
     ensures ends { IfSome result (ColumnEnds layout.now slot) }
 {
+    ends_are_the_layouts();
     layout.ending_at(slot).column
 }
 
@@ -143,6 +142,7 @@ fn row_ending(layout: &Layout, slot: u64) -> Option<u64>
     ensures list { rows_ending layout.now slot ≡ option_to_list result }
     ensures ends { IfSome result (RowEnds layout.now slot) }
 {
+    ends_are_the_layouts();
     layout.ending_at(slot).row
 }
 

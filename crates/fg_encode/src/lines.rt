@@ -1,8 +1,7 @@
 //! The parities under way: one for each column, and one for the row.
 ghost use Rattle.std.specs.Prelude.{◌≡◌, ◌+◌, ◌*◌, ◌<◌, ◌≤◌, ◌↔◌, ◌^◌, ◌%◌, ℕ, true, IsTrue, length, get_or};
 ghost use Rattle.fg_words.specs.declared.Word.{Word};
-ghost use Rattle.fg_words.specs.Word.{HasRoom};
-ghost use Rattle.fg_rtp.specs.MediaDatagram.{transport_word};
+ghost use Rattle.fg_words.specs.Word.{transport_word, HasRoom};
 ghost use Rattle.fg_shape.specs.Layout.{column_base};
 ghost use Rattle.fg_encode.specs.Encoder.{ColumnsAreUnderWay, RowIsUnderWay};
 ghost use Rattle.fg_encode.specs.Lines.{added};
@@ -10,10 +9,11 @@ ghost use Rattle.fg_encode.specs.Lines.{added};
 use crate::clock::sequence_at;
 use fg_fechead::Parity;
 use fg_shape::{Layout, Settings, Shape};
+use fg_words::laws::{sum_ignores_order, xor_is_a_group};
 use fg_words::{TRANSPORT_TYPE, Word};
 
 /// Makes the word of a payload with this timestamp.
-pub fn fill(word: &mut Word, ts: u32, payload: &[u8])
+fn fill(word: &mut Word, ts: u32, payload: &[u8])
     requires { length payload.now ≤ 1316 }
     ensures { word.new ≡ transport_word ts payload.now }
 {
@@ -24,18 +24,28 @@ pub fn fill(word: &mut Word, ts: u32, payload: &[u8])
     word.bytes[payload.len()..].fill(0);
 }
 
-/// Adds a word to a parity under way. Where one begins with it, what was there belongs to one that has ended, or to none.
-fn add(parity: &mut Parity, begins: bool, base: u16, shape: Shape, row: bool, word: &Word)
+/// Adds a payload with this timestamp to a parity under way. Where one begins with it, what was there belongs to one that
+/// has ended, or to none.
+fn add(
+    parity: &mut Parity,
+    begins: bool,
+    base: u16,
+    shape: Shape,
+    row: bool,
+    ts: u32,
+    payload: &[u8],
+)
+    requires { length payload.now ≤ 1316 }
     ensures { parity.new ≡ added parity.old begins
-        (record { base = base; shape = shape; row = row; word = word.now }) }
+        (record { base = base; shape = shape; row = row; word = transport_word ts payload.now }) }
 {
     if begins {
         parity.base = base;
         parity.shape = shape;
         parity.row = row;
-        parity.word = *word;
+        fill(&mut parity.word, ts, payload);
     } else {
-        parity.word.xor_in(word);
+        parity.word.xor_transport(ts, payload);
     }
 }
 
@@ -49,11 +59,18 @@ fn begins_column(layout: &Layout, slot: u64) -> bool
     layout.ending_at(end).column.is_some()
 }
 
-/// Adds the word of a slot to the parity under way of its column.
-pub fn add_to_column(columns: &mut [Parity], settings: &Settings, slot: u64, word: &Word)
+/// Adds the payload of a slot, with this timestamp, to the parity under way of its column.
+pub fn add_to_column(
+    columns: &mut [Parity],
+    settings: &Settings,
+    slot: u64,
+    ts: u32,
+    payload: &[u8],
+)
+    requires payload { length payload.now ≤ 1316 }
     requires width { length columns.old ≡ settings.now.layout.l }
     requires limit { slot ≤ 2 ^ 60 }
-    ensures { (words : ℕ → Word) → words slot ≡ word.now → ((s : ℕ) → HasRoom (words s))
+    ensures { (words : ℕ → Word) → words slot ≡ transport_word ts payload.now → ((s : ℕ) → HasRoom (words s))
         → ColumnsAreUnderWay settings.now words slot columns.old
         → ColumnsAreUnderWay settings.now words (slot + 1) columns.new }
 {
@@ -62,13 +79,24 @@ pub fn add_to_column(columns: &mut [Parity], settings: &Settings, slot: u64, wor
     let begins = begins_column(&settings.layout, slot);
     let base = sequence_at(settings, slot);
     let shape = Shape { offset: l, na: d };
-    add(&mut columns[column], begins, base, shape, false, word);
+    xor_is_a_group();
+    sum_ignores_order();
+    add(
+        &mut columns[column],
+        begins,
+        base,
+        shape,
+        false,
+        ts,
+        payload,
+    );
 }
 
-/// Adds the word of a slot to the parity under way of the row, where rows are sent.
-pub fn add_to_row(row: &mut Parity, settings: &Settings, slot: u64, word: &Word)
-    requires { slot ≤ 2 ^ 60 }
-    ensures { IsTrue settings.now.layout.rows → (words : ℕ → Word) → words slot ≡ word.now
+/// Adds the payload of a slot, with this timestamp, to the parity under way of the row, where rows are sent.
+pub fn add_to_row(row: &mut Parity, settings: &Settings, slot: u64, ts: u32, payload: &[u8])
+    requires payload { length payload.now ≤ 1316 }
+    requires limit { slot ≤ 2 ^ 60 }
+    ensures { IsTrue settings.now.layout.rows → (words : ℕ → Word) → words slot ≡ transport_word ts payload.now
         → ((s : ℕ) → HasRoom (words s)) → RowIsUnderWay settings.now words slot row.old
         → RowIsUnderWay settings.now words (slot + 1) row.new }
 {
@@ -78,5 +106,15 @@ pub fn add_to_row(row: &mut Parity, settings: &Settings, slot: u64, word: &Word)
     let na = settings.layout.l;
     let begins = slot % u64::from(na) == 0;
     let shape = Shape { offset: 1, na };
-    add(row, begins, sequence_at(settings, slot), shape, true, word);
+    xor_is_a_group();
+    sum_ignores_order();
+    add(
+        row,
+        begins,
+        sequence_at(settings, slot),
+        shape,
+        true,
+        ts,
+        payload,
+    );
 }

@@ -127,6 +127,7 @@ impl StreamReader {
         ensures no_fault { (result ≡ Err StreamFault.ReadFault)
             ⊎ (S.faults from.new ≡ S.faults from.old) }
         ensures never_falls { S.faults from.old ≤ S.faults from.new }
+        ensures fixed { S.fixed from.new ≡ S.fixed from.old }
     {
         if let Some(answer) = self.kept {
             return answer;
@@ -170,6 +171,7 @@ impl StreamReader {
         ensures counted { OnErr result (CountsFault (S.faults from.old) (S.faults from.new)) }
         ensures no_fault { OnOk result (S.faults from.new ≡ S.faults from.old) }
         ensures never_falls { S.faults from.old ≤ S.faults from.new }
+        ensures fixed { S.fixed from.new ≡ S.fixed from.old }
     {
         let within = self.within();
         match self.buffer.fill(from, within + 1) {

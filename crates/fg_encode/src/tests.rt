@@ -1,5 +1,5 @@
 //! The encoder by example.
-ghost use Rattle.std.specs.Prelude.{◌≡◌, ◌+◌, ◌≤◌, List, ℕ, length};
+ghost use Rattle.std.specs.Prelude.{◌≡◌, ◌+◌, ◌*◌, ◌<◌, ◌≤◌, List, ℕ, length};
 ghost use Rattle.fg_encode.specs.Encoder.{CanEncode, StandsAfter};
 
 use crate::{Batch, Encoder};
@@ -20,6 +20,8 @@ struct Sent {
     /// SNBase and length recovery of a parity datagram.
     base: u16,
     length: u16,
+    /// The byte of a parity datagram where `mark` is in the payloads.
+    mark: u8,
 }
 
 /// Two bytes of a datagram, the highest first; 0 where it is shorter.
@@ -43,6 +45,7 @@ fn seen(time: u64, port: u16, datagram: &[u8]) -> Sent {
         ts: high * 65536 + low,
         base: pair(datagram, 12),
         length: pair(datagram, 14),
+        mark: datagram.get(28 + MARK).copied().unwrap_or(0),
     }
 }
 
@@ -55,19 +58,19 @@ fn note(all: &mut Vec<Sent>, batch: &Batch) -> Result<(), AllocError> {
     Ok(())
 }
 
-/// Pushes a payload of 1 to 7 packets.
-fn push(encoder: &mut Encoder, payload: &[u8], batch: &mut Batch)
+/// Pushes a payload of 1 to so many packets.
+fn push(encoder: &mut Encoder, packets: u8, payload: &[u8], batch: &mut Batch)
     requires stands { (payloads : List (List ℕ)) × StandsAfter encoder.old payloads }
-    requires packets { encoder.old.settings.packets ≡ 7 }
+    requires packets { (encoder.old.settings.packets ≡ packets) × (packets ≤ 7) }
     requires taken { encoder.old.taken ≤ 1000000 }
-    ensures stands { length payload.now ≡ 1316
+    ensures stands { length payload.now ≡ 188 * packets
         → (payloads : List (List ℕ)) × StandsAfter encoder.new payloads }
-    ensures packets { encoder.new.settings.packets ≡ 7 }
+    ensures packets { encoder.new.settings.packets ≡ packets }
     ensures taken { encoder.new.taken ≤ encoder.old.taken + 1 }
 {
     match packet_count(payload) {
         Ok(count) => {
-            if count >= 1 && count <= 7 {
+            if count >= 1 && count <= u64::from(packets) {
                 encoder.push(payload, batch);
             }
         }
@@ -75,39 +78,64 @@ fn push(encoder: &mut Encoder, payload: &[u8], batch: &mut Batch)
     }
 }
 
-/// Seven packets.
-fn whole() -> [u8; 1316] {
+/// Where payloads are marked: the last byte of their first packet.
+const MARK: usize = 187;
+
+/// Seven packets, with this mark.
+fn whole(mark: u8) -> [u8; 1316] {
     let mut bytes = [0; 1316];
     for packet in 0..7 {
         bytes[188 * packet] = 0x47;
     }
+    bytes[MARK] = mark;
     bytes
 }
 
-/// One packet, with this last byte.
-fn packet(last: u8) -> [u8; 188] {
+/// One packet, with this mark.
+fn packet(mark: u8) -> [u8; 188] {
     let mut bytes = [0; 188];
     bytes[0] = 0x47;
-    bytes[187] = last;
+    bytes[MARK] = mark;
     bytes
 }
 
-/// The records of so many payloads of seven packets, and then of one packet, if it is asked for.
-fn encode(alloc: Global, settings: Settings, count: u32, one: bool) -> Result<Vec<Sent>, AllocError>
-    requires can { CanEncode settings }
-    requires packets { settings.packets ≡ 7 }
-    requires count { count ≤ 1000 }
+/// What is encoded: so many whole payloads, of which one may be marked, and then one packet, if it is asked for.
+#[derive(Clone, Copy)]
+struct Stream {
+    count: u32,
+    marked: Option<u32>,
+    one: bool,
+}
+
+/// So many whole payloads.
+fn whole_payloads(count: u32) -> Stream
+    requires { count ≤ 1000 }
+    ensures { result.count ≤ 1000 }
 {
+    Stream {
+        count,
+        marked: None,
+        one: false,
+    }
+}
+
+/// The records of a stream.
+fn encode(alloc: Global, settings: Settings, stream: Stream) -> Result<Vec<Sent>, AllocError>
+    requires can { CanEncode settings }
+    requires count { stream.count ≤ 1000 }
+{
+    let packets = settings.packets;
     let mut encoder = Encoder::new(alloc, settings)?;
     let mut batch = Batch::new(alloc)?;
     let mut all = Vec::new(alloc);
-    let payload = whole();
-    for done in 0..count {
-        push(&mut encoder, &payload, &mut batch);
+    for done in 0..stream.count {
+        let payload = whole(if stream.marked == Some(done) { 0xff } else { 0 });
+        let part = &payload[..188 * usize::from(packets)];
+        push(&mut encoder, packets, part, &mut batch);
         note(&mut all, &batch)?;
     }
-    if one {
-        push(&mut encoder, &packet(0), &mut batch);
+    if stream.one {
+        push(&mut encoder, packets, &packet(0), &mut batch);
         note(&mut all, &batch)?;
     }
     Ok(all)
@@ -143,7 +171,7 @@ fn on_port(all: &[Sent], port: u16) -> usize {
 #[test]
 fn datagrams_have_their_times(rt: HostRuntime) -> Result<(), Fail> {
     let layout = layout(&rt, 4, 4, true, false);
-    let all = encode(rt.alloc(), settings(layout, 0, 0), 3, false)?;
+    let all = encode(rt.alloc(), settings(layout, 0, 0), whole_payloads(3))?;
     let times = [(0, 0), (1052, 94), (2105, 189)];
     assert_eq!(rt; all.len(), 3);
     for (sent, (time, ts)) in all.iter().zip(times.iter()) {
@@ -157,7 +185,11 @@ fn datagrams_have_their_times(rt: HostRuntime) -> Result<(), Fail> {
 #[test]
 fn numbers_wrap(rt: HostRuntime) -> Result<(), Fail> {
     let layout = layout(&rt, 4, 4, true, false);
-    let all = encode(rt.alloc(), settings(layout, 65534, 0xffff_ffa2), 3, false)?;
+    let all = encode(
+        rt.alloc(),
+        settings(layout, 65534, 0xffff_ffa2),
+        whole_payloads(3),
+    )?;
     let numbers = [(65534, 0xffff_ffa2), (65535, 0), (0, 95)];
     assert_eq!(rt; all.len(), 3);
     for (sent, (seq, ts)) in all.iter().zip(numbers.iter()) {
@@ -170,7 +202,12 @@ fn numbers_wrap(rt: HostRuntime) -> Result<(), Fail> {
 #[test]
 fn a_short_last_datagram_in_a_row(rt: HostRuntime) -> Result<(), Fail> {
     let layout = layout(&rt, 4, 4, true, false);
-    let all = encode(rt.alloc(), settings(layout, 0, 0), 3, true)?;
+    let short = Stream {
+        count: 3,
+        marked: None,
+        one: true,
+    };
+    let all = encode(rt.alloc(), settings(layout, 0, 0), short)?;
     assert_eq!(rt; all.len(), 5);
     assert_eq!(rt; (all[3].port, all[3].size, all[3].seq), (5000, 200, 3));
     assert_eq!(rt; (all[4].port, all[4].size, all[4].seq), (5004, 1344, 0));
@@ -188,7 +225,7 @@ const SQUARE: [u16; 24] = [
 #[test]
 fn a_square_has_24_records(rt: HostRuntime) -> Result<(), Fail> {
     let layout = layout(&rt, 4, 4, true, false);
-    let all = encode(rt.alloc(), settings(layout, 0, 0), 16, false)?;
+    let all = encode(rt.alloc(), settings(layout, 0, 0), whole_payloads(16))?;
     assert_eq!(rt; all.len(), 24);
     for (sent, port) in all.iter().zip(SQUARE.iter()) {
         assert_eq!(rt; sent.port, *port);
@@ -203,7 +240,7 @@ fn a_square_has_24_records(rt: HostRuntime) -> Result<(), Fail> {
 #[test]
 fn staggered_columns_over_two_matrices(rt: HostRuntime) -> Result<(), Fail> {
     let layout = layout(&rt, 5, 5, false, true);
-    let all = encode(rt.alloc(), settings(layout, 0, 0), 50, false)?;
+    let all = encode(rt.alloc(), settings(layout, 0, 0), whole_payloads(50))?;
     assert_eq!(rt; all.len(), 56);
     assert_eq!(rt; on_port(&all, 5000), 50);
     let columns = [(21, 0), (28, 6), (35, 12), (42, 18), (49, 24), (51, 25)];
@@ -224,7 +261,7 @@ fn one_packet_alone(rt: HostRuntime) -> Result<(), Fail> {
     let mut encoder = Encoder::new(rt.alloc(), settings(layout, 0, 0))?;
     let mut batch = Batch::new(rt.alloc())?;
     assert_eq!(rt; batch.count(), 0);
-    push(&mut encoder, &packet(0x99), &mut batch);
+    push(&mut encoder, 7, &packet(0x99), &mut batch);
     let mut wanted = [0; 200];
     wanted[0] = 0x80;
     wanted[1] = 0x21;
@@ -237,5 +274,138 @@ fn one_packet_alone(rt: HostRuntime) -> Result<(), Fail> {
     } else {
         assert!(rt; false);
     }
+    Ok(())
+}
+
+/// The time and the timestamp of a media datagram of a stream with so many packets a datagram, at this rate.
+fn moment(
+    alloc: Global,
+    layout: Layout,
+    packets: u8,
+    rate: u64,
+    slot: u32,
+) -> Result<Option<(u64, u32)>, AllocError>
+    requires packets { (1 ≤ packets) × (packets ≤ 7) }
+    requires rate { (1 ≤ rate) × (rate ≤ 10000000000) }
+    requires slot { slot < 1000 }
+{
+    let settings = Settings {
+        layout,
+        packets,
+        rate,
+        port: 5000,
+        seq: 0,
+        ssrc: 0,
+        stamp: 0,
+    };
+    let mut last = None;
+    for sent in encode(alloc, settings, whole_payloads(slot + 1))?.iter() {
+        if sent.port == 5000 {
+            last = Some((sent.time, sent.ts));
+        }
+    }
+    Ok(last)
+}
+
+// One bit a second. A packet has 1,504 bits, and seven have 10,528: after 52,640 of them the timestamp has wrapped.
+#[test]
+fn the_slowest_rate(rt: HostRuntime) -> Result<(), Fail> {
+    let layout = layout(&rt, 4, 4, true, false);
+    let one = moment(rt.alloc(), layout, 1, 1, 2)?;
+    assert_eq!(rt; one, Some((3_008_000_000, 270_720_000)));
+    let seven = moment(rt.alloc(), layout, 7, 1, 5)?;
+    assert_eq!(rt; seven, Some((52_640_000_000, 442_632_704)));
+    Ok(())
+}
+
+// 10,000 bits a microsecond, and 111,111 in a 90,000th of a second.
+#[test]
+fn the_fastest_rate(rt: HostRuntime) -> Result<(), Fail> {
+    let layout = layout(&rt, 4, 4, true, false);
+    let one = moment(rt.alloc(), layout, 1, 10_000_000_000, 7)?;
+    assert_eq!(rt; one, Some((1, 0)));
+    let seven = moment(rt.alloc(), layout, 7, 10_000_000_000, 19)?;
+    assert_eq!(rt; seven, Some((20, 1)));
+    Ok(())
+}
+
+/// The parity datagrams on a port: after which slot each was sent, and its first slot. The stream's first number is 0.
+fn equations(alloc: Global, all: &[Sent], port: u16) -> Result<Vec<(u16, u16)>, AllocError> {
+    let mut found = Vec::new(alloc);
+    let mut slot = 0;
+    for sent in all {
+        if sent.port == 5000 {
+            slot = sent.seq;
+        }
+        if sent.port == port {
+            found.push((slot, sent.base))?;
+        }
+    }
+    Ok(found)
+}
+
+// The columns end in the last of five rows of twenty.
+#[test]
+fn twenty_columns_of_five_rows(rt: HostRuntime) -> Result<(), Fail> {
+    let layout = layout(&rt, 20, 5, true, false);
+    let all = encode(rt.alloc(), settings(layout, 0, 0), whole_payloads(100))?;
+    let columns = equations(rt.alloc(), &all, 5002)?;
+    assert_eq!(rt; columns.len(), 20);
+    assert_eq!(rt; columns.first().copied(), Some((80, 0)));
+    assert_eq!(rt; columns.last().copied(), Some((99, 19)));
+    let rows = equations(rt.alloc(), &all, 5004)?;
+    let wanted = [(19, 0), (39, 20), (59, 40), (79, 60), (99, 80)];
+    assert!(rt; rows.as_slice() == wanted.as_slice());
+    Ok(())
+}
+
+// Of eleven datagrams in columns of four, the last three are in no column that is sent.
+#[test]
+fn one_column_without_rows(rt: HostRuntime) -> Result<(), Fail> {
+    let layout = layout(&rt, 1, 4, false, false);
+    let all = encode(rt.alloc(), settings(layout, 0, 0), whole_payloads(11))?;
+    let columns = equations(rt.alloc(), &all, 5002)?;
+    assert!(rt; columns.as_slice() == [(3, 0), (7, 4)].as_slice());
+    assert_eq!(rt; all.len(), 13);
+    Ok(())
+}
+
+// A square of four lacks its last datagram: neither the fourth column is sent, nor the fourth row.
+#[test]
+fn what_lacks_its_last_slot_is_not_sent(rt: HostRuntime) -> Result<(), Fail> {
+    let layout = layout(&rt, 4, 4, true, false);
+    let all = encode(rt.alloc(), settings(layout, 0, 0), whole_payloads(15))?;
+    let columns = equations(rt.alloc(), &all, 5002)?;
+    assert!(rt; columns.as_slice() == [(12, 0), (13, 1), (14, 2)].as_slice());
+    let rows = equations(rt.alloc(), &all, 5004)?;
+    assert!(rt; rows.as_slice() == [(3, 0), (7, 4), (11, 8)].as_slice());
+    Ok(())
+}
+
+/// The ports and first slots of the parity datagrams, of five staggered columns and five rows over fifty datagrams, in
+/// which the mark of this slot is.
+fn marked(rt: &impl Abort, alloc: Global, slot: u32) -> Result<Vec<(u16, u16)>, AllocError> {
+    let layout = layout(rt, 5, 5, true, true);
+    let stream = Stream {
+        count: 50,
+        marked: Some(slot),
+        one: false,
+    };
+    let mut found = Vec::new(alloc);
+    for sent in encode(alloc, settings(layout, 0, 0), stream)?.iter() {
+        if sent.port != 5000 && sent.mark != 0 {
+            found.push((sent.port, sent.base))?;
+        }
+    }
+    Ok(found)
+}
+
+// Column 1 begins at slot 6: slot 1 is in its row alone, and 6 in row and column.
+#[test]
+fn slots_before_a_staggered_column(rt: HostRuntime) -> Result<(), Fail> {
+    let before = marked(&rt, rt.alloc(), 1)?;
+    assert!(rt; before.as_slice() == [(5004, 0)].as_slice());
+    let first = marked(&rt, rt.alloc(), 6)?;
+    assert!(rt; first.as_slice() == [(5004, 5), (5002, 6)].as_slice());
     Ok(())
 }

@@ -112,6 +112,7 @@ impl PayloadBuffer {
         ensures counted { OnErr result (CountsFault (S.faults from.old) (S.faults from.new)) }
         ensures no_fault { OnOk result (S.faults from.new ≡ S.faults from.old) }
         ensures never_falls { S.faults from.old ≤ S.faults from.new }
+        ensures fixed { S.fixed from.new ≡ S.fixed from.old }
     {
         self.let_go();
         if self.ended {
@@ -156,6 +157,7 @@ impl PayloadBuffer {
         ensures counted { OnErr result (CountsFault (S.faults from.old) (S.faults from.new)) }
         ensures no_fault { OnOk result (S.faults from.new ≡ S.faults from.old) }
         ensures never_falls { S.faults from.old ≤ S.faults from.new }
+        ensures fixed { S.fixed from.new ≡ S.fixed from.old }
     {
         let end = self.bytes.len().min(self.from + most);
         let count = read_between(from, &mut self.bytes, self.to, end)?;
@@ -183,6 +185,7 @@ fn read_between<S: Source>(
     ensures counted { OnErr result (CountsFault (S.faults from.old) (S.faults from.new)) }
     ensures no_fault { OnOk result (S.faults from.new ≡ S.faults from.old) }
     ensures never_falls { S.faults from.old ≤ S.faults from.new }
+    ensures fixed { S.fixed from.new ≡ S.fixed from.old }
 {
     from.read(&mut buffer[at..end])
 }

@@ -3,6 +3,6 @@ use Rattle.fg_encode.proofs.laws.ends_are_the_layouts.Goals as goal
 
 pub returns : goal.returns
 returns c = record {
-  columns = λ layout slot. (columns_one layout slot, columns_none layout slot);
-  rows = λ layout slot. (rows_one layout slot, rows_none layout slot);
+  columns = λ layout slot. (columns_one c.one_column_and_one_row_end.ensures.column layout slot, columns_none layout slot);
+  rows = λ layout slot. (rows_one c.one_column_and_one_row_end.ensures.row layout slot, rows_none layout slot);
 }

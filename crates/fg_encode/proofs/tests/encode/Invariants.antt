@@ -5,6 +5,6 @@ use Rattle.fg_encode.proofs.tests.encode.Given as goal
 abbrev pub invariant-loop-done : goal.invariant-loop-done
 invariant-loop-done l = record {
   stands : (payloads : List (List ℕ)) × StandsAfter l.encoder payloads;
-  packets : l.encoder.settings.packets ≡ 7;
+  packets : l.encoder.settings.packets ≡ l.packets;
   taken : l.encoder.taken ≤ l.done;
 }

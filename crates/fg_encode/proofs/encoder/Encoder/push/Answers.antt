@@ -6,6 +6,7 @@ use Rattle.fg_fechead.specs.declared.Parity.{Parity}
 use Rattle.fg_fechead.specs.ParityDatagram.{parity_bytes, CanBeWritten}
 use Rattle.fg_encode.specs.Encoder.{ColumnsAreUnderWay, EncoderState, RowIsUnderWay, StandsAfter}
 use Rattle.fg_encode.specs.Encoding.{records_at, word_at}
+use Rattle.fg_words.specs.Word.{transport_word}
 use Rattle.fg_encode.specs.Ends.{columns_ending}
 use Rattle.fg_encode.proofs.TakingLemmas.{batch_is, column_can, columns_after, row_after, row_can, stands_after, with}
 use Rattle.fg_encode.proofs.encoder.Encoder.push.Goals as goal
@@ -26,7 +27,7 @@ send_column-requires-clause-can c base d ends =
     let here : slot ≡ length payloads = c.next_moment-at.ensures.slot ∙ stands.taken in
     let columns = c.add_to_column.new.columns in
     let under : ColumnsAreUnderWay e.settings (word_at e.settings (with payloads payload)) (length payloads + 1) columns =
-    columns_after e payloads payload ts slot c.fill.new.word columns stands most here c.next_moment-at.ensures.timestamp c.fill.ensures
+    columns_after e payloads payload ts slot (transport_word ts payload) columns stands most here c.next_moment-at.ensures.timestamp refl
     (λ words w room before. c.add_to_column.ensures words w room (subst (λ (l : List Parity). ColumnsAreUnderWay e.settings words slot l) (sym c.deref_mut.ensures.value) before)) in
     let kept : c.deref.result.now ≡ columns = c.deref.ensures.value ∙ take_at columns _ _ (omega (arith, c.add_to_column.auto.columns, c.deref_mut.ensures.len)) in
     subst (λ (l : List Parity). CanBeWritten (get_or l (slot % e.settings.layout.l) d) (188 * e.settings.packets)) (sym kept)
@@ -47,7 +48,7 @@ send_row-requires-clause-can c base ends =
     let most : length payload ≤ 188 * inside.settings.packets = omega (arith, few.2, few.3.whole, view) in
     let here : slot ≡ length payloads = c.next_moment-at.ensures.slot ∙ stands.taken in
     let rowed : IsTrue e.settings.layout.rows → RowIsUnderWay e.settings (word_at e.settings (with payloads payload)) (length payloads + 1) c.add_to_row.new.row =
-    row_after e payloads payload ts slot c.fill.new.word c.add_to_row.new.row stands most here c.next_moment-at.ensures.timestamp c.fill.ensures c.add_to_row.ensures in
+    row_after e payloads payload ts slot (transport_word ts payload) c.add_to_row.new.row stands most here c.next_moment-at.ensures.timestamp refl c.add_to_row.ensures in
     row_can e payloads payload slot base c.add_to_row.new.row stands most here rowed ends
 
 pub returns-clause-batch : goal.returns-clause-batch
@@ -64,10 +65,10 @@ returns-clause-batch c payloads given =
     let here : slot ≡ length payloads = c.next_moment-at.ensures.slot ∙ stands.taken in
     let columns = c.add_to_column.new.columns in
     let under : ColumnsAreUnderWay e.settings (word_at e.settings (with payloads payload)) (length payloads + 1) columns =
-    columns_after e payloads payload ts slot c.fill.new.word columns stands most here c.next_moment-at.ensures.timestamp c.fill.ensures
+    columns_after e payloads payload ts slot (transport_word ts payload) columns stands most here c.next_moment-at.ensures.timestamp refl
     (λ words w room before. c.add_to_column.ensures words w room (subst (λ (l : List Parity). ColumnsAreUnderWay e.settings words slot l) (sym c.deref_mut.ensures.value) before)) in
     let rowed : IsTrue e.settings.layout.rows → RowIsUnderWay e.settings (word_at e.settings (with payloads payload)) (length payloads + 1) c.add_to_row.new.row =
-    row_after e payloads payload ts slot c.fill.new.word c.add_to_row.new.row stands most here c.next_moment-at.ensures.timestamp c.fill.ensures c.add_to_row.ensures in
+    row_after e payloads payload ts slot (transport_word ts payload) c.add_to_row.new.row stands most here c.next_moment-at.ensures.timestamp refl c.add_to_row.ensures in
     let kept : c.deref.result.now ≡ columns = c.deref.ensures.value ∙ take_at columns _ _ (omega (arith, c.add_to_column.auto.columns, c.deref_mut.ensures.len)) in
     let time = c.next_moment-at.result.time in
     let d = inside.row in
@@ -75,8 +76,8 @@ returns-clause-batch c payloads given =
     (λ (l : List Parity). c.send_column.new.into ≡ c.put_media.new.self ++ map
     (λ (base : ℕ). (let r : Record = record { time = time; port = e.settings.port + 2; datagram = parity_bytes e.columns_sent ts (get_or l (slot % e.settings.layout.l) d) (188 * e.settings.packets) } in r)) (columns_ending e.settings.layout slot))
     kept (c.send_column.ensures.batch d) in
-    batch_is e payloads payload slot time ts c.sequence_at-seq.result c.fill.new.word columns c.add_to_row.new.row d c.put_media.new.self c.send_column.new.into c.send_row.new.into
-    stands most here c.next_moment-at.ensures.time c.next_moment-at.ensures.timestamp c.sequence_at-seq.ensures c.fill.ensures c.put_media.ensures second c.send_row.ensures.batch under rowed
+    batch_is e payloads payload slot time ts c.sequence_at-seq.result (transport_word ts payload) columns c.add_to_row.new.row d c.put_media.new.self c.send_column.new.into c.send_row.new.into
+    stands most here c.next_moment-at.ensures.time c.next_moment-at.ensures.timestamp c.sequence_at-seq.ensures refl c.put_media.ensures second c.send_row.ensures.batch under rowed
     ∙ ap (λ (x : EncoderState). records_at x.settings (payloads ++ payload ∷ []) (length payloads)) c.self.view_is
 
 pub returns-clause-stands : goal.returns-clause-stands
@@ -93,10 +94,10 @@ returns-clause-stands c payloads given whole =
     let here : slot ≡ length payloads = c.next_moment-at.ensures.slot ∙ stands.taken in
     let columns = c.add_to_column.new.columns in
     let under : ColumnsAreUnderWay e.settings (word_at e.settings (with payloads payload)) (length payloads + 1) columns =
-    columns_after e payloads payload ts slot c.fill.new.word columns stands most here c.next_moment-at.ensures.timestamp c.fill.ensures
+    columns_after e payloads payload ts slot (transport_word ts payload) columns stands most here c.next_moment-at.ensures.timestamp refl
     (λ words w room before. c.add_to_column.ensures words w room (subst (λ (l : List Parity). ColumnsAreUnderWay e.settings words slot l) (sym c.deref_mut.ensures.value) before)) in
     let rowed : IsTrue e.settings.layout.rows → RowIsUnderWay e.settings (word_at e.settings (with payloads payload)) (length payloads + 1) c.add_to_row.new.row =
-    row_after e payloads payload ts slot c.fill.new.word c.add_to_row.new.row stands most here c.next_moment-at.ensures.timestamp c.fill.ensures c.add_to_row.ensures in
+    row_after e payloads payload ts slot (transport_word ts payload) c.add_to_row.new.row stands most here c.next_moment-at.ensures.timestamp refl c.add_to_row.ensures in
     let full : length payload ≡ 188 * e.settings.packets = omega (arith, whole, view) in
     let new : EncoderState = record { settings = inside.settings; taken = inside.taken + 1; columns = columns; row = c.add_to_row.new.row; columns_sent = c.send_column.new.sent; rows_sent = c.send_row.new.sent } in
     let width : length columns ≡ e.settings.layout.l = omega (arith, c.add_to_column.auto.columns, c.deref_mut.ensures.len, ap (λ (l : List Parity). length l) c.deref_mut.ensures.value, stands.width) in

@@ -13,6 +13,7 @@ invariant-loop-self g l = record {
   want : l.want ≡ min l.self.size l.most;
   bounded : length l.self.held ≤ max l.most (length l.fn.self.held);
   faults : g.S.Source.faults l.from ≡ g.S.Source.faults l.fn.from;
+  fixed : g.S.Source.fixed l.from ≡ g.S.Source.fixed l.fn.from;
 }
 
 abbrev pub decreases-loop-self : goal.decreases-loop-self

@@ -1,0 +1,5 @@
+use Rattle.fg_encode.proofs.StreamPayloads.{cuts_are_payloads}
+use Rattle.fg_encode.proofs.laws.cuts_are_payloads.Goals as goal
+
+pub returns : goal.returns
+returns c = cuts_are_payloads
