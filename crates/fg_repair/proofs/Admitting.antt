@@ -1,5 +1,5 @@
 -- What comes of a datagram that is taken.
-use Rattle.std.proofs.Common.{◌≡◌, ◌≢◌, ℕ, List, [], Option, Some, None, refl, subst}
+use Rattle.std.proofs.Common.{◌≢◌, ℕ, List, [], Option, Some, None, refl}
 use Rattle.fg_words.specs.declared.Word.{Word}
 use Rattle.fg_io.specs.Outlet.{Lanes}
 use Rattle.fg_rtp.specs.MediaDatagram.{IsMediaDatagram}
@@ -42,15 +42,15 @@ media_is_refused bytes old sum lanes none =
     plays_nothing Media bytes old sum lanes None old (refused stream.Media) (refl, none) (refl, refl)
 
 pub media_is_admitted :
-    (bytes : List ℕ) (old due new : State) (sum sum' : FlowSum) (before after : Option Lanes) (seq ssrc : ℕ) (word share : Word)
+    (bytes : List ℕ) (old due new : State) (sum sum' : FlowSum) (before after : Option Lanes) (seq ssrc : ℕ) (word : Word)
     (reply : Reply) → IsMediaDatagram bytes seq ssrc word
-    → HaveShown (ArePlaysDue old seq) old sum before due sum' after → share ≡ word → AdmitsMedia due seq share reply new
+    → HaveShown (ArePlaysDue old seq) old sum before due sum' after → AdmitsMedia due seq word reply new
     → AdmitsDatagram Media bytes old sum before (Some reply) new sum' after
-media_is_admitted bytes old due new sum sum' before after seq ssrc word share reply is so same admits = record {
+media_is_admitted bytes old due new sum sum' before after seq ssrc word reply is so admits = record {
   arrival = carries seq word;
   due = so.plays;
   read = (ssrc, is);
-  takes = (due, so.are, subst (λ (w : Word). AdmitsMedia due seq w reply new) same admits);
+  takes = (due, so.are, admits);
   grows = so.grows;
   counts = so.counts;
 }

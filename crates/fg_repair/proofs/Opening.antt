@@ -2,14 +2,14 @@
 use Rattle.std.proofs.Common.{◌≡◌, ◌≢◌, ◌⊎◌, inl, inr, ℕ, ◌<◌, ◌≤◌, Option, Some, None, IfSome, IfNone, IfOk, Result, Err, List, [], ◌++◌, length, slice_index, refl, sym, ap, ◌∙◌, subst, arith, append_assoc, append-nil, length-append}
 use Rattle.std.proofs.lemmas.List.{get_or_append_left}
 use Rattle.std.specs.Io.KnownBytes.{prepend_known}
-use Rattle.fg_io.specs.Faults.{CountsFault}
+use Rattle.fg_io.specs.Faults.{CountsFault, CountsFor}
 use Rattle.fg_trace.specs.declared.step.TraceFault.{TraceFault}
 use Rattle.fg_trace.specs.declared.step.TraceFault.TheVariants as fault
 use Rattle.fg_trace.specs.Reader.{ReaderState, StandsAfter, Opens}
 use Rattle.fg_trace.specs.Trace.{DiffersAt, IsTrace, NotTrace, magic}
 use Rattle.fg_repair.specs.declared.fault.Fault.{Fault}
 use Rattle.fg_repair.specs.declared.fault.Fault.TheVariants.{Read, Write}
-use Rattle.fg_repair.specs.Engine.{CountsFor, told_place}
+use Rattle.fg_repair.specs.Engine.{told_place}
 
 -- The magic isn't there
 

@@ -1,6 +1,5 @@
 -- How the records of a flow are read: in one way each.
-use Rattle.std.proofs.Common.{◌≡◌, ◌≢◌, ℕ, List, [], Option, Some, None, refl, subst}
-use Rattle.fg_words.specs.declared.Word.{Word}
+use Rattle.std.proofs.Common.{◌≢◌, ℕ, List, [], Option, Some, None, refl}
 use Rattle.fg_fechead.specs.declared.Parity.{Parity as ParityRead}
 use Rattle.fg_fechead.specs.ParityDatagram.{IsParityDatagram}
 use Rattle.fg_flows.specs.declared.Kind.{Kind}
@@ -35,12 +34,11 @@ pub refused_takes :
 refused_takes old bytes none kind other = (refused (stream_of kind), parity_is_refused kind bytes other none, (refl, refl))
 
 pub parity_takes :
-    (old : State) (bytes : List ℕ) (parity : ParityRead) (share : Word) (reply : Reply) (new : State)
-    → IsParityDatagram bytes parity → share ≡ parity.word
-    → AdmitsParity old (record (parity_of parity) { word = share }) reply new
+    (old : State) (bytes : List ℕ) (parity : ParityRead) (reply : Reply) (new : State)
+    → IsParityDatagram bytes parity → AdmitsParity old (parity_of parity) reply new
     → (kind : Kind) → kind ≢ Media → ParityTakes old kind bytes (Some reply) new
-parity_takes old bytes parity share reply new is same admits kind other = (
+parity_takes old bytes parity reply new is admits kind other = (
   protects (stream_of kind) (parity_of parity),
   parity_is_read kind bytes parity other is,
-  (refl, subst (λ (word : Word). AdmitsParity old (record (parity_of parity) { word = word }) reply new) same admits),
+  (refl, admits),
 )

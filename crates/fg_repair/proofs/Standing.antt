@@ -131,7 +131,6 @@ come_none plan engine port none before now records r h e =
       stands = record {
         count = h.stands.count;
         flows = λ k d below. stands_still plan records r (slice_index plan.table k) (slice_index_or engine.flows.items k d) (h.gained (slice_index plan.table k)) (none_at plan.table r of_none k below) (h.stands.flows k d below);
-        tray = h.stands.tray;
         other = ap (λ n. n + 1) h.stands.other ∙ sym (others_of_none plan.table records r of_none);
       };
       grow = h.grow;
@@ -211,11 +210,11 @@ at_each law plan good records r items gained i kind of new piece short stands k 
 pub come_some :
     OneFlowHasAPort → (plan : Plan) → IsTable plan.table → (engine : Engine) (port i : ℕ) (kind : Kind) → IsPortOf plan.table port i kind
     → (old new : Flow) (player : Player) → old ≡ slice_index_or engine.flows.items i old
-    → KeepsSettings old new → player.tray.window ≡ engine.player.tray.window
+    → KeepsSettings old new
     → (datagram : List ℕ) (now after : Option Lanes) → Takes old new kind datagram now after
     → (before : Option Lanes) (records : List Record) (r : Record) → HasCome plan records engine before now → r.port ≡ port → r.datagram ≡ datagram
     → HasCome plan (records ++ r ∷ []) (record { flows = with_item engine.flows i new; player = player; other = engine.other }) before after
-come_some law plan good engine port i kind of old new player at keeps tray datagram now after takes before records r h e same =
+come_some law plan good engine port i kind of old new player at keeps datagram now after takes before records r h e same =
     let here : IsPortOf plan.table r.port i kind = subst (λ p. IsPortOf plan.table p i kind) (sym e) of in
     let flow = slice_index plan.table i in
     let stood : FlowStands plan records flow old (h.gained flow) = subst (λ (f : Flow). FlowStands plan records flow f (h.gained flow)) (sym at) (h.stands.flows i old of.0) in
@@ -231,7 +230,6 @@ come_some law plan good engine port i kind of old new player at keeps tray datag
       stands = record {
         count = length-set engine.flows.items i new ∙ h.stands.count;
         flows = λ k d below. at_each law plan good records r engine.flows.items h.gained i kind here new step.piece (subst (λ n. i < n) (sym h.stands.count) of.0) stands k d below (h.stands.flows k d below) (cases_eq k i);
-        tray = tray ∙ h.stands.tray;
         other = h.stands.other ∙ sym (others_of_flow plan.table records r i kind here);
       };
       grow = grow_more before now after plan.table h.gained flow step.piece (contains_at plan.table i of.0) h.grow step.grows;

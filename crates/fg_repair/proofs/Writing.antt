@@ -55,14 +55,13 @@ begun plan first left reader engine before now new grow there stands = record {
 pub took_flushing : (plan : Plan) (first : Option (List ℕ)) (engine : Engine) (tail : Tail) (before now : Option Lanes) (flows : List Flow) → flows ≡ engine.flows.items → (t : TookAll plan first engine tail before now) → IsFlushing plan t.records 0 flows before now
 took_flushing plan first engine tail before now flows e t = subst (λ (fs : List Flow). IsFlushing plan t.records 0 fs before now) (sym e) (flushing_none plan t.records engine before now t.come)
 
-pub ready : (plan : Plan) → PlanFits plan → (first : Option (List ℕ)) (engine : Engine) (tail : Tail) (before now : Option Lanes) (flows : List Flow) → flows ≡ engine.flows.items → TookAll plan first engine tail before now → AreReady flows engine.player.tray.window now
+pub ready : (plan : Plan) → PlanFits plan → (first : Option (List ℕ)) (engine : Engine) (tail : Tail) (before now : Option Lanes) (flows : List Flow) → flows ≡ engine.flows.items → TookAll plan first engine tail before now → AreReady flows now
 ready plan fits first engine tail before now flows e h = record {
   plan = plan;
   records = h.records;
   before = before;
   fits = fits;
   few = h.few;
-  tray = h.come.stands.tray;
   flushing = took_flushing plan first engine tail before now flows e h;
 }
 

@@ -73,7 +73,6 @@ pub record EngineStands (plan : Plan) (records : List Record) (engine : Engine) 
   pub count : length engine.flows.items ≡ length plan.table
   pub flows : (k : ℕ) (d : Flow) → k < length plan.table
       → FlowStands plan records (slice_index plan.table k) (slice_index_or engine.flows.items k d) (gained (slice_index plan.table k))
-  pub tray : engine.player.tray.window ≡ plan.window
   pub other : engine.other ≡ others_of plan.table records
 
 -- It stands so after few records.
@@ -150,13 +149,12 @@ pub record IsFlushing
   pub there : AreThere plan.table after
 
 -- The flows have taken some records, as a plan has it, and none is flushed.
-pub record AreReady (flows : List Flow) (window : ℕ) (lanes : Option Lanes) : Type 0 where
+pub record AreReady (flows : List Flow) (lanes : Option Lanes) : Type 0 where
   pub plan : Plan
   pub records : List Record
   pub before : Option Lanes
   pub fits : PlanFits plan
   pub few : length records < 2 ^ 43
-  pub tray : window ≡ plan.window
   pub flushing : IsFlushing plan records 0 flows before lanes
 
 -- A fault came meanwhile: what each lane has gained is its front in the trace of these records.
@@ -216,12 +214,6 @@ abbrev pub NoRecordsHaveResults : Type 0
 NoRecordsHaveResults = (plan : Plan) → (results : List FlowResult) × AreResults plan [] results
 
 -- Faults
-
--- A count of faults over a call: it has counted one where the call answers this cause, and else it stands still.
-pub record CountsFor {A : Type 0} (cause : Fault) (result : Result A Fault) (before after : ℕ) : Type 0 where
-  pub counted : result ≡ Err cause → CountsFault before after
-  pub still : result ≢ Err cause → after ≡ before
-  pub rises : before ≤ after
 
 -- The counts of two objects that are written.
 pub record CountsWrites {A : Type 0} (result : Result A Fault) (one one' other other' : ℕ) : Type 0 where

@@ -1,10 +1,10 @@
 -- What a repair gives for the bytes of a trace: lanes and a report. This project's own. Threads are no part of it.
-use Rattle.std.specs.Prelude.{◌≡◌, ◌⊎◌, ℕ, ⊤, not, List, map, Option, IfSome}
+use Rattle.std.specs.Prelude.{◌≡◌, ◌⊎◌, ℕ, not, List, map, Option, IfSome}
 use Rattle.std.specs.List.{AllZip, count_by, list_any}
 use Rattle.fg_io.specs.Sink.{Gains, GainsPart}
 use Rattle.fg_io.specs.Outlet.{Lanes, WhereTold}
 use Rattle.fg_trace.specs.declared.step.Finish.{Finish}
-use Rattle.fg_trace.specs.declared.step.Finish.TheVariants as finish
+use Rattle.fg_trace.specs.Finish.{finish_of}
 use Rattle.fg_trace.specs.Trace.{Record, Ending, Ended, NotTrace, Cut, TooLong, IsTrace}
 use Rattle.fg_flows.specs.declared.Plan.{Plan}
 use Rattle.fg_report.specs.declared.tail.Tail.{Tail}
@@ -36,26 +36,6 @@ tail_of (TooLong n) = tail.TooLong n
 abbrev pub report_text : Plan → List Record → List FlowResult → Ending → List ℕ
 report_text plan records results end =
     report_of (map (λ result. result.sum) results) (others_of plan.table records) (tail_of end)
-
--- The answer to a trace of this ending, where nothing fails and memory is there.
-abbrev pub finish_of : Ending → Finish
-finish_of Ended = finish.Done
-finish_of (NotTrace n) = finish.NotTrace n
-finish_of (Cut n) = finish.Cut n
-finish_of (TooLong n) = finish.TooLong n
-
--- A fault of the outside, or want of memory.
-abbrev pub IsFault : Finish → Type 0
-IsFault finish.ReadFault = ⊤
-IsFault finish.WriteFault = ⊤
-IsFault finish.Memory = ⊤
-IsFault _ = ⊥
-
--- The answers after which nothing of the input is left.
-abbrev pub ReadsAll : Finish → Type 0
-ReadsAll finish.Done = ⊤
-ReadsAll (finish.Cut n) = ⊤
-ReadsAll _ = ⊥
 
 -- What lanes and sink have gained of records that end so: each flow's lane its bytes, and the sink the report. Where the
 -- input is no trace, there is neither.

@@ -9,7 +9,7 @@ use Rattle.fg_flows.specs.declared.Kind.TheVariants as kind
 use Rattle.fg_desk.specs.declared.desk.Played.{Played}
 use Rattle.fg_desk.specs.declared.reply.Reply.{Reply}
 use Rattle.fg_desk.specs.declared.reply.Reply.TheVariants.{Admitted, Duplicate, Conflict, Late, NotStarted, BeforeStart, Ahead, Crowded}
-use Rattle.fg_desk.specs.Contents.{Holding}
+use Rattle.fg_desk.specs.Contents.{Contents, kept_from}
 use Rattle.fg_desk.specs.State.{State, opening}
 use Rattle.fg_desk.specs.Play.{Play, Shown}
 use Rattle.fg_desk.specs.Run.{Arrival, carries, protects, refused, Takes, TakesAll}
@@ -149,9 +149,13 @@ pub record CountsWithin (sum : FlowSum) (mark : ℕ) : Type 0 where
   pub inconsistent : sum.inconsistent ≤ mark
   pub gaps : gaps_end sum.gaps ≤ mark
 
--- The play that the tray has.
-abbrev pub play_in : Played → Holding → Play
-play_in played tray = record { first = played.first; shown = tray.shown; outcome = played.verdict }
+-- The play that was just made on a desk, which keeps what it showed.
+abbrev pub play_on : Played → Contents → Play
+play_on played desk = record {
+  first = played.first;
+  shown = kept_from desk played.first played.count;
+  outcome = played.verdict;
+}
 
 -- The port's lane has gained a front of the piece.
 abbrev pub GrowsPart : Option Lanes → ℕ → List ℕ → Option Lanes → Type 0

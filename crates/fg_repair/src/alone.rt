@@ -1,14 +1,15 @@
 //! The repair on one thread.
 ghost use Rattle.std.specs.Prelude.{◌≡◌, ◌≢◌, ◌⊎◌, ◌≤◌, ◌++◌, ℕ, Option, None, Err, List, [], IfOk, IfSome, IfNone, OnOk, OnErr};
 ghost use Rattle.std.specs.Io.KnownBytes.{IsAtEnd};
-ghost use Rattle.fg_io.specs.Faults.{CountsFault};
+ghost use Rattle.fg_io.specs.Faults.{CountsFault, CountsFor};
 ghost use Rattle.fg_io.specs.Sink.{Gains, GainsPart};
 ghost use Rattle.fg_trace.specs.Reader.{StandsBefore, StandsAfter};
 ghost use Rattle.fg_trace.specs.Trace.{Record, Ending as TraceEnding, NotTrace as NoMagic, IsTrace};
+ghost use Rattle.fg_trace.specs.Finish.{IsFault, ReadsAll, finish_of};
 ghost use Rattle.fg_flows.specs.Plan.{PlanFits};
 ghost use Rattle.fg_report.specs.Text.{report_of};
-ghost use Rattle.fg_repair.specs.Engine.{CountsFor, CountsWrites, sums_of, told_place, told_finish, fault_finish};
-ghost use Rattle.fg_repair.specs.Repair.{IsFault, ReadsAll, Finishes, OutputsPart, finish_of};
+ghost use Rattle.fg_repair.specs.Engine.{CountsWrites, sums_of, told_place, told_finish, fault_finish};
+ghost use Rattle.fg_repair.specs.Repair.{Finishes, OutputsPart};
 
 use crate::engine::Engine;
 use crate::fault::Fault;
@@ -66,6 +67,7 @@ pub fn repair_alone<S: Source, K: Sink, O: Outlet>(
     ensures no_write_fault { result ≢ Finish.WriteFault
         → (K.faults out.new ≡ K.faults out.old) × (O.faults lanes.new ≡ O.faults lanes.old) }
     ensures input_faults { S.faults input.old ≤ S.faults input.new }
+    ensures fixed { S.fixed input.new ≡ S.fixed input.old }
     ensures out_faults { K.faults out.old ≤ K.faults out.new }
     ensures lanes_faults { O.faults lanes.old ≤ O.faults lanes.new }
 {
@@ -95,6 +97,7 @@ fn repair<S: Source, K: Sink, O: Outlet>(
         (O.lanes lanes.new) K.written out.old out.new) }
     ensures no_report { result ≡ Err Fault.Read → out.new ≡ out.old }
     ensures reads { CountsFor Fault.Read result (S.faults input.old) (S.faults input.new) }
+    ensures fixed { S.fixed input.new ≡ S.fixed input.old }
     ensures writes { CountsWrites result (K.faults out.old) (K.faults out.new)
         (O.faults lanes.old) (O.faults lanes.new) }
 {
@@ -118,6 +121,7 @@ fn find_magic<S: Source>(reader: &mut Reader, input: &mut S) -> Result<Option<u6
     ensures max { reader.new.max ≡ reader.old.max }
     ensures not_write { result ≢ Err Fault.Write }
     ensures reads { CountsFor Fault.Read result (S.faults input.old) (S.faults input.new) }
+    ensures fixed { S.fixed input.new ≡ S.fixed input.old }
 {
     match reader.start(input) {
         Ok(()) => Ok(None),
@@ -156,6 +160,7 @@ fn repair_records<S: Source, K: Sink, O: Outlet>(
         → OutputsPart plan.now first (O.lanes lanes.old) (O.lanes lanes.new) K.written out.old out.new) }
     ensures no_report { result ≡ Err Fault.Read → out.new ≡ out.old }
     ensures reads { CountsFor Fault.Read result (S.faults input.old) (S.faults input.new) }
+    ensures fixed { S.fixed input.new ≡ S.fixed input.old }
     ensures writes { CountsWrites result (K.faults out.old) (K.faults out.new)
         (O.faults lanes.old) (O.faults lanes.new) }
 {

@@ -1,13 +1,13 @@
 //! All flows of a repair, from the first record to the end of the lanes.
 ghost use Rattle.std.specs.Prelude.{◌≡◌, ◌≢◌, ◌≤◌, ◌<◌, ◌^◌, ◌++◌, ℕ, Option, List, [], ◌∷◌, length, None, Err, IfOk, IfSome, IfNone, OnOk, OnErr};
 ghost use Rattle.std.specs.Io.KnownBytes.{IsAtEnd};
-ghost use Rattle.fg_io.specs.Faults.{CountsFault};
+ghost use Rattle.fg_io.specs.Faults.{CountsFault, CountsFor};
 ghost use Rattle.fg_io.specs.Outlet.{Lanes};
 ghost use Rattle.fg_trace.specs.Reader.{StandsAfter};
 ghost use Rattle.fg_trace.specs.Trace.{Record};
 ghost use Rattle.fg_flows.specs.declared.Plan.{Plan};
 ghost use Rattle.fg_flows.specs.Plan.{PlanFits};
-ghost use Rattle.fg_repair.specs.Engine.{EngineStands, IsRunning, HasCome, BreaksAfter, LanesPart, HasWalked, TookAll, IsReadToEnd, IsFlushing, AreReady, HasEnded, BreaksAtFlush, LanesWhole, GrowAll, AreThere, CountsFor};
+ghost use Rattle.fg_repair.specs.Engine.{EngineStands, IsRunning, HasCome, BreaksAfter, LanesPart, HasWalked, TookAll, IsReadToEnd, IsFlushing, AreReady, HasEnded, BreaksAtFlush, LanesWhole, GrowAll, AreThere};
 
 use crate::fault::Fault;
 use crate::flow::Flow;
@@ -111,6 +111,7 @@ impl Engine {
         ensures place { IfOk result (λ end. IfNone end (reader.old.place < reader.new.place)) }
         ensures within { reader.new.place ≤ reader.new.max }
         ensures reads { CountsFor Fault.Read result (S.faults input.old) (S.faults input.new) }
+        ensures fixed { S.fixed input.new ≡ S.fixed input.old }
         ensures writes { CountsFor Fault.Write result (O.faults lanes.old) (O.faults lanes.new) }
     {
         walks_the_front();
@@ -149,6 +150,7 @@ impl Engine {
             → LanesPart plan.now first before (O.lanes lanes.new)) }
         ensures all_read { IfOk result (λ tail. IsReadToEnd tail → IsAtEnd (S.left input.new)) }
         ensures reads { CountsFor Fault.Read result (S.faults input.old) (S.faults input.new) }
+        ensures fixed { S.fixed input.new ≡ S.fixed input.old }
         ensures writes { CountsFor Fault.Write result (O.faults lanes.old) (O.faults lanes.new) }
     {
         loop {
@@ -179,6 +181,7 @@ impl Engine {
             → LanesPart plan.now first (O.lanes lanes.old) (O.lanes lanes.new)) }
         ensures all_read { IfOk result (λ tail. IsReadToEnd tail → IsAtEnd (S.left input.new)) }
         ensures reads { CountsFor Fault.Read result (S.faults input.old) (S.faults input.new) }
+        ensures fixed { S.fixed input.new ≡ S.fixed input.old }
         ensures writes { CountsFor Fault.Write result (O.faults lanes.old) (O.faults lanes.new) }
     {
         one_trace();
@@ -206,7 +209,7 @@ fn make_lanes<O: Outlet>(table: &Table, lanes: &mut O) -> Result<(), Failed>
 
 /// Flushes the flows, in their order.
 fn flush<O: Outlet>(flows: &mut [Flow], player: &mut Player, lanes: &mut O) -> Result<(), Fault>
-    requires { AreReady flows.old player.old.tray.window (O.lanes lanes.old) }
+    requires { AreReady flows.old (O.lanes lanes.old) }
     ensures ends { OnOk result ((plan : Plan) (records : List Record) (before : Option Lanes) → PlanFits plan
         → IsFlushing plan records 0 flows.old before (O.lanes lanes.old)
         → HasEnded plan records flows.new before (O.lanes lanes.new)) }

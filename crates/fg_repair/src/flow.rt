@@ -14,7 +14,7 @@ ghost use Rattle.fg_desk.specs.Laws.{HavePlayed, AreFlushSteps};
 ghost use Rattle.fg_desk.specs.Arrivals.{StaysWithin, FlushesWithin};
 ghost use Rattle.fg_repair.specs.Flow.{IsReadAs, lane_of, sum_of};
 ghost use Rattle.fg_repair.specs.Steps.{HasTaken, IsUnderway, TakesRecord, BreaksAtRecord, EndsFlow, BreaksAtEnd};
-ghost use Rattle.fg_repair.specs.Steps.{CountsWithin, Grows, GrowsPart, HaveShown, BreakOff, AdmitsDatagram, BreaksAtDatagram, with_plays, play_in};
+ghost use Rattle.fg_repair.specs.Steps.{CountsWithin, Grows, GrowsPart, HaveShown, BreakOff, AdmitsDatagram, BreaksAtDatagram, with_plays, play_on};
 
 use crate::counts::count_answer;
 use crate::fault::Fault;
@@ -25,12 +25,12 @@ use fg_desk::laws::{
 };
 use fg_desk::{Desk, Played, Reply};
 use fg_fechead::laws::parity_datagrams_read_one_way;
-use fg_fechead::read;
+use fg_fechead::parity_share;
 use fg_flows::Kind;
 use fg_io::Outlet;
 use fg_report::{FlowSum, Gaps, Marks};
 use fg_rtp::laws::media_datagrams_read_one_way;
-use fg_rtp::media_word;
+use fg_rtp::media_share;
 use std::alloc::{AllocError, Global};
 
 /// A flow: its desk, and what is counted of it.
@@ -76,7 +76,6 @@ impl Flow {
     ) -> Result<(), Fault>
         requires underway { IsUnderway self.old.desk.state.window self.old.desk.state.depth self.old.sum.port
             self.old.desk.state self.old.sum }
-        requires tray { self.old.desk.state.window ≤ player.old.tray.window }
         ensures takes { OnOk result ((records : List Record) (r : Record) (lane : List ℕ)
             → HasTaken self.old.desk.state.window self.old.desk.state.depth self.old.sum.port records
             self.old.desk.state self.old.sum lane
@@ -92,7 +91,6 @@ impl Flow {
         ensures port { self.new.sum.port ≡ self.old.sum.port }
         ensures settings { (self.new.desk.state.window ≡ self.old.desk.state.window)
             × (self.new.desk.state.depth ≡ self.old.desk.state.depth) }
-        ensures tray { player.new.tray.window ≡ player.old.tray.window }
         ensures not_read { IsErrOf result Fault.Read → ⊥ }
         ensures counted { IsErrOf result Fault.Write → CountsFault (O.faults lanes.old) (O.faults lanes.new) }
         ensures no_fault { OnOk result (O.faults lanes.new ≡ O.faults lanes.old) }
@@ -122,7 +120,6 @@ impl Flow {
     ) -> Result<(), Fault>
         requires underway { IsUnderway self.old.desk.state.window self.old.desk.state.depth self.old.sum.port
             self.old.desk.state self.old.sum }
-        requires tray { self.old.desk.state.window ≤ player.old.tray.window }
         ensures ends { OnOk result ((records : List Record) (lane : List ℕ)
             → HasTaken self.old.desk.state.window self.old.desk.state.depth self.old.sum.port records
             self.old.desk.state self.old.sum lane
@@ -134,7 +131,6 @@ impl Flow {
             → BreaksAtEnd self.old.desk.state.window self.old.desk.state.depth self.old.sum.port records lane
             (O.lanes lanes.old) (O.lanes lanes.new)) }
         ensures port { self.new.sum.port ≡ self.old.sum.port }
-        ensures tray { player.new.tray.window ≡ player.old.tray.window }
         ensures not_read { IsErrOf result Fault.Read → ⊥ }
         ensures counted { IsErrOf result Fault.Write → CountsFault (O.faults lanes.old) (O.faults lanes.new) }
         ensures no_fault { OnOk result (O.faults lanes.new ≡ O.faults lanes.old) }
@@ -162,7 +158,6 @@ impl Flow {
     ) -> Result<Option<Reply>, Fault>
         requires within { StaysWithin self.old.desk.state }
         requires counts { CountsWithin self.old.sum self.old.desk.state.mark }
-        requires tray { self.old.desk.state.window ≤ player.old.tray.window }
         ensures admits { IfOk result (λ reply. AdmitsDatagram kind datagram.now self.old.desk.state self.old.sum
             (O.lanes lanes.old) reply self.new.desk.state self.new.sum (O.lanes lanes.new)) }
         ensures breaks { OnErr result (BreaksAtDatagram kind datagram.now self.old.desk.state self.old.sum.port
@@ -170,7 +165,6 @@ impl Flow {
         ensures port { self.new.sum.port ≡ self.old.sum.port }
         ensures settings { (self.new.desk.state.window ≡ self.old.desk.state.window)
             × (self.new.desk.state.depth ≡ self.old.desk.state.depth) }
-        ensures tray { player.new.tray.window ≡ player.old.tray.window }
         ensures not_read { IsErrOf result Fault.Read → ⊥ }
         ensures counted { IsErrOf result Fault.Write → CountsFault (O.faults lanes.old) (O.faults lanes.new) }
         ensures no_fault { OnOk result (O.faults lanes.new ≡ O.faults lanes.old) }
@@ -193,7 +187,6 @@ impl Flow {
     ) -> Result<Option<Reply>, Fault>
         requires within { StaysWithin self.old.desk.state }
         requires counts { CountsWithin self.old.sum self.old.desk.state.mark }
-        requires tray { self.old.desk.state.window ≤ player.old.tray.window }
         ensures admits { IfOk result (λ reply. AdmitsDatagram Kind.Media datagram.now self.old.desk.state self.old.sum
             (O.lanes lanes.old) reply self.new.desk.state self.new.sum (O.lanes lanes.new)) }
         ensures breaks { OnErr result (BreaksAtDatagram Kind.Media datagram.now self.old.desk.state self.old.sum.port
@@ -201,17 +194,15 @@ impl Flow {
         ensures port { self.new.sum.port ≡ self.old.sum.port }
         ensures settings { (self.new.desk.state.window ≡ self.old.desk.state.window)
             × (self.new.desk.state.depth ≡ self.old.desk.state.depth) }
-        ensures tray { player.new.tray.window ≡ player.old.tray.window }
         ensures not_read { IsErrOf result Fault.Read → ⊥ }
         ensures counted { IsErrOf result Fault.Write → CountsFault (O.faults lanes.old) (O.faults lanes.new) }
         ensures no_fault { OnOk result (O.faults lanes.new ≡ O.faults lanes.old) }
         ensures memory { IsErrOf result Fault.Memory → O.faults lanes.new ≡ O.faults lanes.old }
         ensures never_falls { O.faults lanes.old ≤ O.faults lanes.new }
     {
-        let Ok((seq, _, word)) = media_word(datagram) else {
+        let Ok((seq, _, share)) = media_share(alloc, datagram)? else {
             return Ok(None);
         };
-        let share = word.share(alloc)?;
         self.play_due(player, seq, lanes)?;
         Ok(Some(self.desk.admit_media(seq, share)))
     }
@@ -225,7 +216,6 @@ impl Flow {
     ) -> Result<(), Fault>
         requires within { StaysWithin self.old.desk.state }
         requires counts { CountsWithin self.old.sum self.old.desk.state.mark }
-        requires tray { self.old.desk.state.window ≤ player.old.tray.window }
         ensures plays { OnOk result (HaveShown (ArePlaysDue self.old.desk.state seq) self.old.desk.state self.old.sum
             (O.lanes lanes.old) self.new.desk.state self.new.sum (O.lanes lanes.new)) }
         ensures none_due { OnOk result (¬ IsDue self.new.desk.state seq) }
@@ -235,7 +225,6 @@ impl Flow {
         ensures port { self.new.sum.port ≡ self.old.sum.port }
         ensures settings { (self.new.desk.state.window ≡ self.old.desk.state.window)
             × (self.new.desk.state.depth ≡ self.old.desk.state.depth) }
-        ensures tray { player.new.tray.window ≡ player.old.tray.window }
         ensures not_read { IsErrOf result Fault.Read → ⊥ }
         ensures counted { IsErrOf result Fault.Write → CountsFault (O.faults lanes.old) (O.faults lanes.new) }
         ensures no_fault { OnOk result (O.faults lanes.new ≡ O.faults lanes.old) }
@@ -244,8 +233,8 @@ impl Flow {
     {
         runs_join();
         while self.desk.due(seq) {
-            let played = self.desk.play(&mut player.tray);
-            put_play(&mut self.sum, player, played, lanes)?;
+            let played = self.desk.play_in_place();
+            put_play(&mut self.sum, player, &self.desk, played, lanes)?;
         }
         Ok(())
     }
@@ -254,13 +243,11 @@ impl Flow {
     fn play_rest<O: Outlet>(&mut self, player: &mut Player, lanes: &mut O) -> Result<(), Fault>
         requires within { FlushesWithin self.old.desk.state }
         requires counts { CountsWithin self.old.sum self.old.desk.state.mark }
-        requires tray { self.old.desk.state.window ≤ player.old.tray.window }
         ensures plays { OnOk result ((empty : State) × HaveShown (IsFlush self.old.desk.state) self.old.desk.state
             self.old.sum (O.lanes lanes.old) empty self.new.sum (O.lanes lanes.new)) }
         ensures breaks { OnErr result (BreakOff (AreFlushSteps self.old.desk.state) self.old.sum.port
             (O.lanes lanes.old) (O.lanes lanes.new)) }
         ensures port { self.new.sum.port ≡ self.old.sum.port }
-        ensures tray { player.new.tray.window ≡ player.old.tray.window }
         ensures not_read { IsErrOf result Fault.Read → ⊥ }
         ensures counted { IsErrOf result Fault.Write → CountsFault (O.faults lanes.old) (O.faults lanes.new) }
         ensures no_fault { OnOk result (O.faults lanes.new ≡ O.faults lanes.old) }
@@ -268,8 +255,8 @@ impl Flow {
         ensures never_falls { O.faults lanes.old ≤ O.faults lanes.new }
     {
         flushes_end();
-        while let Some(played) = self.desk.flush_step(&mut player.tray) {
-            put_play(&mut self.sum, player, played, lanes)?;
+        while let Some(played) = self.desk.flush_step_in_place() {
+            put_play(&mut self.sum, player, &self.desk, played, lanes)?;
         }
         Ok(())
     }
@@ -289,38 +276,35 @@ fn admit_parity(
     ensures settings { (desk.new.state.window ≡ desk.old.state.window)
         × (desk.new.state.depth ≡ desk.old.state.depth) }
 {
-    let Ok(parity) = read(datagram) else {
+    let Ok((parity, share)) = parity_share(alloc, datagram)? else {
         return Ok(None);
     };
-    let share = parity.word.share(alloc)?;
     Ok(Some(desk.admit_parity(parity.base, parity.shape, share)))
 }
 
-/// Counts the play that the tray has, and puts its words' payloads to the flow's lane.
+/// Counts the play that was just made on the desk, and puts its words' payloads to the flow's lane.
 fn put_play<O: Outlet>(
     sum: &mut FlowSum,
     player: &mut Player,
+    desk: &Desk,
     played: Played,
     lanes: &mut O,
 ) -> Result<(), Fault>
     requires within { CountsWithin sum.old played.first }
     requires limit { played.first < 2 ^ 61 }
-    requires count { played.count ≡ length player.old.tray.shown }
-    requires some { 1 ≤ played.count }
-    ensures counts { OnOk result (sum.new ≡ with_plays sum.old played.first (play_in played player.old.tray ∷ [])) }
-    ensures puts { OnOk result (Grows (O.lanes lanes.old) sum.old.port (lane_of (play_in played player.old.tray ∷ []))
+    ensures counts { OnOk result (sum.new ≡ with_plays sum.old played.first (play_on played desk.now ∷ [])) }
+    ensures puts { OnOk result (Grows (O.lanes lanes.old) sum.old.port (lane_of (play_on played desk.now ∷ []))
         (O.lanes lanes.new)) }
     ensures part { OnErr result (GrowsPart (O.lanes lanes.old) sum.old.port
-        (lane_of (play_in played player.old.tray ∷ [])) (O.lanes lanes.new)) }
+        (lane_of (play_on played desk.now ∷ [])) (O.lanes lanes.new)) }
     ensures port { sum.new.port ≡ sum.old.port }
-    ensures tray { player.new.tray ≡ player.old.tray }
     ensures not_read { IsErrOf result Fault.Read → ⊥ }
     ensures counted { IsErrOf result Fault.Write → CountsFault (O.faults lanes.old) (O.faults lanes.new) }
     ensures no_fault { OnOk result (O.faults lanes.new ≡ O.faults lanes.old) }
     ensures memory { IsErrOf result Fault.Memory → O.faults lanes.new ≡ O.faults lanes.old }
     ensures never_falls { O.faults lanes.old ≤ O.faults lanes.new }
 {
-    player.fill(sum, played)?;
+    player.fill(sum, desk, played)?;
     lanes.put(sum.port, player.lane.as_slice())?;
     Ok(())
 }

@@ -1,4 +1,4 @@
-use Rattle.std.proofs.Common.{◌≡◌, ◌<◌, ◌∙◌, Option, List, length, sym, arith, slice_index_or}
+use Rattle.std.proofs.Common.{◌<◌, ◌∙◌, Option, List, length, arith, slice_index_or}
 use Rattle.std.proofs.lemmas.List.{get_or_default}
 use Rattle.fg_flows.specs.declared.Plan.{Plan}
 use Rattle.fg_flows.specs.Plan.{PlanFits}
@@ -10,26 +10,17 @@ use Rattle.fg_repair.proofs.Flushing.{flushing_more, flushing_stops, flushing_al
 use Rattle.fg_repair.proofs.Results.{on_err}
 use Rattle.fg_repair.proofs.engine.flush.Goals as goal
 
-pub flush-requires-clause-underway : goal.flush-requires-clause-underway
-flush-requires-clause-underway g c =
+pub flush-requires : goal.flush-requires
+flush-requires g c =
     let i = c.loop-flow.flow-index in
     let r = c.requires in
     let old : Flow = slice_index_or c.loop-flow.flows i c.flow-item.result in
     let short : i < length c.loop-flow.flows = omega arith in
     let h = c.loop-flow.invariant.flushing r.plan r.records r.before r.fits r.flushing in
-    underway r.plan r.fits r.records _ old _ r.few
-    (next_stands r.plan r.records i c.loop-flow.flows r.before _ old h short (get_or_default c.loop-flow.flows i c.flow-item.result old short))
-
-pub flush-requires-clause-tray : goal.flush-requires-clause-tray
-flush-requires-clause-tray g c =
-    let i = c.loop-flow.flow-index in
-    let r = c.requires in
-    let old : Flow = slice_index_or c.loop-flow.flows i c.flow-item.result in
-    let short : i < length c.loop-flow.flows = omega arith in
-    let h = c.loop-flow.invariant.flushing r.plan r.records r.before r.fits r.flushing in
-    let stands = next_stands r.plan r.records i c.loop-flow.flows r.before _ old h short (get_or_default c.loop-flow.flows i c.flow-item.result old short) in
-    let same : old.desk.state.window ≡ c.loop-flow.player.tray.window = stands.window_is ∙ sym r.tray ∙ sym c.loop-flow.invariant.tray in
-    omega (arith, same)
+    record {
+      underway = underway r.plan r.fits r.records _ old _ r.few
+          (next_stands r.plan r.records i c.loop-flow.flows r.before _ old h short (get_or_default c.loop-flow.flows i c.flow-item.result old short));
+    }
 
 pub returns-in_err-flush-clause-breaks : goal.returns-in_err-flush-clause-breaks
 returns-in_err-flush-clause-breaks g c =
@@ -50,7 +41,6 @@ loop-flow-preserved g c =
       flushing = λ plan records before fits h.
           flushing_more c.one_flow_has_a_port.ensures plan fits.table records i c.loop-flow.flows before _ _ old c.flush.new.self short (get_or_default c.loop-flow.flows i c.flow-item.result old short) c.in_ok-flush.ensures.ends
           (c.loop-flow.invariant.flushing plan records before fits h);
-      tray = c.flush.ensures.tray ∙ c.loop-flow.invariant.tray;
       writes = c.in_ok-flush.ensures.no_fault ∙ c.loop-flow.invariant.writes;
     }
 

@@ -11,6 +11,5 @@ invariant-loop-flow g l = record {
   flushing : (plan : Plan) (records : List Record) (before : Option Lanes) → PlanFits plan
       → IsFlushing plan records 0 l.fn.flows before (g.O.Outlet.lanes l.fn.lanes)
       → IsFlushing plan records l.flow-index l.flows before (g.O.Outlet.lanes l.lanes);
-  tray : l.player.tray.window ≡ l.fn.player.tray.window;
   writes : g.O.Outlet.faults l.lanes ≡ g.O.Outlet.faults l.fn.lanes;
 }

@@ -11,7 +11,7 @@ pub returns-in_ok-take-in-Some-clause-takes : goal.returns-in_ok-take-in-Some-cl
 returns-in_ok-take-in-Some-clause-takes g c =
     come_some c.one_flow_has_a_port.ensures c.args.plan.now c.requires.fits.table c.args.self.now c.args.port c.in-Some.i c.in-Some.kind c.in-Some.ensures.found
     c.index_mut.result.now c.take.new.self c.take.new.player c.index_mut.ensures.value
-    (record { port = c.take.ensures.port; window = c.take.ensures.settings.0; depth = c.take.ensures.settings.1 }) c.take.ensures.tray
+    (record { port = c.take.ensures.port; window = c.take.ensures.settings.0; depth = c.take.ensures.settings.1 })
     c.args.datagram.now _ _ c.in_ok-take-in-Some.ensures.takes
 
 pub returns-in-None-clause-takes : goal.returns-in-None-clause-takes

@@ -11,6 +11,7 @@ invariant-loop-tail g l = record {
   unkept : l.reader.kept ≡ None;
   max : l.reader.max ≡ l.plan.max;
   reads : g.S.Source.faults l.input ≡ g.S.Source.faults l.fn.input;
+  fixed : g.S.Source.fixed l.input ≡ g.S.Source.fixed l.fn.input;
   writes : g.O.Outlet.faults l.lanes ≡ g.O.Outlet.faults l.fn.lanes;
 }
 

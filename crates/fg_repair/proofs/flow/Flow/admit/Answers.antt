@@ -16,7 +16,6 @@ returns-in_err-admit_parity-in_default g c =
           (g.O.Outlet.lanes c.args.lanes.now) c.in_default.not-Media c.in_err-admit_parity-in_default.ensures.read);
       port = refl;
       settings = c.admit_parity.ensures.settings;
-      tray = refl;
       not_read = grind (arith, common_steps);
       counted = grind (arith, common_steps);
       no_fault = search rules;
@@ -33,7 +32,6 @@ returns-in_ok-admit_parity-in_default g c =
       breaks = tt;
       port = refl;
       settings = c.admit_parity.ensures.settings;
-      tray = refl;
       not_read = λ e. cc;
       counted = λ e. absurd (cc);
       no_fault = refl;

@@ -1,11 +1,10 @@
 use Rattle.std.proofs.Common.{List, refl, ap, ◌∙◌}
-use Rattle.fg_desk.specs.Contents.{Holding}
 use Rattle.fg_desk.specs.State.{State}
 use Rattle.fg_desk.specs.Play.{Play}
 use Rattle.fg_desk.specs.Admission.{IsDue}
 use Rattle.fg_desk.specs.Run.{ArePlaysDue}
 use Rattle.fg_desk.specs.Laws.{HavePlayed}
-use Rattle.fg_repair.specs.Steps.{play_in}
+use Rattle.fg_repair.specs.Steps.{play_on}
 use Rattle.fg_repair.proofs.Showing.{retold, one_more_shown, breaks_off, within_one_more, due_after, fails, on_err}
 use Rattle.fg_repair.proofs.flow.Flow.play_due.Goals as goal
 
@@ -13,21 +12,20 @@ pub loop-self-preserved : goal.loop-self-preserved
 loop-self-preserved g c =
     let old = c.args.self.now in
     let now = c.loop-self in
-    let play = play_in c.play-played.result c.play-played.new.tray in
-    let join = due_after old.desk.state now.self.desk.state c.play-played.new.self.state c.args.seq play c.runs_join.ensures.plays
-    (c.loop-self-test.ensures.0 refl) c.play-played.ensures.play in
+    let play = play_on c.play_in_place-played.result c.play_in_place-played.new.self in
+    let join = due_after old.desk.state now.self.desk.state c.play_in_place-played.new.self.state c.args.seq play c.runs_join.ensures.plays
+    (c.loop-self-test.ensures.0 refl) c.play_in_place-played.ensures.play in
     let holds = (c.requires.within c.args.seq now.invariant.so.plays now.self.desk.state now.invariant.so.are).0 in
     record {
       so = one_more_shown (HavePlayed old.desk.state c.args.seq) old.desk.state old.sum (g.O.Outlet.lanes c.args.lanes.now)
-          now.self.desk.state.window now.self.desk.state c.play-played.new.self.state now.self.sum c.put_play.new.sum
+          now.self.desk.state.window now.self.desk.state c.play_in_place-played.new.self.state now.self.sum c.put_play.new.sum
           (g.O.Outlet.lanes now.lanes) (g.O.Outlet.lanes c.put_play.new.lanes) play
-          now.invariant.so join c.play-played.ensures.play now.invariant.port c.in_ok-put_play.ensures.counts c.in_ok-put_play.ensures.puts;
-      counts = within_one_more now.self.desk.state.window now.self.desk.state c.play-played.new.self.state now.self.sum c.put_play.new.sum play
-          now.invariant.counts c.play-played.ensures.play holds.window.0 c.in_ok-put_play.ensures.counts;
+          now.invariant.so join c.play_in_place-played.ensures.play now.invariant.port c.in_ok-put_play.ensures.counts c.in_ok-put_play.ensures.puts;
+      counts = within_one_more now.self.desk.state.window now.self.desk.state c.play_in_place-played.new.self.state now.self.sum c.put_play.new.sum play
+          now.invariant.counts c.play_in_place-played.ensures.play holds.window.0 c.in_ok-put_play.ensures.counts;
       port = c.in_ok-put_play.ensures.port ∙ now.invariant.port;
-      window = ap (λ (s : State). s.window) c.play-played.ensures.play.rest ∙ now.invariant.window;
-      depth = ap (λ (s : State). s.depth) c.play-played.ensures.play.rest ∙ now.invariant.depth;
-      tray = ap (λ (tray : Holding). tray.window) c.in_ok-put_play.ensures.tray ∙ c.play-played.ensures.tray ∙ now.invariant.tray;
+      window = ap (λ (s : State). s.window) c.play_in_place-played.ensures.play.rest ∙ now.invariant.window;
+      depth = ap (λ (s : State). s.depth) c.play_in_place-played.ensures.play.rest ∙ now.invariant.depth;
       faults = c.in_ok-put_play.ensures.no_fault ∙ now.invariant.faults;
     }
 
@@ -35,11 +33,11 @@ pub returns-in_err-put_play-clause-breaks : goal.returns-in_err-put_play-clause-
 returns-in_err-put_play-clause-breaks g c =
     let old = c.args.self.now in
     let now = c.loop-self in
-    let play = play_in c.play-played.result c.play-played.new.tray in
-    let join = due_after old.desk.state now.self.desk.state c.play-played.new.self.state c.args.seq play c.runs_join.ensures.plays
-    (c.loop-self-test.ensures.0 refl) c.play-played.ensures.play in
+    let play = play_on c.play_in_place-played.result c.play_in_place-played.new.self in
+    let join = due_after old.desk.state now.self.desk.state c.play_in_place-played.new.self.state c.args.seq play c.runs_join.ensures.plays
+    (c.loop-self-test.ensures.0 refl) c.play_in_place-played.ensures.play in
     on_err _ (breaks_off (HavePlayed old.desk.state c.args.seq) old.desk.state old.sum (g.O.Outlet.lanes c.args.lanes.now)
-    now.self.desk.state c.play-played.new.self.state now.self.sum (g.O.Outlet.lanes now.lanes) (g.O.Outlet.lanes c.put_play.new.lanes) play
+    now.self.desk.state c.play_in_place-played.new.self.state now.self.sum (g.O.Outlet.lanes now.lanes) (g.O.Outlet.lanes c.put_play.new.lanes) play
     now.invariant.so join now.invariant.port c.in_err-put_play.ensures.part)
 
 pub returns-clause-plays : goal.returns-clause-plays

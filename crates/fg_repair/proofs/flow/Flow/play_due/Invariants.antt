@@ -11,7 +11,6 @@ invariant-loop-self g l = record {
   port : l.self.sum.port ≡ l.fn.self.sum.port;
   window : l.self.desk.state.window ≡ l.fn.self.desk.state.window;
   depth : l.self.desk.state.depth ≡ l.fn.self.desk.state.depth;
-  tray : l.player.tray.window ≡ l.fn.player.tray.window;
   faults : g.O.Outlet.faults l.lanes ≡ g.O.Outlet.faults l.fn.lanes;
 }
 

@@ -1,10 +1,9 @@
 use Rattle.std.proofs.Common.{◌+◌, ◌-◌, min, List, ap, ◌∙◌}
-use Rattle.fg_desk.specs.Contents.{Holding}
 use Rattle.fg_desk.specs.State.{State}
 use Rattle.fg_desk.specs.Play.{Play}
 use Rattle.fg_desk.specs.Run.{IsFlush}
 use Rattle.fg_desk.specs.Laws.{AreFlushSteps}
-use Rattle.fg_repair.specs.Steps.{play_in}
+use Rattle.fg_repair.specs.Steps.{play_on}
 use Rattle.fg_repair.proofs.Showing.{retold, one_more_shown, breaks_off, within_one_more, step_after, step_shows, on_err}
 use Rattle.fg_repair.proofs.flow.Flow.play_rest.Goals as goal
 
@@ -12,22 +11,21 @@ pub loop-played-preserved : goal.loop-played-preserved
 loop-played-preserved g c =
     let old = c.args.self.now in
     let now = c.loop-played in
-    let play = play_in c.in-Some.played c.flush_step.new.tray in
+    let play = play_on c.in-Some.played c.flush_step_in_place.new.self in
     let step = c.in-Some.ensures.flushes in
-    let join = step_after old.desk.state now.self.desk.state c.flush_step.new.self.state play c.flushes_end.ensures.joined step in
+    let join = step_after old.desk.state now.self.desk.state c.flush_step_in_place.new.self.state play c.flushes_end.ensures.joined step in
     let holds = (c.requires.within now.invariant.so.plays now.self.desk.state now.invariant.so.are).0 in
     let count = min now.self.desk.state.window (step.highest + 1 - now.self.desk.state.mark) in
     record {
       so = one_more_shown (AreFlushSteps old.desk.state) old.desk.state old.sum (g.O.Outlet.lanes c.args.lanes.now)
-          count now.self.desk.state c.flush_step.new.self.state now.self.sum c.put_play.new.sum
+          count now.self.desk.state c.flush_step_in_place.new.self.state now.self.sum c.put_play.new.sum
           (g.O.Outlet.lanes now.lanes) (g.O.Outlet.lanes c.put_play.new.lanes) play
           now.invariant.so join step.plays now.invariant.port c.in_ok-put_play.ensures.counts c.in_ok-put_play.ensures.puts;
-      counts = within_one_more count now.self.desk.state c.flush_step.new.self.state now.self.sum c.put_play.new.sum play
-          now.invariant.counts step.plays (step_shows now.self.desk.state c.flush_step.new.self.state play step holds.window.0)
+      counts = within_one_more count now.self.desk.state c.flush_step_in_place.new.self.state now.self.sum c.put_play.new.sum play
+          now.invariant.counts step.plays (step_shows now.self.desk.state c.flush_step_in_place.new.self.state play step holds.window.0)
           c.in_ok-put_play.ensures.counts;
       port = c.in_ok-put_play.ensures.port ∙ now.invariant.port;
       window = ap (λ (s : State). s.window) step.plays.rest ∙ now.invariant.window;
-      tray = ap (λ (tray : Holding). tray.window) c.in_ok-put_play.ensures.tray ∙ c.flush_step.ensures.tray ∙ now.invariant.tray;
       faults = c.in_ok-put_play.ensures.no_fault ∙ now.invariant.faults;
     }
 
@@ -35,11 +33,11 @@ pub returns-in_err-put_play-clause-breaks : goal.returns-in_err-put_play-clause-
 returns-in_err-put_play-clause-breaks g c =
     let old = c.args.self.now in
     let now = c.loop-played in
-    let play = play_in c.in-Some.played c.flush_step.new.tray in
-    let join = step_after old.desk.state now.self.desk.state c.flush_step.new.self.state play c.flushes_end.ensures.joined
+    let play = play_on c.in-Some.played c.flush_step_in_place.new.self in
+    let join = step_after old.desk.state now.self.desk.state c.flush_step_in_place.new.self.state play c.flushes_end.ensures.joined
     c.in-Some.ensures.flushes in
     on_err _ (breaks_off (AreFlushSteps old.desk.state) old.desk.state old.sum (g.O.Outlet.lanes c.args.lanes.now)
-    now.self.desk.state c.flush_step.new.self.state now.self.sum (g.O.Outlet.lanes now.lanes) (g.O.Outlet.lanes c.put_play.new.lanes) play
+    now.self.desk.state c.flush_step_in_place.new.self.state now.self.sum (g.O.Outlet.lanes now.lanes) (g.O.Outlet.lanes c.put_play.new.lanes) play
     now.invariant.so join now.invariant.port c.in_err-put_play.ensures.part)
 
 pub returns-clause-plays : goal.returns-clause-plays

@@ -10,7 +10,6 @@ invariant-loop-played g l = record {
   counts : CountsWithin l.self.sum l.self.desk.state.mark;
   port : l.self.sum.port ≡ l.fn.self.sum.port;
   window : l.self.desk.state.window ≡ l.fn.self.desk.state.window;
-  tray : l.player.tray.window ≡ l.fn.player.tray.window;
   faults : g.O.Outlet.faults l.lanes ≡ g.O.Outlet.faults l.fn.lanes;
 }
 
