@@ -2,3 +2,10 @@
 #![tactic(auto)]
 
 pub mod laws;
+mod made;
+mod sample;
+mod thinned;
+
+pub use made::Made;
+pub use sample::{drawn, sample_settings};
+pub use thinned::{StreamFault, Thinned, Thinning};

@@ -1,0 +1,163 @@
+-- What peels is shown.
+use Rattle.std.proofs.Common.{◌≡◌, ◌+◌, ◌-◌, ◌++◌, ℕ, min, true, List, [], ◌∷◌, get_or, Option, Some, None, is_some, refl, sym, ap, subst, ◌∙◌, arith, append_assoc}
+use Rattle.std.proofs.lemmas.List.{get_or_append_left, length-append}
+use Rattle.std.specs.List.{All}
+use Rattle.fg_words.specs.declared.Word.{Word}
+use Rattle.fg_desk.specs.declared.reply.Reply.{Reply}
+use Rattle.fg_desk.specs.declared.reply.Reply.TheVariants.{Admitted}
+use Rattle.fg_desk.specs.declared.reply.Outcome.{Outcome}
+use Rattle.fg_desk.specs.declared.reply.Outcome.TheVariants.{Repaired}
+use Rattle.fg_desk.specs.State.{State, opening}
+use Rattle.fg_desk.specs.Admission.{Parity, IsLeastFree, IsAfterMedia, IsAfterParity, position_on, with_media, with_equation, equation_at}
+use Rattle.fg_desk.specs.Solution.{InClosure, IsSolution}
+use Rattle.fg_desk.specs.Play.{Play, Shown, Decides, IsPlay, nothing_shown}
+use Rattle.fg_desk.specs.Run.{Arrival, carries, protects, refused, ArePlaysDue, Takes, TakesAll, IsRun}
+use Rattle.fg_desk.specs.Laws.{IsRead, HavePlayed, PlaysDueJoin, FlushStepsJoin, AreInSuccession, PlaysFollow, DuePlaysComeNext, FlushStepsComeNext}
+use Rattle.fg_drill.specs.Repaired.{MakesPlay, due, flushed, Closes, is_shown}
+use Rattle.fg_drill.specs.TrueLaws.{TrueRunsAreRepaired, PeeledSlotsAreShown}
+use Rattle.fg_drill.proofs.TrueRuns.{all_are_read}
+use Rattle.fg_drill.proofs.TrueTakings.{some_and}
+use Rattle.fg_drill.proofs.TrueShown.{shows_at, of_one}
+
+-- Nothing changes the window.
+
+play_keeps_window : (count : ℕ) (old : State) (play : Play) (new : State) → IsPlay count old play new → new.window ≡ old.window
+play_keeps_window count old play new is = ap (λ (s : State). s.window) is.rest
+
+due_keep_window :
+    (old : State) (seq : ℕ) (plays : List Play) (new : State) → ArePlaysDue old seq plays new → new.window ≡ old.window
+due_keep_window old seq [] new are = ap (λ (s : State). s.window) are.1
+due_keep_window old seq (play ∷ plays) new are =
+    due_keep_window are.1.0 seq plays new are.1.2 ∙ play_keeps_window old.window old play are.1.0 are.1.1
+
+played_keep_window :
+    (old : State) (seq : ℕ) (plays : List Play) (new : State) → HavePlayed old seq plays new → new.window ≡ old.window
+played_keep_window old seq [] new played = ap (λ (s : State). s.window) played
+played_keep_window old seq (play ∷ plays) new played =
+    played_keep_window played.1.0 seq plays new played.1.2 ∙ play_keeps_window old.window old play played.1.0 played.1.1
+
+media_keeps_window :
+    (old new : State) (seq : ℕ) (word : Word) (reply : Reply) → IsAfterMedia old seq word reply new → new.window ≡ old.window
+media_keeps_window old new seq word Admitted after =
+    ap (λ (s : State). s.window) (some_and (position_on old seq) (λ p. new ≡ with_media old seq p word) after).2
+media_keeps_window old new seq word reply after = ap (λ (s : State). s.window) after
+
+parity_keeps_window :
+    (old new : State) (parity : Parity) (reply : Reply) → IsAfterParity old parity reply new → new.window ≡ old.window
+parity_keeps_window old new parity Admitted after =
+    let a = some_and (position_on old parity.base)
+    (λ position. (place : ℕ) × IsLeastFree old.equations place × (new ≡ with_equation old place (equation_at position parity))) after in
+    ap (λ (s : State). s.window) a.2.2
+parity_keeps_window old new parity reply after = ap (λ (s : State). s.window) after
+
+taking_keeps_window :
+    (old : State) (arrival : Arrival) (plays : List Play) (reply : Option Reply) (new : State)
+    → Takes old arrival plays reply new → new.window ≡ old.window
+taking_keeps_window old (carries seq word) plays None new takes = absurd takes
+taking_keeps_window old (carries seq word) plays (Some reply) new takes =
+    media_keeps_window takes.0 new seq word reply takes.2.after ∙ due_keep_window old seq plays takes.0 takes.1
+taking_keeps_window old (protects stream parity) plays None new takes = absurd takes
+taking_keeps_window old (protects stream parity) plays (Some reply) new takes =
+    parity_keeps_window old new parity reply takes.1.after
+taking_keeps_window old (refused stream) plays None new takes = ap (λ (s : State). s.window) takes.1
+taking_keeps_window old (refused stream) plays (Some reply) new takes = absurd takes
+
+takings_keep_window :
+    (old : State) (arrivals : List Arrival) (plays : List Play) (replies : List (Option Reply)) (new : State)
+    → TakesAll old arrivals plays replies new → new.window ≡ old.window
+takings_keep_window old [] plays replies new takes = ap (λ (s : State). s.window) takes.2
+takings_keep_window old (arrival ∷ arrivals) plays [] new takes = absurd takes
+takings_keep_window old (arrival ∷ arrivals) plays (reply ∷ replies) new takes =
+    takings_keep_window takes.2 arrivals takes.1 replies new takes.5
+    ∙ taking_keeps_window old arrival takes.0 reply takes.2 takes.4
+
+front_is_read : (earlier later : List Arrival) → All IsRead (earlier ++ later) → All IsRead earlier
+front_is_read earlier later all = λ k d below.
+    let long = length-append earlier later in
+    subst IsRead (get_or_append_left earlier later d k below) (all k d (omega (arith, long, below)))
+
+-- A play is among those of a run, and was made on this desk.
+record IsAmong (plays : List Play) (desk : State) (play : Play) : Type 0 where
+  before : List Play
+  after : List Play
+  placed : plays ≡ before ++ play ∷ after
+  count : ℕ
+  next : State
+  is : IsPlay count desk play next
+
+placed_so :
+    (plays taken before after : List Play) (play : Play) → plays ≡ taken ++ ((before ++ play ∷ []) ++ after)
+    → plays ≡ (taken ++ before) ++ play ∷ after
+placed_so plays taken before after play is =
+    is
+    ∙ ap (λ (ps : List Play). taken ++ ps) (append_assoc before (play ∷ []) after)
+    ∙ sym (append_assoc taken before (play ∷ after))
+
+module _
+    (due_join : PlaysDueJoin) (steps_join : FlushStepsJoin) (due_next : DuePlaysComeNext) (steps_next : FlushStepsComeNext)
+    (window depth : ℕ) (arrivals : List Arrival) (read : All IsRead arrivals) (plays : List Play)
+    (replies : List (Option Reply)) (run : IsRun window depth arrivals plays replies) where
+  made_is_among : (desk : State) (play : Play) → MakesPlay window depth arrivals desk play → IsAmong plays desk play
+  made_is_among desk play (due earlier later seq word taken before first filled next arrivals_are takes played is_due is) =
+      let same : desk.window ≡ window =
+      played_keep_window filled seq before desk played ∙ takings_keep_window (opening window depth) earlier taken first filled takes in
+      let joined = due_join filled desk next seq before (play ∷ []) played
+      (is_due, (next, subst (λ (n : ℕ). IsPlay n desk play next) (sym same) is, refl)) in
+      let placed = due_next window depth seq word earlier later taken (before ++ play ∷ []) plays first replies filled next
+      (front_is_read earlier (carries seq word ∷ later) (subst (All IsRead) arrivals_are read)) takes joined
+      (subst (λ (all : List Arrival). IsRun window depth all plays replies) arrivals_are run) in
+      record {
+        before = taken ++ before;
+        after = placed.0;
+        placed = placed_so plays taken before placed.0 play placed.1;
+        count = window;
+        next = next;
+        is = is;
+      }
+  made_is_among desk play (flushed taken before first filled next takes steps step) =
+      let placed = steps_next window depth arrivals taken (before ++ play ∷ []) plays first replies filled next read takes
+      (steps_join filled desk next before (play ∷ []) steps (next, step, refl)) run in
+      record {
+        before = taken ++ before;
+        after = placed.0;
+        placed = placed_so plays taken before placed.0 play placed.1;
+        count = min desk.window (step.highest + 1 - desk.mark);
+        next = next;
+        is = step.plays;
+      }
+
+-- A repaired play shows each slot that it closes and that is in the closure.
+closed_is_shown :
+    (count : ℕ) (desk : State) (play : Play) (next : State) (slot : ℕ) → IsPlay count desk play next
+    → play.outcome ≡ Repaired → Closes play slot → InClosure desk slot
+    → is_some (get_or play.shown (slot - play.first) nothing_shown).word ≡ true
+closed_is_shown count desk play next slot is repaired closes inside =
+    let solution : IsSolution desk is.words = subst (λ (o : Outcome). Decides desk o is.words) repaired is.decides in
+    let first = is.first in
+    let long = is.length_is in
+    let at : desk.mark + (slot - play.first) ≡ slot = omega (arith, first, closes.0) in
+    ap (λ (s : Shown). is_some s.word) (is.shows (slot - play.first) (omega (arith, long, closes.0, closes.1)))
+    ∙ ap (λ (n : ℕ). is_some (is.words n)) at
+    ∙ (solution.domain slot).1 inside
+
+pub peeled_are_shown :
+    PlaysDueJoin → FlushStepsJoin → DuePlaysComeNext → FlushStepsComeNext → PlaysFollow → TrueRunsAreRepaired
+    → PeeledSlotsAreShown
+peeled_are_shown due_join steps_join due_next steps_next follow repaired window depth seq count truth arrivals plays replies sent run peel slot below =
+    let p = peel slot below in
+    let desk : State = p.0 in
+    let play : Play = p.1 in
+    let among = made_is_among due_join steps_join due_next steps_next window depth arrivals
+    (all_are_read seq truth None arrivals sent.media sent.arrive) plays replies run desk play p.2 in
+    let all = repaired window depth seq truth arrivals plays replies sent run in
+    let follows = follow window depth arrivals plays replies run in
+    let at = shows_at among.before among.after play 0 slot
+    (subst (λ (ps : List Play). AreInSuccession 0 ps) among.placed follows) p.3.0 p.3.1 in
+    let from_first : slot ≡ slot - 0 = omega arith in
+    ap (λ (ps : List Play). is_shown ps slot) among.placed
+    ∙ ap (λ (n : ℕ). is_shown (among.before ++ play ∷ among.after) n) from_first
+    ∙ ap (λ (s : Shown). is_some s.word) at.same
+    ∙ closed_is_shown among.count desk play among.next slot among.is
+    (of_one (λ (q : Play). q.outcome ≡ Repaired) among.before among.after play
+    (subst (All (λ (q : Play). q.outcome ≡ Repaired)) among.placed all))
+    p.3 p.4

@@ -1,0 +1,119 @@
+-- The records of an encoding are read as what they were written for, and as nothing else.
+use Rattle.std.proofs.Common.{◌≡◌, ℕ, ◌+◌, ◌<◌, ◌≤◌, ◌%◌, ◌^◌, true, false, List, ◌∷◌, ◌++◌, length, sym, ap, subst, ◌∙◌, arith, lit<}
+use Rattle.std.specs.Int.{to_be_bytes, w16, w32}
+use Rattle.std.proofs.lemmas.Nat.{mod_below}
+use Rattle.fg_words.specs.declared.Word.{Word}
+use Rattle.fg_shape.specs.declared.Shape.{Shape}
+use Rattle.fg_shape.specs.declared.encoding.Settings.{Settings}
+use Rattle.fg_shape.specs.Shape.{slots_of, IsShape}
+use Rattle.fg_rtp.specs.MediaDatagram.{IsMediaDatagram, media_bytes, payload_of}
+use Rattle.fg_rtp.specs.Laws.{WrittenIsRead as MediaWrittenIsRead}
+use Rattle.fg_fechead.specs.declared.Parity.{Parity as ParityRead}
+use Rattle.fg_fechead.specs.ParityDatagram.{IsParityDatagram}
+use Rattle.fg_fechead.specs.Laws.{WrittenIsRead as ParityWrittenIsRead}
+use Rattle.fg_flows.specs.declared.Kind.{Kind}
+use Rattle.fg_flows.specs.declared.Kind.TheVariants as kind
+use Rattle.fg_flows.specs.Flows.{port_of}
+use Rattle.fg_desk.specs.declared.run.Stream.TheVariants as stream
+use Rattle.fg_desk.specs.Run.{Arrival, carries, protects, refused}
+use Rattle.fg_encode.specs.Encoding.{bits_before, column_record, column_shape, longest, media_record, parity_at, row_record, row_shape, sequence_of, timestamp_of, word_at}
+use Rattle.fg_encode.specs.Ends.{columns_before, rows_before}
+use Rattle.fg_encode.specs.Payloads.{ArePayloads}
+use Rattle.fg_repair.specs.Flow.{Arrives, IsReadAs, parity_of}
+use Rattle.fg_drill.proofs.Written.{low_bytes, parity_can_be_written, sum_len, sum_room, sum_ts, time_is_small, word_is_media}
+
+-- The kind of a port
+
+pub on_media : (flow : ℕ) (k : Kind) (bytes : List ℕ) (a : Arrival) → port_of flow k ≡ flow → IsReadAs k bytes a → IsReadAs kind.Media bytes a
+on_media flow kind.Media bytes a on read = read
+on_media flow kind.Column bytes a on read = absurd (omega (arith, on))
+on_media flow kind.Row bytes a on read = absurd (omega (arith, on))
+
+pub on_column : (flow : ℕ) (k : Kind) (bytes : List ℕ) (a : Arrival) → port_of flow k ≡ flow + 2 → IsReadAs k bytes a → IsReadAs kind.Column bytes a
+on_column flow kind.Media bytes a on read = absurd (omega (arith, on))
+on_column flow kind.Column bytes a on read = read
+on_column flow kind.Row bytes a on read = absurd (omega (arith, on))
+
+pub on_row : (flow : ℕ) (k : Kind) (bytes : List ℕ) (a : Arrival) → port_of flow k ≡ flow + 4 → IsReadAs k bytes a → IsReadAs kind.Row bytes a
+on_row flow kind.Media bytes a on read = absurd (omega (arith, on))
+on_row flow kind.Column bytes a on read = absurd (omega (arith, on))
+on_row flow kind.Row bytes a on read = read
+
+-- One reading
+
+pub read_as_media :
+    (bytes : List ℕ) (seq ssrc : ℕ) (word : Word) → IsMediaDatagram bytes seq ssrc word
+    → ((seq' ssrc' : ℕ) (word' : Word) → IsMediaDatagram bytes seq' ssrc' word' → (seq ≡ seq') × (ssrc ≡ ssrc') × (word ≡ word'))
+    → (a : Arrival) → IsReadAs kind.Media bytes a → a ≡ carries seq word
+read_as_media bytes seq ssrc word is one (carries seq' word') read =
+    let same = one seq' read.0 word' read.1 in
+    λ i. carries (sym same.0 i) (sym same.2 i)
+read_as_media bytes seq ssrc word is one (protects by parity) read = absurd read
+read_as_media bytes seq ssrc word is one (refused by) read = absurd (read.1 seq ssrc word is)
+
+pub read_as_column :
+    (bytes : List ℕ) (p : ParityRead) → IsParityDatagram bytes p → ((other : ParityRead) → IsParityDatagram bytes other → p ≡ other)
+    → (a : Arrival) → IsReadAs kind.Column bytes a → a ≡ protects stream.Column (parity_of p)
+read_as_column bytes p is one (carries seq word) read = absurd read
+read_as_column bytes p is one (protects by parity) read =
+    let same : parity ≡ parity_of p = read.1.2 ∙ ap parity_of (sym (one read.1.0 read.1.1)) in
+    λ i. protects (read.0 i) (same i)
+read_as_column bytes p is one (refused by) read = absurd (read.1 p is)
+
+pub read_as_row :
+    (bytes : List ℕ) (p : ParityRead) → IsParityDatagram bytes p → ((other : ParityRead) → IsParityDatagram bytes other → p ≡ other)
+    → (a : Arrival) → IsReadAs kind.Row bytes a → a ≡ protects stream.Row (parity_of p)
+read_as_row bytes p is one (carries seq word) read = absurd read
+read_as_row bytes p is one (protects by parity) read =
+    let same : parity ≡ parity_of p = read.1.2 ∙ ap parity_of (sym (one read.1.0 read.1.1)) in
+    λ i. protects (read.0 i) (same i)
+read_as_row bytes p is one (refused by) read = absurd (read.1 p is)
+
+module _ (settings : Settings) (payloads : List (List ℕ)) (most : settings.packets ≤ 7) (are : ArePayloads settings.packets payloads) where
+  number_is_small : (slot : ℕ) → sequence_of settings slot < 2 ^ 16
+  number_is_small slot = mod_below (settings.seq + slot) (2 ^ 16) (lit< tt)
+
+  -- A media record is read as its slot's number and word. Of the source's number the lowest four bytes are written.
+  pub media_arrives :
+      MediaWrittenIsRead → (slot : ℕ) → slot < length payloads → (a : Arrival)
+      → Arrives settings.port (media_record settings payloads slot) a → a ≡ carries (sequence_of settings slot) (word_at settings payloads slot)
+  media_arrives law slot below a arrives =
+      let seq : ℕ = sequence_of settings slot in
+      let word : Word = word_at settings payloads slot in
+      let ssrc : ℕ = settings.ssrc % 2 ^ 32 in
+      let written = law seq ssrc word (number_is_small slot) (time_is_small settings payloads slot) (mod_below settings.ssrc (2 ^ 32) (lit< tt))
+      (word_is_media settings payloads most are slot below) in
+      let same : media_bytes seq ssrc word ≡ media_bytes seq settings.ssrc word =
+      ap (λ (source : List ℕ). 0x80 ∷ 33 ∷ (to_be_bytes w16 seq ++ to_be_bytes w32 word.ts ++ source) ++ payload_of word) (low_bytes settings.ssrc) in
+      let read = on_media settings.port arrives.0 (media_bytes seq settings.ssrc word) a arrives.1 arrives.2 in
+      read_as_media (media_bytes seq ssrc word) seq ssrc word written.0 written.1 a
+      (subst (λ (bytes : List ℕ). IsReadAs kind.Media bytes a) (sym same) read)
+
+  -- A record of parity as the parity of its equation.
+  pub column_arrives :
+      ParityWrittenIsRead → (slot base : ℕ) → IsShape settings.layout.l settings.layout.d → base < length payloads → (a : Arrival)
+      → Arrives settings.port (column_record settings payloads slot base) a
+      → a ≡ protects stream.Column (parity_of (parity_at settings payloads base (column_shape settings.layout) false))
+  column_arrives law slot base read below a arrives =
+      let shape : Shape = column_shape settings.layout in
+      let slots : List ℕ = slots_of base shape.offset shape.na in
+      let parity : ParityRead = parity_at settings payloads base shape false in
+      let written = law (columns_before settings.layout slot % 2 ^ 16) (timestamp_of settings (bits_before payloads slot)) parity (longest payloads slots)
+      (parity_can_be_written settings payloads most are base shape false read below) (number_is_small base)
+      (sum_len settings payloads most are slots) (sum_ts settings payloads most are slots) (sum_room settings payloads most are slots) in
+      let bytes : List ℕ = (column_record settings payloads slot base).datagram in
+      read_as_column bytes parity written.0 written.1 a (on_column settings.port arrives.0 bytes a arrives.1 arrives.2)
+
+  pub row_arrives :
+      ParityWrittenIsRead → (slot base : ℕ) → IsShape 1 settings.layout.l → base < length payloads → (a : Arrival)
+      → Arrives settings.port (row_record settings payloads slot base) a
+      → a ≡ protects stream.Row (parity_of (parity_at settings payloads base (row_shape settings.layout) true))
+  row_arrives law slot base read below a arrives =
+      let shape : Shape = row_shape settings.layout in
+      let slots : List ℕ = slots_of base shape.offset shape.na in
+      let parity : ParityRead = parity_at settings payloads base shape true in
+      let written = law (rows_before settings.layout slot % 2 ^ 16) (timestamp_of settings (bits_before payloads slot)) parity (longest payloads slots)
+      (parity_can_be_written settings payloads most are base shape true read below) (number_is_small base)
+      (sum_len settings payloads most are slots) (sum_ts settings payloads most are slots) (sum_room settings payloads most are slots) in
+      let bytes : List ℕ = (row_record settings payloads slot base).datagram in
+      read_as_row bytes parity written.0 written.1 a (on_row settings.port arrives.0 bytes a arrives.1 arrives.2)

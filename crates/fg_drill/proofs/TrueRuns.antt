@@ -1,0 +1,143 @@
+-- All plays of a run of true datagrams are true.
+use Rattle.std.proofs.Common.{◌≡◌, ◌+◌, ◌-◌, ◌<◌, ◌^◌, ◌++◌, ℕ, min, List, [], ◌∷◌, length, Option, Some, None, refl, sym, subst, ◌∙◌, arith}
+use Rattle.std.proofs.lemmas.Option.{none-some}
+use Rattle.std.proofs.lemmas.List.{append-nil, length_push}
+use Rattle.std.proofs.lemmas.List.Elements.{All-nil, All-cons, All-append, All-push}
+use Rattle.std.specs.List.{All}
+use Rattle.std.specs.Ordering.{nat_cmp}
+use Rattle.std.specs.FinMap.{get-empty}
+use Rattle.fg_words.specs.declared.Word.{Word}
+use Rattle.fg_peel.specs.Equation.{AreMedia}
+use Rattle.fg_peel.specs.Laws.{TruthIsSolvable, SolutionsAreTrue}
+use Rattle.fg_desk.specs.declared.reply.Reply.{Reply}
+use Rattle.fg_desk.specs.State.{State, Live, known, opening}
+use Rattle.fg_desk.specs.Play.{Play}
+use Rattle.fg_desk.specs.Run.{Arrival, carries, protects, refused, TakesAll, IsFlush, IsRun}
+use Rattle.fg_desk.specs.Facts.{Holds}
+use Rattle.fg_desk.specs.Laws.{IsRead, LiveStandUnderSerials, SolutionsArePeelings, MediaAdds, ParityAdds, FlushStepKeeps, RunsStayWithin, TakingsJoin}
+use Rattle.fg_drill.specs.True.{IsTrueArrival, AreTrueArrivals, last_after, AreSentTrue}
+use Rattle.fg_drill.proofs.TrueDesks.{IsTrueWindow, IsTruePlay, known_ahead, play_is_true, true_after_play}
+use Rattle.fg_drill.proofs.TrueTakings.{LeavesTruth, is_taken_truly}
+
+-- A true datagram is read.
+is_read :
+    (seq : ℕ) (truth : ℕ → Option Word) (slot : ℕ) (arrival : Arrival) → AreMedia truth
+    → IsTrueArrival seq truth slot arrival → IsRead arrival
+is_read seq truth slot (carries number word) media is =
+    let number_is = is.0 in
+    (omega (arith, number_is), media slot word is.1)
+is_read seq truth slot (protects stream parity) media is =
+    let number_is = is.base_is in
+    (omega (arith, number_is), is.shape)
+is_read seq truth slot (refused stream) media is = absurd is
+
+pub all_are_read :
+    (seq : ℕ) (truth : ℕ → Option Word) (last : Option ℕ) (arrivals : List Arrival) → AreMedia truth
+    → AreTrueArrivals seq truth last arrivals → All IsRead arrivals
+all_are_read seq truth last [] media are = All-nil IsRead
+all_are_read seq truth last (arrival ∷ arrivals) media are =
+    All-cons IsRead arrival arrivals (is_read seq truth are.0 arrival media are.1)
+    (all_are_read seq truth (last_after last are.0 arrival) arrivals media are.3)
+
+-- Nothing is there at first.
+opening_is_true :
+    (window depth seq : ℕ) (truth : ℕ → Option Word) → LiveStandUnderSerials
+    → LeavesTruth truth seq None (opening window depth)
+opening_is_true window depth seq truth stand =
+    let nothing : (position : ℕ) → known (opening window depth) position ≡ None =
+    λ position. known_ahead (opening window depth) position (omega arith) ∙ get-empty {X = Word} nat_cmp position in
+    record {
+      window = record {
+        known_true = λ p w is_known. absurd (none-some w (sym (nothing p) ∙ is_known));
+        settled = λ e listed.
+            let r = (stand (opening window depth) e).0 listed in
+            absurd (none-some r.1 (sym (get-empty {X = Live} nat_cmp r.0) ∙ r.2));
+      };
+      top = record { top = refl; mark = omega arith; unknown = λ p past ahead. nothing p };
+    }
+
+module _
+    (stand : LiveStandUnderSerials) (peelings : SolutionsArePeelings) (solvable : TruthIsSolvable) (found : SolutionsAreTrue)
+    (media_adds : MediaAdds) (parity_adds : ParityAdds) (flush_keeps : FlushStepKeeps) (within : RunsStayWithin)
+    (join : TakingsJoin) (window depth seq : ℕ) (truth : ℕ → Option Word) (arrivals : List Arrival)
+    (sent : AreSentTrue window depth seq truth arrivals) where
+  -- What the datagrams so far leave.
+  record AreTakenTruly (plays : List Play) (new : State) : Type 0 where
+    made : All (IsTruePlay truth) plays
+    holds : Holds new
+    window_is : IsTrueWindow truth new
+
+  all_are_taken_truly :
+      (earlier later : List Arrival) (before plays : List Play) (first replies : List (Option Reply)) (taken new : State)
+      (last : Option ℕ)
+      → All IsRead earlier → length earlier + length later < 2 ^ 44
+      → TakesAll (opening window depth) earlier before first taken → LeavesTruth truth seq last taken
+      → AreTrueArrivals seq truth last later → TakesAll taken later plays replies new → AreTakenTruly plays new
+  all_are_taken_truly earlier [] before plays first replies taken new last read few so is are takes =
+      let stays = within window depth 0 earlier before [] first taken taken
+      sent.some_window sent.window_limit sent.window_within read (omega (arith, few)) so refl in
+      record {
+        made = subst (All (IsTruePlay truth)) (sym takes.0) (All-nil (IsTruePlay truth));
+        holds = subst Holds (sym takes.2) stays.0;
+        window_is = subst (IsTrueWindow truth) (sym takes.2) is.window;
+      }
+  all_are_taken_truly earlier (arrival ∷ later) before plays first [] taken new last read few so is are takes = absurd takes
+  all_are_taken_truly earlier (arrival ∷ later) before plays first (reply ∷ replies) taken new last read few so is are takes =
+      let one = is_taken_truly stand peelings solvable found media_adds parity_adds truth sent.media seq
+      last are.0 taken arrival takes.0 reply takes.2
+      (λ number due now played.
+      (within window depth number earlier before due first taken now
+      sent.some_window sent.window_limit sent.window_within read (omega (arith, few)) so played).0)
+      is are.1 are.2 takes.4 in
+      let long = length_push earlier arrival in
+      let rest = all_are_taken_truly (earlier ++ arrival ∷ []) later (before ++ takes.0) takes.1 (first ++ reply ∷ []) replies
+      takes.2 new (last_after last are.0 arrival)
+      (All-push IsRead earlier arrival read (is_read seq truth are.0 arrival sent.media are.1))
+      (omega (arith, few, long))
+      (join (opening window depth) taken takes.2 earlier (arrival ∷ []) before takes.0 first (reply ∷ []) so
+      (takes.0, [], takes.2, sym (append-nil takes.0), takes.4, (refl, refl, refl)))
+      one.leaves are.3 takes.5 in
+      record {
+        made = subst (All (IsTruePlay truth)) (sym takes.3)
+            (All-append (IsTruePlay truth) takes.0 takes.1 one.made rest.made);
+        holds = rest.holds;
+        window_is = rest.window_is;
+      }
+
+  flush_is_true :
+      (old : State) (plays : List Play) (new : State) → Holds old → IsTrueWindow truth old → IsFlush old plays new
+      → All (IsTruePlay truth) plays
+  flush_is_true old [] new holds is flush = All-nil (IsTruePlay truth)
+  flush_is_true old (play ∷ plays) new holds is flush =
+      let count = min old.window (flush.1.highest + 1 - old.mark) in
+      All-cons (IsTruePlay truth) play plays
+      (play_is_true stand peelings solvable found truth sent.media count old play flush.0 holds is flush.1.plays)
+      (flush_is_true flush.0 plays new (flush_keeps old flush.0 (Some play) holds flush.1)
+      (true_after_play stand peelings solvable found truth sent.media count old play flush.0 holds is flush.1.plays) flush.2)
+
+  run_is_true :
+      (plays : List Play) (replies : List (Option Reply)) → IsRun window depth arrivals plays replies
+      → All (IsTruePlay truth) plays
+  run_is_true plays replies run =
+      let few = sent.few in
+      let all = all_are_taken_truly [] arrivals [] run.taken [] replies (opening window depth) run.filled None
+      (All-nil IsRead) (omega (arith, few)) (refl, refl, refl) (opening_is_true window depth seq truth stand)
+      sent.arrive run.takes in
+      subst (All (IsTruePlay truth)) (sym run.plays_are)
+      (All-append (IsTruePlay truth) run.taken run.flushed all.made
+      (flush_is_true run.filled run.flushed run.empty all.holds all.window_is run.flush))
+
+-- All plays of runs of true datagrams are true.
+abbrev pub TrueRunsAreTrue : Type 0
+TrueRunsAreTrue =
+    (window depth seq : ℕ) (truth : ℕ → Option Word) (arrivals : List Arrival) (plays : List Play)
+    (replies : List (Option Reply))
+    → AreSentTrue window depth seq truth arrivals → IsRun window depth arrivals plays replies
+    → All (IsTruePlay truth) plays
+
+pub true_runs_are_true :
+    LiveStandUnderSerials → SolutionsArePeelings → TruthIsSolvable → SolutionsAreTrue → MediaAdds → ParityAdds
+    → FlushStepKeeps → RunsStayWithin → TakingsJoin → TrueRunsAreTrue
+true_runs_are_true stand peelings solvable found media_adds parity_adds flush_keeps within join window depth seq truth arrivals plays replies sent run =
+    run_is_true stand peelings solvable found media_adds parity_adds flush_keeps within join window depth seq truth arrivals
+    sent plays replies run

@@ -1,0 +1,7 @@
+use Rattle.fg_repair.specs.Flow.{records_of}
+use Rattle.fg_drill.proofs.OneWay.{same_arrivals}
+use Rattle.fg_drill.proofs.laws.sent.records_arrive_one_way.Goals as goal
+
+pub returns : goal.returns
+returns c = λ flow records one other.
+    same_arrivals c.media_datagrams_read_one_way.ensures.one_way c.parity_datagrams_read_one_way.ensures flow (records_of flow records) one other

@@ -1,0 +1,26 @@
+-- Which losses are few: this project's own. And how many records an encoding has.
+use Rattle.std.specs.Prelude.{◌≡◌, ◌≤◌, ◌⊎◌, ℕ, List, length}
+use Rattle.std.specs.List.{All}
+use Rattle.fg_shape.specs.declared.layouts.Layout.{Layout}
+use Rattle.fg_shape.specs.declared.encoding.Losses.{Losses}
+use Rattle.fg_shape.specs.declared.encoding.Settings.{Settings}
+use Rattle.fg_encode.specs.Encoding.{encoding}
+use Rattle.fg_drill.specs.Thinned.{AreFew, is_lost, media_number}
+
+-- The losses that may be asked for: at most 24,000 numbers; or each second record, or fewer, and at most 1,000 numbers.
+-- The first record's is never among them.
+pub record MayLose (losses : Losses) : Type 0 where
+  pub numbers : All (λ number. 1 ≤ number) losses.drops
+  pub few :
+      ((losses.every ≡ 0) × (length losses.drops ≤ 24000)) ⊎ ((2 ≤ losses.every) × (length losses.drops ≤ 1000))
+
+-- Such losses are few, in each layout.
+abbrev pub LossesAreFew : Type 0
+LossesAreFew =
+    (layout : Layout) (losses : Losses) (count : ℕ) → MayLose losses → AreFew layout count (is_lost losses)
+
+-- An encoding of so many payloads has as many records as come before the media record of the next slot.
+abbrev pub RecordsAreCounted : Type 0
+RecordsAreCounted =
+    (settings : Settings) (payloads : List (List ℕ))
+    → length (encoding settings payloads) ≡ media_number settings.layout (length payloads)

@@ -1,0 +1,49 @@
+-- What is sent of an encoding arrives as true datagrams. This project's own.
+use Rattle.std.specs.Prelude.{◌≡◌, ◌*◌, ◌≤◌, ℕ, Bool, List, length, nat_lt, Option, Some, None, if◌then◌else◌}
+use Rattle.std.specs.List.{AllZip}
+use Rattle.fg_words.specs.declared.Word.{Word}
+use Rattle.fg_shape.specs.declared.encoding.Settings.{Settings}
+use Rattle.fg_trace.specs.Trace.{Record}
+use Rattle.fg_peel.specs.Equation.{AreMedia}
+use Rattle.fg_desk.specs.Run.{Arrival}
+use Rattle.fg_encode.specs.Encoder.{CanEncode}
+use Rattle.fg_encode.specs.Encoding.{word_at}
+use Rattle.fg_encode.specs.Payloads.{total_length, ArePayloads}
+use Rattle.fg_repair.specs.Flow.{Arrives, records_of}
+use Rattle.fg_drill.specs.Thinned.{AreFew, thinned}
+use Rattle.fg_drill.specs.True.{AreTrueArrivals}
+
+-- The true words of an encoding: each payload's, at its slot.
+abbrev pub words_sent : Settings → List (List ℕ) → ℕ → Option Word
+words_sent settings payloads slot =
+    if nat_lt slot (length payloads) then Some (word_at settings payloads slot) else None
+
+-- They are media words.
+abbrev pub SentWordsAreMedia : Type 0
+SentWordsAreMedia =
+    (settings : Settings) (payloads : List (List ℕ)) → CanEncode settings → ArePayloads settings.packets payloads
+    → AreMedia (words_sent settings payloads)
+
+-- The records of a thinned encoding arrive as true datagrams.
+abbrev pub SentRecordsAreTrue : Type 0
+SentRecordsAreTrue =
+    (settings : Settings) (payloads : List (List ℕ)) (lost : ℕ → Bool) (arrivals : List Arrival)
+    → CanEncode settings → ArePayloads settings.packets payloads → AreFew settings.layout (length payloads) lost
+    → AllZip (Arrives settings.port) (records_of settings.port (thinned settings lost payloads)) arrivals
+    → AreTrueArrivals settings.seq (words_sent settings payloads) None arrivals
+
+-- For each payload at most three arrive: its own, and the parity of a column and of a row. Each payload has a packet at
+-- least.
+abbrev pub FewArrive : Type 0
+FewArrive =
+    (settings : Settings) (payloads : List (List ℕ)) (lost : ℕ → Bool) (arrivals : List Arrival)
+    → CanEncode settings → ArePayloads settings.packets payloads
+    → AllZip (Arrives settings.port) (records_of settings.port (thinned settings lost payloads)) arrivals
+    → (length arrivals ≤ 3 * length payloads) × (188 * length payloads ≤ total_length payloads)
+
+-- The records of a flow arrive in one way.
+abbrev pub ArriveOneWay : Type 0
+ArriveOneWay =
+    (flow : ℕ) (records : List Record) (one other : List Arrival)
+    → AllZip (Arrives flow) (records_of flow records) one → AllZip (Arrives flow) (records_of flow records) other
+    → one ≡ other

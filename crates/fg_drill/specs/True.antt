@@ -1,0 +1,60 @@
+-- True datagrams: all that arrives is right, though some of what was sent may be missing. This project's own.
+use Rattle.std.specs.Prelude.{◌≡◌, ◌+◌, ◌<◌, ◌≤◌, ◌%◌, ◌^◌, ℕ, ⊤, List, [], ◌∷◌, length, Option, Some, None, IsSomeAnd, MatchOption}
+use Rattle.fg_words.specs.declared.Word.{Word}
+use Rattle.fg_shape.specs.Shape.{IsShape}
+use Rattle.fg_peel.specs.Equation.{AreMedia, IsSettled}
+use Rattle.fg_desk.specs.State.{last_slot}
+use Rattle.fg_desk.specs.Admission.{Parity, equation_at}
+use Rattle.fg_desk.specs.Run.{Arrival, carries, protects, refused}
+
+-- The sequence number of a slot, where slot 0 has the number `seq` (RFC 3550: it has 16 bits, and wraps).
+abbrev pub number_of : ℕ → ℕ → ℕ
+number_of seq slot = (seq + slot) % 2 ^ 16
+
+-- A parity datagram that is sent with a slot: it has the number of its base, its last slot is this one, each of its slots
+-- has a true word, and it is their sum.
+pub record IsTrueParity (seq : ℕ) (truth : ℕ → Option Word) (slot : ℕ) (parity : Parity) : Type 0 where
+  pub base : ℕ
+  pub base_is : parity.base ≡ number_of seq base
+  pub shape : IsShape parity.offset parity.count
+  pub ends : last_slot (equation_at base parity) ≡ slot
+  pub settled : IsSettled truth (equation_at base parity)
+
+-- What arrives for a slot is true: a media datagram has the slot's number and its true word, and a parity datagram is a
+-- sum of true words. Nothing is refused.
+abbrev pub IsTrueArrival : ℕ → (ℕ → Option Word) → ℕ → Arrival → Type 0
+IsTrueArrival seq truth slot (carries number word) = (number ≡ number_of seq slot) × (truth slot ≡ Some word)
+IsTrueArrival seq truth slot (protects stream parity) = IsTrueParity seq truth slot parity
+IsTrueArrival seq truth slot (refused stream) = ⊥
+
+-- It comes for the slot in its turn, where the media datagram of the slot `last` came last, or none so far. The first is the
+-- media datagram of slot 0. Never are more than 32,000 media datagrams missing in succession.
+abbrev pub ComesInTurn : Option ℕ → ℕ → Arrival → Type 0
+ComesInTurn last slot (carries number word) =
+    MatchOption last (slot ≡ 0) (λ before. (before < slot) × (slot ≤ before + 32001))
+ComesInTurn last slot (protects stream parity) =
+    IsSomeAnd last (λ before. (before ≤ slot) × (slot ≤ before + 32000))
+ComesInTurn last slot (refused stream) = ⊥
+
+-- The slot of the last media datagram afterwards.
+abbrev pub last_after : Option ℕ → ℕ → Arrival → Option ℕ
+last_after last slot (carries number word) = Some slot
+last_after last slot (protects stream parity) = last
+last_after last slot (refused stream) = last
+
+-- The datagrams arrive in the order of sending, each true for some slot and in its turn.
+abbrev pub AreTrueArrivals : ℕ → (ℕ → Option Word) → Option ℕ → List Arrival → Type 0
+AreTrueArrivals seq truth last [] = ⊤
+AreTrueArrivals seq truth last (arrival ∷ arrivals) =
+    (slot : ℕ) × IsTrueArrival seq truth slot arrival × ComesInTurn last slot arrival
+    × AreTrueArrivals seq truth (last_after last slot arrival) arrivals
+
+-- True datagrams of one flow, and a window and depth for them. The true words are media words.
+pub record AreSentTrue (window depth seq : ℕ) (truth : ℕ → Option Word) (arrivals : List Arrival) : Type 0 where
+  pub some_window : 1 ≤ window
+  pub window_limit : window ≤ 100
+  pub window_within : window ≤ depth
+  pub depth_limit : depth ≤ 1000
+  pub media : AreMedia truth
+  pub arrive : AreTrueArrivals seq truth None arrivals
+  pub few : length arrivals < 2 ^ 44

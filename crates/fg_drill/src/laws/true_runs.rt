@@ -1,0 +1,38 @@
+//! Laws of true datagrams: where all that arrives is right, so is all that is shown.
+
+ghost use Rattle.fg_drill.specs.TrueLaws.{NothingElseIsShown, PeeledSlotsAreShown, TrueRunsAreRepaired, TrueRunsShowTheTruth};
+
+use fg_desk::laws::{
+    admissions_add, due_plays_come_next, facts_are_kept, flush_steps_come_next, flushes_end,
+    live_equations, mark_makes_no_difference, runs_join, runs_only_add, runs_stay_within,
+};
+use fg_peel::laws::true_words_solve;
+
+/// In a run of true datagrams each play is repaired, each word shown is the true one of its slot, and
+/// nothing else is shown.
+pub fn true_runs_are_repaired()
+    ensures repaired { TrueRunsAreRepaired }
+    ensures truth { TrueRunsShowTheTruth }
+    ensures nothing_else { NothingElseIsShown }
+{
+    live_equations();
+    mark_makes_no_difference();
+    true_words_solve();
+    admissions_add();
+    facts_are_kept();
+    runs_stay_within();
+    runs_join();
+    runs_only_add();
+}
+
+/// Where true datagrams peel, each of their slots is shown.
+pub fn peeled_slots_are_shown()
+    ensures { PeeledSlotsAreShown }
+{
+    runs_join();
+    flushes_end();
+    due_plays_come_next();
+    flush_steps_come_next();
+    runs_only_add();
+    true_runs_are_repaired();
+}
