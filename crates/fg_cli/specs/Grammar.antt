@@ -104,11 +104,6 @@ about key.Seed = codes "what the stream is made from"
 about key.Datagrams = codes "media datagrams of the stream"
 about key.Loss = codes "records of a hundred left out"
 
--- What stands behind a command that the program doesn't have yet.
-abbrev pub mark : Command → List ℕ
-mark command.Repair = []
-mark _ = codes " (not built yet)"
-
 -- The names that may stand after a command. Where several that must be there aren't, the first is told.
 abbrev pub keys_of : Command → List Key
 keys_of command.Repair = key.Flow ∷ key.Window ∷ key.Depth ∷ key.Workers ∷ key.Max ∷ []

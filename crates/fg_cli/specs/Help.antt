@@ -9,7 +9,7 @@ use Rattle.fg_cli.specs.declared.grammar.Command.TheVariants.{Repair, Encode, Dr
 use Rattle.fg_cli.specs.declared.grammar.Key.{Key}
 use Rattle.fg_cli.specs.declared.grammar.Absent.{Absent}
 use Rattle.fg_cli.specs.declared.grammar.Absent.TheVariants.{Needed, Default, Nothing}
-use Rattle.fg_cli.specs.Grammar.{Range, Number, Either, TableRow, about, command_about, command_text, keys_of, mark, row, value_text}
+use Rattle.fg_cli.specs.Grammar.{Range, Number, Either, TableRow, about, command_about, command_text, keys_of, row, value_text}
 
 -- Lines of text.
 abbrev pub lines_text : List (List ℕ) → List ℕ
@@ -55,7 +55,7 @@ key_line key = row_line (row key) (about key)
 -- The line of a command.
 unfoldable pub command_line : Command → List ℕ
 command_line command =
-    codes "\nfgate " ++ command_text command ++ codes ": " ++ command_about command ++ mark command ++ codes "\n"
+    codes "\nfgate " ++ command_text command ++ codes ": " ++ command_about command ++ codes "\n"
 
 -- A command with its names, in the order of the table.
 unfoldable pub command_help : Command → List ℕ
@@ -87,7 +87,6 @@ outro =
     ∷ codes "  5  the input is longer than max"
     ∷ codes "  6  there was no memory"
     ∷ codes "  7  the stream is not of whole transport packets"
-    ∷ codes "  9  the command is not built yet"
     ∷ codes ""
     ∷ codes "example: fgate repair flow=5000 flow=6000 < night.trace"
     ∷ [])

@@ -125,11 +125,17 @@ pub record LossesFit (losses : Losses) : Type 0 where
 abbrev pub MaxFits : ℕ → Type 0
 MaxFits max = (8 ≤ max) × (max ≤ 1099511627776)
 
+-- The plan of a drill or a sample: it repairs one flow, and the trace inside has at most 2^42 bytes.
+pub record IsInner (port : ℕ) (plan : Plan) : Type 0 where
+  pub fits : PlanFits plan
+  pub flow : plan.table ≡ port ∷ []
+  pub max : plan.max ≡ 2 ^ 42
+
 -- An order with all its numbers within the table's ranges.
 abbrev pub OrderFits : Order → Type 0
 OrderFits (order.Repair plan) = PlanFits plan × MaxFits plan.max
 OrderFits (order.Encode s max) = SettingsFit s × MaxFits max
-OrderFits (order.Drill s plan losses max) = SettingsFit s × PlanFits plan × LossesFit losses × MaxFits max
+OrderFits (order.Drill s plan losses max) = SettingsFit s × IsInner s.port plan × LossesFit losses × MaxFits max
 OrderFits (order.Inspect table max) = IsTable table × MaxFits max
 OrderFits (order.Sample seed datagrams loss plan) =
-    (1 ≤ datagrams) × (datagrams ≤ 20000) × (loss ≤ 20) × PlanFits plan
+    (1 ≤ datagrams) × (datagrams ≤ 20000) × (loss ≤ 20) × IsInner 5000 plan

@@ -1,6 +1,6 @@
 //! The commands, and the names that may stand after them: one row for each name.
 ghost use Rattle.std.specs.Prelude.{◌≡◌, ◌<◌, ◌^◌, ◌≤◌, ◌↔◌, IfNone, IfSome, IsTrue};
-ghost use Rattle.fg_cli.specs.Grammar.{Knows, Number, Either, about, command_about, command_text, keys_of, mark, needed, optional, row};
+ghost use Rattle.fg_cli.specs.Grammar.{Knows, Number, Either, about, command_about, command_text, keys_of, needed, optional, row};
 ghost use Rattle.fg_cli.specs.Reading.{BeginsPlain, Reads, range_seen, row_seen};
 
 use crate::Name;
@@ -117,18 +117,6 @@ impl Command {
             Command::Drill => "encodes a stream, drops records, and repairs it",
             Command::Inspect => "writes a line for each record of a trace",
             Command::Sample => "makes a stream, drops records, and repairs it",
-        }
-    }
-
-    /// What the help says behind a command that the program doesn't have yet.
-    pub fn mark(self) -> &'static str
-        ensures { result.now ≡ mark self }
-    {
-        match self {
-            Command::Repair => "",
-            Command::Encode | Command::Drill | Command::Inspect | Command::Sample => {
-                " (not built yet)"
-            }
         }
     }
 

@@ -121,7 +121,6 @@ fn push_outro(text: &mut Vec<u8>) -> Result<(), AllocError>
             "  5  the input is longer than max",
             "  6  there was no memory",
             "  7  the stream is not of whole transport packets",
-            "  9  the command is not built yet",
             "",
             "example: fgate repair flow=5000 flow=6000 < night.trace",
         ],
@@ -162,7 +161,6 @@ fn push_command_line(text: &mut Vec<u8>, command: Command) -> Result<(), AllocEr
     text.extend_from_slice(command.word().as_bytes())?;
     text.extend_from_slice(b": ")?;
     text.extend_from_slice(command.about().as_bytes())?;
-    text.extend_from_slice(command.mark().as_bytes())?;
     text.push(b'\n')?;
     Ok(())
 }

@@ -447,7 +447,7 @@ fgate repair: writes each flow of a trace, repaired, to PORT.ts
   workers=0..16           threads beside the one that reads; default 4
   max=8..1099511627776    most bytes of the input; default 1099511627776
 
-fgate encode: encodes a transport stream with parity (not built yet)
+fgate encode: encodes a transport stream with parity
 ",
     "
   fec=column|both         parity of columns, or of rows too; default both

@@ -1,12 +1,15 @@
 -- What holds of the request that was read holds of each that the words ask for, since there is one.
 use Rattle.std.proofs.Common.{◌≡◌, ◌⊎◌, inl, inr, ℕ, List, Option, None, Some, IfSome, refl, subst}
 use Rattle.fg_run.specs.declared.ended.Why.{Why}
-use Rattle.fg_run.specs.declared.ended.Why.TheVariants.{Done, Words, ReadFault, WriteFault, NotTrace, Cut, TooLong, Memory, NotBuilt}
+use Rattle.fg_run.specs.declared.ended.Why.TheVariants.{Done, Words, ReadFault, WriteFault, NotTrace, Cut, TooLong, Memory, NotTransport}
 use Rattle.fg_run.specs.declared.request.Request.{Request}
+use Rattle.fg_run.specs.declared.request.Request.TheVariants.{Asked, Ordered, Refused}
+use Rattle.fg_cli.specs.declared.Order.TheVariants.{Repair, Encode, Drill, Inspect, Sample}
+use Rattle.fg_io.specs.Outlet.{Lanes}
 use Rattle.fg_run.specs.Ended.{IsFault}
 use Rattle.fg_run.specs.Laws.{OneRequest}
 use Rattle.fg_run.specs.Request.{Asks}
-use Rattle.fg_run.specs.Run.{IsAnswer, IsNoInput}
+use Rattle.fg_run.specs.Run.{ComesBack, IsAnswer, IsNoInput}
 
 pub of_each : OneRequest → (words : List (List ℕ)) (r : Request) (P : Request → Type 0) → Asks words r → P r → (request : Request) → Asks words request → P request
 of_each one words r P h x request k = subst P (one words r request h k) x
@@ -30,7 +33,7 @@ complete_of R W L (NotTrace n) due (inl fault) read write no_read no_write no_la
 complete_of R W L (Cut n) due (inl fault) read write no_read no_write no_lane = absurd fault
 complete_of R W L (TooLong n) due (inl fault) read write no_read no_write no_lane = absurd fault
 complete_of R W L Memory due (inl fault) read write no_read no_write no_lane = inr refl
-complete_of R W L (NotBuilt n) due (inl fault) read write no_read no_write no_lane = absurd fault
+complete_of R W L (NotTransport f) due (inl fault) read write no_read no_write no_lane = absurd fault
 
 pub complete_told : (R W L : Type 0) (answer : Why) (input : Option (List ℕ)) (P : List ℕ → Why → Type 0)
     → IfSome input (λ bytes. (due : Why) → P bytes due → IsFault answer ⊎ (answer ≡ due))
@@ -56,3 +59,17 @@ pub nothing_made : (words : List (List ℕ)) (input : Option (List ℕ)) (P : Ty
     → IfSome input (λ bytes. (request : Request) → Asks words request → IsNoInput request bytes → P)
 nothing_made words None P x = tt
 nothing_made words (Some bytes) P x = λ request h k. x
+
+-- want of memory is a fault, after which nothing need come back
+no_memory : (input : Option (List ℕ)) (P : List ℕ → Type 0) → IfSome input (λ bytes. IsFault Memory ⊎ P bytes)
+no_memory None P = tt
+no_memory (Some bytes) P = inl tt
+
+pub comes_back_not : (request : Request) (input : Option (List ℕ)) (lanes : Option Lanes) → ComesBack request Memory input lanes lanes
+comes_back_not (Asked question) input lanes = tt
+comes_back_not (Refused fault) input lanes = tt
+comes_back_not (Ordered (Repair plan)) input lanes = tt
+comes_back_not (Ordered (Encode settings max)) input lanes = tt
+comes_back_not (Ordered (Drill settings plan losses max)) input lanes = no_memory input _
+comes_back_not (Ordered (Inspect table max)) input lanes = tt
+comes_back_not (Ordered (Sample seed datagrams loss plan)) input lanes = tt

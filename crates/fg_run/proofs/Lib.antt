@@ -1,4 +1,11 @@
 pub mod Asked
+pub mod ComingBack
+pub mod Drills
+pub mod Encodings
 pub mod Lines
 pub mod Requests
+pub mod Samples
+pub mod Sending
+pub mod TraceBuffers
 pub mod Untouched
+pub mod WholeStreams

@@ -6,13 +6,21 @@ use Rattle.fg_io.specs.Outlet.{Lanes, lane_bytes, WhereTold}
 use Rattle.fg_io.specs.Sink.{GainsPart}
 use Rattle.fg_flows.specs.declared.Plan.{Plan}
 use Rattle.fg_cli.specs.declared.Order.TheVariants.{Repair, Encode, Drill, Inspect, Sample}
-use Rattle.fg_trace.specs.Trace.{Record, Ending, IsTrace}
+use Rattle.fg_shape.specs.declared.encoding.Settings.{Settings}
+use Rattle.fg_shape.specs.declared.encoding.Losses.{Losses}
+use Rattle.fg_trace.specs.Trace.{Record, Ending, Ended, IsTrace, trace_of}
+use Rattle.fg_encode.specs.Encoding.{encoding}
+use Rattle.fg_encode.specs.Stream.{StreamEnding, IsCut}
 use Rattle.fg_repair.specs.Flow.{FlowResult, IsFlowResult}
 use Rattle.fg_repair.specs.Lanes.{LaneGainsPart, PutsAll, PutsAllPart, OthersStay}
 use Rattle.fg_repair.specs.Repair.{AreResults, lanes_of, report_text}
+use Rattle.fg_inspect.specs.Inspect.{TellsPart}
 use Rattle.fg_run.specs.declared.request.Request.{Request}
 use Rattle.fg_run.specs.declared.request.Request.TheVariants.{Asked, Ordered, Refused}
+use Rattle.fg_run.specs.Drill.{DrillsPart, records_sent}
+use Rattle.fg_run.specs.Encode.{EncodesPart}
 use Rattle.fg_run.specs.Run.{AnswersPart}
+use Rattle.fg_run.specs.Sample.{SamplesPart, sample_line, sample_sent}
 
 lane_stays : (lanes : Lanes) (port : ℕ) (piece : List ℕ) → LaneGainsPart lanes lanes port piece
 lane_stays lanes port piece = record {
@@ -49,6 +57,37 @@ front : {K : Type 0} (plan : Plan) (input : Option (List ℕ)) (lanes : Option L
 front plan None lanes written out = tt
 front plan (Some bytes) lanes written out = λ records results end h k. inl (nothing_put plan records results lanes k, refl)
 
+no_text : (flows : List ℕ) (max : ℕ) (input written : Option (List ℕ)) → NoneIsPart → TellsPart flows max input written written
+no_text flows max None written none = tt
+no_text flows max (Some bytes) written none = λ records end text trace is. none written text
+
+no_encoding : (settings : Settings) (max : ℕ) (input written : Option (List ℕ)) → NoneIsPart → EncodesPart settings max input written written
+no_encoding settings max None written none = tt
+no_encoding settings max (Some bytes) written none = λ payloads end cut. none written (trace_of (encoding settings payloads))
+
+no_front : {K : Type 0} (settings : Settings) (plan : Plan) (losses : Losses) (max : ℕ) (input : Option (List ℕ)) (lanes : Option Lanes) (written : K → Option (List ℕ)) (out : K)
+    → IfSome input (λ bytes. (payloads : List (List ℕ)) (end : StreamEnding) (results : List FlowResult)
+    → IsCut settings.packets max bytes payloads end → AreResults plan (records_sent settings losses payloads) results
+    → (PutsAllPart lanes plan.table (lanes_of results) lanes × (out ≡ out))
+    ⊎ (PutsAll lanes plan.table (lanes_of results) lanes × GainsPart (written out) (report_text plan (records_sent settings losses payloads) results Ended) (written out)))
+no_front settings plan losses max None lanes written out = tt
+no_front settings plan losses max (Some bytes) lanes written out = λ payloads end results cut are. inl (nothing_put plan (records_sent settings losses payloads) results lanes are, refl)
+
+pub no_drill : {K : Type 0} (settings : Settings) (plan : Plan) (losses : Losses) (max : ℕ) (input : Option (List ℕ)) (lanes : Option Lanes) (written : K → Option (List ℕ)) (out : K)
+    → DrillsPart settings plan losses max input lanes lanes written out out
+no_drill settings plan losses max input lanes written out = record {
+  others = others_stay plan lanes;
+  front = no_front settings plan losses max input lanes written out;
+}
+
+-- where the sink has gained part of the line at most, and no lane is touched
+pub no_sample : (seed datagrams loss : ℕ) (plan : Plan) (lanes : Option Lanes) (written written' : Option (List ℕ))
+    → GainsPart written (sample_line seed datagrams loss) written' → SamplesPart seed datagrams loss plan lanes lanes written written'
+no_sample seed datagrams loss plan lanes written written' part = record {
+  others = others_stay plan lanes;
+  front = λ results are. inl (nothing_put plan (sample_sent seed datagrams loss) results lanes are, part);
+}
+
 -- whatever was asked for
 pub untouched : {K : Type 0} → NoneIsPart → (request : Request) (input : Option (List ℕ)) (lanes : Option Lanes) (written : K → Option (List ℕ)) (out : K)
     → AnswersPart request input lanes lanes written out out
@@ -57,8 +96,9 @@ untouched none (Ordered (Repair plan)) input lanes written out = record {
   others = others_stay plan lanes;
   front = front plan input lanes written out;
 }
-untouched none (Ordered (Encode s max)) input lanes written out = (refl, refl)
-untouched none (Ordered (Drill s plan losses max)) input lanes written out = (refl, refl)
-untouched none (Ordered (Inspect table max)) input lanes written out = (refl, refl)
-untouched none (Ordered (Sample seed datagrams loss plan)) input lanes written out = (refl, refl)
+untouched none (Ordered (Encode s max)) input lanes written out = (refl, no_encoding s max input (written out) none)
+untouched none (Ordered (Drill s plan losses max)) input lanes written out = no_drill s plan losses max input lanes written out
+untouched none (Ordered (Inspect table max)) input lanes written out = (refl, no_text table max input (written out) none)
+untouched none (Ordered (Sample seed datagrams loss plan)) input lanes written out =
+    no_sample seed datagrams loss plan lanes (written out) (written out) (none (written out) (sample_line seed datagrams loss))
 untouched none (Refused fault) input lanes written out = (refl, refl)

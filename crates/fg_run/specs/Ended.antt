@@ -1,8 +1,9 @@
 -- How a call of the program ends: statuses and fault lines. They are this project's own.
-use Rattle.std.specs.Prelude.{ℕ, Option, List, [], ◌++◌, ◌⊎◌, codes, ⊤}
+use Rattle.std.specs.Prelude.{◌≡◌, ℕ, Option, List, [], ◌++◌, ◌⊎◌, codes, ⊤}
 use Rattle.std.specs.Fmt.{decimal}
 use Rattle.fg_io.specs.Faults.{CountsFault}
 use Rattle.fg_io.specs.Sink.{Gains, GainsPart}
+use Rattle.fg_ts.specs.declared.TsFault.TheVariants as packets
 use Rattle.fg_shape.specs.declared.layouts.LayoutFault.{LayoutFault}
 use Rattle.fg_shape.specs.declared.layouts.LayoutFault.TheVariants as layout
 use Rattle.fg_flows.specs.declared.FlowFault.{FlowFault}
@@ -12,7 +13,7 @@ use Rattle.fg_cli.specs.declared.Name.TheVariants as name
 use Rattle.fg_cli.specs.declared.WordFault.{WordFault}
 use Rattle.fg_cli.specs.declared.WordFault.TheVariants as word
 use Rattle.fg_run.specs.declared.ended.Why.{Why}
-use Rattle.fg_run.specs.declared.ended.Why.TheVariants.{Done, Words, ReadFault, WriteFault, NotTrace, Cut, TooLong, Memory, NotBuilt}
+use Rattle.fg_run.specs.declared.ended.Why.TheVariants.{Done, Words, ReadFault, WriteFault, NotTrace, Cut, TooLong, Memory, NotTransport}
 
 -- The exit status.
 abbrev pub status_of : Why → ℕ
@@ -24,7 +25,7 @@ status_of (NotTrace n) = 4
 status_of (Cut n) = 4
 status_of (TooLong n) = 5
 status_of Memory = 6
-status_of (NotBuilt n) = 9
+status_of (NotTransport fault) = 7
 
 -- A fault of the outside, or want of memory.
 abbrev pub IsFault : Why → Type 0
@@ -73,9 +74,11 @@ fault_line (NotTrace n) = codes "not a trace at byte " ++ decimal n ++ codes "\n
 fault_line (Cut n) = codes "cut at byte " ++ decimal n ++ codes "\n"
 fault_line (TooLong n) = codes "too long at byte " ++ decimal n ++ codes "\n"
 fault_line Memory = codes "no memory\n"
-fault_line (NotBuilt n) = codes "not built at byte " ++ decimal n ++ codes "\n"
+fault_line (NotTransport (packets.Ragged n)) = codes "not transport: length " ++ decimal n ++ codes "\n"
+fault_line (NotTransport (packets.NoSync k)) = codes "not transport: packet " ++ decimal k ++ codes "\n"
 
--- The error sink has gained the line, or a prefix of it where a fault was counted.
+-- The error sink has gained the line and counted no fault, or a prefix of it and counted one.
 abbrev pub TellsFault : Why → Option (List ℕ) → ℕ → Option (List ℕ) → ℕ → Type 0
 TellsFault why before faults after faults' =
-    Gains before (fault_line why) after ⊎ (GainsPart before (fault_line why) after × CountsFault faults faults')
+    (Gains before (fault_line why) after × (faults' ≡ faults))
+    ⊎ (GainsPart before (fault_line why) after × CountsFault faults faults')

@@ -1,6 +1,9 @@
 -- Laws that show the definitions of requests and answers to be right.
-use Rattle.std.specs.Prelude.{◌≡◌, ℕ, List}
+use Rattle.std.specs.Prelude.{◌≡◌, ◌≤◌, ℕ, List, length}
+use Rattle.fg_ts.specs.Packets.{ArePackets}
 use Rattle.fg_run.specs.declared.ended.Why.{Why}
+use Rattle.fg_run.specs.declared.ended.Why.TheVariants.{Done}
+use Rattle.fg_run.specs.Encode.{IsStreamAnswer}
 use Rattle.fg_run.specs.declared.request.Request.{Request}
 use Rattle.fg_run.specs.Request.{Asks}
 use Rattle.fg_run.specs.Run.{IsAnswer}
@@ -15,3 +18,9 @@ abbrev pub OneAnswer : Type 0
 OneAnswer =
     (request : Request) (bytes : List ℕ) (one other : Why)
     → IsAnswer request bytes one → IsAnswer request bytes other → one ≡ other
+
+-- A stream of whole packets within the limit ends with its last payload.
+abbrev pub WholeStreamsAreDone : Type 0
+WholeStreamsAreDone =
+    (packets max count : ℕ) (bytes : List ℕ)
+    → 1 ≤ packets → ArePackets bytes count → length bytes ≤ max → IsStreamAnswer packets max bytes Done

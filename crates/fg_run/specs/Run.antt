@@ -1,35 +1,40 @@
--- What the program answers to each request: this project's own. A request that is told here in no arm of its own touches
--- nothing.
-use Rattle.std.specs.Prelude.{◌≡◌, ◌⊎◌, ℕ, List, [], Option, ⊤}
+-- What the program answers to each request: this project's own.
+use Rattle.std.specs.Prelude.{◌≡◌, ◌⊎◌, ℕ, List, [], Option, IfSome, ⊤}
 use Rattle.fg_io.specs.Outlet.{Lanes}
 use Rattle.fg_io.specs.Sink.{Gains, GainsPart}
 use Rattle.fg_trace.specs.declared.step.Finish.{Finish}
-use Rattle.fg_trace.specs.declared.step.Finish.TheVariants as finish
-use Rattle.fg_trace.specs.Trace.{Record, Ending, Ended, NotTrace, Cut, TooLong, IsTrace}
+use Rattle.fg_trace.specs.Trace.{Record, Ending, NotTrace, IsTrace}
 use Rattle.fg_cli.specs.Help.{answer_text}
-use Rattle.fg_cli.specs.declared.Order.TheVariants.{Repair}
+use Rattle.fg_cli.specs.declared.Order.TheVariants.{Repair, Encode, Drill, Inspect, Sample}
 use Rattle.fg_repair.specs.Repair.{Outputs, OutputsPart}
+use Rattle.fg_inspect.specs.Inspect.{Tells, TellsPart}
 use Rattle.fg_run.specs.declared.ended.Why.{Why}
 use Rattle.fg_run.specs.declared.ended.Why.TheVariants as why
+use Rattle.fg_run.specs.Drill.{Drills, DrillsPart, StreamComesBack}
+use Rattle.fg_run.specs.Encode.{Encodes, EncodesPart, EndsStream, IsStreamAnswer}
+use Rattle.fg_run.specs.Ended.{IsFault}
+use Rattle.fg_run.specs.Endings.{why_of_ending, why_of_finish}
+use Rattle.fg_run.specs.Sample.{Samples, SamplesPart}
 use Rattle.fg_run.specs.declared.request.Request.{Request}
 use Rattle.fg_run.specs.declared.request.Request.TheVariants.{Asked, Ordered, Refused}
 
--- The answer to a trace that ends so.
-abbrev pub why_of_ending : Ending → Why
-why_of_ending Ended = why.Done
-why_of_ending (NotTrace n) = why.NotTrace n
-why_of_ending (Cut n) = why.Cut n
-why_of_ending (TooLong n) = why.TooLong n
+-- The answer is that to the trace of these bytes, under this limit on their number.
+abbrev pub IsTraceAnswer : ℕ → List ℕ → Why → Type 0
+IsTraceAnswer max bytes answer =
+    (records : List Record) × (end : Ending) × IsTrace bytes max records end × (answer ≡ why_of_ending end)
 
--- The answer of a command that reads a trace and finishes so.
-abbrev pub why_of_finish : Finish → Why
-why_of_finish finish.Done = why.Done
-why_of_finish finish.ReadFault = why.ReadFault
-why_of_finish finish.WriteFault = why.WriteFault
-why_of_finish (finish.NotTrace n) = why.NotTrace n
-why_of_finish (finish.Cut n) = why.Cut n
-why_of_finish (finish.TooLong n) = why.TooLong n
-why_of_finish finish.Memory = why.Memory
+-- The bytes are no trace.
+abbrev pub IsNoTrace : ℕ → List ℕ → Type 0
+IsNoTrace max bytes = (n : ℕ) × IsTrace bytes max [] (NotTrace n)
+
+-- After this answer nothing of a trace is left to read.
+abbrev pub EndsTrace : Why → Type 0
+EndsTrace answer = (answer ≡ why.Done) ⊎ ((n : ℕ) × (answer ≡ why.Cut n))
+
+-- The records of the input's trace are told, and the answer is that of its ending.
+abbrev pub Inspects : List ℕ → ℕ → Why → Option (List ℕ) → Option (List ℕ) → Option (List ℕ) → Type 0
+Inspects flows max answer input written written' =
+    (finish : Finish) × (answer ≡ why_of_finish finish) × Tells flows max finish input written written'
 
 -- The request has this answer, and the lanes and the sink have gained what is defined for it over the input.
 abbrev pub Answers :
@@ -40,16 +45,24 @@ Answers (Refused fault) answer input lanes lanes' written written' =
     (answer ≡ why.Words fault) × (lanes' ≡ lanes) × (written' ≡ written)
 Answers (Ordered (Repair plan)) answer input lanes lanes' written written' =
     (end : Ending) × (answer ≡ why_of_ending end) × Outputs plan end input lanes lanes' written written'
-Answers (Ordered order) answer input lanes lanes' written written' =
-    (answer ≡ why.NotBuilt 0) × (lanes' ≡ lanes) × (written' ≡ written)
+Answers (Ordered (Encode settings max)) answer input lanes lanes' written written' =
+    (lanes' ≡ lanes) × Encodes settings max answer input written written'
+Answers (Ordered (Drill settings plan losses max)) answer input lanes lanes' written written' =
+    Drills settings plan losses max answer input lanes lanes' written written'
+Answers (Ordered (Inspect table max)) answer input lanes lanes' written written' =
+    (lanes' ≡ lanes) × Inspects table max answer input written written'
+Answers (Ordered (Sample seed datagrams loss plan)) answer input lanes lanes' written written' =
+    Samples seed datagrams loss plan answer lanes lanes' written written'
 
 -- The answer that the request has over these bytes, where nothing fails and memory is there.
 abbrev pub IsAnswer : Request → List ℕ → Why → Type 0
 IsAnswer (Asked question) bytes answer = answer ≡ why.Done
 IsAnswer (Refused fault) bytes answer = answer ≡ why.Words fault
-IsAnswer (Ordered (Repair plan)) bytes answer =
-    (records : List Record) × (end : Ending) × IsTrace bytes plan.max records end × (answer ≡ why_of_ending end)
-IsAnswer (Ordered order) bytes answer = answer ≡ why.NotBuilt 0
+IsAnswer (Ordered (Repair plan)) bytes answer = IsTraceAnswer plan.max bytes answer
+IsAnswer (Ordered (Encode settings max)) bytes answer = IsStreamAnswer settings.packets max bytes answer
+IsAnswer (Ordered (Drill settings plan losses max)) bytes answer = IsStreamAnswer settings.packets max bytes answer
+IsAnswer (Ordered (Inspect table max)) bytes answer = IsTraceAnswer max bytes answer
+IsAnswer (Ordered (Sample seed datagrams loss plan)) bytes answer = answer ≡ why.Done
 
 -- What a fault, or want of memory, leaves of what the request would have gained.
 abbrev pub AnswersPart :
@@ -58,28 +71,55 @@ AnswersPart (Asked question) input lanes lanes' written out out' =
     (lanes' ≡ lanes) × GainsPart (written out) (answer_text question) (written out')
 AnswersPart (Ordered (Repair plan)) input lanes lanes' written out out' =
     OutputsPart plan input lanes lanes' written out out'
-AnswersPart request input lanes lanes' written out out' = (lanes' ≡ lanes) × (out' ≡ out)
+AnswersPart (Ordered (Encode settings max)) input lanes lanes' written out out' =
+    (lanes' ≡ lanes) × EncodesPart settings max input (written out) (written out')
+AnswersPart (Ordered (Drill settings plan losses max)) input lanes lanes' written out out' =
+    DrillsPart settings plan losses max input lanes lanes' written out out'
+AnswersPart (Ordered (Inspect table max)) input lanes lanes' written out out' =
+    (lanes' ≡ lanes) × TellsPart table max input (written out) (written out')
+AnswersPart (Ordered (Sample seed datagrams loss plan)) input lanes lanes' written out out' =
+    SamplesPart seed datagrams loss plan lanes lanes' (written out) (written out')
+AnswersPart (Refused fault) input lanes lanes' written out out' = (lanes' ≡ lanes) × (out' ≡ out)
 
 -- What the request leaves alone, whatever its answer: the input, the sink, the lanes.
 abbrev pub ReadsNothing : Request → Type 0
 ReadsNothing (Ordered (Repair plan)) = ⊥
+ReadsNothing (Ordered (Encode settings max)) = ⊥
+ReadsNothing (Ordered (Drill settings plan losses max)) = ⊥
+ReadsNothing (Ordered (Inspect table max)) = ⊥
 ReadsNothing request = ⊤
 
 abbrev pub WritesNothing : Request → Type 0
-WritesNothing (Asked question) = ⊥
-WritesNothing (Ordered (Repair plan)) = ⊥
-WritesNothing request = ⊤
+WritesNothing (Refused fault) = ⊤
+WritesNothing request = ⊥
 
 abbrev pub MakesNoLane : Request → Type 0
 MakesNoLane (Ordered (Repair plan)) = ⊥
+MakesNoLane (Ordered (Drill settings plan losses max)) = ⊥
+MakesNoLane (Ordered (Sample seed datagrams loss plan)) = ⊥
 MakesNoLane request = ⊤
+
+-- The request writes only once all of its input was read: where reading fails, nothing was written.
+abbrev pub WritesLast : Request → Type 0
+WritesLast (Ordered (Repair plan)) = ⊤
+WritesLast request = ⊥
 
 -- The input isn't what the request reads: it is no trace.
 abbrev pub IsNoInput : Request → List ℕ → Type 0
-IsNoInput (Ordered (Repair plan)) bytes = (n : ℕ) × IsTrace bytes plan.max [] (NotTrace n)
+IsNoInput (Ordered (Repair plan)) bytes = IsNoTrace plan.max bytes
+IsNoInput (Ordered (Inspect table max)) bytes = IsNoTrace max bytes
 IsNoInput request bytes = ⊥
 
 -- After this answer to the request nothing of the input is left.
 abbrev pub ReadsAll : Request → Why → Type 0
-ReadsAll (Ordered (Repair plan)) answer = (answer ≡ why.Done) ⊎ ((n : ℕ) × (answer ≡ why.Cut n))
+ReadsAll (Ordered (Repair plan)) answer = EndsTrace answer
+ReadsAll (Ordered (Encode settings max)) answer = EndsStream answer
+ReadsAll (Ordered (Drill settings plan losses max)) answer = EndsStream answer
+ReadsAll (Ordered (Inspect table max)) answer = EndsTrace answer
 ReadsAll request answer = ⊥
+
+-- What comes back of a stream that the request drills, where the input tells its bytes and the answer is no fault.
+abbrev pub ComesBack : Request → Why → Option (List ℕ) → Option Lanes → Option Lanes → Type 0
+ComesBack (Ordered (Drill settings plan losses max)) answer input lanes lanes' =
+    IfSome input (λ bytes. IsFault answer ⊎ StreamComesBack settings plan losses max answer bytes lanes lanes')
+ComesBack request answer input lanes lanes' = ⊤

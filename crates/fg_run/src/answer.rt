@@ -11,10 +11,14 @@ ghost use Rattle.fg_run.specs.declared.ended.Why.{Why as AnyWhy};
 ghost use Rattle.fg_run.specs.declared.request.Request.{Request as AnyRequest};
 ghost use Rattle.fg_run.specs.Ended.{IsFault};
 ghost use Rattle.fg_run.specs.Request.{RequestFits};
-ghost use Rattle.fg_run.specs.Run.{Answers, AnswersPart, IsAnswer, IsNoInput, MakesNoLane, ReadsAll, ReadsNothing, WritesNothing};
+ghost use Rattle.fg_run.specs.Run.{Answers, AnswersPart, ComesBack, IsAnswer, IsNoInput, MakesNoLane, ReadsAll, ReadsNothing, WritesLast, WritesNothing};
 
+use crate::drilling::drill;
+use crate::encoding::run_encode;
 use crate::ended::Why;
+use crate::inspection::run_inspect;
 use crate::request::Request;
+use crate::sampling::sample;
 use fg_cli::{Order, Question};
 use fg_flows::Plan;
 use fg_io::laws::parts_of_writes;
@@ -35,6 +39,7 @@ pub fn answer<S: Source, K: Sink, O: Outlet>(
         (O.lanes lanes.old) (O.lanes lanes.new) (K.written out.old) (K.written out.new) }
     ensures exactly { IfSome (S.left input.old) (λ bytes. (why : AnyWhy)
         → IsAnswer request bytes why → IsFault result ⊎ (result ≡ why)) }
+    ensures comes_back { ComesBack request result (S.left input.old) (O.lanes lanes.old) (O.lanes lanes.new) }
     ensures words { (fault : AnyWordFault) → result ≡ Why.Words fault → request ≡ Request.Refused fault }
     ensures part { IsFault result → AnswersPart request (S.left input.old) (O.lanes lanes.old)
         (O.lanes lanes.new) K.written out.old out.new }
@@ -45,7 +50,7 @@ pub fn answer<S: Source, K: Sink, O: Outlet>(
     ensures no_lane { MakesNoLane request → lanes.new ≡ lanes.old }
     ensures all_read { ReadsAll request result → IsAtEnd (S.left input.new) }
 
-    ensures no_report { result ≡ Why.ReadFault → out.new ≡ out.old }
+    ensures no_report { WritesLast request → result ≡ Why.ReadFault → out.new ≡ out.old }
     ensures read_fault { result ≡ Why.ReadFault → CountsFault (S.faults input.old) (S.faults input.new) }
     ensures write_fault { result ≡ Why.WriteFault
         → CountsFault (K.faults out.old) (K.faults out.new)
@@ -62,7 +67,28 @@ pub fn answer<S: Source, K: Sink, O: Outlet>(
         Request::Ordered(Order::Repair(plan)) => {
             repair_alone(alloc, &plan, input, out, lanes).into()
         }
-        Request::Ordered(_) => Why::NotBuilt(0),
+        Request::Ordered(Order::Encode { settings, max }) => {
+            run_encode(alloc, &settings, max, input, out).why
+        }
+        Request::Ordered(
+            Order::Drill {
+                settings,
+                plan,
+                losses,
+                max,
+            },
+        ) => drill(alloc, settings, &plan, losses, max, input, out, lanes),
+        Request::Ordered(Order::Inspect { table, max }) => {
+            run_inspect(alloc, &table, max, input, out).why
+        }
+        Request::Ordered(
+            Order::Sample {
+                seed,
+                datagrams,
+                loss,
+                plan,
+            },
+        ) => sample(alloc, seed, datagrams, loss, &plan, out, lanes),
         Request::Refused(fault) => Why::Words(fault),
     }
 }

@@ -1,10 +1,11 @@
 //! How a call of the program ends.
 ghost use Rattle.std.specs.Prelude.{◌≡◌};
 ghost use Rattle.fg_run.specs.Ended.{status_of};
-ghost use Rattle.fg_run.specs.Run.{why_of_finish};
+ghost use Rattle.fg_run.specs.Endings.{why_of_finish};
 
 use fg_cli::WordFault;
 use fg_trace::Finish;
+use fg_ts::TsFault;
 
 /// Why the program ended.
 #[derive(Clone, Copy, Debug, PartialEq, Eq)]
@@ -24,12 +25,13 @@ pub enum Why {
     /// before it.
     Cut(u64),
     /// The input has more bytes than it may, and this is the place of the first byte of the first record that isn't whole
-    /// within the limit. The outputs are those of the records before it.
+    /// within the limit, or of a stream the first datagram. The outputs are those of what is before it.
     TooLong(u64),
     /// There was no memory.
     Memory,
-    /// The words order what isn't built yet; the place is 0.
-    NotBuilt(u64),
+    /// The input is no stream of whole transport packets. `Ragged` has its length, and `NoSync` the number of the first packet
+    /// without the sync byte, counted from 0. The output is that of the datagrams before.
+    NotTransport(TsFault),
 }
 
 /// How a call of the program ended.
@@ -41,8 +43,21 @@ pub struct Ended {
     pub why: Why,
 }
 
+impl Ended {
+    /// A call that ended so.
+    pub(crate) fn of(why: Why) -> Ended
+        ensures status { result.status ≡ status_of why }
+        ensures why { result.why ≡ why }
+    {
+        Ended {
+            status: why.status(),
+            why,
+        }
+    }
+}
+
 impl Why {
-    /// The exit status: 0, 1, 2, 3, 4, 4, 5, 6 and 9 in the order of the variants.
+    /// The exit status: 0, 1, 2, 3, 4, 4, 5, 6 and 7 in the order of the variants.
     pub fn status(&self) -> u8
         ensures { result ≡ status_of self.now }
     {
@@ -54,7 +69,7 @@ impl Why {
             Why::NotTrace(_) | Why::Cut(_) => 4,
             Why::TooLong(_) => 5,
             Why::Memory => 6,
-            Why::NotBuilt(_) => 9,
+            Why::NotTransport(_) => 7,
         }
     }
 }

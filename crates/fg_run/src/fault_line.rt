@@ -10,6 +10,7 @@ use fg_cli::{Name, WordFault};
 use fg_flows::FlowFault;
 use fg_io::{Failed, Sink, write_all, write_pieces};
 use fg_shape::LayoutFault;
+use fg_ts::TsFault;
 use itoa::Buffer;
 
 /// Writes the line for a program that ended so; nothing is written where all was done.
@@ -17,6 +18,7 @@ pub fn write_fault_line<E: Sink>(err: &mut E, why: Why) -> Result<(), Failed>
     ensures whole { OnOk result (Gains (E.written err.old) (fault_line why) (E.written err.new)) }
     ensures part { OnErr result (GainsPart (E.written err.old) (fault_line why)
         (E.written err.new)) }
+    ensures no_fault { OnOk result (E.faults err.new ≡ E.faults err.old) }
     ensures counted { OnErr result (CountsFault (E.faults err.old) (E.faults err.new)) }
     ensures never_falls { E.faults err.old ≤ E.faults err.new }
     ensures quiet { why ≡ Why.Done → err.new ≡ err.old }
@@ -30,7 +32,12 @@ pub fn write_fault_line<E: Sink>(err: &mut E, why: Why) -> Result<(), Failed>
         Why::Cut(place) => write_number(err, b"cut at byte ", place),
         Why::TooLong(place) => write_number(err, b"too long at byte ", place),
         Why::Memory => write_all(err, b"no memory\n"),
-        Why::NotBuilt(place) => write_number(err, b"not built at byte ", place),
+        Why::NotTransport(TsFault::Ragged(size)) => {
+            write_number(err, b"not transport: length ", size)
+        }
+        Why::NotTransport(TsFault::NoSync(number)) => {
+            write_number(err, b"not transport: packet ", number)
+        }
     }
 }
 
@@ -39,6 +46,7 @@ fn write_words_line<E: Sink>(err: &mut E, fault: WordFault) -> Result<(), Failed
     ensures whole { OnOk result (Gains (E.written err.old) (words_line fault) (E.written err.new)) }
     ensures part { OnErr result (GainsPart (E.written err.old) (words_line fault)
         (E.written err.new)) }
+    ensures no_fault { OnOk result (E.faults err.new ≡ E.faults err.old) }
     ensures counted { OnErr result (CountsFault (E.faults err.old) (E.faults err.new)) }
     ensures never_falls { E.faults err.old ≤ E.faults err.new }
 {
@@ -57,6 +65,7 @@ fn write_flows_line<E: Sink>(err: &mut E, fault: FlowFault) -> Result<(), Failed
     ensures whole { OnOk result (Gains (E.written err.old) (flows_line fault) (E.written err.new)) }
     ensures part { OnErr result (GainsPart (E.written err.old) (flows_line fault)
         (E.written err.new)) }
+    ensures no_fault { OnOk result (E.faults err.new ≡ E.faults err.old) }
     ensures counted { OnErr result (CountsFault (E.faults err.old) (E.faults err.new)) }
     ensures never_falls { E.faults err.old ≤ E.faults err.new }
 {
@@ -98,6 +107,7 @@ fn write_number<E: Sink>(err: &mut E, text: &[u8], number: u64) -> Result<(), Fa
         (text.now ++ decimal number ++ codes "\n") (E.written err.new)) }
     ensures part { OnErr result (GainsPart (E.written err.old)
         (text.now ++ decimal number ++ codes "\n") (E.written err.new)) }
+    ensures no_fault { OnOk result (E.faults err.new ≡ E.faults err.old) }
     ensures counted { OnErr result (CountsFault (E.faults err.old) (E.faults err.new)) }
     ensures never_falls { E.faults err.old ≤ E.faults err.new }
 {
@@ -110,6 +120,7 @@ fn write_line<E: Sink>(err: &mut E, text: &[u8], more: &str) -> Result<(), Faile
         (text.now ++ more.now ++ codes "\n") (E.written err.new)) }
     ensures part { OnErr result (GainsPart (E.written err.old)
         (text.now ++ more.now ++ codes "\n") (E.written err.new)) }
+    ensures no_fault { OnOk result (E.faults err.new ≡ E.faults err.old) }
     ensures counted { OnErr result (CountsFault (E.faults err.old) (E.faults err.new)) }
     ensures never_falls { E.faults err.old ≤ E.faults err.new }
 {

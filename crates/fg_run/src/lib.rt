@@ -1,6 +1,6 @@
 //! The top call of the program: [`run`] reads its words, does what they ask for, and tells how that ended.
 //!
-//! What is built so far is `repair`, on one thread. The other orders of the grammar are answered as not built.
+//! All goes through one thread, the caller's.
 #![tactic(auto)]
 
 ghost use Rattle.std.specs.Prelude.{◌≡◌, ◌≢◌, ◌≤◌, ◌⊎◌, ℕ, IfSome, map, string_bytes};
@@ -11,21 +11,28 @@ ghost use Rattle.fg_run.specs.declared.ended.Why.{Why as AnyWhy};
 ghost use Rattle.fg_run.specs.declared.request.Request.{Request as AnyRequest};
 ghost use Rattle.fg_run.specs.Ended.{IsFault, TellsFault, status_of};
 ghost use Rattle.fg_run.specs.Request.{Asks};
-ghost use Rattle.fg_run.specs.Run.{Answers, AnswersPart, IsAnswer, IsNoInput, MakesNoLane, ReadsAll, ReadsNothing, WritesNothing};
+ghost use Rattle.fg_run.specs.Run.{Answers, AnswersPart, ComesBack, IsAnswer, IsNoInput, MakesNoLane, ReadsAll, ReadsNothing, WritesLast, WritesNothing};
 
 mod answer;
+mod drilling;
+mod encoding;
 mod ended;
 mod fault_line;
 mod gate;
+mod inspection;
 pub mod laws;
 mod request;
+mod sampling;
 #[cfg(test)]
 mod tests;
+mod trace_buffer;
 
+pub use encoding::run_encode;
 pub use ended::{Ended, Why};
 use fg_io::laws::parts_of_writes;
 use fg_io::{Outlet, Sink, Source};
 pub use gate::{Gate, NoGate};
+pub use inspection::run_inspect;
 use request::Request;
 use std::alloc::{AllocError, Global};
 use std::sync::Wait;
@@ -35,8 +42,10 @@ use std::thread::Threads;
 ///
 /// `--help` and `--version`, each as the only word, write their text to `out`. `repair` repairs the flows of the trace in the
 /// input: each flow's lane gains its repaired stream, and `out` the report. So far every number of workers goes through
-/// one thread, the caller's. All other orders are answered as not built, and words that break a rule are refused: neither
-/// reads, writes or makes anything. The line that says why goes to `err`; a fault of `err` changes no answer.
+/// one thread, the caller's. `encode` writes the trace of the stream's encoding to `out`, and `inspect` a line for each record
+/// of the trace. `drill` encodes the stream, leaves records out, and repairs the rest; `sample` does so with a stream that it
+/// makes, and reads nothing. Words that break a rule are refused: then nothing is read, written or made. The line that says
+/// why goes to `err`; a fault of `err` changes no answer.
 pub fn run<
     W: Threads + Wait + Sync,
     S: Source + Send,
@@ -62,6 +71,11 @@ pub fn run<
         → IsFault result.why ⊎ Answers request result.why (S.left input.old)
         (O.lanes lanes.old) (O.lanes lanes.new) (K.written out.old) (K.written out.new) }
 
+    // And its last sentence. Where the words ask for a drill and the answer is no fault, no play is inconsistent, and the
+    // flow's lane gains the stream without the slots that no play shows: all of it, where what is sent peels.
+    ensures comes_back { (request : AnyRequest) → Asks (map string_bytes words.now) request
+        → ComesBack request result.why (S.left input.old) (O.lanes lanes.old) (O.lanes lanes.new) }
+
     // The answer that a request has over the bytes is told, and no other.
     ensures exactly { IfSome (S.left input.old) (λ bytes. (request : AnyRequest)
         → Asks (map string_bytes words.now) request → (why : AnyWhy)
@@ -80,12 +94,14 @@ pub fn run<
     ensures words { (fault : AnyWordFault) → result.why ≡ Why.Words fault
         → Asks (map string_bytes words.now) (Request.Refused fault) }
 
-    // After a fault or want of memory the outputs have gained parts, and after a read fault no report was begun.
+    // After a fault or want of memory the outputs have gained parts. After a read fault a request that writes last has
+    // written nothing.
     ensures part { IsFault result.why → (request : AnyRequest)
         → Asks (map string_bytes words.now) request
         → AnswersPart request (S.left input.old) (O.lanes lanes.old) (O.lanes lanes.new)
         K.written out.old out.new }
-    ensures no_report { result.why ≡ Why.ReadFault → out.new ≡ out.old }
+    ensures no_report { (request : AnyRequest) → Asks (map string_bytes words.now) request
+        → WritesLast request → result.why ≡ Why.ReadFault → out.new ≡ out.old }
 
     // What a request has no business with is left alone, whatever the answer. An input that isn't what the request reads
     // makes nothing.
@@ -142,8 +158,5 @@ pub fn tell_end<E: Sink>(err: &mut E, why: Why) -> Ended
     ensures never_falls { E.faults err.old ≤ E.faults err.new }
 {
     let _ = fault_line::write_fault_line(err, why);
-    Ended {
-        status: why.status(),
-        why,
-    }
+    Ended::of(why)
 }

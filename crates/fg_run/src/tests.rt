@@ -4,12 +4,15 @@ use fg_cli::{Name, WordFault};
 use fg_flows::FlowFault;
 use fg_io::{MemOutlet, MemSink, MemSource};
 use fg_shape::LayoutFault;
+use fg_ts::TsFault;
 use std::process::Abort;
 use std::test::Fail;
 
+mod drills;
 mod faults;
 mod flows;
 mod repairs;
+mod streams;
 mod traces;
 mod words;
 

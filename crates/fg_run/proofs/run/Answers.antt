@@ -1,9 +1,9 @@
 use Rattle.std.proofs.Common.{◌≡◌, ◌⊎◌, inl, refl}
 use Rattle.fg_run.specs.declared.ended.Why.{Why}
-use Rattle.fg_run.specs.declared.ended.Why.TheVariants.{Memory}
+use Rattle.fg_run.specs.declared.ended.Why.TheVariants.{Memory, ReadFault}
 use Rattle.fg_run.specs.Ended.{IsFault}
-use Rattle.fg_run.specs.Run.{Answers, AnswersPart, IsAnswer, IsNoInput, MakesNoLane, ReadsNothing, WritesNothing}
-use Rattle.fg_run.proofs.Asked.{of_each, of_each_told, complete_told, memory_told, memory_complete, nothing_made}
+use Rattle.fg_run.specs.Run.{Answers, AnswersPart, ComesBack, IsAnswer, IsNoInput, MakesNoLane, ReadsNothing, WritesLast, WritesNothing}
+use Rattle.fg_run.proofs.Asked.{of_each, of_each_told, complete_told, memory_told, memory_complete, nothing_made, comes_back_not}
 use Rattle.fg_run.proofs.Untouched.{untouched}
 use Rattle.fg_run.proofs.run.Goals as goal
 use Rattle.fg_run.proofs.run.Goals.{in-Ok, in-Err}
@@ -14,6 +14,13 @@ returns-clause-answers g c = elim c.match-read_request.branch [
       (of_each c.one_request.ensures _ w.in-Ok.request (λ request. IsFault w.answer-why.result ⊎ Answers request w.answer-why.result _ _ _ _ _)
       w.in-Ok.ensures.asked w.answer-why.ensures.answers)
   | in-Err w ↦ rw (c.tell_end.ensures.why, w.why-is) (λ request h. inl tt)
+]
+
+pub returns-clause-comes_back : goal.returns-clause-comes_back
+returns-clause-comes_back g c = elim c.match-read_request.branch [
+  | in-Ok w ↦ rw (c.tell_end.ensures.why, w.why-is, w.lanes-is)
+      (of_each c.one_request.ensures _ w.in-Ok.request (λ request. ComesBack request w.answer-why.result _ _ _) w.in-Ok.ensures.asked w.answer-why.ensures.comes_back)
+  | in-Err w ↦ rw (c.tell_end.ensures.why, w.why-is, w.lanes-is) (λ request h. comes_back_not request _ _)
 ]
 
 pub returns-clause-exactly : goal.returns-clause-exactly
@@ -38,6 +45,12 @@ returns-clause-part g c = elim c.match-read_request.branch [
   | in-Ok w ↦ rw (c.tell_end.ensures.why, w.why-is, w.out-is, w.lanes-is)
       (λ fault. of_each c.one_request.ensures _ w.in-Ok.request (λ request. AnswersPart request _ _ _ _ _ _) w.in-Ok.ensures.asked (w.answer-why.ensures.part fault))
   | in-Err w ↦ rw (w.out-is, w.lanes-is) (λ fault request h. untouched c.parts_of_writes.ensures.none request _ _ _ _)
+]
+
+pub returns-clause-no_report : goal.returns-clause-no_report
+returns-clause-no_report g c = elim c.match-read_request.branch [
+  | in-Ok w ↦ rw (c.tell_end.ensures.why, w.why-is, w.out-is) (of_each c.one_request.ensures _ w.in-Ok.request (λ request. WritesLast request → w.answer-why.result ≡ ReadFault → w.answer-why.new.out ≡ c.args.out.now) w.in-Ok.ensures.asked w.answer-why.ensures.no_report)
+  | in-Err w ↦ rw w.out-is (λ request h k e. refl)
 ]
 
 pub returns-clause-nothing_read : goal.returns-clause-nothing_read

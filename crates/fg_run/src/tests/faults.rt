@@ -133,20 +133,25 @@ fn a_full_sink(rt: HostRuntime) -> Result<(), Fail> {
     Ok(())
 }
 
-/// Runs the line's words on the trace of what is sent, and checks that it was done or had no memory.
+/// Runs the line's words on the trace of what is sent, and checks that it was done or had no memory: the report and the
+/// lane, which has the payloads of these media datagrams, are whole or a prefix.
 fn repaired_or_stopped<W: Abort + Threads + Wait + Sync>(
     rt: &W,
     alloc: Global,
     line: &str,
     sent: &[Sent],
     lost: &[usize],
+    numbers: &[u16],
     report: &[u8],
 ) -> Result<(), AllocError> {
+    let whole = lane_of(alloc, numbers)?;
     let mut outside = Outside::new(alloc, &trace(alloc, sent, lost)?)?;
     let ended = outside.run(rt, alloc, line)?;
-    assert!(rt; ended.why == Why::Done || ended.why == Why::Memory);
-    assert!(rt; report.starts_with(outside.out.bytes()));
-    assert!(rt; ended.why == Why::Memory || report == outside.out.bytes());
+    let out = outside.out.bytes();
+    let lane = outside.lanes.lane(5000).unwrap_or(b"");
+    assert!(rt; ended.status == 0 || ended.status == 6);
+    assert!(rt; report.starts_with(out) && whole.starts_with(lane));
+    assert!(rt; ended.status == 6 || (report == out && whole.as_slice() == lane));
     Ok(())
 }
 
@@ -159,19 +164,19 @@ gap 5000 2 1
 other 0
 ";
 
+/// A repair with the settings that are taken where none are named, and one that plays soon.
+const DEFAULT: &str = "repair flow=5000";
+
+const SMALL: &str = "repair flow=5000 window=4 depth=4";
+
 // With ample memory these are examples again. tools/fail_allocations has each allocation fail in turn.
 #[test]
 fn want_of_memory_leaves_prefixes(rt: HostRuntime) {
     let alloc = rt.alloc();
     let late = [0, 1, 3, 4, 2].map(Sent::Media);
-    let _ = repaired_or_stopped(&rt, alloc, "repair flow=5000", &TEN, &[], THREE.as_bytes());
-    let _ = repaired_or_stopped(&rt, alloc, "repair flow=5000", &BLOCK, &TWO_PASSES, REPORT);
-    let _ = repaired_or_stopped(
-        &rt,
-        alloc,
-        "repair flow=5000 window=4 depth=4",
-        &late,
-        &[],
-        LATE,
-    );
+    let three = THREE.as_bytes();
+    let block: [u16; 16] = [0, 1, 2, 3, 4, 5, 6, 7, 8, 9, 10, 11, 12, 13, 14, 15];
+    let _ = repaired_or_stopped(&rt, alloc, DEFAULT, &TEN, &[], &[10, 11, 12], three);
+    let _ = repaired_or_stopped(&rt, alloc, DEFAULT, &BLOCK, &TWO_PASSES, &block, REPORT);
+    let _ = repaired_or_stopped(&rt, alloc, SMALL, &late, &[], &[0, 1, 3, 4], LATE);
 }

@@ -21,7 +21,14 @@ fn each_end_has_its_line(rt: HostRuntime) -> Result<(), Fail> {
             "too long at byte 1099511627776\n",
         ),
         (Why::Memory, "no memory\n"),
-        (Why::NotBuilt(0), "not built at byte 0\n"),
+        (
+            Why::NotTransport(TsFault::Ragged(190)),
+            "not transport: length 190\n",
+        ),
+        (
+            Why::NotTransport(TsFault::NoSync(1)),
+            "not transport: packet 1\n",
+        ),
     ] {
         assert_eq!(rt; told(rt.alloc(), why)?.bytes(), line.as_bytes());
     }
@@ -93,6 +100,11 @@ fn words_are_refused_at_once(rt: HostRuntime) -> Result<(), Fail> {
             "words: depth below window at word 3\n",
         ),
         (
+            "encode columns=3 rows=4 fec=both",
+            WordFault::Layout(LayoutFault::RowsNeedFour),
+            "words: layout 4\n",
+        ),
+        (
             "encode columns=20 rows=6",
             WordFault::Layout(LayoutFault::Product),
             "words: layout 3\n",
@@ -104,25 +116,6 @@ fn words_are_refused_at_once(rt: HostRuntime) -> Result<(), Fail> {
             out: "",
             lane: None,
         };
-        expect(&rt, rt.alloc(), line, b"FECTRAC1", &wanted)?;
-    }
-    Ok(())
-}
-
-#[test]
-fn orders_that_are_not_built(rt: HostRuntime) -> Result<(), Fail> {
-    let wanted = Wanted {
-        why: Why::NotBuilt(0),
-        line: "not built at byte 0\n",
-        out: "",
-        lane: None,
-    };
-    for line in [
-        "encode columns=4 rows=4",
-        "drill columns=4 rows=4",
-        "inspect flow=5000",
-        "sample seed=1",
-    ] {
         expect(&rt, rt.alloc(), line, b"FECTRAC1", &wanted)?;
     }
     Ok(())

@@ -1,4 +1,4 @@
-use Rattle.std.proofs.Common.{arith}
+use Rattle.std.proofs.Common.{◌∙◌, arith}
 use Rattle.fg_cli.specs.declared.grammar.Command.TheVariants as command
 use Rattle.fg_cli.proofs.Lines.{in_ranges}
 use Rattle.fg_cli.proofs.Ranges.{datagrams_in, loss_in}
@@ -12,5 +12,9 @@ returns-clause-fits c =
       omega (arith, datagrams, c.number-datagrams.ensures.value),
       omega (arith, datagrams, c.number-datagrams.ensures.value),
       omega (arith, loss, c.number-loss.ensures.value),
-      c.plan-plan.ensures.fits,
+      record {
+        fits = c.plan-plan.ensures.fits;
+        flow = c.plan-plan.ensures.plan.flows ∙ c.in_ok-table.ensures.flows;
+        max = c.plan-plan.ensures.plan.max;
+      },
     )

@@ -1,0 +1,128 @@
+-- What comes back of a stream that is drilled.
+use Rattle.std.proofs.Common.{◌≡◌, ◌≢◌, ◌⊎◌, inl, inr, ⊎_elim, ℕ, zero, suc, ◌<◌, ◌≤◌, ◌^◌, Option, None, Some, IfSome, List, [], ◌∷◌, ◌++◌, length, refl, sym, ap, ◌∙◌, subst, arith}
+use Rattle.std.specs.List.{AllZip, Contains, concat, flat_map, slice_index_or}
+use Rattle.fg_io.specs.Outlet.{Lanes, Puts}
+use Rattle.fg_shape.specs.declared.encoding.Losses.{Losses}
+use Rattle.fg_shape.specs.declared.encoding.Settings.{Settings}
+use Rattle.fg_cli.specs.Orders.{LossesFit}
+use Rattle.fg_flows.specs.declared.Plan.{Plan}
+use Rattle.fg_flows.specs.Plan.{PlanFits}
+use Rattle.fg_encode.specs.Encoder.{CanEncode}
+use Rattle.fg_encode.specs.Laws.{CutsArePayloads, WholeCutIsAll}
+use Rattle.fg_encode.specs.Stream.{StreamEnding, Whole, TooLong, Ragged, NoSync, IsCut}
+use Rattle.fg_repair.specs.Flow.{FlowResult, IsFlowResult}
+use Rattle.fg_repair.specs.Lanes.{PutsAll}
+use Rattle.fg_repair.specs.Repair.{AreResults, lanes_of}
+use Rattle.fg_drill.specs.ComesBack.{CanComeBack, NothingIsInconsistent, WhatIsShownComesBack, PeelingBringsAllBack, stream_of}
+use Rattle.fg_drill.specs.Few.{LossesAreFew, MayLose}
+use Rattle.fg_drill.specs.Thinned.{is_lost}
+use Rattle.fg_run.specs.declared.ended.Why.{Why}
+use Rattle.fg_run.specs.declared.ended.Why.TheVariants as why
+use Rattle.fg_run.specs.Drill.{DrillsStream, StreamComesBack, records_sent}
+use Rattle.fg_run.specs.DrillLaws.{DrillsComeBack}
+use Rattle.fg_run.specs.Endings.{why_of_stream}
+
+-- the losses that words name are few
+pub may_lose : (losses : Losses) → LossesFit losses → MayLose losses
+may_lose losses h = record {
+  numbers = h.numbers;
+  few = ⊎_elim
+      (λ (none : losses.every ≡ 0). inl (none, omega (arith, h.few)))
+      (λ (some : 2 ≤ losses.every). inr (some, h.few))
+      h.every;
+}
+
+-- payloads one after another
+joined : (payloads : List (List ℕ)) → stream_of payloads ≡ concat payloads
+joined [] = refl
+joined (p ∷ ps) = ap (λ t. p ++ t) (joined ps)
+
+-- an answer that all was done is that of a stream that ends with its last payload
+whole_of : (end : StreamEnding) → why.Done ≡ why_of_stream end → end ≡ Whole
+whole_of Whole e = refl
+whole_of (TooLong n) e = absurd (let a = e in cc)
+whole_of (Ragged n) e = absurd (let a = e in cc)
+whole_of (NoSync k) e = absurd (let a = e in cc)
+
+-- one port has one result
+record IsSingle (P : ℕ → FlowResult → Type 0) (port : ℕ) (results : List FlowResult) : Type 0 where
+  pub result : FlowResult
+  pub all : results ≡ result ∷ []
+  pub is : P port result
+
+single : (P : ℕ → FlowResult → Type 0) (port : ℕ) (results : List FlowResult) → AllZip P (port ∷ []) results → IsSingle P port results
+single P port [] h = absurd h
+single P port (r ∷ []) h = record { result = r; all = refl; is = h.0 }
+single P port (r ∷ s ∷ rs) h = absurd h.1
+
+-- and one lane
+at_port : (port other k : ℕ) → k < 1 → slice_index_or (port ∷ []) k other ≡ other → other ≡ port
+at_port port other zero within is = sym is
+at_port port other (suc k) within is = absurd (omega (arith, within))
+
+others_differ : (port other : ℕ) → other ≢ port → Contains (port ∷ []) other → ⊥
+others_differ port other differs h = differs (at_port port other h.0 h.1 h.2)
+
+puts_one : (port : ℕ) (piece : List ℕ) (lanes lanes' : Option Lanes) → PutsAll lanes (port ∷ []) (piece ∷ []) lanes' → Puts lanes port piece lanes'
+puts_one port piece None None h = tt
+puts_one port piece None (Some after) h = h
+puts_one port piece (Some before) None h = h
+puts_one port piece (Some before) (Some after) h = record {
+  lane = h.lanes.0;
+  others = λ other differs. h.others other (others_differ port other differs);
+}
+
+-- The laws that this stands on.
+record Laws : Type 0 where
+  pub few : LossesAreFew
+  pub cuts : CutsArePayloads
+  pub all : WholeCutIsAll
+  pub consistent : NothingIsInconsistent
+  pub shown : WhatIsShownComesBack
+  pub peels : PeelingBringsAllBack
+
+of_stream : Laws → (settings : Settings) (plan : Plan) (losses : Losses) (max : ℕ) (answer : Why) (bytes : List ℕ) (lanes lanes' : Option Lanes) (written written' : Option (List ℕ))
+    → CanEncode settings → PlanFits plan → plan.table ≡ settings.port ∷ [] → MayLose losses → max ≤ 2 ^ 40
+    → DrillsStream settings plan losses max answer bytes lanes lanes' written written' → StreamComesBack settings plan losses max answer bytes lanes lanes'
+of_stream laws settings plan losses max answer bytes lanes lanes' written written' can fits flow may limit h =
+    let records = records_sent settings losses h.payloads in
+    let P : ℕ → FlowResult → Type 0 = IsFlowResult plan.window plan.depth records in
+    let one = single P settings.port h.results (subst (λ ports. AllZip P ports h.results) flow h.are_results) in
+    let cut = laws.cuts settings.packets max bytes h.payloads can.packets.0 h.cut.first in
+    let back : CanComeBack plan.window plan.depth settings h.payloads (is_lost losses) = record {
+      can = can;
+      whole = cut.0;
+      few = laws.few settings.layout losses (length h.payloads) may;
+      limit = omega (arith, cut.1, limit);
+      some_window = fits.window.0;
+      window_limit = fits.window.1;
+      window_within = fits.depth.0;
+      depth_limit = fits.depth.1;
+    } in
+    record {
+      payloads = h.payloads;
+      end = h.end;
+      result = one.result;
+      cut = h.cut;
+      is = one.is;
+      consistent = laws.consistent plan.window plan.depth settings h.payloads (is_lost losses) one.result back one.is;
+      shown = laws.shown plan.window plan.depth settings h.payloads (is_lost losses) one.result back one.is;
+      peels = laws.peels plan.window plan.depth settings h.payloads (is_lost losses) one.result back one.is;
+      whole = λ done.
+          joined h.payloads
+          ∙ laws.all settings.packets max bytes h.payloads
+          (subst (λ e. IsCut settings.packets max bytes h.payloads e) (whole_of h.end (sym done ∙ h.answer_is)) h.cut);
+      gains = puts_one settings.port one.result.lane lanes lanes'
+          (subst (λ ports. PutsAll lanes ports (one.result.lane ∷ []) lanes') flow
+          (subst (λ results. PutsAll lanes plan.table (lanes_of results) lanes') one.all h.gain.0));
+    }
+
+comes_back : Laws → DrillsComeBack
+comes_back laws settings plan losses max answer None lanes lanes' written written' can fits flow may limit h = tt
+comes_back laws settings plan losses max answer (Some bytes) lanes lanes' written written' can fits flow may limit (inl fault) = inl fault
+comes_back laws settings plan losses max answer (Some bytes) lanes lanes' written written' can fits flow may limit (inr h) =
+    inr (of_stream laws settings plan losses max answer bytes lanes lanes' written written' can fits flow may limit h)
+
+pub drills_come_back : LossesAreFew → CutsArePayloads → WholeCutIsAll → NothingIsInconsistent → WhatIsShownComesBack → PeelingBringsAllBack → DrillsComeBack
+drills_come_back few cuts all consistent shown peels =
+    comes_back (record { few = few; cuts = cuts; all = all; consistent = consistent; shown = shown; peels = peels })

@@ -1,0 +1,71 @@
+-- What a sample comes to. This project's own.
+use Rattle.std.specs.Prelude.{◌≡◌, ◌⊎◌, ℕ, List, length, map, ◌++◌, codes, Option}
+use Rattle.std.specs.Fmt.{decimal}
+use Rattle.std.specs.List.{range_with_len}
+use Rattle.fg_io.specs.Outlet.{Lanes, WhereTold}
+use Rattle.fg_io.specs.Sink.{Gains, GainsPart}
+use Rattle.fg_shape.specs.declared.encoding.Losses.{Losses}
+use Rattle.fg_trace.specs.Trace.{Record, Ended}
+use Rattle.fg_flows.specs.declared.Plan.{Plan}
+use Rattle.fg_encode.specs.Encoding.{encoding}
+use Rattle.fg_encode.specs.Stream.{payload_of}
+use Rattle.fg_repair.specs.Flow.{FlowResult}
+use Rattle.fg_repair.specs.Lanes.{OthersStay, PutsAll, PutsAllPart}
+use Rattle.fg_repair.specs.Repair.{AreResults, lanes_of, report_text}
+use Rattle.fg_drill.specs.Drawn.{drawn_drops, sample_settings}
+use Rattle.fg_drill.specs.Made.{made_stream}
+use Rattle.fg_drill.specs.Thinned.{is_lost, thinned}
+use Rattle.fg_run.specs.declared.ended.Why.{Why}
+use Rattle.fg_run.specs.declared.ended.Why.TheVariants as why
+
+-- The payloads of the made stream, seven packets each.
+abbrev pub payloads_made : ℕ → ℕ → List (List ℕ)
+payloads_made seed datagrams = map (payload_of 7 (made_stream seed datagrams)) (range_with_len 0 datagrams)
+
+-- How many records their encoding has.
+abbrev pub records_made : ℕ → ℕ → ℕ
+records_made seed datagrams = length (encoding sample_settings (payloads_made seed datagrams))
+
+-- The numbers of those that are left out.
+abbrev pub drops_made : ℕ → ℕ → ℕ → List ℕ
+drops_made seed datagrams loss = drawn_drops seed loss (records_made seed datagrams)
+
+-- What is sent of them.
+abbrev pub sample_sent : ℕ → ℕ → ℕ → List Record
+sample_sent seed datagrams loss =
+    thinned sample_settings (is_lost (record { drops = drops_made seed datagrams loss; every = 0 }))
+    (payloads_made seed datagrams)
+
+-- The line that tells the seed, the datagrams, the records before losses, and how many are left out.
+abbrev pub sample_line : ℕ → ℕ → ℕ → List ℕ
+sample_line seed datagrams loss =
+    codes "sample seed " ++ decimal seed ++ codes " datagrams " ++ decimal datagrams ++ codes " records "
+    ++ decimal (records_made seed datagrams) ++ codes " lost " ++ decimal (length (drops_made seed datagrams loss))
+    ++ codes "\n"
+
+-- The sink has gained the line and then the report of a repair of what is sent, and each lane its bytes.
+pub record Samples
+    (seed datagrams loss : ℕ) (plan : Plan) (answer : Why)
+    (lanes lanes' : Option Lanes) (written written' : Option (List ℕ)) : Type 0 where
+  pub results : List FlowResult
+  pub answer_is : answer ≡ why.Done
+  pub are_results : AreResults plan (sample_sent seed datagrams loss) results
+  pub puts : PutsAll lanes plan.table (lanes_of results) lanes'
+  pub gains :
+      Gains written
+      (sample_line seed datagrams loss ++ report_text plan (sample_sent seed datagrams loss) results Ended)
+      written'
+
+-- What a fault leaves of that: the lanes have gained prefixes, and the sink a prefix of the line; or each lane is whole, and
+-- the sink has gained a prefix of both. The lanes of other ports are as they were.
+pub record SamplesPart
+    (seed datagrams loss : ℕ) (plan : Plan)
+    (lanes lanes' : Option Lanes) (written written' : Option (List ℕ)) : Type 0 where
+  pub others : WhereTold (OthersStay plan.table) lanes lanes'
+  pub front : (results : List FlowResult) → AreResults plan (sample_sent seed datagrams loss) results
+      → (PutsAllPart lanes plan.table (lanes_of results) lanes'
+      × GainsPart written (sample_line seed datagrams loss) written')
+      ⊎ (PutsAll lanes plan.table (lanes_of results) lanes'
+      × GainsPart written
+      (sample_line seed datagrams loss ++ report_text plan (sample_sent seed datagrams loss) results Ended)
+      written')

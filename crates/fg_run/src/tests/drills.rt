@@ -1,0 +1,234 @@
+//! Streams that are drilled, and samples.
+use super::*;
+use itoa::Buffer;
+
+/// A drill of the payloads of so many media datagrams, from 0 on, which is to be done.
+#[derive(Clone, Copy)]
+struct Drill<'a> {
+    line: &'a str,
+    datagrams: u16,
+    /// How many bytes the stream has, where its last payload is cut short.
+    bytes: usize,
+    report: &'a str,
+    /// The datagrams whose payloads the lane is without.
+    missing: &'a [u16],
+}
+
+/// The payloads of so many media datagrams, without these.
+fn stream_without(alloc: Global, datagrams: u16, missing: &[u16]) -> Result<Vec<u8>, AllocError> {
+    let mut numbers = Vec::new(alloc);
+    for number in 0..datagrams {
+        if !missing.contains(&number) {
+            numbers.push(number)?;
+        }
+    }
+    lane_of(alloc, &numbers)
+}
+
+/// An outside with room for the lane of a long stream.
+fn wide(alloc: Global, bytes: &[u8]) -> Result<Outside, AllocError> {
+    let mut outside = Outside::new(alloc, bytes)?;
+    outside.input = MemSource::new(alloc, bytes, 100_000, &[])?;
+    outside.lanes = MemOutlet::new(alloc, &[5000], 3_000_000, &[])?;
+    Ok(outside)
+}
+
+impl Drill<'_> {
+    /// Runs the drill, and checks the report and the lane.
+    fn check<W: Abort + Threads + Wait + Sync>(
+        &self,
+        rt: &W,
+        alloc: Global,
+    ) -> Result<(), AllocError> {
+        let mut stream = stream_without(alloc, self.datagrams, &[])?;
+        stream.truncate(self.bytes);
+        let mut lane = stream_without(alloc, self.datagrams, self.missing)?;
+        lane.truncate(self.bytes);
+        let mut outside = wide(alloc, &stream)?;
+        let ended = outside.run(rt, alloc, self.line)?;
+        assert_eq!(rt; ended.why, Why::Done);
+        assert_eq!(rt; outside.out.bytes(), self.report.as_bytes());
+        assert_eq!(rt; outside.lanes.lane(5000), Some(lane.as_slice()));
+        Ok(())
+    }
+}
+
+// Column 1 gives 5, then row 1 gives 6, column 2 gives 10, and row 2 gives 11.
+const BLOCK_OF_TWO_PASSES: Drill<'static> = Drill {
+    line: "drill columns=4 rows=4 drop=6 drop=7 drop=12 drop=13 drop=22",
+    datagrams: 16,
+    bytes: 21_056,
+    report: "flow 5000 shown 16 repaired 4 missing 0 windows 1 inconsistent 0
+media 5000 admitted 12 duplicate 0 conflict 0 late 0 bad 0
+column 5000 admitted 3 duplicate 0 conflict 0 late 0 notstarted 0 beforestart 0 ahead 0 crowded 0 bad 0
+row 5000 admitted 4 duplicate 0 conflict 0 late 0 notstarted 0 beforestart 0 ahead 0 crowded 0 bad 0
+other 0
+",
+    missing: &[],
+};
+
+// Each row and column of the four has two lost.
+const FOUR_IN_A_SQUARE: Drill<'static> = Drill {
+    line: "drill columns=4 rows=4 drop=6 drop=7 drop=11 drop=12",
+    datagrams: 16,
+    bytes: 21_056,
+    report: "flow 5000 shown 12 repaired 0 missing 4 windows 1 inconsistent 0
+media 5000 admitted 12 duplicate 0 conflict 0 late 0 bad 0
+column 5000 admitted 4 duplicate 0 conflict 0 late 0 notstarted 0 beforestart 0 ahead 0 crowded 0 bad 0
+row 5000 admitted 4 duplicate 0 conflict 0 late 0 notstarted 0 beforestart 0 ahead 0 crowded 0 bad 0
+gap 5000 5 2
+gap 5000 9 2
+other 0
+",
+    missing: &[5, 6, 9, 10],
+};
+
+// Slot 25 plays the window of 0 to 24. Then the column of slots 6, 11, 16, 21 and 26 comes, and gives 26.
+const COLUMN_AFTER_ITS_FIRST_SLOTS: Drill<'static> = Drill {
+    line: "drill columns=5 rows=5 fec=column layout=staggered window=25 depth=25 drop=27",
+    datagrams: 50,
+    bytes: 65_800,
+    report: "flow 5000 shown 50 repaired 1 missing 0 windows 2 inconsistent 0
+media 5000 admitted 49 duplicate 0 conflict 0 late 0 bad 0
+column 5000 admitted 6 duplicate 0 conflict 0 late 0 notstarted 0 beforestart 0 ahead 0 crowded 0 bad 0
+row 5000 admitted 0 duplicate 0 conflict 0 late 0 notstarted 0 beforestart 0 ahead 0 crowded 0 bad 0
+other 0
+",
+    missing: &[],
+};
+
+// Three payloads of 1,316 bytes and one of 188, which the row gives.
+const SHORT_LAST_DATAGRAM: Drill<'static> = Drill {
+    line: "drill columns=4 rows=4 drop=3",
+    datagrams: 4,
+    bytes: 4_136,
+    report: "flow 5000 shown 4 repaired 1 missing 0 windows 1 inconsistent 0
+media 5000 admitted 3 duplicate 0 conflict 0 late 0 bad 0
+column 5000 admitted 0 duplicate 0 conflict 0 late 0 notstarted 0 beforestart 0 ahead 0 crowded 0 bad 0
+row 5000 admitted 1 duplicate 0 conflict 0 late 0 notstarted 0 beforestart 0 ahead 0 crowded 0 bad 0
+other 0
+",
+    missing: &[],
+};
+
+#[test]
+fn drills(rt: HostRuntime) -> Result<(), Fail> {
+    for drill in &[
+        BLOCK_OF_TWO_PASSES,
+        FOUR_IN_A_SQUARE,
+        COLUMN_AFTER_ITS_FIRST_SLOTS,
+        SHORT_LAST_DATAGRAM,
+    ] {
+        drill.check(&rt, rt.alloc())?;
+    }
+    Ok(())
+}
+
+// Of 2,400 records 64 are left out: 53 media, 5 columns and 6 rows. No row loses two of its records.
+#[test]
+fn each_37th_record_is_left_out(rt: HostRuntime) -> Result<(), Fail> {
+    for line in [
+        "drill columns=10 rows=10 window=100 depth=400 workers=0 every=37",
+        "drill columns=10 rows=10 window=100 depth=400 workers=1 every=37",
+        "drill columns=10 rows=10 window=100 depth=400 workers=4 every=37",
+        "drill columns=10 rows=10 window=100 depth=400 workers=16 every=37",
+    ] {
+        let drill = Drill {
+            line,
+            datagrams: 2000,
+            bytes: 2_632_000,
+            report: "flow 5000 shown 2000 repaired 53 missing 0 windows 20 inconsistent 0
+media 5000 admitted 1947 duplicate 0 conflict 0 late 0 bad 0
+column 5000 admitted 195 duplicate 0 conflict 0 late 0 notstarted 0 beforestart 0 ahead 0 crowded 0 bad 0
+row 5000 admitted 194 duplicate 0 conflict 0 late 0 notstarted 0 beforestart 0 ahead 0 crowded 0 bad 0
+other 0
+",
+            missing: &[],
+        };
+        drill.check(&rt, rt.alloc())?;
+    }
+    Ok(())
+}
+
+/// The words of a drill of two matrices of 10 by 10, with parity of columns, that loses so many media records from a slot on.
+/// The parity of a matrix's ten columns comes after the slots of its last row, each after its own.
+fn burst(alloc: Global, first: u16, lost: u16) -> Result<String, AllocError> {
+    let mut line = String::from_str(alloc, "drill columns=10 rows=10 fec=column packets=1")?;
+    for slot in first..first.saturating_add(lost) {
+        let parities = (slot / 100) * 10 + (slot % 100).saturating_sub(90);
+        line.push_str(" drop=")?;
+        line.push_str(Buffer::new().format(slot.saturating_add(parities)))?;
+    }
+    Ok(line)
+}
+
+/// How many bytes of 200 datagrams of one packet come back, where so many are lost from a slot on.
+fn comes_back<W: Threads + Wait + Sync>(
+    rt: &W,
+    alloc: Global,
+    first: u16,
+    lost: u16,
+) -> Result<usize, AllocError> {
+    let mut stream = lane_of(alloc, &[0; 29])?;
+    stream.truncate(37_600);
+    let mut outside = wide(alloc, &stream)?;
+    let line = burst(alloc, first, lost)?;
+    let _ = outside.run(rt, alloc, &line)?;
+    match outside.lanes.lane(5000) {
+        Some(lane) => Ok(lane.len()),
+        None => Ok(0),
+    }
+}
+
+// Ten slots in a row are in ten columns, or in two matrices. Of eleven from slot 45 on, column 5 loses slots 45 and 55.
+#[test]
+fn ten_lost_come_back_and_eleven_do_not(rt: HostRuntime) -> Result<(), Fail> {
+    for first in 1..100 {
+        assert_eq!(rt; comes_back(&rt, rt.alloc(), first, 10)?, 37_600);
+    }
+    assert_eq!(rt; comes_back(&rt, rt.alloc(), 45, 11)?, 37_600 - 2 * 188);
+    Ok(())
+}
+
+// 100 media records, 10 columns and 10 rows.
+#[test]
+fn a_sample_without_losses(rt: HostRuntime) -> Result<(), Fail> {
+    let mut outside = wide(rt.alloc(), b"")?;
+    let ended = outside.run(
+        &rt,
+        rt.alloc(),
+        "sample seed=1 datagrams=100 loss=0 workers=0",
+    )?;
+    assert_eq!(rt; ended.status, 0);
+    let report = "sample seed 1 datagrams 100 records 120 lost 0
+flow 5000 shown 100 repaired 0 missing 0 windows 1 inconsistent 0
+media 5000 admitted 100 duplicate 0 conflict 0 late 0 bad 0
+column 5000 admitted 10 duplicate 0 conflict 0 late 0 notstarted 0 beforestart 0 ahead 0 crowded 0 bad 0
+row 5000 admitted 10 duplicate 0 conflict 0 late 0 notstarted 0 beforestart 0 ahead 0 crowded 0 bad 0
+other 0
+";
+    assert_eq!(rt; outside.out.bytes(), report.as_bytes());
+    let lane = outside.lanes.lane(5000).map(|lane| lane.len());
+    assert_eq!(rt; lane, Some(131_600));
+    Ok(())
+}
+
+#[test]
+fn workers_change_nothing_of_a_sample(rt: HostRuntime) -> Result<(), Fail> {
+    let mut one = wide(rt.alloc(), b"")?;
+    let mut many = wide(rt.alloc(), b"")?;
+    let ended = one.run(
+        &rt,
+        rt.alloc(),
+        "sample seed=7 datagrams=300 loss=3 workers=0",
+    )?;
+    let other = many.run(
+        &rt,
+        rt.alloc(),
+        "sample seed=7 datagrams=300 loss=3 workers=4",
+    )?;
+    assert_eq!(rt; ended, other);
+    assert_eq!(rt; one.out.bytes(), many.out.bytes());
+    assert_eq!(rt; one.lanes.lane(5000), many.lanes.lane(5000));
+    Ok(())
+}
