@@ -13,7 +13,7 @@ ghost use Rattle.fg_desk.specs.Row.{opened_row, row_words, row_known, row_shared
 ghost use Rattle.fg_desk.specs.RowEntries.{entry_at, words_of, row_of, live_entries, IsEmptyPast, StaysPast, received_in, is_alone, AreEntries, Recovers, IsLastWord, HasNoWordFrom, ForgetsFound};
 
 use crate::tray::Tray;
-use fg_peel::{Line, Slot, Verdict, peel};
+use fg_peel::{Line, Slot, Verdict, peel_media};
 use fg_shape::slot;
 use fg_words::{Shared, Word};
 use slab::Slab;
@@ -275,7 +275,7 @@ fn recover_words(mark: u64, slots: &mut [Slot], lines: &Slab<Line>) -> bool
     requires media { AreMedia (words_of mark slots.old) }
     ensures { Recovers mark lines.now slots.old slots.new result }
 {
-    match peel(low_of(mark), slots, lines, true) {
+    match peel_media(low_of(mark), slots, lines) {
         Verdict::Sound => true,
         _ => false,
     }

@@ -26,7 +26,7 @@ use Rattle.fg_drill.specs.PayloadLaws.{CutPayloads, FirstPayloads}
 use Rattle.fg_drill.specs.Payloads.{payloads_of}
 use Rattle.fg_drill.specs.Sending.{SenderState, CanGoOn, IsUnderWay, answer_of, given_of, trace_so_far}
 use Rattle.fg_drill.specs.Thinned.{is_lost, thinned, without}
-use Rattle.fg_drill.specs.ThinnedSource.{EndsFor, stream_of, thinned_trace}
+use Rattle.fg_drill.specs.ThinnedSource.{EndsFor, whole_stream, thinned_trace}
 use Rattle.fg_drill.proofs.WithoutLemmas.{without-append, without_same}
 
 -- The first payloads, one after another, are the first bytes.
@@ -62,7 +62,7 @@ whole_is reader bytes rest payloads cut (inr past) split end =
 
 -- So the whole stream follows from where a reader stands.
 pub stream_stays : (reader : StreamState) (first now : Option (List ℕ)) (payloads : List (List ℕ)) → ReaderStands reader first now payloads
-    → stream_of payloads reader.held now ≡ first
+    → whole_stream payloads reader.held now ≡ first
 stream_stays reader None None payloads h = refl
 stream_stays reader None (Some rest) payloads h = let given = h.given in cc
 stream_stays reader (Some bytes) None payloads h = let given = h.given in cc
@@ -72,7 +72,7 @@ stream_stays reader (Some bytes) (Some rest) payloads h =
 
 -- Where a reader stands, it stands after what it says of the whole stream.
 pub stands_there : (reader : StreamState) (first now : Option (List ℕ)) (payloads : List (List ℕ)) → ReaderStands reader first now payloads
-    → ReaderStands reader (stream_of payloads reader.held now) now payloads
+    → ReaderStands reader (whole_stream payloads reader.held now) now payloads
 stands_there reader first now payloads h = subst (λ t. ReaderStands reader t now payloads) (sym (stream_stays reader first now payloads h)) h
 
 -- The trace of one payload more.
@@ -133,7 +133,7 @@ goes_on new old_place taken encoder after payloads there packets place (inl whol
 pub no_payload :
     (old new : StreamState) (sender : SenderState) (payloads : List (List ℕ)) (told now_told : Bool) (fault now_fault : Option StreamFault) (left rest : Option (List ℕ))
     → IsUnderWay old sender payloads told fault left → told ≡ false → sender.held ≡ []
-    → ReaderStands new (stream_of payloads old.held left) rest payloads
+    → ReaderStands new (whole_stream payloads old.held left) rest payloads
     → new.payload ≡ [] → new.packets ≡ old.packets → new.max ≡ old.max → new.place ≡ old.place + length new.payload
     → (old.ended ≡ true → (new.ended ≡ true) × (new.payload ++ new.held ≡ old.held))
     → (now_told ≡ true → new.kept ≡ Some (answer_of now_fault)) → (now_told ≡ false → (new.kept ≡ None) × (now_fault ≡ None))
@@ -141,7 +141,7 @@ pub no_payload :
 no_payload old new sender payloads told now_told fault now_fault left rest h unended empty stands none packets max place ended says quiet =
     let still : new.place ≡ old.place = omega (arith, place, ap length none) in
     record {
-      stands = stands_there new (stream_of payloads old.held left) rest payloads stands;
+      stands = stands_there new (whole_stream payloads old.held left) rest payloads stands;
       fits = h.fits;
       packets = packets ∙ h.packets;
       limit = omega (arith, max, h.limit);
@@ -177,7 +177,7 @@ trace_sent sender after payloads payload number held settings losses adds =
 pub payload_sent :
     (old new : StreamState) (sender after : SenderState) (payloads : List (List ℕ)) (told : Bool) (fault : Option StreamFault) (left rest : Option (List ℕ)) (count : ℕ)
     → IsUnderWay old sender payloads told fault left → told ≡ false
-    → ReaderStands new (stream_of payloads old.held left) rest (payloads ++ new.payload ∷ [])
+    → ReaderStands new (whole_stream payloads old.held left) rest (payloads ++ new.payload ∷ [])
     → new.packets ≡ old.packets → new.max ≡ old.max → new.place ≡ old.place + length new.payload → new.place ≤ new.max → new.kept ≡ None
     → (length new.payload ≡ 188 * new.packets) ⊎ ((new.ended ≡ true) × (new.held ≡ []))
     → old.place ≡ 188 * old.packets * length payloads → 1 ≤ count → ArePackets new.payload count
@@ -193,7 +193,7 @@ payload_sent old new sender after payloads told fault left rest count h unended 
     let sent : List Record = encoding s payloads in
     let more : List Record = records_at s all (length payloads) in
     record {
-      stands = stands_there new (stream_of payloads old.held left) rest all stands;
+      stands = stands_there new (whole_stream payloads old.held left) rest all stands;
       fits = subst CanEncode (sym settings) h.fits;
       packets = packets ∙ h.packets ∙ ap (λ (t : Settings). t.packets) (sym settings);
       limit = omega (arith, max, h.limit);
@@ -258,7 +258,7 @@ gives_held trace gone held later all count whole split few =
 -- What is left to be given, of a source that stands so.
 abbrev pub left_of : StreamState → SenderState → List (List ℕ) → Option (List ℕ) → Option (List ℕ)
 left_of reader sender payloads rest =
-    option_map (λ bytes. drop (given_of sender payloads) (thinned_trace sender.encoder.settings sender.losses reader.max bytes)) (stream_of payloads reader.held rest)
+    option_map (λ bytes. drop (given_of sender payloads) (thinned_trace sender.encoder.settings sender.losses reader.max bytes)) (whole_stream payloads reader.held rest)
 
 -- The whole trace begins with that of the payloads so far.
 begins : (reader : StreamState) (sender : SenderState) (payloads : List (List ℕ)) (bytes : List ℕ) → CanEncode sender.encoder.settings → reader.packets ≡ sender.encoder.settings.packets
@@ -287,7 +287,7 @@ pub gives_front :
     → IsUnderWay reader sender payloads told fault rest → count ≤ length sender.held → FirstPayloads → OneMoreAdds
     → Gives (left_of reader sender payloads rest) (take count sender.held) (left_of reader (record sender { held = drop count sender.held }) payloads rest)
 gives_front reader sender payloads told fault rest count h few firsts adds =
-    given_front reader sender payloads (stream_of payloads reader.held rest) count h.fits h.packets h.stands.cut h.held few firsts adds
+    given_front reader sender payloads (whole_stream payloads reader.held rest) count h.fits h.packets h.stands.cut h.held few firsts adds
 
 -- An answer that ends the stream says so of the payloads that are a function of its bytes.
 ending_for : (fault : Option StreamFault) (packets max : ℕ) (bytes : List ℕ) (payloads : List (List ℕ)) → 1 ≤ packets → CutPayloads
@@ -317,10 +317,10 @@ told_for reader packets fault (Some bytes) payloads same some cuts h =
 ends_told :
     (reader : StreamState) (sender : SenderState) (payloads : List (List ℕ)) (told : Bool) (fault : Option StreamFault) (rest : Option (List ℕ))
     → CutPayloads → IsUnderWay reader sender payloads told fault rest → told ≡ true
-    → IfSome (stream_of payloads reader.held rest) (λ bytes. EndsFor fault sender.encoder.settings.packets reader.max bytes × (payloads_of sender.encoder.settings.packets reader.max bytes ≡ payloads))
+    → IfSome (whole_stream payloads reader.held rest) (λ bytes. EndsFor fault sender.encoder.settings.packets reader.max bytes × (payloads_of sender.encoder.settings.packets reader.max bytes ≡ payloads))
 ends_told reader sender payloads told fault rest cuts h is =
-    told_for reader sender.encoder.settings.packets fault (stream_of payloads reader.held rest) payloads h.packets h.fits.packets.0 cuts
-    (kept_ending reader (answer_of fault) (stream_of payloads reader.held rest) payloads (h.told_all is).1 h.stands.ending)
+    told_for reader sender.encoder.settings.packets fault (whole_stream payloads reader.held rest) payloads h.packets h.fits.packets.0 cuts
+    (kept_ending reader (answer_of fault) (whole_stream payloads reader.held rest) payloads (h.told_all is).1 h.stands.ending)
 
 fault_of : (stream : Option (List ℕ)) (fault : Option StreamFault) (packets max : ℕ) (payloads : List (List ℕ))
     → IfSome stream (λ bytes. EndsFor fault packets max bytes × (payloads_of packets max bytes ≡ payloads)) → IfSome stream (λ bytes. EndsFor fault packets max bytes)
@@ -330,9 +330,9 @@ fault_of (Some bytes) fault packets max payloads h = h.0
 pub ends_for :
     (reader : StreamState) (sender : SenderState) (payloads : List (List ℕ)) (told : Bool) (fault : Option StreamFault) (rest : Option (List ℕ))
     → CutPayloads → IsUnderWay reader sender payloads told fault rest → told ≡ true
-    → IfSome (stream_of payloads reader.held rest) (λ bytes. EndsFor fault sender.encoder.settings.packets reader.max bytes)
+    → IfSome (whole_stream payloads reader.held rest) (λ bytes. EndsFor fault sender.encoder.settings.packets reader.max bytes)
 ends_for reader sender payloads told fault rest cuts h is =
-    fault_of (stream_of payloads reader.held rest) fault sender.encoder.settings.packets reader.max payloads (ends_told reader sender payloads told fault rest cuts h is)
+    fault_of (whole_stream payloads reader.held rest) fault sender.encoder.settings.packets reader.max payloads (ends_told reader sender payloads told fault rest cuts h is)
 
 given_all : (settings : Settings) (losses : Losses) (max given : ℕ) (stream : Option (List ℕ)) (fault : Option StreamFault) (payloads : List (List ℕ))
     → IfSome stream (λ bytes. EndsFor fault settings.packets max bytes × (payloads_of settings.packets max bytes ≡ payloads)) → length (trace_of (thinned settings (is_lost losses) payloads)) ≤ given
@@ -346,7 +346,7 @@ pub at_end :
     (reader : StreamState) (sender : SenderState) (payloads : List (List ℕ)) (told : Bool) (fault : Option StreamFault) (rest : Option (List ℕ))
     → CutPayloads → IsUnderWay reader sender payloads told fault rest → told ≡ true → IsAtEnd (left_of reader sender payloads rest)
 at_end reader sender payloads told fault rest cuts h is =
-    given_all sender.encoder.settings sender.losses reader.max (given_of sender payloads) (stream_of payloads reader.held rest) fault payloads (ends_told reader sender payloads told fault rest cuts h is)
+    given_all sender.encoder.settings sender.losses reader.max (given_of sender payloads) (whole_stream payloads reader.held rest) fault payloads (ends_told reader sender payloads told fault rest cuts h is)
     (omega (arith, ap (λ (l : List ℕ). length l) (h.told_all is).0))
 
 mapped : (o : Option (List ℕ)) (f g : List ℕ → List ℕ) → ((bytes : List ℕ) → f bytes ≡ g bytes) → option_map f o ≡ option_map g o

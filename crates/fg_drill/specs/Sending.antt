@@ -11,7 +11,7 @@ use Rattle.fg_encode.specs.StreamReader.{Answer, StreamState, StandsAfter as Rea
 use Rattle.fg_drill.specs.declared.thinned.StreamFault.{StreamFault}
 use Rattle.fg_drill.specs.declared.thinned.StreamFault.TheVariants.{NotTransport, TooLong}
 use Rattle.fg_drill.specs.Thinned.{is_lost, thinned}
-use Rattle.fg_drill.specs.ThinnedSource.{LeavesNothing, stream_of}
+use Rattle.fg_drill.specs.ThinnedSource.{LeavesNothing, whole_stream}
 
 -- The encoder; which records are lost; the number of the next record; and the bytes that are still to be given.
 pub record SenderState : Type 0 where
@@ -45,7 +45,7 @@ CanGoOn reader encoder payloads =
 pub record IsUnderWay
     (reader : StreamState) (sender : SenderState) (payloads : List (List ℕ)) (told : Bool) (fault : Option StreamFault)
     (rest : Option (List ℕ)) : Type 0 where
-  pub stands : ReaderStands reader (stream_of payloads reader.held rest) rest payloads
+  pub stands : ReaderStands reader (whole_stream payloads reader.held rest) rest payloads
   pub fits : CanEncode sender.encoder.settings
   pub packets : reader.packets ≡ sender.encoder.settings.packets
   pub limit : reader.max ≤ 2 ^ 40

@@ -4,14 +4,14 @@ use Rattle.fg_shape.specs.declared.encoding.Losses.{Losses}
 use Rattle.fg_drill.specs.declared.thinned.taking.Taking.{Taking}
 use Rattle.fg_drill.specs.Sending.{IsUnderWay, IsReadOut, given_of}
 use Rattle.fg_drill.specs.Thinned.{is_lost}
-use Rattle.fg_drill.specs.ThinnedSource.{stream_of}
+use Rattle.fg_drill.specs.ThinnedSource.{whole_stream}
 
 abbrev pub IsWay : Taking → Option (List ℕ) → Type 0
 IsWay taking rest = IsUnderWay taking.reader taking.sender taking.history.payloads taking.told taking.fault rest
 
 -- The bytes of the whole stream, of which its source has `rest` left.
 abbrev pub way_stream : Taking → Option (List ℕ) → Option (List ℕ)
-way_stream taking rest = stream_of taking.history.payloads taking.reader.held rest
+way_stream taking rest = whole_stream taking.history.payloads taking.reader.held rest
 
 abbrev pub way_given : Taking → ℕ
 way_given taking = given_of taking.sender taking.history.payloads

@@ -18,8 +18,8 @@ abbrev pub thinned_trace : Settings → Losses → ℕ → List ℕ → List ℕ
 thinned_trace settings losses max bytes = trace_of (thinned settings (is_lost losses) (payloads_of settings.packets max bytes))
 
 -- The bytes of a stream of which these payloads were taken, and then these bytes: what the source has left comes after them.
-abbrev pub stream_of : List (List ℕ) → List ℕ → Option (List ℕ) → Option (List ℕ)
-stream_of payloads held rest = prepend_known (concat payloads ++ held) rest
+abbrev pub whole_stream : List (List ℕ) → List ℕ → Option (List ℕ) → Option (List ℕ)
+whole_stream payloads held rest = prepend_known (concat payloads ++ held) rest
 
 -- The source of the stream; the settings; which records are lost; the most bytes that the stream may have; the bytes of the whole
 -- stream, where its source tells them; how many bytes of the trace were given; whether a read has told the end; and why the

@@ -42,7 +42,7 @@ pub struct Thinned<S: Source> {
 }
 
 impl<S: Source> Model for Thinned<S> {
-    ghost use Rattle.fg_drill.specs.ThinnedSource.{ThinnedState, stream_of};
+    ghost use Rattle.fg_drill.specs.ThinnedSource.{ThinnedState, whole_stream};
 
     ghost Value = { ThinnedState S };
 
@@ -53,7 +53,7 @@ impl<S: Source> Model for Thinned<S> {
       settings = a.taking.sender.encoder.settings;
       losses = a.taking.sender.losses;
       max = a.taking.reader.max;
-      stream = stream_of a.taking.history.payloads a.taking.reader.held (S.left a.inner);
+      stream = whole_stream a.taking.history.payloads a.taking.reader.held (S.left a.inner);
       given = given_of a.taking.sender a.taking.history.payloads;
       told = a.taking.told;
       fault = a.taking.fault;

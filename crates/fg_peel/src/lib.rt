@@ -95,14 +95,10 @@ pub enum Verdict {
 /// one XOR in place for each other slot of its equation, and each equation without an `Empty` slot
 /// is summed once more for the verdict. Each equation is looked at twice, and once more for each of
 /// its slots that is filled.
-///
-/// `all_media` tells that all words that are there are media words. Then the entries are not looked
-/// over where nothing follows.
-pub fn peel(low: i64, slots: &mut [Slot], lines: &Slab<Line>, all_media: bool) -> Verdict
+pub fn peel(low: i64, slots: &mut [Slot], lines: &Slab<Line>) -> Verdict
     requires first { negsuc 99 ≤ℤ low }
     requires last { (low +ℤ pos (length slots.old)) ≤ℤ pos (2 ^ 62) }
     requires lines { AllFit low slots.old lines.now }
-    requires media { IsTrue all_media → AreMedia (words_at low slots.old) }
 
     // Only empty entries change, and the words are then those of exactly the closure.
     ensures fills { OnlyFills slots.old slots.new }
@@ -118,6 +114,61 @@ pub fn peel(low: i64, slots: &mut [Slot], lines: &Slab<Line>, all_media: bool) -
 
     // Where the known words are media words and the recovered ones come from them by a peeling, the
     // verdict tells whether there is a solution, and the words are then it.
+    ensures solution { AreMedia (known_at low slots.old)
+        → ArePeeled (equations_of lines.now) (known_at low slots.old) (words_at low slots.old)
+        → TellsSolution (equations_of lines.now)
+        (known_at low slots.old) (words_at low slots.new) result }
+{
+    peel_slots(low, slots, lines, false)
+}
+
+/// `peel` where all words that are there are media words. Then the entries are not looked over where
+/// nothing follows.
+pub fn peel_media(low: i64, slots: &mut [Slot], lines: &Slab<Line>) -> Verdict
+    requires first { negsuc 99 ≤ℤ low }
+    requires last { (low +ℤ pos (length slots.old)) ≤ℤ pos (2 ^ 62) }
+    requires lines { AllFit low slots.old lines.now }
+    requires media { AreMedia (words_at low slots.old) }
+
+    // Only empty entries change, and the words are then those of exactly the closure.
+    ensures fills { OnlyFills slots.old slots.new }
+    ensures below { before_first low slots.new ≡ before_first low slots.old }
+    ensures closure { (position : ℕ) → IsSome (words_at low slots.new position)
+        ↔ InClosure (words_at low slots.old) (equations_of lines.now) position }
+    ensures peeling { EndsPeeling (equations_of lines.now)
+        (words_at low slots.old) (words_at low slots.new) }
+
+    // A recovered word that is no media word counts before an equation that doesn't come out.
+    ensures verdict { IsVerdict (recovered_at low slots.new) (words_at low slots.new)
+        lines.now result }
+
+    // Where the known words are media words and the recovered ones come from them by a peeling, the
+    // verdict tells whether there is a solution, and the words are then it.
+    ensures solution { AreMedia (known_at low slots.old)
+        → ArePeeled (equations_of lines.now) (known_at low slots.old) (words_at low slots.old)
+        → TellsSolution (equations_of lines.now)
+        (known_at low slots.old) (words_at low slots.new) result }
+{
+    peel_slots(low, slots, lines, true)
+}
+
+/// Either of the two. `all_media` tells that all words that are there are media words.
+fn peel_slots(low: i64, slots: &mut [Slot], lines: &Slab<Line>, all_media: bool) -> Verdict
+    requires first { negsuc 99 ≤ℤ low }
+    requires last { (low +ℤ pos (length slots.old)) ≤ℤ pos (2 ^ 62) }
+    requires lines { AllFit low slots.old lines.now }
+    requires media { IsTrue all_media → AreMedia (words_at low slots.old) }
+
+    ensures fills { OnlyFills slots.old slots.new }
+    ensures below { before_first low slots.new ≡ before_first low slots.old }
+    ensures closure { (position : ℕ) → IsSome (words_at low slots.new position)
+        ↔ InClosure (words_at low slots.old) (equations_of lines.now) position }
+    ensures peeling { EndsPeeling (equations_of lines.now)
+        (words_at low slots.old) (words_at low slots.new) }
+
+    ensures verdict { IsVerdict (recovered_at low slots.new) (words_at low slots.new)
+        lines.now result }
+
     ensures solution { AreMedia (known_at low slots.old)
         → ArePeeled (equations_of lines.now) (known_at low slots.old) (words_at low slots.old)
         → TellsSolution (equations_of lines.now)

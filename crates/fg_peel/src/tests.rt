@@ -138,7 +138,7 @@ fn lines_fit(start: u64, slots: &[Slot], lines: &Slab<Line>) -> bool
 fn peel_block(rt: &impl Abort, slots: &mut [Slot], lines: &Slab<Line>) -> Verdict {
     assert!(rt; slots.len() <= 100);
     assert!(rt; lines_fit(0, slots, lines));
-    peel(0, slots, lines, false)
+    peel(0, slots, lines)
 }
 
 /// The same where two entries stand for positions below 0.
@@ -146,14 +146,14 @@ fn peel_after_two(rt: &impl Abort, slots: &mut [Slot], lines: &Slab<Line>) -> Ve
     assert!(rt; slots.len() <= 100 && slots.len() >= 2);
     let (_, rest) = slots.split_at(2);
     assert!(rt; lines_fit(0, rest, lines));
-    peel(-2, slots, lines, false)
+    peel(-2, slots, lines)
 }
 
 /// The same where the first entry stands for position 1000.
 fn peel_from_1000(rt: &impl Abort, slots: &mut [Slot], lines: &Slab<Line>) -> Verdict {
     assert!(rt; slots.len() <= 100);
     assert!(rt; lines_fit(1000, slots, lines));
-    peel(1000, slots, lines, false)
+    peel(1000, slots, lines)
 }
 
 /// Which entries were filled.

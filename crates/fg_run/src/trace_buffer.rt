@@ -8,7 +8,7 @@ ghost use Rattle.fg_trace.specs.Trace.{Record, magic, spelling};
 
 use fg_encode::Batch;
 use fg_io::{Failed, Sink, write_all};
-use fg_trace::write_datagram;
+use fg_trace::{MAGIC, write_datagram};
 use std::alloc::{AllocError, Global};
 use std::marker::Model;
 
@@ -43,13 +43,12 @@ impl TraceBuffer {
     pub(crate) fn new(alloc: Global) -> Result<TraceBuffer, AllocError>
         ensures { IfOk result (λ buffer. buffer ≡ magic) }
     {
-        let magic = b"FECTRAC1";
         let mut bytes = Vec::with_capacity(alloc, ROOM)?;
-        bytes.extend_from_slice(magic)?;
+        bytes.extend_from_slice(&MAGIC)?;
         bytes.resize(ROOM, 0)?;
         Ok(TraceBuffer {
             bytes,
-            count: magic.len(),
+            count: MAGIC.len(),
         })
     }
 

@@ -5,7 +5,7 @@ ghost use Rattle.fg_trace.specs.Trace.{DiffersAt, magic};
 ghost use Rattle.fg_trace.specs.Header.{IsHeader, BeginsMagic};
 
 /// The eight bytes that begin a trace.
-pub(crate) const MAGIC: [u8; 8] = *b"FECTRAC1";
+pub const MAGIC: [u8; 8] = *b"FECTRAC1";
 
 /// How many bytes a record has before its datagram.
 pub(crate) const HEADER: usize = 12;

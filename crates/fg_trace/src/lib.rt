@@ -12,6 +12,7 @@ mod step;
 mod window;
 mod write;
 
+pub use header::MAGIC;
 pub use reader::Reader;
 pub use step::{Finish, Step, TraceFault};
 pub use write::write_datagram;

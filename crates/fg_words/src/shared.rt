@@ -54,6 +54,15 @@ impl Shared {
         Ok(Shared { word })
     }
 
+    /// Another share of the same word. The word isn't copied. Answers want of memory alone.
+    pub fn lend(&self) -> Result<Shared, AllocError>
+        ensures { IfOk result (λ shared. shared ≡ self.now) }
+    {
+        Ok(Shared {
+            word: Arc::try_clone(&self.word)?,
+        })
+    }
+
     /// The word.
     pub fn word(&self) -> &Word
         ensures word { result.now ≡ self.now }

@@ -104,7 +104,12 @@ fn a_share_has_the_word_given(rt: HostRuntime) {
     match shared {
         Ok(shared) => {
             assert!(rt; shared.word().same(&media(5)));
+            let lent = shared.lend();
             hold::<Shared>(shared);
+            match lent {
+                Ok(lent) => assert!(rt; lent.word().same(&media(5))),
+                Err(_) => assert!(rt; false),
+            }
         }
         Err(_) => assert!(rt; false),
     }

@@ -6,12 +6,9 @@ ghost use Rattle.fg_drill.specs.Thinned.{is_lost, without};
 
 use super::lost::Lost;
 use fg_encode::Batch;
-use fg_trace::write_datagram;
+use fg_trace::{MAGIC, write_datagram};
 use std::alloc::{AllocError, Global};
 use std::marker::Model;
-
-/// The bytes that a trace begins with.
-const MAGIC: [u8; 8] = *b"FECTRAC1";
 
 /// The most bytes of a record: 12 and a parity datagram of 1,344.
 const RECORD_LIMIT: usize = 1356;

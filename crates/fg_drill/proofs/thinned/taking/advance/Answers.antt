@@ -12,7 +12,7 @@ use Rattle.fg_encode.specs.StreamReader.{Answer, StreamState, Walks, kept_answer
 use Rattle.fg_drill.specs.declared.thinned.StreamFault.TheVariants.{NotTransport}
 use Rattle.fg_drill.specs.Sending.{IsUnderWay, given_of}
 use Rattle.fg_drill.specs.Thinned.{is_lost, without}
-use Rattle.fg_drill.specs.ThinnedSource.{LeavesNothing, stream_of}
+use Rattle.fg_drill.specs.ThinnedSource.{LeavesNothing, whole_stream}
 use Rattle.fg_drill.proofs.TakenLemmas.{can_take, no_payload, none_given, payload_sent, stream_stays}
 use Rattle.fg_drill.proofs.thinned.taking.advance.Goals as goal
 
@@ -53,7 +53,7 @@ returns-in-Err-ReadFault-clause-keeps g c =
     let old = c.args.taking.now in
     let way = c.requires.way in
     let payloads = old.history.payloads in
-    let first = stream_of payloads old.reader.held (g.S.Source.left c.args.from.now) in
+    let first = whole_stream payloads old.reader.held (g.S.Source.left c.args.from.now) in
     let rest = g.S.Source.left c.next.new.from in
     let answer : c.next.result ≡ Err ReadFault = c.in-Err-ReadFault.is ∙ ap (λ e. Err e) c.in-Err-ReadFault.field-0-is in
     let stands = subst (λ (a : Answer). Walks a c.next.new.self first rest payloads) answer (c.next.ensures.walks first payloads way.stands) in
@@ -76,7 +76,7 @@ returns-in-Err-NotTransport-clause-keeps g c =
     let old = c.args.taking.now in
     let way = c.requires.way in
     let payloads = old.history.payloads in
-    let first = stream_of payloads old.reader.held (g.S.Source.left c.args.from.now) in
+    let first = whole_stream payloads old.reader.held (g.S.Source.left c.args.from.now) in
     let rest = g.S.Source.left c.next.new.from in
     let fault = c.in-Err-NotTransport.fault in
     let answer : c.next.result ≡ Err (NotPackets fault) = c.in-Err-NotTransport.is ∙ ap (λ e. Err e) c.in-Err-NotTransport.field-0-is in
@@ -104,7 +104,7 @@ returns-in-Ok-Payload-clause-keeps g c =
     let payloads = old.history.payloads in
     let new = c.next.new.self in
     let after = c.send.new.self in
-    let first = stream_of payloads old.reader.held (g.S.Source.left c.args.from.now) in
+    let first = whole_stream payloads old.reader.held (g.S.Source.left c.args.from.now) in
     let rest = g.S.Source.left c.next.new.from in
     let answer : c.next.result ≡ Ok Payload = c.in-Ok-Payload.is ∙ ap (λ s. Ok s) c.in-Ok-Payload.field-0-is in
     let stands = subst (λ (a : Answer). Walks a new first rest payloads) answer (c.next.ensures.walks first payloads way.stands) in
@@ -123,7 +123,7 @@ returns-in-Ok-Payload-clause-keeps g c =
     record {
       way = subst (λ (t : List (List ℕ)). IsUnderWay new after t old.told old.fault rest) (sym told) way';
       read_out = λ is. absurd (let a : true ≡ false = sym is ∙ c.requires.open in cc);
-      stream = ap (λ (t : List (List ℕ)). stream_of t new.held rest) told ∙ stream_stays new first rest all stands;
+      stream = ap (λ (t : List (List ℕ)). whole_stream t new.held rest) told ∙ stream_stays new first rest all stands;
       given = ap (λ (t : List (List ℕ)). given_of after t) told
           ∙ none_given old.sender after payloads new.payload way.number c.requires.empty held c.send.ensures.settings c.send.ensures.losses c.a_payload_more_adds_its_records.ensures.adds;
       settings = c.send.ensures.settings;
