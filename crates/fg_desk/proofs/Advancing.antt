@@ -1,6 +1,7 @@
 -- The words of a row whose mark moves on.
 use Rattle.std.proofs.Common.{◌≡◌, ◌+◌, ◌<◌, ◌≤◌, ◌&&◌, ℕ, Bool, not, is_some, cond, get_or, ltb, leb, lt-ltb, le-leb, Option, None, refl, sym, ap, ◌∙◌, ⊎_elim, arith}
 use Rattle.std.proofs.lemmas.Bool.{cases_lt}
+use Rattle.std.specs.Option.{option_or}
 use Rattle.std.specs.FinMap.{get, empty, get-empty}
 use Rattle.std.specs.Ordering.{nat_cmp}
 use Rattle.std.specs.FinSet.{contains}
@@ -10,8 +11,9 @@ use Rattle.fg_peel.specs.Equation.{Keeps}
 use Rattle.fg_desk.specs.Admission.{kept_count}
 use Rattle.fg_desk.specs.Contents.{kept_shown}
 use Rattle.fg_desk.specs.Play.{nothing_shown}
-use Rattle.fg_desk.specs.Row.{RowState, row_words, row_known, row_kept_from, either, Advances}
+use Rattle.fg_desk.specs.Row.{RowState, row_received, row_known, row_words, Advances}
 use Rattle.fg_desk.specs.State.{Words}
+use Rattle.fg_desk.proofs.DeskWords.{shown_in, received_below, received_ahead, known_kept, words_kept}
 use Rattle.fg_desk.proofs.Options.{chosen}
 use Rattle.fg_desk.proofs.RowMaps.{if-less, if-not_less}
 
@@ -19,17 +21,33 @@ module _ (count : ℕ) (old new : RowState) (advances : Advances count old new) 
   pub rises : old.mark ≤ new.mark
   rises = let m = advances.mark in omega (arith, m)
 
+  pub unsolved_below : (q : ℕ) → q < new.mark → get new.solved q ≡ None
+  unsolved_below q below = advances.solved q ∙ if-less q new.mark None (get old.solved q) below
+
+  uncached_below : (q : ℕ) → q < new.mark → get new.cached q ≡ None
+  uncached_below q below = advances.cached q ∙ if-less q new.mark None (get old.cached q) below
+
+  pub known_below : (q : ℕ) → q < new.mark → row_known new q ≡ get new.kept q
+  known_below q below = known_kept new q below (unsolved_below q below)
+
   pub words_below : (q : ℕ) → q < new.mark → row_words new q ≡ get new.kept q
-  words_below q below = if-less q new.mark (get new.kept q) (either (get new.media q) (get new.cached q)) below
+  words_below q below = words_kept new q below (unsolved_below q below) (uncached_below q below)
+
+  pub received_stays : (q : ℕ) → new.mark ≤ q → row_received new q ≡ row_received old q
+  received_stays q ahead =
+      let up = rises in
+      received_ahead new q ahead ∙ advances.media q ∙ if-not_less q new.mark None (get old.media q) ahead
+      ∙ sym (received_ahead old q (omega (arith, up, ahead)))
+
+  pub known_ahead : (q : ℕ) → new.mark ≤ q → row_known new q ≡ row_known old q
+  known_ahead q ahead =
+      ap (λ (o : Option Word). option_or o (get new.solved q)) (received_stays q ahead)
+      ∙ ap (option_or (row_received old q)) (advances.solved q ∙ if-not_less q new.mark None (get old.solved q) ahead)
 
   pub words_ahead : (q : ℕ) → new.mark ≤ q → row_words new q ≡ row_words old q
   words_ahead q ahead =
-      let up = rises in
-      if-not_less q new.mark (get new.kept q) (either (get new.media q) (get new.cached q)) ahead
-      ∙ ap (λ (o : Option Word). either o (get new.cached q))
-      (advances.media q ∙ if-not_less q new.mark None (get old.media q) ahead)
-      ∙ ap (either (get old.media q)) (advances.cached q ∙ if-not_less q new.mark None (get old.cached q) ahead)
-      ∙ sym (if-not_less q old.mark (get old.kept q) (either (get old.media q) (get old.cached q)) (omega (arith, up, ahead)))
+      ap (λ (o : Option Word). option_or o (get new.cached q)) (known_ahead q ahead)
+      ∙ ap (option_or (row_known old q)) (advances.cached q ∙ if-not_less q new.mark None (get old.cached q) ahead)
 
   -- Each word was there before.
   pub words_before : Keeps (row_words new) (row_words old)
@@ -43,7 +61,7 @@ module _ (count : ℕ) (old new : RowState) (advances : Advances count old new) 
   -- The words at the positions that were played are kept.
   pub shows_kept :
       count ≤ 100 → (i : ℕ) → i < count
-      → get_or (row_kept_from new old.mark count) i nothing_shown
+      → get_or (shown_in new old.mark count) i nothing_shown
       ≡ record {
         word = row_words old (old.mark + i);
         repaired = is_some (row_words old (old.mark + i)) && not (is_some (get old.media (old.mark + i)));
@@ -56,19 +74,26 @@ module _ (count : ℕ) (old new : RowState) (advances : Advances count old new) 
       let kept : get new.kept q ≡ row_words old q =
       advances.kept q ∙ ap (λ (b : Bool). cond (b && leb new.mark (q + kept_count)) (row_words old q) None) (lt-ltb q new.mark below)
       ∙ ap (λ (b : Bool). cond b (row_words old q) None) (le-leb new.mark (q + kept_count) near) in
-      let word : row_known new q ≡ row_words old q = if-less q new.mark (get new.kept q) (get new.media q) below ∙ kept in
-      let bare : contains new.bare q ≡ (is_some (row_words old q) && not (is_some (get old.media q))) =
-      advances.bare q
+      let word : row_received new q ≡ row_words old q = received_below new q below ∙ kept in
+      let repaired : contains new.repaired q ≡ (is_some (row_words old q) && not (is_some (get old.media q))) =
+      advances.repaired q
       ∙ ap (λ (b : Bool). is_some (get new.kept q) && b)
-      (if-not_less q old.mark (contains old.bare q) (not (is_some (get old.media q))) (omega arith))
+      (if-not_less q old.mark (contains old.repaired q) (not (is_some (get old.media q))) (omega arith))
       ∙ ap (λ (o : Option Word). is_some o && not (is_some (get old.media q))) kept in
-      get_or-map-range_with_len (kept_shown (row_known new) new.bare) old.mark count i q nothing_shown less refl
-      ∙ (λ k. record { word = word k; repaired = bare k })
+      get_or-map-range_with_len (kept_shown (row_received new) new.repaired) old.mark count i q nothing_shown less refl
+      ∙ (λ k. record { word = word k; repaired = repaired k })
+
+  -- Where nothing was solved, nothing is, and so it is with what was found.
+  none_of : (words later : Words) → words ≡ empty → ((q : ℕ) → get later q ≡ cond (ltb q new.mark) None (get words q))
+      → (q : ℕ) → get later q ≡ None
+  none_of words later none is q = ⊎_elim
+      (λ below. is q ∙ if-less q new.mark None (get words q) below)
+      (λ ahead.
+      is q ∙ if-not_less q new.mark None (get words q) ahead ∙ ap (λ (m : Words). get m q) none ∙ get-empty nat_cmp q)
+      (cases_lt q new.mark)
+
+  pub none_solved : old.solved ≡ empty → (q : ℕ) → get new.solved q ≡ None
+  none_solved none = none_of old.solved new.solved none advances.solved
 
   pub none_found : old.cached ≡ empty → (q : ℕ) → get new.cached q ≡ None
-  none_found none q = ⊎_elim
-      (λ below. advances.cached q ∙ if-less q new.mark None (get old.cached q) below)
-      (λ ahead.
-      advances.cached q ∙ if-not_less q new.mark None (get old.cached q) ahead
-      ∙ ap (λ (m : Words). get m q) none ∙ get-empty nat_cmp q)
-      (cases_lt q new.mark)
+  none_found none = none_of old.cached new.cached none advances.cached

@@ -1,20 +1,24 @@
 -- A desk after an equation is added is sound.
-use Rattle.std.proofs.Common.{◌≡◌, ◌≢◌, ◌+◌, ◌<◌, ◌≤◌, ◌^◌, ℕ, None, IsSome, sym, ◌∙◌, ⊎_elim, arith, subst}
+use Rattle.std.proofs.Common.{◌≡◌, ◌≢◌, ◌+◌, ◌<◌, ◌≤◌, ◌^◌, ℕ, Option, None, IsSome, sym, ◌∙◌, ⊎_elim, arith, subst}
 use Rattle.std.proofs.lemmas.Bool.{cases_eq}
+use Rattle.std.proofs.lemmas.Option.{same_Some}
 use Rattle.std.specs.FinMap.{get, insert}
+use Rattle.fg_words.specs.declared.Word.{Word}
+use Rattle.fg_words.specs.Word.{HasRoom}
 use Rattle.fg_shape.specs.Shape.{IsShape}
 use Rattle.fg_peel.specs.Equation.{Equation}
 use Rattle.fg_peel.specs.Laws.{PeelingsTakeEquations}
 use Rattle.fg_desk.specs.declared.reply.Reply.TheVariants.{Admitted}
-use Rattle.fg_desk.specs.State.{known, live_equations}
+use Rattle.fg_desk.specs.State.{Live, known, live_equations}
 use Rattle.fg_desk.specs.Admission.{IsEquationReply, IsLeastFree, live_limit, with_equation}
 use Rattle.fg_desk.specs.Facts.{Holds}
 use Rattle.fg_desk.specs.Inside.{Parts, AreSound, state_of}
+use Rattle.fg_desk.specs.Row.{row_known, row_words}
 use Rattle.fg_desk.specs.Lines.{LinesState, AreLines}
 use Rattle.fg_desk.proofs.Added.{added}
 use Rattle.fg_desk.proofs.AdmissionsAdd.{stays_listed}
-use Rattle.fg_desk.proofs.DeskPlays.{AreLimited, sound_from}
-use Rattle.fg_desk.proofs.Options.{none_or_some, none_has_no_value, beside_inserted}
+use Rattle.fg_desk.proofs.DeskPlays.{AreLimited, ComeByPeeling, sound_from}
+use Rattle.fg_desk.proofs.Options.{none_or_some, none_has_no_value, inserted, beside_inserted}
 use Rattle.fg_desk.proofs.Parities.{IsNew, with_equation_holds}
 use Rattle.fg_desk.proofs.Places.{free_place}
 
@@ -68,16 +72,23 @@ module _
         epoch_limit = omega (arith, epoch);
       }
 
-  pub sound_with_line : PeelingsTakeEquations → AreSound (with_line parts (lines_with parts place equation))
-  sound_with_line take =
-      let p = sound.peeled in
-      sound_from (with_line parts (lines_with parts place equation)) limited holds_with sound.media (
-        p.0,
-        take (known (state_of parts)) (live_equations (state_of parts))
-            (live_equations (with_equation (state_of parts) place equation)) p.0
-            (stays_listed (state_of parts) place equation sound.facts) p.1,
-        p.2,
-      )
+  -- What came from a peeling still does.
+  peeled_still :
+      PeelingsTakeEquations → (words : ℕ → Option Word) → ComeByPeeling parts words
+      → ComeByPeeling (with_line parts (lines_with parts place equation)) words
+  peeled_still take words p = (
+    p.0,
+    take (known (state_of parts)) (live_equations (state_of parts))
+        (live_equations (with_equation (state_of parts) place equation)) p.0
+        (stays_listed (state_of parts) place equation sound.facts) p.1,
+    p.2,
+  )
+
+  pub sound_with_line :
+      PeelingsTakeEquations → HasRoom equation.parity → AreSound (with_line parts (lines_with parts place equation))
+  sound_with_line take room =
+      sound_from (with_line parts (lines_with parts place equation)) limited holds_with sound.cached
+      (peeled_still take (row_known parts.row) sound.solved) (peeled_still take (row_words parts.row) sound.peeled)
       (λ serial live is settled. ⊎_elim
       (λ here.
       let some : IsSome (get parts.lines.live serial) = lines.settled serial settled in
@@ -87,3 +98,13 @@ module _
       sound.settled serial live
       (sym (beside_inserted parts.lines.live parts.admitted (added place equation) serial beside) ∙ is) settled)
       (cases_eq serial parts.admitted))
+      (λ serial live is. ⊎_elim
+      (λ here.
+      let same : added place equation ≡ live =
+      same_Some (added place equation) live (sym (inserted parts.lines.live parts.admitted (added place equation) serial here) ∙ is) in
+      subst (λ (l : Live). HasRoom l.equation.parity) same room)
+      (λ beside.
+      sound.rooms serial live
+      (sym (beside_inserted parts.lines.live parts.admitted (added place equation) serial beside) ∙ is))
+      (cases_eq serial parts.admitted))
+      sound.beside

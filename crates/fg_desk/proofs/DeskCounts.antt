@@ -1,14 +1,19 @@
 -- A call that changes nothing else.
-use Rattle.std.proofs.Common.{◌≡◌, ◌≢◌, ◌+◌, ◌<◌, ◌^◌, ℕ, Option, Some, MatchOption, refl, sym, subst, arith}
+use Rattle.std.proofs.Common.{◌≡◌, ◌≢◌, ◌+◌, ◌<◌, ◌^◌, ℕ, Option, Some, MatchOption, IsSomeAnd, refl, sym, subst, arith}
+use Rattle.std.specs.FinMap.{get}
 use Rattle.fg_words.specs.declared.Word.{Word}
 use Rattle.fg_unwrap.specs.Position.{position_of}
+use Rattle.fg_peel.specs.Equation.{Equation}
 use Rattle.fg_desk.specs.declared.reply.Reply.{Reply}
 use Rattle.fg_desk.specs.declared.reply.Reply.TheVariants.{Admitted, NotStarted, BeforeStart}
-use Rattle.fg_desk.specs.State.{State, Top}
-use Rattle.fg_desk.specs.Admission.{Parity, IsEquationReply, IsParityReply, equation_at, IsAfterMedia, IsAfterParity, counted}
+use Rattle.fg_desk.specs.State.{State, Top, Live}
+use Rattle.fg_desk.specs.Admission.{Parity, IsEquationReply, IsParityReply, equation_at, IsAfterMedia, IsAfterParity, counted, with_equation}
+use Rattle.fg_desk.specs.Contents.{IsPlaceAfter}
 use Rattle.fg_desk.specs.Inside.{Parts, AreSound, state_of}
+use Rattle.fg_desk.proofs.Added.{added}
 use Rattle.fg_desk.proofs.DeskPlays.{sound_from}
 use Rattle.fg_desk.proofs.Opened.{counted_holds}
+use Rattle.fg_desk.proofs.Options.{inserted, some_and_from}
 
 abbrev pub counted_parts : Parts → Parts
 counted_parts parts = record parts { calls = parts.calls + 1 }
@@ -27,7 +32,7 @@ counted_sound parts sound calls =
       calls_limit = omega (arith, calls);
       epoch_limit = omega (arith, epoch);
     })
-    (counted_holds (state_of parts) sound.facts) sound.media sound.peeled sound.settled
+    (counted_holds (state_of parts) sound.facts) sound.cached sound.solved sound.peeled sound.settled sound.rooms sound.beside
 
 pub counted_after_media : (old : State) (seq : ℕ) (word : Word) (reply : Reply) → reply ≢ Admitted → IsAfterMedia old seq word reply (counted old)
 counted_after_media old seq word Admitted other = absurd (other refl)
@@ -36,6 +41,17 @@ counted_after_media old seq word reply other = refl
 pub counted_after_parity : (old : State) (parity : Parity) (reply : Reply) → reply ≢ Admitted → IsAfterParity old parity reply (counted old)
 counted_after_parity old parity Admitted other = absurd (other refl)
 counted_after_parity old parity reply other = refl
+
+-- The equation that is admitted has its place under the next serial number.
+pub placed_after :
+    (old new : State) (place : ℕ) (equation : Equation) → new ≡ with_equation old place equation
+    → IsPlaceAfter old Admitted (Some place) new
+placed_after old new place equation is = (
+  refl,
+  subst (λ (s : State). IsSomeAnd (get s.equations old.admitted) (λ live. live.place ≡ place)) (sym is)
+      (some_and_from (get (with_equation old place equation).equations old.admitted) (λ (live : Live). live.place ≡ place)
+      (added place equation) (inserted old.equations old.admitted (added place equation) old.admitted refl) refl),
+)
 
 -- The reply to a parity datagram whose base has a position.
 pub parity_reply_at :

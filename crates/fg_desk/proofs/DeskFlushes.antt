@@ -1,32 +1,24 @@
 -- What a flush step plays, and what is left where none is defined.
-use Rattle.std.proofs.Common.{◌≡◌, ◌⊎◌, ◌+◌, ◌-◌, ◌<◌, ◌≤◌, ◌^◌, ℕ, min, Bool, [], Option, Some, None, IsSome, inl, inr, refl, sym, ap, subst, ◌∙◌, ⊎_elim, arith}
+use Rattle.std.proofs.Common.{◌≡◌, ◌+◌, ◌-◌, ◌<◌, ◌≤◌, ◌^◌, ℕ, min, Bool, None, sym, ap, subst, ◌∙◌, ⊎_elim, arith}
 use Rattle.std.proofs.Math.Nat.{le-min}
 use Rattle.std.proofs.lemmas.Bool.{cases_lt}
 use Rattle.std.specs.FinMap.{get}
-use Rattle.fg_words.specs.declared.Word.{Word}
-use Rattle.fg_peel.specs.Equation.{AreMedia}
 use Rattle.fg_peel.specs.Laws.{FoundKeepsClosure, MaximalPeelingsEndAtClosure, PeelingsKeepWords}
-use Rattle.fg_desk.specs.State.{Words, known, live_equations}
+use Rattle.fg_desk.specs.State.{Words, live_equations}
 use Rattle.fg_desk.specs.Play.{IsHighest, HasMore}
 use Rattle.fg_desk.specs.Inside.{Parts, AreSound, state_of}
-use Rattle.fg_desk.specs.Row.{RowState, row_words, either, IsRow, IsHighestWord}
+use Rattle.fg_desk.specs.Row.{RowState, row_received, row_known, row_words, IsRow, IsHighestWord}
 use Rattle.fg_desk.specs.Window.{IsRecovered}
-use Rattle.fg_desk.proofs.DeskPlays.{with_found, sound_from, AreLimited}
+use Rattle.fg_desk.proofs.DeskPlays.{with_found, sound_without_found, AreLimited}
 use Rattle.fg_desk.proofs.DeskRecovers.{has_closure, words_kept}
-use Rattle.fg_desk.proofs.DeskWords.{known_are_media}
+use Rattle.fg_desk.proofs.DeskWords.{or_cases, or_neither, received_ahead, unsolved_below, uncached_below}
 use Rattle.fg_desk.proofs.Opened.{counted_holds}
-use Rattle.fg_desk.proofs.Options.{none_has_no_value}
-use Rattle.fg_desk.proofs.Orderly.{known_below, known_ahead}
-use Rattle.fg_desk.proofs.RowMaps.{if-less, if-not_less}
+use Rattle.fg_desk.proofs.Options.{none_has_no_value, value_of, has_value}
 use Rattle.fg_desk.proofs.SettledWords.{settled_keeps}
 
 -- No position at the mark or past it has a word.
 abbrev pub HasNoneAhead : RowState → Type 0
 HasNoneAhead row = (position : ℕ) → row.mark ≤ position → row_words row position ≡ None
-
-none_of_either : (one other : Option Word) → either one other ≡ None → one ≡ None
-none_of_either None other none = refl
-none_of_either (Some word) other none = absurd (cc)
 
 -- The desk after one more call, with other found words.
 abbrev pub counted_with : Parts → RowState → Parts
@@ -35,22 +27,23 @@ counted_with parts row = record parts { row = row; calls = parts.calls + 1 }
 module _
     (parts : Parts) (sound : AreSound parts) (cached : Words) (answer : Bool)
     (recovered : IsRecovered (live_equations (state_of parts)) parts.row (with_found parts cached) answer)
-    (none : HasNoneAhead (with_found parts cached)) where
-  words_are_known : (q : ℕ) → row_words (with_found parts cached) q ≡ known (state_of parts) q
-  words_are_known q = ⊎_elim
-      (λ below.
-      if-less q parts.row.mark (get parts.row.kept q) (either (get parts.row.media q) (get cached q)) below
-      ∙ sym (known_below (state_of parts) q below))
+    (is_row : IsRow (with_found parts cached)) (none : HasNoneAhead (with_found parts cached)) where
+  no_solved : (q : ℕ) → get parts.row.solved q ≡ None
+  no_solved q = ⊎_elim
+      (λ below. unsolved_below (with_found parts cached) is_row q below)
       (λ ahead.
-      none q ahead
-      ∙ sym (known_ahead (state_of parts) q ahead
-      ∙ none_of_either (get parts.row.media q) (get cached q)
-      (sym (if-not_less q parts.row.mark (get parts.row.kept q) (either (get parts.row.media q) (get cached q)) ahead) ∙ none q ahead)))
+      let none_known = (or_neither (row_known parts.row q) (get cached q) (none q ahead)).0 in
+      (or_neither (row_received parts.row q) (get parts.row.solved q) none_known).1)
+      (cases_lt q parts.row.mark)
+
+  no_found : (q : ℕ) → get cached q ≡ None
+  no_found q = ⊎_elim
+      (λ below. uncached_below (with_found parts cached) is_row q below)
+      (λ ahead. (or_neither (row_known parts.row q) (get cached q) (none q ahead)).1)
       (cases_lt q parts.row.mark)
 
   sound_at : PeelingsKeepWords → parts.calls < 2 ^ 62 → AreSound (counted_with parts (with_found parts cached))
   sound_at keep calls =
-      let same : row_words (with_found parts cached) ≡ known (state_of parts) = λ i q. words_are_known q i in
       let admitted = sound.admitted_limit in
       let epoch = sound.epoch_limit in
       let limits : AreLimited (counted_with parts (with_found parts cached)) = record {
@@ -62,23 +55,24 @@ module _
         calls_limit = omega (arith, calls);
         epoch_limit = omega (arith, epoch);
       } in
-      sound_from (counted_with parts (with_found parts cached)) limits (counted_holds (state_of parts) sound.facts)
-      (subst AreMedia (sym same) (known_are_media (state_of parts) sound.facts))
-      ([], tt, same)
+      sound_without_found (counted_with parts (with_found parts cached)) limits (counted_holds (state_of parts) sound.facts)
+      no_solved no_found
       (λ serial live is settled.
       settled_keeps (row_words parts.row) (row_words (with_found parts cached)) live.equation
       (words_kept parts sound (with_found parts cached) answer recovered keep) (sound.settled serial live is settled))
+      sound.rooms
 
 module _
     (parts : Parts) (sound : AreSound parts) (row : RowState) (answer : Bool)
     (recovered : IsRecovered (live_equations (state_of parts)) parts.row row answer) where
   pub sound_with_none :
-      PeelingsKeepWords → parts.calls < 2 ^ 62 → HasNoneAhead row → AreSound (counted_with parts row)
-  sound_with_none keep calls none =
+      PeelingsKeepWords → IsRow row → parts.calls < 2 ^ 62 → HasNoneAhead row → AreSound (counted_with parts row)
+  sound_with_none keep is_row calls none =
       let again : IsRecovered (live_equations (state_of parts)) parts.row (with_found parts row.cached) answer =
       subst (λ (r : RowState). IsRecovered (live_equations (state_of parts)) parts.row r answer) recovered.rest recovered in
       subst (λ (r : RowState). AreSound (counted_with parts r)) (sym recovered.rest)
-      (sound_at parts sound row.cached answer again (subst HasNoneAhead recovered.rest none) keep calls)
+      (sound_at parts sound row.cached answer again (subst IsRow recovered.rest is_row) (subst HasNoneAhead recovered.rest none) keep
+      calls)
 
   pub mark_stays : row.mark ≡ parts.row.mark
   mark_stays = ap (λ (r : RowState). r.mark) recovered.rest
@@ -99,21 +93,20 @@ module _
   pub more_of : (highest : ℕ) → IsHighestWord row highest → parts.row.mark ≤ highest
   more_of highest is = let same = mark_stays in let ahead = is.0 in omega (arith, same, ahead)
 
-some_of_either : (one other : Option Word) → IsSome (either one other) → IsSome one ⊎ IsSome other
-some_of_either None other some = inr some
-some_of_either (Some word) other some = inl refl
-
 -- Positions of words are below 2^62.
 pub highest_limit : (row : RowState) → IsRow row → (highest : ℕ) → IsHighestWord row highest → highest < 2 ^ 62
 highest_limit row facts highest is =
     let limit = facts.limit in
-    let some : IsSome (either (get row.media highest) (get row.cached highest)) =
-    subst (λ (o : Option Word). IsSome o)
-    (if-not_less highest row.mark (get row.kept highest) (either (get row.media highest) (get row.cached highest)) is.0) is.1.inside in
+    let word = value_of (row_words row highest) is.1.inside in
     ⊎_elim
-    (λ received. let near = (facts.media highest received).1 in omega (arith, near, limit))
-    (λ found. let near = (facts.cached highest found).1 in omega (arith, near, limit))
-    (some_of_either (get row.media highest) (get row.cached highest) some)
+    (λ known. ⊎_elim
+    (λ received.
+    let near = (facts.media highest (has_value (get row.media highest) word.0 (sym (received_ahead row highest is.0) ∙ received))).1 in
+    omega (arith, near, limit))
+    (λ solved. let near = (facts.solved highest (has_value (get row.solved highest) word.0 solved.1)).1 in omega (arith, near, limit))
+    (or_cases (row_received row highest) (get row.solved highest) word.0 known))
+    (λ found. let near = (facts.cached highest (has_value (get row.cached highest) word.0 found.1)).1 in omega (arith, near, limit))
+    (or_cases (row_known row highest) (get row.cached highest) word.0 word.1)
 
 -- A flush step plays at least one position, and at most a window.
 pub some_played : (window highest mark : ℕ) → 1 ≤ window → mark ≤ highest → 1 ≤ min window (highest + 1 - mark)

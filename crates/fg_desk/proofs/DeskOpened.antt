@@ -1,13 +1,12 @@
 -- A desk at first is sound.
-use Rattle.std.proofs.Common.{◌+◌, ◌≤◌, ℕ, [], None, refl, sym, subst, arith}
+use Rattle.std.proofs.Common.{◌+◌, ◌≤◌, ℕ, None, refl, arith}
 use Rattle.std.proofs.lemmas.Option.{none-some}
 use Rattle.std.specs.FinMap.{get-empty}
 use Rattle.std.specs.Ordering.{nat_cmp}
-use Rattle.fg_peel.specs.Equation.{AreMedia}
-use Rattle.fg_desk.specs.Inside.{Parts, AreSound, state_of}
+use Rattle.fg_desk.specs.Inside.{Parts, AreSound}
 use Rattle.fg_desk.specs.Lines.{no_lines}
 use Rattle.fg_desk.specs.Row.{opened_row}
-use Rattle.fg_desk.proofs.DeskWords.{words_without_cache, known_are_media}
+use Rattle.fg_desk.proofs.DeskPlays.{sound_without_found}
 use Rattle.fg_desk.proofs.Opened.{opening_holds}
 use Rattle.fg_desk.proofs.Options.{nothing_in_empty}
 
@@ -26,18 +25,16 @@ opened_parts window depth = record {
 pub opened_sound :
     (window depth : ℕ) → 1 ≤ window → window ≤ 100 → window ≤ depth → depth ≤ 1000 → AreSound (opened_parts window depth)
 opened_sound window depth one most fits limit =
-    let holds = opening_holds window depth one most fits in
-    let same = words_without_cache (opened_row (depth + 100)) (get-empty nat_cmp) in
-    record {
-      facts = holds;
+    sound_without_found (opened_parts window depth)
+    (record {
       depth_limit = limit;
       reach = refl;
-      media = subst AreMedia (sym same) (known_are_media (state_of (opened_parts window depth)) holds);
-      peeled = ([], tt, same);
-      settled = λ serial live is settled. absurd (nothing_in_empty serial live is);
       mark_limit = omega arith;
       top_limit = λ top is. absurd (none-some top is);
       admitted_limit = omega arith;
       calls_limit = omega arith;
       epoch_limit = omega arith;
-    }
+    })
+    (opening_holds window depth one most fits) (get-empty nat_cmp) (get-empty nat_cmp)
+    (λ serial live is settled. absurd (nothing_in_empty serial live is))
+    (λ serial live is. absurd (nothing_in_empty serial live is))

@@ -2,13 +2,15 @@
 use Rattle.std.proofs.Common.{◌≡◌, ◌+◌, ◌<◌, ◌≤◌, ◌^◌, ◌&&◌, ℕ, Bool, cond, ltb, leb, not, is_some, List, [], filter, Option, Some, None, IsSome, IsTrue, refl, sym, ap, subst, ◌∙◌, ⊎_elim, arith}
 use Rattle.std.specs.Prelude.{nat_le}
 use Rattle.std.proofs.lemmas.Bool.{cases_lt}
+use Rattle.std.proofs.lemmas.Option.{none-some}
 use Rattle.std.proofs.lemmas.List.FromFn.{length-map-range_with_len}
 use Rattle.std.specs.FinMap.{get, get-empty}
 use Rattle.std.specs.Ordering.{nat_cmp}
 use Rattle.fg_words.specs.declared.Word.{Word}
+use Rattle.fg_words.specs.Word.{HasRoom}
 use Rattle.fg_peel.specs.Equation.{AreMedia, IsComplete}
 use Rattle.fg_peel.specs.Peeling.{Step, ArePeeled, end_of}
-use Rattle.fg_peel.specs.Laws.{FoundKeepsSolutions, PeelingsAppend}
+use Rattle.fg_peel.specs.Laws.{FoundKeepsSolutions, PeelingsAppend, PeelingsKeepWords, SolutionsKeepPeelings}
 use Rattle.fg_desk.specs.declared.reply.Outcome.{Outcome}
 use Rattle.fg_desk.specs.declared.reply.Outcome.TheVariants.{Repaired, Inconsistent}
 use Rattle.fg_desk.specs.State.{Top, Live, Words, known, live_equations}
@@ -19,17 +21,17 @@ use Rattle.fg_desk.specs.Solution.{IsSolution}
 use Rattle.fg_desk.specs.Play.{IsPlay}
 use Rattle.fg_desk.specs.Laws.{SolvedStaysPeeled}
 use Rattle.fg_desk.specs.Inside.{Parts, AreSound, SettledComeOut, state_of}
-use Rattle.fg_desk.specs.Row.{RowState, row_words, row_known, row_kept_from, Advances}
+use Rattle.fg_desk.specs.Row.{RowState, row_received, row_known, row_words, IsRow, Advances}
 use Rattle.fg_desk.specs.Lines.{LinesState, no_lines}
 use Rattle.fg_desk.specs.Window.{IsRecovered, Keeps, without_found}
-use Rattle.fg_desk.proofs.Advancing.{words_below, words_ahead, words_before, shows_kept, none_found}
+use Rattle.fg_desk.proofs.Advancing.{unsolved_below, known_below as known_in_new, known_ahead, words_below, words_ahead, words_before, shows_kept, none_solved, none_found}
 use Rattle.fg_desk.proofs.DeskRecovers.{desk_solution, desk_solvable, all_peeled}
-use Rattle.fg_desk.proofs.DeskWords.{words_without_cache, known_are_media}
+use Rattle.fg_desk.proofs.DeskWords.{shown_in, known_unsolved, words_unfound, received_ahead, found_is_word, words_in_play}
 use Rattle.fg_desk.proofs.Equations.{live_at}
-use Rattle.fg_desk.proofs.Options.{nothing_in_empty}
+use Rattle.fg_desk.proofs.Options.{none_has_no_value, nothing_in_empty, passed_over}
 use Rattle.fg_desk.proofs.Orderly.{orderly_from_holds, known_below}
 use Rattle.fg_desk.proofs.Plays.{words_are_media}
-use Rattle.fg_desk.proofs.RowViews.{row_words-play, row_words-received}
+use Rattle.fg_desk.proofs.RowMaps.{if-not_less}
 use Rattle.fg_desk.proofs.SettledWords.{settled_back}
 
 -- The parts after a play.
@@ -54,17 +56,35 @@ pub record AreLimited (parts : Parts) : Type 0 where
   pub calls_limit : parts.calls ≤ 2 ^ 62
   pub epoch_limit : parts.epoch ≤ parts.calls
 
+-- The parity words of the live equations have room.
+abbrev pub HaveRoom : Parts → Type 0
+HaveRoom parts =
+    (serial : ℕ) (live : Live) → get parts.lines.live serial ≡ Some live → HasRoom live.equation.parity
+
+-- Solved words stand at the mark and past it, where none was received.
+abbrev pub StandBeside : Parts → Type 0
+StandBeside parts =
+    (position : ℕ) → IsSome (get parts.row.solved position)
+    → (parts.row.mark ≤ position) × (get parts.row.media position ≡ None)
+
+-- Words come from a peeling of the desk.
+abbrev pub ComeByPeeling : Parts → (ℕ → Option Word) → Type 0
+ComeByPeeling parts words = ArePeeled (live_equations (state_of parts)) (known (state_of parts)) words
+
 pub sound_from :
-    (parts : Parts) → AreLimited parts → Holds (state_of parts) → AreMedia (row_words parts.row)
-    → ArePeeled (live_equations (state_of parts)) (known (state_of parts)) (row_words parts.row) → SettledComeOut parts
-    → AreSound parts
-sound_from parts limits facts media peeled settled = record {
+    (parts : Parts) → AreLimited parts → Holds (state_of parts) → AreMedia (get parts.row.cached)
+    → ComeByPeeling parts (row_known parts.row) → ComeByPeeling parts (row_words parts.row) → SettledComeOut parts
+    → HaveRoom parts → StandBeside parts → AreSound parts
+sound_from parts limits facts cached solved peeled settled rooms beside = record {
   facts = facts;
   depth_limit = limits.depth_limit;
   reach = limits.reach;
-  media = media;
+  cached = cached;
+  solved = solved;
   peeled = peeled;
   settled = settled;
+  rooms = rooms;
+  beside = beside;
   mark_limit = limits.mark_limit;
   top_limit = limits.top_limit;
   admitted_limit = limits.admitted_limit;
@@ -72,13 +92,14 @@ sound_from parts limits facts media peeled settled = record {
   epoch_limit = limits.epoch_limit;
 }
 
--- Without found words a desk is sound.
+-- Without solved and found words a desk is sound.
 pub sound_without_found :
-    (parts : Parts) → AreLimited parts → Holds (state_of parts) → ((q : ℕ) → get parts.row.cached q ≡ None)
-    → SettledComeOut parts → AreSound parts
-sound_without_found parts limits facts none settled =
-    let same = words_without_cache parts.row none in
-    sound_from parts limits facts (subst AreMedia (sym same) (known_are_media (state_of parts) facts)) ([], tt, same) settled
+    (parts : Parts) → AreLimited parts → Holds (state_of parts) → ((q : ℕ) → get parts.row.solved q ≡ None)
+    → ((q : ℕ) → get parts.row.cached q ≡ None) → SettledComeOut parts → HaveRoom parts → AreSound parts
+sound_without_found parts limits facts unsolved uncached settled rooms =
+    sound_from parts limits facts (λ q w is. absurd (none-some w (sym (uncached q) ∙ is)))
+    ([], tt, known_unsolved parts.row unsolved) ([], tt, words_unfound parts.row unsolved uncached) settled rooms
+    (λ q some. absurd (none_has_no_value (get parts.row.solved q) (unsolved q) some))
 
 epoch_rises : (outcome : Outcome) (epoch calls : ℕ) → epoch ≤ calls → epoch_after epoch outcome ≤ calls + 1
 epoch_rises Repaired epoch calls limit = omega (arith, limit)
@@ -87,7 +108,8 @@ epoch_rises Inconsistent epoch calls limit = omega (arith, limit)
 module _
     (parts : Parts) (sound : AreSound parts) (cached : Words) (answer : Bool)
     (recovered : IsRecovered (live_equations (state_of parts)) parts.row (with_found parts cached) answer)
-    (found : FoundKeepsSolutions) (count : ℕ) (new : RowState) (left : LinesState) where
+    (found : FoundKeepsSolutions) (keep : PeelingsKeepWords) (kept : SolutionsKeepPeelings)
+    (is_row : IsRow (with_found parts cached)) (count : ℕ) (new : RowState) (left : LinesState) where
   limited :
       (outcome : Outcome) → parts.row.mark < 2 ^ 61 → parts.calls < 2 ^ 62 → count ≤ 100 → new.mark ≡ parts.row.mark + count
       → new.reach ≡ parts.row.reach → AreLimited (played parts outcome new left)
@@ -107,19 +129,19 @@ module _
   module _ (advances : Advances count (with_found parts cached) new) (most : count ≤ 100)
       (keeps : Keeps (row_words (with_found parts cached)) new.mark new.kept parts.lines left) (solved : IsTrue answer) where
     pub repaired_play :
-        IsPlay count (state_of parts) (record { first = parts.row.mark; shown = row_kept_from new parts.row.mark count; outcome = Repaired })
+        IsPlay count (state_of parts) (record { first = parts.row.mark; shown = shown_in new parts.row.mark count; outcome = Repaired })
         (state_of (played parts Repaired new left))
     repaired_play = record {
       words = row_words (with_found parts cached);
-      decides = desk_solution parts sound (with_found parts cached) answer recovered found solved;
+      decides = desk_solution parts sound (with_found parts cached) answer recovered found keep solved;
       first = refl;
-      length_is = length-map-range_with_len (kept_shown (row_known new) new.bare) parts.row.mark count;
+      length_is = length-map-range_with_len (kept_shown (row_received new) new.repaired) parts.row.mark count;
       shows = shows_kept count (with_found parts cached) new advances most;
       mark = advances.mark;
       kept = λ q.
           (advances.kept q
           ∙ ap (λ (o : Option Word). cond (ltb q new.mark && leb new.mark (q + kept_count)) o None)
-          (row_words-play (with_found parts cached) q));
+          (words_in_play (with_found parts cached) is_row q));
       media = advances.media;
       equations = λ serial live. (
         λ is. (let r = (keeps.live serial live).0 is in (r.0, refl, r.1)),
@@ -129,31 +151,41 @@ module _
     }
 
     solution : IsSolution (state_of parts) (row_words (with_found parts cached))
-    solution = desk_solution parts sound (with_found parts cached) answer recovered found solved
+    solution = desk_solution parts sound (with_found parts cached) answer recovered found keep solved
 
-    repaired_media : AreMedia (row_words new)
+    repaired_media : AreMedia (get new.cached)
     repaired_media q word is =
+        let was = passed_over (ltb q new.mark) (get cached q) word (sym (advances.cached q) ∙ is) in
         words_are_media (state_of parts) Repaired (row_words (with_found parts cached)) (orderly_from_holds (state_of parts) sound.facts)
-        solution q word (words_before count (with_found parts cached) new advances q word is)
+        solution q word (found_is_word (with_found parts cached) is_row q word was.1)
 
-    repaired_peeled :
-        PeelingsAppend → SolvedStaysPeeled
-        → ArePeeled (live_equations (state_of (played parts Repaired new left))) (known (state_of (played parts Repaired new left))) (row_words new)
-    repaired_peeled append stays =
-        let all = all_peeled parts sound (with_found parts cached) answer recovered append in
+    -- What a peeling found is found by one still.
+    later_peeled :
+        SolvedStaysPeeled → (words later : ℕ → Option Word) → ComeByPeeling parts words
+        → ((q : ℕ) → q < new.mark → later q ≡ get new.kept q) → ((q : ℕ) → new.mark ≤ q → later q ≡ words q)
+        → ComeByPeeling (played parts Repaired new left) later
+    later_peeled stays words later all below_is ahead_is =
         let s = stays count (state_of parts) (state_of (played parts Repaired new left))
-        (record { first = parts.row.mark; shown = row_kept_from new parts.row.mark count; outcome = Repaired }) all.0 sound.facts repaired_play refl all.1 in
+        (record { first = parts.row.mark; shown = shown_in new parts.row.mark count; outcome = Repaired }) all.0 sound.facts repaired_play refl all.1 in
         let rest : List Step = filter (λ (step : Step). nat_le new.mark step.position) all.0 in
-        let same : (q : ℕ) → row_words new q ≡ end_of (known (state_of (played parts Repaired new left))) rest q =
+        let same : (q : ℕ) → later q ≡ end_of (known (state_of (played parts Repaired new left))) rest q =
         λ q. ⊎_elim
         (λ below.
-        words_below count (with_found parts cached) new advances q below
-        ∙ sym (known_below (state_of (played parts Repaired new left)) q below) ∙ sym (s.2 q below))
-        (λ ahead.
-        words_ahead count (with_found parts cached) new advances q ahead
-        ∙ ap (λ (f : ℕ → Option Word). f q) all.2 ∙ sym (s.1 q ahead))
+        below_is q below ∙ sym (known_below (state_of (played parts Repaired new left)) q below) ∙ sym (s.2 q below))
+        (λ ahead. ahead_is q ahead ∙ ap (λ (f : ℕ → Option Word). f q) all.2 ∙ sym (s.1 q ahead))
         (cases_lt q new.mark) in
         (rest, s.0, λ i q. same q i)
+
+    repaired_solved : SolvedStaysPeeled → ComeByPeeling (played parts Repaired new left) (row_known new)
+    repaired_solved stays =
+        later_peeled stays (row_known parts.row) (row_known new) sound.solved
+        (known_in_new count (with_found parts cached) new advances) (known_ahead count (with_found parts cached) new advances)
+
+    repaired_peeled : PeelingsAppend → SolvedStaysPeeled → ComeByPeeling (played parts Repaired new left) (row_words new)
+    repaired_peeled append stays =
+        later_peeled stays (row_words (with_found parts cached)) (row_words new)
+        (all_peeled parts sound (with_found parts cached) answer recovered append)
+        (words_below count (with_found parts cached) new advances) (words_ahead count (with_found parts cached) new advances)
 
     -- Each word of a settled equation is there still.
     left_complete :
@@ -182,7 +214,17 @@ module _
     repaired_sound append stays mark calls facts =
         sound_from (played parts Repaired new left)
         (limited Repaired mark calls most advances.mark advances.reach)
-        facts repaired_media (repaired_peeled append stays) repaired_settled
+        facts repaired_media (repaired_solved stays) (repaired_peeled append stays) repaired_settled
+        (λ serial live is. sound.rooms serial live ((keeps.live serial live).0 is).0)
+        (λ q some. ⊎_elim
+        (λ below. absurd (none_has_no_value (get new.solved q) (unsolved_below count (with_found parts cached) new advances q below) some))
+        (λ ahead. (
+          ahead,
+          advances.media q ∙ if-not_less q new.mark None (get parts.row.media q) ahead
+              ∙ (sound.beside q (subst (λ (o : Option Word). IsSome o)
+              (advances.solved q ∙ if-not_less q new.mark None (get parts.row.solved q) ahead) some)).1,
+        ))
+        (cases_lt q new.mark))
 
   module _ (advances : Advances count (without_found (with_found parts cached)) new) (most : count ≤ 100) (none_left : left ≡ no_lines)
       (unsolved : ¬ IsTrue answer) where
@@ -190,28 +232,30 @@ module _
     nothing_left serial live is =
         nothing_in_empty serial live (sym (ap (λ (l : LinesState). get l.live serial) none_left) ∙ is)
 
+    all_received : row_words (without_found (with_found parts cached)) ≡ row_received parts.row
+    all_received = words_unfound (without_found (with_found parts cached)) (get-empty nat_cmp) (get-empty nat_cmp)
+
     pub received_play :
-        IsPlay count (state_of parts) (record { first = parts.row.mark; shown = row_kept_from new parts.row.mark count; outcome = Inconsistent })
+        IsPlay count (state_of parts) (record { first = parts.row.mark; shown = shown_in new parts.row.mark count; outcome = Inconsistent })
         (state_of (played parts Inconsistent new left))
     received_play = record {
       words = get parts.row.media;
       decides = (
-        λ solution is. unsolved (desk_solvable parts sound (with_found parts cached) answer recovered found solution is),
+        λ solution is. unsolved (desk_solvable parts sound (with_found parts cached) answer recovered found kept solution is),
         refl,
       );
       first = refl;
-      length_is = length-map-range_with_len (kept_shown (row_known new) new.bare) parts.row.mark count;
+      length_is = length-map-range_with_len (kept_shown (row_received new) new.repaired) parts.row.mark count;
       shows = λ i less.
           (let q = parts.row.mark + i in
           shows_kept count (without_found (with_found parts cached)) new advances most i less
           ∙ ap (λ (o : Option Word). record { word = o; repaired = is_some o && not (is_some (get parts.row.media q)) })
-          (row_words-received (without_found (with_found parts cached)) q refl (omega arith)));
+          (ap (λ (f : ℕ → Option Word). f q) all_received ∙ received_ahead (without_found (with_found parts cached)) q (omega arith)));
       mark = advances.mark;
       kept = λ q.
           (advances.kept q
           ∙ ap (λ (o : Option Word). cond (ltb q new.mark && leb new.mark (q + kept_count)) o None)
-          (ap (λ (f : ℕ → Option Word). f q)
-          (words_without_cache (without_found (with_found parts cached)) (get-empty nat_cmp))));
+          (ap (λ (f : ℕ → Option Word). f q) all_received));
       media = advances.media;
       equations = λ serial live. (
         λ is. absurd (nothing_left serial live is),
@@ -226,5 +270,7 @@ module _
     received_sound mark calls facts =
         sound_without_found (played parts Inconsistent new left)
         (limited Inconsistent mark calls most advances.mark advances.reach) facts
+        (none_solved count (without_found (with_found parts cached)) new advances refl)
         (none_found count (without_found (with_found parts cached)) new advances refl)
         (λ serial live is settled. absurd (nothing_left serial live is))
+        (λ serial live is. absurd (nothing_left serial live is))

@@ -1,37 +1,40 @@
 -- A desk after a word is received is sound.
-use Rattle.std.proofs.Common.{◌≡◌, ◌≢◌, ◌⊎◌, ◌+◌, ◌<◌, ◌≤◌, ◌^◌, ◌==◌, ℕ, Bool, true, false, ltb, cond, List, filter, Option, Some, None, is_none, refl, sym, ap, subst, ◌∙◌, ⊎_elim, arith, eq-eqb, ne_eqb}
+use Rattle.std.proofs.Common.{◌≡◌, ◌≢◌, ◌+◌, ◌<◌, ◌≤◌, ◌^◌, ◌==◌, ℕ, Bool, true, false, ltb, cond, Option, Some, None, IsSome, sym, ap, subst, ◌∙◌, ⊎_elim, arith, eq-eqb, ne_eqb}
 use Rattle.std.proofs.lemmas.Bool.{cases_eq, cond-true, cond-false}
 use Rattle.std.proofs.lemmas.Option.{none-some, same_Some}
-use Rattle.std.specs.FinMap.{FinMap, get}
+use Rattle.std.specs.Cmp.{unsigned_tied, nat_cmp_total}
+use Rattle.std.specs.FinMap.{FinMap, get, remove, empty, get-remove, get-empty, same_map, nat_cmp-IsAntisymmetric}
 use Rattle.std.specs.Option.{option_or}
-use Rattle.std.specs.Ordering.{nat_cmp}
+use Rattle.std.specs.Ordering.{nat_cmp, eq_by_cmp}
 use Rattle.fg_words.specs.declared.Word.{Word}
 use Rattle.fg_words.specs.Word.{IsMedia}
-use Rattle.fg_peel.specs.Equation.{AreMedia, Keeps, Agree, IsComplete}
-use Rattle.fg_peel.specs.Peeling.{Step, ArePeeled, end_of}
+use Rattle.fg_peel.specs.Equation.{AreMedia}
 use Rattle.fg_peel.specs.Laws.{PeelingsTakeWords}
-use Rattle.fg_desk.specs.State.{Top, Live, known, live_equations}
+use Rattle.fg_desk.specs.State.{State, Top, Live, Words, known, live_equations}
 use Rattle.fg_desk.specs.Admission.{farther, with_media}
+use Rattle.fg_desk.specs.Contents.{GivesWay}
 use Rattle.fg_desk.specs.Facts.{Holds}
-use Rattle.fg_desk.specs.Inside.{Parts, AreSound, state_of}
-use Rattle.fg_desk.specs.Row.{RowState, row_words, receives}
+use Rattle.fg_desk.specs.Inside.{Parts, AreSound, state_of, contents_of, raised}
+use Rattle.fg_desk.specs.Row.{RowState, row_received, row_known, row_words, receives}
 use Rattle.fg_desk.specs.Lines.{LinesState, Reopens}
-use Rattle.fg_desk.specs.Window.{TakesWord, TakesAnew, without_found}
+use Rattle.fg_desk.specs.Window.{MakesWay, without_cached, without_found}
 use Rattle.fg_desk.proofs.AdmissionsAdd.{known_with_media}
-use Rattle.fg_desk.proofs.DeskPlays.{AreLimited, sound_from, sound_without_found}
+use Rattle.fg_desk.proofs.DeskOneWord.{IsWith, words_stay, peeled_with_known}
+use Rattle.fg_desk.proofs.DeskPlays.{AreLimited, StandBeside, sound_from}
+use Rattle.fg_desk.proofs.DeskWays.{Agrees, with_row, sound_without_cached, sound_without_all, agrees_uncached, agrees_unfound}
+use Rattle.fg_desk.proofs.DeskWords.{or_first, or_second, or_neither, received_ahead}
 use Rattle.fg_desk.proofs.Opened.{with_media_holds}
-use Rattle.fg_desk.proofs.Orderly.{known_ahead}
-use Rattle.fg_desk.proofs.Peelings.{end_keeps}
-use Rattle.fg_desk.proofs.RowReceives.{word_received, words_beside, words_stay, none_found_still, words_without_found, none_without_found}
-use Rattle.fg_desk.proofs.SettledWords.{settled_keeps, settled_back}
+use Rattle.fg_desk.proofs.Options.{some_and, none_has_no_value, beside_inserted}
+use Rattle.fg_desk.proofs.SettledWords.{settled_keeps}
 
 -- The parts after the call.
-abbrev pub with_word : Parts → ℕ → ℕ → RowState → LinesState → Parts
-with_word parts position seq row lines = record parts {
+abbrev pub taken : Parts → ℕ → ℕ → Word → RowState → LinesState → ℕ → Parts
+taken parts position seq word between left epoch = record parts {
   top = farther parts.top (record { position = position; seq = seq });
-  row = row;
-  lines = lines;
+  row = receives between position word;
+  lines = left;
   calls = parts.calls + 1;
+  epoch = epoch;
 }
 
 farther_within :
@@ -48,147 +51,219 @@ farther_within limit position seq (Some first) near before top is = go (ltb firs
         subst (λ (t : Top). t.position < limit) same near
     go false e = before top e
 
-or_itself : (one other : Option Word) → ((w : Word) → one ≡ Some w → other ≡ Some w) → other ≡ option_or one other
-or_itself None other keeps = refl
-or_itself (Some w) other keeps = keeps w refl
+pub raised_within : (epoch calls : ℕ) (answer : Bool) → epoch ≤ calls → raised epoch answer ≤ calls + 1
+raised_within epoch calls true limit = omega (arith, limit)
+raised_within epoch calls false limit = omega (arith, limit)
+
+-- What a map has after a removal.
+pub removed_here : (m : Words) (k q : ℕ) → q ≡ k → get (remove m k) q ≡ None
+removed_here m k q same =
+    get-remove nat_cmp_total m k q
+    ∙ cond-true (eq_by_cmp nat_cmp q k) None (get m q) (unsigned_tied q k ∙ eq-eqb q k same)
+
+pub removed_beside : (m : Words) (k q : ℕ) → q ≢ k → get (remove m k) q ≡ get m q
+removed_beside m k q other =
+    get-remove nat_cmp_total m k q
+    ∙ cond-false (eq_by_cmp nat_cmp q k) None (get m q) (unsigned_tied q k ∙ ne_eqb q k other)
+
+nothing_removed : (k : ℕ) → remove (empty {X = Word} {R = nat_cmp}) k ≡ empty
+nothing_removed k = same_map nat_cmp_total nat_cmp-IsAntisymmetric (remove (empty {X = Word} {R = nat_cmp}) k) empty
+    (λ q. ⊎_elim
+    (λ here. removed_here empty k q here ∙ sym (get-empty nat_cmp q))
+    (λ beside. removed_beside empty k q beside)
+    (cases_eq q k))
 
 module _
     (parts : Parts) (sound : AreSound parts) (position seq : ℕ) (word : Word) (ahead : parts.row.mark ≤ position)
     (near : position < parts.row.mark + parts.depth) (none : get parts.row.media position ≡ None) (media : IsMedia word)
-    (limit : position < 2 ^ 61 + 2 ^ 16) (calls : parts.calls < 2 ^ 62) where
-  new_holds : Holds (with_media (state_of parts) seq position word)
-  new_holds =
-      with_media_holds (state_of parts) seq position word sound.facts (record { media = media; ahead = ahead; near = near })
-
-  limited : (row : RowState) (lines : LinesState) → row.mark ≡ parts.row.mark → row.reach ≡ parts.row.reach
-      → AreLimited (with_word parts position seq row lines)
-  limited row lines mark_is reach_is =
-      let mark = sound.mark_limit in
-      let reach = sound.reach in
+    (limit : position < 2 ^ 61 + 2 ^ 16) (calls : parts.calls < 2 ^ 62) (take : PeelingsTakeWords) (epoch : ℕ)
+    (epoch_limit : epoch ≤ parts.calls + 1) (agrees : Agrees position word (row_words parts.row)) where
+  limited : AreLimited (taken parts position seq word parts.row parts.lines epoch)
+  limited =
       let admitted = sound.admitted_limit in
-      let epoch = sound.epoch_limit in
       record {
         depth_limit = sound.depth_limit;
-        reach = reach_is ∙ reach;
-        mark_limit = omega (arith, mark, mark_is);
+        reach = sound.reach;
+        mark_limit = sound.mark_limit;
         top_limit = farther_within (2 ^ 61 + 2 ^ 16) position seq parts.top limit sound.top_limit;
         admitted_limit = omega (arith, admitted);
         calls_limit = omega (arith, calls);
-        epoch_limit = omega (arith, epoch);
+        epoch_limit = epoch_limit;
       }
 
-  -- What is known then.
-  known_here : (q : ℕ) → q ≡ position → known (with_media (state_of parts) seq position word) q ≡ Some word
-  known_here q here =
-      known_with_media (state_of parts) seq position word ahead q
-      ∙ cond-true (q == position) (Some word) (known (state_of parts) q) (eq-eqb q position here)
+  facts : Holds (with_media (state_of parts) seq position word)
+  facts = with_media_holds (state_of parts) seq position word sound.facts (record { media = media; ahead = ahead; near = near })
 
-  known_beside : (q : ℕ) → q ≢ position → known (with_media (state_of parts) seq position word) q ≡ known (state_of parts) q
-  known_beside q beside =
-      known_with_media (state_of parts) seq position word ahead q
-      ∙ cond-false (q == position) (Some word) (known (state_of parts) q) (ne_eqb q position beside)
+  -- What is known then, what is solved beside, and all words.
+  received_is : IsWith position word (row_received parts.row) (row_received (receives parts.row position word))
+  received_is = record {
+    here = λ q here.
+        (known_with_media (state_of parts) seq position word ahead q
+        ∙ cond-true (q == position) (Some word) (known (state_of parts) q) (eq-eqb q position here));
+    beside = λ q beside.
+        (known_with_media (state_of parts) seq position word ahead q
+        ∙ cond-false (q == position) (Some word) (known (state_of parts) q) (ne_eqb q position beside));
+  }
 
-  known_stays : Keeps (known (state_of parts)) (known (with_media (state_of parts) seq position word))
-  known_stays q w is = ⊎_elim
-      (λ here.
-      absurd (none-some w
-      (sym (known_ahead (state_of parts) position ahead ∙ none) ∙ ap (known (state_of parts)) (sym here) ∙ is)))
-      (λ beside. known_beside q beside ∙ is)
+  known_is : IsWith position word (row_known parts.row) (row_known (receives parts.row position word))
+  known_is = record {
+    here = λ q here.
+        or_first (row_received (receives parts.row position word) q) (get (remove parts.row.solved position) q) word
+        (received_is.here q here);
+    beside = λ q beside.
+        (ap (λ (o : Option Word). option_or o (get (remove parts.row.solved position) q)) (received_is.beside q beside)
+        ∙ ap (option_or (row_received parts.row q)) (removed_beside parts.row.solved position q beside));
+  }
+
+  words_are : IsWith position word (row_words parts.row) (row_words (receives parts.row position word))
+  words_are = record {
+    here = λ q here.
+        or_first (row_known (receives parts.row position word) q) (get (remove parts.row.cached position) q) word
+        (known_is.here q here);
+    beside = λ q beside.
+        (ap (λ (o : Option Word). option_or o (get (remove parts.row.cached position) q)) (known_is.beside q beside)
+        ∙ ap (option_or (row_known parts.row q)) (removed_beside parts.row.cached position q beside));
+  }
+
+  unknown : known (state_of parts) position ≡ None
+  unknown = received_ahead parts.row position ahead ∙ none
+
+  cached_media : AreMedia (get (remove parts.row.cached position))
+  cached_media q found is = ⊎_elim
+      (λ here. absurd (none-some found (sym (removed_here parts.row.cached position q here) ∙ is)))
+      (λ beside. sound.cached q found (sym (removed_beside parts.row.cached position q beside) ∙ is))
       (cases_eq q position)
 
-  module _ (agrees : (found : Word) → row_words parts.row position ≡ Some found → found ≡ word) where
-    known_agrees : Agree (known (with_media (state_of parts) seq position word)) (end_of (known (state_of parts)) sound.peeled.0)
-    known_agrees q one other is found =
-        let at : row_words parts.row q ≡ Some other = ap (λ (f : ℕ → Option Word). f q) sound.peeled.2 ∙ found in
-        ⊎_elim
-        (λ here.
-        let first : word ≡ one = same_Some word one (sym (known_here q here) ∙ is) in
-        let second : other ≡ word = agrees other (ap (row_words parts.row) (sym here) ∙ at) in
-        sym first ∙ sym second)
-        (λ beside.
-        same_Some one other
-        (sym (end_keeps (known (state_of parts)) (live_equations (state_of parts)) sound.peeled.0 sound.peeled.1 q one
-        (sym (known_beside q beside) ∙ is)) ∙ found))
-        (cases_eq q position)
+  solved_beside : StandBeside (taken parts position seq word parts.row parts.lines epoch)
+  solved_beside q some = ⊎_elim
+      (λ here.
+      absurd (none_has_no_value (get (remove parts.row.solved position) q) (removed_here parts.row.solved position q here) some))
+      (λ beside.
+      let was = sound.beside q (subst (λ (o : Option Word). IsSome o) (removed_beside parts.row.solved position q beside) some) in
+      (was.0, beside_inserted parts.row.media position word q beside ∙ was.1))
+      (cases_eq q position)
 
-    word_peeled :
-        PeelingsTakeWords
-        → ArePeeled (live_equations (state_of parts)) (known (with_media (state_of parts) seq position word))
-        (row_words (receives parts.row position word))
-    word_peeled take =
-        let p = sound.peeled in
-        let more = known (with_media (state_of parts) seq position word) in
-        let rest : List Step = filter (λ (step : Step). is_none (more step.position)) p.0 in
-        let r = take (known (state_of parts)) more (live_equations (state_of parts)) p.0 p.1 known_stays known_agrees in
-        let same : (q : ℕ) → row_words (receives parts.row position word) q ≡ end_of more rest q =
-        λ q. ⊎_elim
-        (λ here.
-        word_received parts.row position word ahead q here
-        ∙ sym (r.1 q ∙ ap (λ (o : Option Word). option_or o (end_of (known (state_of parts)) p.0 q)) (known_here q here)))
-        (λ beside.
-        words_beside parts.row position word ahead q beside
-        ∙ ap (λ (f : ℕ → Option Word). f q) p.2
-        ∙ or_itself (known (state_of parts) q) (end_of (known (state_of parts)) p.0 q)
-        (end_keeps (known (state_of parts)) (live_equations (state_of parts)) p.0 p.1 q)
-        ∙ sym (r.1 q ∙ ap (λ (o : Option Word). option_or o (end_of (known (state_of parts)) p.0 q)) (known_beside q beside)))
-        (cases_eq q position) in
-        (rest, r.0, λ i q. same q i)
+  pub sound_with_word : AreSound (taken parts position seq word parts.row parts.lines epoch)
+  sound_with_word =
+      sound_from (taken parts position seq word parts.row parts.lines epoch) limited facts cached_media
+      (peeled_with_known take (live_equations (state_of parts)) (known (state_of parts))
+      (known (with_media (state_of parts) seq position word)) (row_known parts.row) (row_known (receives parts.row position word))
+      position word unknown received_is known_is
+      (λ found is. agrees found (or_first (row_known parts.row position) (get parts.row.cached position) found is)) sound.solved)
+      (peeled_with_known take (live_equations (state_of parts)) (known (state_of parts))
+      (known (with_media (state_of parts) seq position word)) (row_words parts.row) (row_words (receives parts.row position word))
+      position word unknown received_is words_are agrees sound.peeled)
+      (λ serial live is settled.
+      settled_keeps (row_words parts.row) (row_words (receives parts.row position word)) live.equation
+      (words_stay position word (row_words parts.row) (row_words (receives parts.row position word)) words_are agrees)
+      (sound.settled serial live is settled))
+      sound.rooms solved_beside
 
-    word_media : AreMedia (row_words (receives parts.row position word))
-    word_media q w is = ⊎_elim
-        (λ here. subst IsMedia (same_Some word w (sym (word_received parts.row position word ahead q here) ∙ is)) media)
-        (λ beside. sound.media q w (sym (words_beside parts.row position word ahead q beside) ∙ is))
-        (cases_eq q position)
-
-    sound_with_word : PeelingsTakeWords → AreSound (with_word parts position seq (receives parts.row position word) parts.lines)
-    sound_with_word take =
-        sound_from (with_word parts position seq (receives parts.row position word) parts.lines)
-        (limited (receives parts.row position word) parts.lines refl refl) new_holds word_media (word_peeled take)
-        (λ serial live is settled.
-        settled_keeps (row_words parts.row) (row_words (receives parts.row position word)) live.equation
-        (words_stay parts.row position word ahead agrees) (sound.settled serial live is settled))
-
-  module _ (left : LinesState) (reopens : Reopens (row_words (without_found parts.row)) parts.lines left) where
-    still_live : (serial : ℕ) → get left.live serial ≡ get parts.lines.live serial
-    still_live serial = ap (λ (m : FinMap nat_cmp Live). get m serial) reopens.live
-
-    no_word_there : (found : Word) → row_words (without_found parts.row) position ≡ Some found → found ≡ word
-    no_word_there found is = absurd (none-some found (sym (none_without_found parts.row position ahead none) ∙ is))
-
-    new_row : RowState
-    new_row = receives (without_found parts.row) position word
-
-    holds_anew : Holds (state_of (with_word parts position seq (receives (without_found parts.row) position word) left))
-    holds_anew =
-        subst (λ (m : FinMap nat_cmp Live). Holds (record (with_media (state_of parts) seq position word) { equations = m }))
-        (sym reopens.live) new_holds
-
-    sound_anew : AreSound (with_word parts position seq (receives (without_found parts.row) position word) left)
-    sound_anew =
-        sound_without_found (with_word parts position seq (receives (without_found parts.row) position word) left)
-        (limited (receives (without_found parts.row) position word) left refl refl) holds_anew
-        (none_found_still (without_found parts.row) position word refl)
-        (λ serial live is settled.
-        let was : get parts.lines.live serial ≡ Some live = sym (still_live serial) ∙ is in
-        let r = (reopens.settled serial).0 settled in
-        let same : r.1.0 ≡ live = same_Some r.1.0 live (sym r.1.1 ∙ was) in
-        let complete : IsComplete (row_words (without_found parts.row)) live.equation =
-        subst (λ (l : Live). IsComplete (row_words (without_found parts.row)) l.equation) same r.1.2 in
-        settled_keeps (row_words (without_found parts.row)) (row_words (receives (without_found parts.row) position word)) live.equation
-        (words_stay (without_found parts.row) position word ahead no_word_there)
-        (settled_back (row_words (without_found parts.row)) (row_words parts.row) live.equation (words_without_found parts.row) complete
-        (sound.settled serial live was r.0)))
-
+module _
+    (parts : Parts) (sound : AreSound parts) (position seq : ℕ) (word : Word) (ahead : parts.row.mark ≤ position)
+    (none : get parts.row.media position ≡ None) where
+  -- Whatever way is made, the desk is sound then.
   pub takes_sound :
-      PeelingsTakeWords → (row : RowState) (left : LinesState)
-      → TakesWord position word parts.row row parts.lines left ⊎ TakesAnew position word parts.row row parts.lines left
-      → AreSound (with_word parts position seq row left)
-  takes_sound take row left takes = ⊎_elim
+      position < parts.row.mark + parts.depth → IsMedia word → position < 2 ^ 61 + 2 ^ 16 → parts.calls < 2 ^ 62
+      → PeelingsTakeWords → (answer : Bool) (between : RowState) (left : LinesState) (epoch : ℕ) → epoch ≤ parts.calls + 1
+      → MakesWay answer position word parts.row between parts.lines left
+      → AreSound (taken parts position seq word between left epoch)
+  takes_sound near media limit calls take true between left epoch epoch_limit way =
+      subst (λ (r : RowState). AreSound (taken parts position seq word r left epoch)) (sym way.row_is)
+      (sound_with_word (with_row parts (without_found parts.row) left)
+      (sound_without_all parts sound left
+      (subst (λ (r : RowState). Reopens (row_words r) parts.lines left) way.row_is way.lines_are))
+      position seq word ahead near none media limit calls take epoch epoch_limit
+      (agrees_unfound parts.row position word (received_ahead parts.row position ahead ∙ none)))
+  takes_sound near media limit calls take false between left epoch epoch_limit way = ⊎_elim
       (λ same.
-      subst (λ (r : RowState). AreSound (with_word parts position seq r left)) (sym same.row_is)
-      (subst (λ (l : LinesState). AreSound (with_word parts position seq (receives parts.row position word) l)) (sym same.lines_are)
-      (sound_with_word same.agrees take)))
+      subst (λ (r : RowState). AreSound (taken parts position seq word r left epoch)) (sym same.row_is)
+      (subst (λ (l : LinesState). AreSound (taken parts position seq word parts.row l epoch)) (sym same.lines_are)
+      (sound_with_word parts sound position seq word ahead near none media limit calls take epoch epoch_limit same.agrees)))
       (λ anew.
-      subst (λ (r : RowState). AreSound (with_word parts position seq r left)) (sym anew.row_is)
-      (sound_anew left anew.lines_are))
-      takes
+      subst (λ (r : RowState). AreSound (taken parts position seq word r left epoch)) (sym anew.row_is)
+      (sound_with_word (with_row parts (without_cached parts.row) left)
+      (sound_without_cached parts sound left
+      (subst (λ (r : RowState). Reopens (row_words r) parts.lines left) anew.row_is anew.lines_are))
+      position seq word ahead near none media limit calls take epoch epoch_limit
+      (agrees_uncached parts.row position word anew.unknown)))
+      way
+
+  -- The state has the word, and nothing else of it changes.
+  pub takes_state :
+      (answer : Bool) (between : RowState) (left : LinesState) (epoch : ℕ)
+      → MakesWay answer position word parts.row between parts.lines left
+      → state_of (taken parts position seq word between left epoch) ≡ with_media (state_of parts) seq position word
+  takes_state true between left epoch way =
+      ap (λ (r : RowState). state_of (taken parts position seq word r left epoch)) way.row_is
+      ∙ ap (λ (m : FinMap nat_cmp Live). record (with_media (state_of parts) seq position word) { equations = m }) way.lines_are.live
+  takes_state false between left epoch way = ⊎_elim
+      (λ same.
+      ap (λ (r : RowState). state_of (taken parts position seq word r left epoch)) same.row_is
+      ∙ ap (λ (l : LinesState). record (with_media (state_of parts) seq position word) { equations = l.live }) same.lines_are)
+      (λ anew.
+      ap (λ (r : RowState). state_of (taken parts position seq word r left epoch)) anew.row_is
+      ∙ ap (λ (m : FinMap nat_cmp Live). record (with_media (state_of parts) seq position word) { equations = m }) anew.lines_are.live)
+      way
+
+  -- What was solved gives way.
+  pub takes_give_way :
+      (answer : Bool) (between : RowState) (left : LinesState) (epoch : ℕ) → epoch ≡ raised parts.epoch answer
+      → MakesWay answer position word parts.row between parts.lines left
+      → GivesWay (contents_of parts) position word (contents_of (taken parts position seq word between left epoch))
+  takes_give_way true between left epoch is way =
+      subst (λ (r : RowState). GivesWay (contents_of parts) position word (contents_of (taken parts position seq word r left epoch)))
+      (sym way.row_is)
+      (record {
+        withdrawn = λ _. (
+            let state : State = state_of (taken parts position seq word (without_found parts.row) left epoch) in
+            let e = nothing_removed position in
+            λ i. record {
+              state = state;
+              solved = e i;
+              bare = parts.row.bare;
+              repaired = parts.row.repaired;
+              epoch = is i;
+            });
+        agreed = λ not. absurd (not way.contradicts);
+      })
+  takes_give_way false between left epoch is way = ⊎_elim
+      (λ same.
+      subst (λ (r : RowState). GivesWay (contents_of parts) position word (contents_of (taken parts position seq word r left epoch)))
+      (sym same.row_is)
+      (record {
+        withdrawn = λ contradicted. (
+            let s = some_and (get parts.row.solved position) (λ other. other ≢ word) contradicted in
+            absurd (s.2 (same.agrees s.0
+            (or_first (row_known parts.row position) (get parts.row.cached position) s.0
+            (or_second (row_received parts.row position) (get parts.row.solved position)
+            (received_ahead parts.row position ahead ∙ none) ∙ s.1)))));
+        agreed = λ _. (
+            let state : State = state_of (taken parts position seq word parts.row left epoch) in
+            λ i. record {
+              state = state;
+              solved = remove parts.row.solved position;
+              bare = parts.row.bare;
+              repaired = parts.row.repaired;
+              epoch = is i;
+            });
+      }))
+      (λ anew.
+      subst (λ (r : RowState). GivesWay (contents_of parts) position word (contents_of (taken parts position seq word r left epoch)))
+      (sym anew.row_is)
+      (record {
+        withdrawn = λ contradicted. (
+            let s = some_and (get parts.row.solved position) (λ other. other ≢ word) contradicted in
+            let unsolved = (or_neither (row_received parts.row position) (get parts.row.solved position) anew.unknown).1 in
+            absurd (none-some s.0 (sym unsolved ∙ s.1)));
+        agreed = λ _. (
+            let state : State = state_of (taken parts position seq word (without_cached parts.row) left epoch) in
+            λ i. record {
+              state = state;
+              solved = remove parts.row.solved position;
+              bare = parts.row.bare;
+              repaired = parts.row.repaired;
+              epoch = is i;
+            });
+      }))
+      way

@@ -1,11 +1,12 @@
 -- What a desk's row has once the words that follow are found.
 use Rattle.std.proofs.Common.{◌↔◌, ◌++◌, ℕ, Bool, Option, IsSome, IsTrue, sym, ap, subst, ◌∙◌, arith}
 use Rattle.fg_words.specs.declared.Word.{Word}
-use Rattle.fg_peel.specs.Equation.{Keeps, IsComplete}
+use Rattle.fg_peel.specs.Equation.{AreMedia, Keeps, IsComplete}
 use Rattle.fg_peel.specs.Closure.{InClosure as Follows}
 use Rattle.fg_peel.specs.Solution.{IsSolution as Solves}
 use Rattle.fg_peel.specs.Peeling.{IsPeeling, ArePeeled, end_of}
-use Rattle.fg_peel.specs.Laws.{FoundKeepsSolutions, FoundKeepsClosure, MaximalPeelingsEndAtClosure, PeelingsAppend, PeelingsKeepWords}
+use Rattle.fg_peel.specs.Laws.{FoundKeepsSolutions, FoundKeepsClosure, MaximalPeelingsEndAtClosure, PeelingsAppend, PeelingsKeepWords, SolutionsKeepPeelings}
+use Rattle.fg_desk.specs.declared.reply.Outcome.TheVariants.{Repaired}
 use Rattle.fg_desk.specs.State.{known, live_equations}
 use Rattle.fg_desk.specs.Solution.{InClosure, IsSolution}
 use Rattle.fg_desk.specs.Inside.{Parts, AreSound, state_of}
@@ -13,6 +14,7 @@ use Rattle.fg_desk.specs.Row.{RowState, row_words}
 use Rattle.fg_desk.specs.Window.{AreInRow, EachSettled, IsRecovered}
 use Rattle.fg_desk.proofs.Orderly.{IsOrderly, orderly_from_holds, admissible}
 use Rattle.fg_desk.proofs.Peeled.{closure_to_peel, closure_from_peel, solution_to_peel, solution_from_peel}
+use Rattle.fg_desk.proofs.Plays.{words_are_media}
 use Rattle.fg_desk.proofs.SettledWords.{complete_keeps}
 use Rattle.fg_desk.proofs.SlotRange.{slot_is_near}
 
@@ -34,29 +36,47 @@ module _
   orderly : IsOrderly (state_of parts)
   orderly = orderly_from_holds (state_of parts) sound.facts
 
-  -- What was found before may be taken as known.
+  pub words_kept : PeelingsKeepWords → Keeps (row_words parts.row) (row_words row)
+  words_kept keep =
+      let e = recovered.peeling in
+      subst (λ (f : ℕ → Option Word). Keeps (row_words parts.row) f) (sym e.2)
+      (keep (row_words parts.row) (live_equations (state_of parts)) e.0 e.1.peeling)
+
+  -- What was found before may be taken as known, where it is media words.
   found_solves :
-      FoundKeepsSolutions → (words : ℕ → Option Word)
+      FoundKeepsSolutions → AreMedia (row_words parts.row) → (words : ℕ → Option Word)
       → Solves (known (state_of parts)) (live_equations (state_of parts)) words
       ↔ Solves (row_words parts.row) (live_equations (state_of parts)) words
-  found_solves found words =
+  found_solves found media words =
       let p = sound.peeled in
       subst
       (λ (f : ℕ → Option Word).
       Solves (known (state_of parts)) (live_equations (state_of parts)) words ↔ Solves f (live_equations (state_of parts)) words)
       (sym p.2)
       (found (known (state_of parts)) (live_equations (state_of parts)) p.0 p.1 (admissible (state_of parts) orderly)
-      (λ q w none is. sound.media q w (ap (λ (f : ℕ → Option Word). f q) p.2 ∙ is)) words)
+      (λ q w none is. media q w (ap (λ (f : ℕ → Option Word). f q) p.2 ∙ is)) words)
 
-  pub desk_solution : FoundKeepsSolutions → IsTrue answer → IsSolution (state_of parts) (row_words row)
-  desk_solution found solved =
-      solution_from_peel (state_of parts) orderly (row_words row)
-      ((found_solves found (row_words row)).1 (recovered.solved solved))
+  -- If the answer is yes, all words are media words, and so are those that were there before.
+  pub desk_solution : FoundKeepsSolutions → PeelingsKeepWords → IsTrue answer → IsSolution (state_of parts) (row_words row)
+  desk_solution found keep solved =
+      let s = recovered.solved solved in
+      let media : AreMedia (row_words parts.row) = λ q w is. s.0 q w (words_kept keep q w is) in
+      solution_from_peel (state_of parts) orderly (row_words row) ((found_solves found media (row_words row)).1 s.1)
 
+  -- If there is a solution, it has all that was found, so that is media words.
   pub desk_solvable :
-      FoundKeepsSolutions → (solution : ℕ → Option Word) → IsSolution (state_of parts) solution → IsTrue answer
-  desk_solvable found solution is =
-      recovered.solvable solution ((found_solves found solution).0 (solution_to_peel (state_of parts) orderly solution is))
+      FoundKeepsSolutions → SolutionsKeepPeelings → (solution : ℕ → Option Word) → IsSolution (state_of parts) solution
+      → IsTrue answer
+  desk_solvable found kept solution is =
+      let p = sound.peeled in
+      let solves = solution_to_peel (state_of parts) orderly solution is in
+      let all : Keeps (end_of (known (state_of parts)) p.0) solution =
+      kept (known (state_of parts)) (live_equations (state_of parts)) (admissible (state_of parts) orderly) solution solves p.0
+      p.1 in
+      let media : AreMedia (row_words parts.row) =
+      λ q w at. words_are_media (state_of parts) Repaired solution orderly is q w
+      (all q w (sym (ap (λ (f : ℕ → Option Word). f q) p.2) ∙ at)) in
+      recovered.solvable media solution ((found_solves found media solution).0 solves)
 
   -- All that the row has now was found by one peeling.
   pub all_peeled : PeelingsAppend → ArePeeled (live_equations (state_of parts)) (known (state_of parts)) (row_words row)
@@ -67,12 +87,6 @@ module _
       subst (λ (f : ℕ → Option Word). IsPeeling f (live_equations (state_of parts)) e.0) p.2 e.1.peeling in
       let joined = append (known (state_of parts)) (live_equations (state_of parts)) p.0 e.0 p.1 rest in
       (p.0 ++ e.0, joined.0, e.2 ∙ ap (λ (f : ℕ → Option Word). end_of f e.0) p.2 ∙ sym joined.1)
-
-  pub words_kept : PeelingsKeepWords → Keeps (row_words parts.row) (row_words row)
-  words_kept keep =
-      let e = recovered.peeling in
-      subst (λ (f : ℕ → Option Word). Keeps (row_words parts.row) f) (sym e.2)
-      (keep (row_words parts.row) (live_equations (state_of parts)) e.0 e.1.peeling)
 
   -- It has words at exactly the positions of the closure.
   pub has_closure :

@@ -6,12 +6,16 @@ pub mod Bounds
 pub mod Counts
 pub mod DeskAdds
 pub mod DeskCounts
+pub mod DeskFills
 pub mod DeskFlushes
+pub mod DeskOneWord
 pub mod DeskOpened
 pub mod DeskPlayed
 pub mod DeskPlays
 pub mod DeskReceives
 pub mod DeskRecovers
+pub mod DeskSums
+pub mod DeskWays
 pub mod DeskWords
 pub mod Equations
 pub mod Flushing
@@ -25,7 +29,9 @@ pub mod LinesMoves
 pub mod LinesSearch
 pub mod LinesViews
 pub mod Lists
+pub mod LiveLines
 pub mod Lost
+pub mod OneOutcome
 pub mod OnePlay
 pub mod OneRun
 pub mod Opened
@@ -45,7 +51,6 @@ pub mod RowChanges
 pub mod RowLoops
 pub mod RowMaps
 pub mod RowPeels
-pub mod RowReceives
 pub mod RowStored
 pub mod RowViews
 pub mod RunFacts

@@ -1,19 +1,25 @@
 -- What early ends of searches and passes rest on.
-use Rattle.std.proofs.Common.{◌≡◌, ◌≤◌, ℕ, Bool, List, [], inl, refl, ⊎_elim, arith}
+use Rattle.std.proofs.Common.{◌≡◌, ◌<◌, ◌≤◌, ℕ, Bool, List, [], Option, Some, None, inl, refl, ◌∙◌, ⊎_elim, arith}
+use Rattle.std.specs.Option.{option_or}
+use Rattle.std.specs.FinMap.{get}
 use Rattle.slab.specs.Slab.{Slab}
+use Rattle.fg_words.specs.declared.Word.{Word}
 use Rattle.fg_peel.specs.declared.Line.{Line}
 use Rattle.fg_peel.specs.Slots.{equation_of}
 use Rattle.fg_desk.specs.State.{Words, last_slot}
 use Rattle.fg_desk.specs.Play.{Survives}
+use Rattle.fg_desk.specs.Row.{RowState, IsRow, row_known, row_received}
 use Rattle.fg_desk.specs.LinesInside.{Holds, AreBetween, IsBased, Moves, Drops}
+use Rattle.fg_desk.proofs.Options.{none_or_some, has_value}
+use Rattle.fg_desk.proofs.RowMaps.{if-less}
 use Rattle.fg_desk.proofs.LinesInserts.{none_at}
 
--- a slab without lines
+-- where all are left, nothing moves
 pub nothing_moves :
-    (IsLeft IsGone : Line → Type 0) (source target : Slab Line) → ((line : Line) → Holds source line → ⊥)
+    (IsLeft IsGone : Line → Type 0) (source target : Slab Line) → ((line : Line) → Holds source line → IsLeft line)
     → Moves IsLeft IsGone source target source target
-nothing_moves IsLeft IsGone source target none = record {
-  left = λ line h. absurd (none line h);
+nothing_moves IsLeft IsGone source target all = record {
+  left = λ line h. (h, all line h);
   gone = λ line h. inl h;
   every = λ line stands. stands;
   kept = λ line h. h;
@@ -51,3 +57,21 @@ pub nothing_between :
     → AreBetween earliest latest first second
 nothing_between earliest latest first second none none' line stands =
     ⊎_elim (λ a. absurd (none_at first none a.0 line a.1)) (λ b. absurd (none_at second none' b.0 line b.1)) stands
+
+-- below the mark a row tells the words that it keeps, and no others
+or_nothing : (one other : Option Word) → other ≡ None → option_or one other ≡ one
+or_nothing None other none = none
+or_nothing (Some word) other none = refl
+
+pub known_before :
+    (row : RowState) → IsRow row → (position : ℕ) → position < row.mark
+    → row_known row position ≡ get row.kept position
+known_before row is position before =
+    let unsolved : get row.solved position ≡ None = ⊎_elim
+    (λ none. none)
+    (λ some.
+    let from = (is.solved position (has_value (get row.solved position) some.0 some.1)).0 in
+    absurd (omega (arith, before, from)))
+    (none_or_some (get row.solved position)) in
+    or_nothing (row_received row position) (get row.solved position) unsolved
+    ∙ if-less position row.mark (get row.kept position) (get row.media position) before

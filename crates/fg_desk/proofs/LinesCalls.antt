@@ -1,5 +1,5 @@
 -- What the calls tell of the live equations, and what they leave.
-use Rattle.std.proofs.Common.{◌≡◌, ◌+◌, ◌-◌, ◌*◌, ◌<◌, ◌≤◌, ◌↔◌, ℕ, Bool, true, false, not, List, [], ◌∷◌, map as map_list, length, get_or, Option, Some, IsSome, IsTrue, MatchBool, inl, inr, refl, sym, ap, subst, ◌∙◌, ⊎_elim, arith}
+use Rattle.std.proofs.Common.{◌≡◌, ◌⊎◌, ◌+◌, ◌-◌, ◌*◌, ◌<◌, ◌≤◌, ◌↔◌, ℕ, Bool, true, false, not, List, [], ◌∷◌, map as map_list, length, get_or, Option, Some, IsSome, IsTrue, MatchBool, inl, inr, refl, sym, ap, subst, ◌∙◌, ⊎_elim, arith}
 use Rattle.std.proofs.lemmas.Bool.{false≢true}
 use Rattle.std.proofs.Math.Bool.{beq}
 use Rattle.std.specs.List.{All, Contains}
@@ -16,7 +16,7 @@ use Rattle.fg_words.specs.declared.Word.{Word}
 use Rattle.fg_desk.specs.State.{Live, Words, last_slot}
 use Rattle.fg_desk.specs.Play.{Survives}
 use Rattle.fg_desk.specs.Admission.{IsFree}
-use Rattle.fg_desk.specs.Lines.{AreLines, AreOpen, IsLiveLine, Settles, Reopens, Retires, SettledAreBased, live_of}
+use Rattle.fg_desk.specs.Lines.{AreLines, AreOpen, AreSettled, IsLiveLine, Settles, SettlesAt, Reopens, Retires, SettledAreBased, live_of}
 use Rattle.fg_desk.specs.LinesInside.{state_of, Holds, Stands, IsOneEach, IsWithin, AreSound, Moves, IsCompleteAs, IsBased, Drops}
 use Rattle.fg_desk.proofs.Lists.{Contains-here, Contains-nil}
 use Rattle.fg_desk.proofs.RowLoops.{length-slots_of}
@@ -74,6 +74,17 @@ module _ (first second : Slab Line) (places : List Bool) (sound : AreSound first
         (stands_live line is.0),
   )
 
+  pub are_settled : AreSettled (state_of first second) second
+  are_settled line = (
+    λ c.
+        let h = held second line c in
+        (live_standing first second sound.serials line (inr h), settled_here first second line h),
+    λ is. ⊎_elim
+        (λ a. (let e : false ≡ true = sym (not_settled first second sound.serials line a) ∙ is.1 in absurd (cc)))
+        (λ b. listed second line b)
+        (stands_live line is.0),
+  )
+
   pub are_lines : AreLines (state_of first second)
   are_lines = record {
     few = (let n = count_live first second sound.serials in let few = sound.few in omega (arith, n, few));
@@ -108,8 +119,8 @@ module _ (first second : Slab Line) (places : List Bool) (sound : AreSound first
       none r.0 r.1 (sym (ap (λ (l : Live). l.place) r.3) ∙ same)
 
   -- a pass that settles
-  module _ (words : ℕ → Option Word) (first' second' : Slab Line)
-      (moves : Moves (IsCompleteAs false words) (IsCompleteAs true words) first second first' second') where
+  module _ (IsGone : Live → Type 0) (first' second' : Slab Line)
+      (moves : Moves (λ line. IsGone (live_of line) → ⊥) (λ line. IsGone (live_of line)) first second first' second') where
     pub to : (line : Line) → Stands first' second' line → Stands first second line
     to line stands = ⊎_elim
         (λ a. inl (moves.left line a).0)
@@ -130,31 +141,49 @@ module _ (first second : Slab Line) (places : List Bool) (sound : AreSound first
       settled_room = (let room = sound.settled_room in let same = moves.target_capacity in omega (arith, room, same));
     }
 
-    pub settles : Settles words (state_of first second) (state_of first' second')
-    settles = record {
-      live = same_live first second first' second' sound.serials (moves.each serial_of sound.serials) to moves.every;
-      settled = λ serial. (
-        λ is.
-            (let r = settled_of first' second' serial is in
-            ⊎_elim
-            (λ old. inl (settled_under first second r.0 old serial r.2))
-            (λ new. inr (live_of r.0, live_under first second sound.serials r.0 (inl new.0) serial r.2, new.1))
-            (moves.gone r.0 r.1)),
-        λ was. ⊎_elim
-            (λ old.
-            let r = settled_of first second serial old in
-            settled_under first' second' r.0 (moves.kept r.0 r.1) serial r.2)
-            (λ new.
-            let r = standing_of first second serial new.0 new.1 in
-            let complete : IsComplete words (equation_of r.0) =
-            subst (λ (l : Live). IsComplete words l.equation) r.3 new.2 in
-            ⊎_elim
-            (λ a. absurd ((moves.left r.0 a).1 complete))
-            (λ b. settled_under first' second' r.0 b serial r.2)
-            (moves.every r.0 r.1))
-            was,
-      );
-    }
+    pub moved_live : (state_of first' second').live ≡ (state_of first second).live
+    moved_live = same_live first second first' second' sound.serials (moves.each serial_of sound.serials) to moves.every
+
+    pub moved_settled :
+        (serial : ℕ) → IsTrue (set.contains (state_of first' second').settled serial)
+        ↔ (IsTrue (set.contains (state_of first second).settled serial)
+        ⊎ ((live : Live) × (map.get (state_of first second).live serial ≡ Some live) × IsGone live))
+    moved_settled serial = (
+      λ is.
+          (let r = settled_of first' second' serial is in
+          ⊎_elim
+          (λ old. inl (settled_under first second r.0 old serial r.2))
+          (λ new. inr (live_of r.0, live_under first second sound.serials r.0 (inl new.0) serial r.2, new.1))
+          (moves.gone r.0 r.1)),
+      λ was. ⊎_elim
+          (λ old.
+          let r = settled_of first second serial old in
+          settled_under first' second' r.0 (moves.kept r.0 r.1) serial r.2)
+          (λ new.
+          let r = standing_of first second serial new.0 new.1 in
+          let goes : IsGone (live_of r.0) = subst IsGone r.3 new.2 in
+          ⊎_elim
+          (λ a. absurd ((moves.left r.0 a).1 goes))
+          (λ b. settled_under first' second' r.0 b serial r.2)
+          (moves.every r.0 r.1))
+          was,
+    )
+
+  pub settles :
+      (words : ℕ → Option Word) (first' second' : Slab Line)
+      → Moves (IsCompleteAs false words) (IsCompleteAs true words) first second first' second'
+      → Settles words (state_of first second) (state_of first' second')
+  settles words first' second' moves =
+      let IsGone : Live → Type 0 = λ live. IsComplete words live.equation in
+      record { live = moved_live IsGone first' second' moves; settled = moved_settled IsGone first' second' moves }
+
+  pub settles_at :
+      (place : ℕ) (first' second' : Slab Line)
+      → Moves (λ line. line.place ≡ place → ⊥) (λ line. line.place ≡ place) first second first' second'
+      → SettlesAt place (state_of first second) (state_of first' second')
+  settles_at place first' second' moves =
+      let IsGone : Live → Type 0 = λ live. live.place ≡ place in
+      record { live = moved_live IsGone first' second' moves; settled = moved_settled IsGone first' second' moves }
 
   -- a pass that opens again
   module _ (words : ℕ → Option Word) (first' second' : Slab Line)

@@ -1,7 +1,7 @@
 -- Lines that are put in, moved and dropped.
 use Rattle.std.proofs.Common.{◌≡◌, ◌≢◌, ◌⊎◌, ◌+◌, ◌<◌, ◌≤◌, ℕ, Bool, true, false, List, length, set, Option, Some, None, inl, inr, refl, sym, ap, subst, ◌∙◌, ⊎_elim, arith}
-use Rattle.std.proofs.lemmas.Bool.{cases_eq, cases_lt}
-use Rattle.std.proofs.lemmas.List.{get_or_past, get_or-set_same, get_or-set_other, length-set}
+use Rattle.std.proofs.lemmas.Bool.{cases_eq}
+use Rattle.std.proofs.lemmas.List.{get_or-set_same, get_or-set_other, length-set}
 use Rattle.std.proofs.lemmas.Option.{none-some}
 use Rattle.slab.specs.Slab.{Slab, get, slab_len, Updates}
 use Rattle.fg_peel.specs.declared.Line.{Line}
@@ -163,15 +163,12 @@ module _ (IsLeft IsGone : Line → Type 0) (key : ℕ) (source target source' ta
     target_capacity = same_room' ∙ below.target_capacity;
   }
 
-  pub moves_all : length source.slots ≤ key → Moves IsLeft IsGone source target source' target'
+  pub moves_all :
+      ((k : ℕ) (line : Line) → get source k ≡ Some line → k < key) → Moves IsLeft IsGone source target source' target'
   moves_all past = record {
     left = λ line h.
-        let was = below.left h.0 line h.1 in
-        let within : h.0 < key = ⊎_elim
-        (λ less. less)
-        (λ above. absurd (none-some line (sym (get_or_past source.slots h.0 None (omega (arith, above))) ∙ was.0)))
-        (cases_lt h.0 key) in
-        ((h.0, was.0), was.1 within);
+        (let was = below.left h.0 line h.1 in
+        ((h.0, was.0), was.1 (past h.0 line was.0)));
     gone = below.gone;
     every = below.every;
     kept = below.kept;
@@ -180,6 +177,40 @@ module _ (IsLeft IsGone : Line → Type 0) (key : ℕ) (source target source' ta
     source_capacity = below.source_capacity;
     target_capacity = below.target_capacity;
   }
+
+-- One line moves: the one with this number.
+pub moves_numbered :
+    (number : Line → ℕ) (source target out into : Slab Line) (key key' : ℕ) (line : Line)
+    → IsOneEach number source target → get source key ≡ Some line → Updates source out key None
+    → slab_len out + 1 ≡ slab_len source → out.capacity ≡ source.capacity → get target key' ≡ None
+    → Updates target into key' (Some line) → slab_len into ≡ slab_len target + 1 → into.capacity ≡ target.capacity
+    → Moves (λ other. number other ≡ number line → ⊥) (λ other. number other ≡ number line) source target out into
+moves_numbered number source target out into key key' line each at removed less same_room vacant put more same_room' =
+    let IsGone : Line → Type 0 = λ other. number other ≡ number line in
+    let none : MovesBelow (λ other. Unit {0}) IsGone key source target source target = record {
+      left = λ k other is. (is, λ within. tt);
+      gone = λ other h. inl h;
+      every = λ other s. s;
+      kept = λ other h. h;
+      each = λ n e. e;
+      count = refl;
+      source_capacity = refl;
+      target_capacity = refl;
+    } in
+    let one = moves_one (λ other. Unit {0}) IsGone key source target source target none out into key' line at refl removed
+    less same_room vacant put more same_room' in
+    record {
+      left = λ other h.
+          (let was = was_held source out key removed h.0 other h.1 in
+          ((h.0, was.1), λ same. was.0 (each.in_first h.0 key other line was.1 at same)));
+      gone = one.gone;
+      every = one.every;
+      kept = one.kept;
+      each = one.each;
+      count = one.count;
+      source_capacity = one.source_capacity;
+      target_capacity = one.target_capacity;
+    }
 
 -- A pass that drops lines has come to a key.
 pub record DropsBelow (Stays : Line → Type 0) (key : ℕ) (old new : Slab Line) (places places' : List Bool) : Type 0 where
@@ -274,16 +305,11 @@ module _ (Stays : Line → Type 0) (key : ℕ) (old new : Slab Line) (places pla
         capacity = same_room ∙ below.capacity;
       }
 
-  pub drops_all : length old.slots ≤ key → Drops Stays old new places places'
+  pub drops_all :
+      ((k : ℕ) (line : Line) → get old k ≡ Some line → k < key) → Drops Stays old new places places'
   drops_all past =
       let stay : (k : ℕ) (line : Line) → get new k ≡ Some line → (get old k ≡ Some line) × Stays line =
-      λ k line is.
-      let was = below.left k line is in
-      let within : k < key = ⊎_elim
-      (λ less. less)
-      (λ above. absurd (none-some line (sym (get_or_past old.slots k None (omega (arith, above))) ∙ was.0)))
-      (cases_lt k key) in
-      (was.0, was.1 within) in
+      λ k line is. (let was = below.left k line is in (was.0, was.1 (past k line was.0))) in
       record {
         left = λ k line. (λ is. stay k line is, λ h. below.stays k line h.0 h.1);
         freed = λ place. (

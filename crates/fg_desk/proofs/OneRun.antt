@@ -18,7 +18,7 @@ use Rattle.fg_desk.proofs.Plays.{orderly_after_play}
 use Rattle.fg_desk.proofs.Replies.{one_media_reply, one_parity_reply}
 use Rattle.fg_desk.proofs.OnePlay.{one_play, one_state_after, one_flush_step, one_state_after_step}
 
-one_after_media :
+pub one_after_media :
     (old : State) (seq : ℕ) (word : Word) (reply : Reply) (new new' : State)
     → IsAfterMedia old seq word reply new → IsAfterMedia old seq word reply new' → new ≡ new'
 one_after_media old seq word Admitted new new' a b = at (position_on old seq) a b
@@ -36,7 +36,7 @@ least_is_one old one other a b =
     let down = b.1 one a.0 in
     omega (arith, up, down)
 
-one_after_parity :
+pub one_after_parity :
     (old : State) (parity : Parity) (reply : Reply) (new new' : State)
     → IsAfterParity old parity reply new → IsAfterParity old parity reply new' → new ≡ new'
 one_after_parity old parity Admitted new new' a b = at (position_on old parity.base) a b

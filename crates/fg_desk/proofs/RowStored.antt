@@ -2,12 +2,11 @@
 use Rattle.std.proofs.Common.{◌≡◌, ◌+◌, ◌-◌, ◌<◌, ◌≤◌, ◌^◌, ℕ, List, ◌++◌, length, take, drop, get_or, set, sym, ap, subst, ◌∙◌, ⊎_elim, arith, length-append, length-drop}
 use Rattle.std.proofs.lemmas.Bool.{cases_lt, cases_eq}
 use Rattle.std.proofs.lemmas.List.{ext_get_or, get_or_append_left, get_or-append_right, get_or-take, get_or-drop, get_or_past, get_or-set_same, get_or-set_other, length-set, length-take}
-use Rattle.fg_words.specs.declared.Word.{Word}
 use Rattle.fg_peel.specs.declared.Slot.{Slot}
-use Rattle.fg_peel.specs.declared.Slot.TheVariants.{Empty, Media}
-use Rattle.fg_desk.specs.Row.{Advances, receives}
-use Rattle.fg_desk.specs.RowEntries.{row_of, slack, live_entries, IsEmptyPast, StaysPast, AreEntries, AreStored}
-use Rattle.fg_desk.proofs.RowChanges.{shifted_are, shifted_row, received_are, received_row}
+use Rattle.fg_peel.specs.declared.Slot.TheVariants.{Empty}
+use Rattle.fg_desk.specs.Row.{Advances}
+use Rattle.fg_desk.specs.RowEntries.{row_of, slack, live_entries, IsEmptyPast, StaysPast, AreEntries, SolvedAreMedia, AreStored}
+use Rattle.fg_desk.proofs.RowChanges.{shifted_are, shifted_row, shifted_media, put_are}
 
 pub live_long :
     (front : ℕ) (slots : List Slot) → front ≤ slack → slack ≤ length slots
@@ -64,63 +63,59 @@ module _
       past = past';
     }
 
+    pub media_moved : SolvedAreMedia (live_entries front old) → SolvedAreMedia (live_entries front' new)
+    media_moved = shifted_media mark count (live_entries front old) (live_entries front' new) are.entries same_long live_moved within
+
     pub row_moved : Advances count (row_of mark (live_entries front old)) (row_of (mark + count) (live_entries front' new))
     row_moved = shifted_row mark count (live_entries front old) (live_entries front' new) are.entries same_long live_moved within
 
--- a word is received
+-- an entry is put
 module _
-    (mark front : ℕ) (old : List Slot) (are : AreStored mark front old) (position : ℕ) (word : Word) (ahead : mark ≤ position)
+    (mark front : ℕ) (old : List Slot) (are : AreStored mark front old) (position : ℕ) (entry : Slot) (ahead : mark ≤ position)
     (near : position < mark + (length (live_entries front old) - 100)) (index : ℕ) (index_is : index ≡ front + 100 + (position - mark))
   where
     old_long' : length (live_entries front old) ≡ length old - slack
     old_long' = live_long front old are.near are.some
 
-    new : List Slot
-    new = set old index (Media word)
-
-    new_past : IsEmptyPast front (set old index (Media word))
+    new_past : IsEmptyPast front (set old index entry)
     new_past k from =
-        let long = length-set old index (Media word) in
-        get_or-set_other old index k (Media word) Empty (omega (arith, from, near, old_long', index_is, ahead, long))
+        let long = length-set old index entry in
+        get_or-set_other old index k entry Empty (omega (arith, from, near, old_long', index_is, ahead, long))
         ∙ are.past k (omega (arith, from, long))
 
-    new_some : slack ≤ length (set old index (Media word))
-    new_some = omega (arith, are.some, length-set old index (Media word))
+    new_some : slack ≤ length (set old index entry)
+    new_some = omega (arith, are.some, length-set old index entry)
 
-    put_is : live_entries front (set old index (Media word)) ≡ set (live_entries front old) (position - mark + 100) (Media word)
+    pub put_is : live_entries front (set old index entry) ≡ set (live_entries front old) (position - mark + 100) entry
     put_is =
-        let long = length-set old index (Media word) in
-        let inside = length-set (live_entries front old) (position - mark + 100) (Media word) in
-        let new_long = live_long front (set old index (Media word)) are.near new_some in
-        ext_get_or Empty (live_entries front (set old index (Media word))) (set (live_entries front old) (position - mark + 100) (Media word))
+        let long = length-set old index entry in
+        let inside = length-set (live_entries front old) (position - mark + 100) entry in
+        let new_long = live_long front (set old index entry) are.near new_some in
+        ext_get_or Empty (live_entries front (set old index entry)) (set (live_entries front old) (position - mark + 100) entry)
         (omega (arith, long, inside, new_long, old_long'))
         (λ k less.
-        live_at front (set old index (Media word)) are.near new_some new_past k
+        live_at front (set old index entry) are.near new_some new_past k
         ∙ ⊎_elim
         (λ same.
         let at : front + k ≡ index = omega (arith, same, index_is) in
-        ap (λ (j : ℕ). get_or (set old index (Media word)) j Empty) at
-        ∙ get_or-set_same old index (Media word) Empty (omega (arith, near, old_long', index_is, ahead, are.near, are.some))
-        ∙ sym (ap (λ (j : ℕ). get_or (set (live_entries front old) (position - mark + 100) (Media word)) j Empty) same
-        ∙ get_or-set_same (live_entries front old) (position - mark + 100) (Media word) Empty (omega (arith, near, ahead))))
+        ap (λ (j : ℕ). get_or (set old index entry) j Empty) at
+        ∙ get_or-set_same old index entry Empty (omega (arith, near, old_long', index_is, ahead, are.near, are.some))
+        ∙ sym (ap (λ (j : ℕ). get_or (set (live_entries front old) (position - mark + 100) entry) j Empty) same
+        ∙ get_or-set_same (live_entries front old) (position - mark + 100) entry Empty (omega (arith, near, ahead))))
         (λ other.
-        get_or-set_other old index (front + k) (Media word) Empty (omega (arith, other, index_is))
+        get_or-set_other old index (front + k) entry Empty (omega (arith, other, index_is))
         ∙ sym (live_at front old are.near are.some are.past k)
-        ∙ sym (get_or-set_other (live_entries front old) (position - mark + 100) k (Media word) Empty other))
+        ∙ sym (get_or-set_other (live_entries front old) (position - mark + 100) k entry Empty other))
         (cases_eq k (position - mark + 100)))
 
-    pub stored_put : AreStored mark front (set old index (Media word))
+    pub stored_put : AreStored mark front (set old index entry)
     stored_put = record {
       near = are.near;
       some = new_some;
       entries = subst (λ (s : List Slot). AreEntries mark s) (sym put_is)
-          (received_are mark (live_entries front old) position word are.entries ahead near);
+          (put_are mark (live_entries front old) position entry are.entries ahead near);
       past = new_past;
     }
-
-    pub row_put : row_of mark (live_entries front (set old index (Media word))) ≡ receives (row_of mark (live_entries front old)) position word
-    row_put = ap (λ (s : List Slot). row_of mark s) put_is
-        ∙ received_row mark (live_entries front old) position word are.entries ahead near
 
 -- other entries in their places
 pub stored_kept :

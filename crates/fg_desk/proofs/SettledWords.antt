@@ -15,7 +15,8 @@ filter_map-agree one other (x ∷ xs) same =
     ap (λ (o : Option Word). cons_option o (filter_map one xs)) (same x (Contains-here x xs))
     ∙ ap (cons_option (other x)) (filter_map-agree one other xs (λ q c. same q (Contains-there x xs q c)))
 
-sum_at-agree :
+-- Where the words at its positions are the same, so is a sum.
+pub sum_at-agree :
     (one other : ℕ → Option Word) (xs : List ℕ) → ((q : ℕ) → Contains xs q → one q ≡ other q)
     → sum_at one xs ≡ sum_at other xs
 sum_at-agree one other xs same = ap word_sum (filter_map-agree one other xs same)

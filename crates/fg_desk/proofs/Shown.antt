@@ -10,11 +10,11 @@ use Rattle.fg_desk.specs.Row.{RowState, row_known, row_kept_from}
 pub one_more_shown :
     (row : RowState) (first i window position : ℕ) (tray : Holding) (word : Option Word) (alone : Bool)
     → tray ≡ record { window = window; shown = row_kept_from row first i } → position ≡ first + i
-    → word ≡ row_known row position → alone ≡ contains row.bare position
+    → word ≡ row_known row position → alone ≡ contains row.repaired position
     → record tray { shown = tray.shown ++ record { word = word; repaired = alone } ∷ [] }
     ≡ record { window = window; shown = row_kept_from row first (i + 1) }
 one_more_shown row first i window position tray word alone before at word_is alone_is =
-    let f = kept_shown (row_known row) row.bare in
+    let f = kept_shown (row_known row) row.repaired in
     let shown : record { word = word; repaired = alone } ≡ f position = λ k. record { word = word_is k; repaired = alone_is k } in
     ap (λ (h : Holding). record { window = h.window; shown = h.shown ++ record { word = word; repaired = alone } ∷ [] }) before
     ∙ ap (λ (s : Shown). record { window = window; shown = row_kept_from row first i ++ s ∷ [] }) (shown ∙ ap f at)

@@ -1,18 +1,19 @@
 -- What a desk is made of, and what holds of its parts. No public contract cites it.
-use Rattle.std.specs.Prelude.{◌≡◌, ◌⊎◌, ◌+◌, ◌-◌, ◌*◌, ◌<◌, ◌≤◌, ◌^◌, ℕ, Option, Some, None, IsTrue, refl}
+use Rattle.std.specs.Prelude.{◌≡◌, ◌⊎◌, ◌+◌, ◌-◌, ◌*◌, ◌<◌, ◌≤◌, ◌^◌, ℕ, Bool, true, false, Option, Some, None, IsSome, IsTrue, refl}
 use Rattle.std.specs.List.{Contains}
 use Rattle.std.specs.Coded.{Coded, code_by, coded×, coded_ℕ, coded_option}
 use Rattle.std.specs.Ordering.{nat_cmp}
 use Rattle.std.specs.FinMap as map
 use Rattle.std.specs.FinMap.{get}
 use Rattle.std.specs.FinSet as set
+use Rattle.fg_words.specs.Word.{HasRoom}
 use Rattle.fg_shape.specs.Shape.{slots_of}
 use Rattle.fg_peel.specs.Equation.{AreMedia, IsSettled}
 use Rattle.fg_peel.specs.Peeling.{ArePeeled}
 use Rattle.fg_desk.specs.State.{State, Top, Live, Words, known, live_equations}
 use Rattle.fg_desk.specs.Facts.{Holds}
 use Rattle.fg_desk.specs.Contents.{Contents}
-use Rattle.fg_desk.specs.Row.{RowState, row_words}
+use Rattle.fg_desk.specs.Row.{RowState, row_known, row_words}
 use Rattle.fg_desk.specs.RowEntries.{words_code}
 use Rattle.fg_desk.specs.Lines.{LinesState}
 use Rattle.fg_desk.specs.LinesInside.{live_code}
@@ -23,9 +24,10 @@ top_code = code_by (ℕ × ℕ) (coded× coded_ℕ coded_ℕ) (λ t. (t.position
 
 abbrev pub contents_code : Coded Contents
 contents_code =
-    code_by (ℕ × (ℕ × (Option Top × (ℕ × (Words × (Words × (map.FinMap nat_cmp Live × (ℕ × (ℕ × (set.FinSet nat_cmp × ℕ))))))))))
+    code_by (ℕ × (ℕ × (Option Top × (ℕ × (Words × (Words × (map.FinMap nat_cmp Live × (ℕ × (ℕ × (Words × (set.FinSet nat_cmp × (set.FinSet nat_cmp × ℕ))))))))))))
     (coded× coded_ℕ (coded× coded_ℕ (coded× (coded_option top_code) (coded× coded_ℕ (coded× words_code (coded× words_code
-    (coded× (map.code coded_ℕ live_code) (coded× coded_ℕ (coded× coded_ℕ (coded× (set.code coded_ℕ) coded_ℕ))))))))))
+    (coded× (map.code coded_ℕ live_code) (coded× coded_ℕ (coded× coded_ℕ (coded× words_code
+    (coded× (set.code coded_ℕ) (coded× (set.code coded_ℕ) coded_ℕ))))))))))))
     (λ c. (
       c.state.window,
       (
@@ -40,7 +42,7 @@ contents_code =
                 c.state.media,
                 (
                   c.state.equations,
-                  (c.state.admitted, (c.state.calls, (c.bare, c.epoch))),
+                  (c.state.admitted, (c.state.calls, (c.solved, (c.bare, (c.repaired, c.epoch))))),
                 ),
               ),
             ),
@@ -60,8 +62,10 @@ contents_code =
         admitted = p.1.1.1.1.1.1.1.0;
         calls = p.1.1.1.1.1.1.1.1.0;
       };
-      bare = p.1.1.1.1.1.1.1.1.1.0;
-      epoch = p.1.1.1.1.1.1.1.1.1.1;
+      solved = p.1.1.1.1.1.1.1.1.1.0;
+      bare = p.1.1.1.1.1.1.1.1.1.1.0;
+      repaired = p.1.1.1.1.1.1.1.1.1.1.1.0;
+      epoch = p.1.1.1.1.1.1.1.1.1.1.1.1;
     })
     (λ _. refl)
 
@@ -91,7 +95,13 @@ state_of parts = record {
 }
 
 abbrev pub contents_of : Parts → Contents
-contents_of parts = record { state = state_of parts; bare = parts.row.bare; epoch = parts.epoch }
+contents_of parts = record {
+  state = state_of parts;
+  solved = parts.row.solved;
+  bare = parts.row.bare;
+  repaired = parts.row.repaired;
+  epoch = parts.epoch;
+}
 
 -- A settled equation is complete in the row's words, and comes out.
 abbrev pub SettledComeOut : Parts → Type 0
@@ -104,15 +114,29 @@ pub record AreSound (parts : Parts) : Type 0 where
   pub facts : Holds (state_of parts)
   pub depth_limit : parts.depth ≤ 1000
   pub reach : parts.row.reach ≡ parts.depth + 100
-  -- The words of the row are media words, and those found ahead of their play come from a peeling of the others.
-  pub media : AreMedia (row_words parts.row)
+  -- Words that were found and not told are media words. Those that were solved need not be.
+  pub cached : AreMedia (get parts.row.cached)
+  -- What was solved, and all that was found, come from peelings of the words received and kept.
+  pub solved : ArePeeled (live_equations (state_of parts)) (known (state_of parts)) (row_known parts.row)
   pub peeled : ArePeeled (live_equations (state_of parts)) (known (state_of parts)) (row_words parts.row)
+  -- They stand at the mark and past it, where none was received.
+  pub beside :
+      (position : ℕ) → IsSome (get parts.row.solved position)
+      → (parts.row.mark ≤ position) × (get parts.row.media position ≡ None)
   pub settled : SettledComeOut parts
+  -- So an equation comes out once it has given a word.
+  pub rooms :
+      (serial : ℕ) (live : Live) → get parts.lines.live serial ≡ Some live → HasRoom live.equation.parity
   pub mark_limit : parts.row.mark < 2 ^ 61 + 200
   pub top_limit : (top : Top) → parts.top ≡ Some top → top.position < 2 ^ 61 + 2 ^ 16
   pub admitted_limit : parts.admitted ≤ parts.calls
   pub calls_limit : parts.calls ≤ 2 ^ 62
   pub epoch_limit : parts.epoch ≤ parts.calls
+
+-- The epoch after a call that withdrew solved words, or did not.
+abbrev pub raised : ℕ → Bool → ℕ
+raised epoch true = epoch + 1
+raised epoch false = epoch
 
 -- An equation of this base and shape comes too late. Its parity word is of no account.
 abbrev pub IsLateAt : State → ℕ → ℕ → ℕ → Type 0

@@ -221,6 +221,28 @@ OneTaking =
     → TakesAll (opening window depth) arrivals plays' replies' new'
     → (plays ≡ plays') × (replies ≡ replies') × (new ≡ new')
 
+-- A call has one outcome: the reply or the play, and the desk after it.
+
+abbrev pub MediaIsOne : Type 0
+MediaIsOne =
+    (old one other : State) (seq : ℕ) (word : Word) (reply reply' : Reply)
+    → AdmitsMedia old seq word reply one → AdmitsMedia old seq word reply' other → (reply ≡ reply') × (one ≡ other)
+
+abbrev pub ParityIsOne : Type 0
+ParityIsOne =
+    (old one other : State) (parity : Parity) (reply reply' : Reply) → Holds old
+    → AdmitsParity old parity reply one → AdmitsParity old parity reply' other → (reply ≡ reply') × (one ≡ other)
+
+abbrev pub PlayIsOne : Type 0
+PlayIsOne =
+    (count : ℕ) (old one other : State) (play play' : Play) → Holds old
+    → IsPlay count old play one → IsPlay count old play' other → (play ≡ play') × (one ≡ other)
+
+abbrev pub FlushIsOne : Type 0
+FlushIsOne =
+    (old one other : State) (play play' : Option Play) → Holds old
+    → Flushes old play one → Flushes old play' other → (play ≡ play') × (one ≡ other)
+
 -- The plays of a run's first datagrams come first in it.
 abbrev pub TakenPlaysComeFirst : Type 0
 TakenPlaysComeFirst =

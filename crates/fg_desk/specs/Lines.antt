@@ -1,5 +1,5 @@
 -- The live equations of a desk, and which of them are settled.
-use Rattle.std.specs.Prelude.{◌≡◌, ◌⊎◌, ◌<◌, ◌≤◌, ◌↔◌, ◌^◌, ℕ, false, Option, Some, IsSome, IsTrue}
+use Rattle.std.specs.Prelude.{◌≡◌, ◌⊎◌, ◌<◌, ◌≤◌, ◌↔◌, ◌^◌, ℕ, true, false, Option, Some, IsSome, IsTrue}
 use Rattle.std.specs.List.{Contains}
 use Rattle.std.specs.Ordering.{nat_cmp}
 use Rattle.std.specs.FinMap.{FinMap, get, len, empty}
@@ -38,6 +38,16 @@ AreOpen lines open_lines =
     (line : Line) → Contains (lines_of open_lines) line
     ↔ (IsLiveLine lines line × (set.contains lines.settled line.serial ≡ false))
 
+-- The lines of a slab are the live ones that are settled.
+abbrev pub AreSettled : LinesState → Slab Line → Type 0
+AreSettled lines settled_lines =
+    (line : Line) → Contains (lines_of settled_lines) line
+    ↔ (IsLiveLine lines line × (set.contains lines.settled line.serial ≡ true))
+
+-- The line stands in one of two slabs.
+abbrev pub IsAmong : Slab Line → Slab Line → Line → Type 0
+IsAmong first second line = Contains (lines_of first) line ⊎ Contains (lines_of second) line
+
 -- The same equations are live, and those are settled that were, or that are complete in these words.
 pub record Settles (words : ℕ → Option Word) (old new : LinesState) : Type 0 where
   pub live : new.live ≡ old.live
@@ -45,6 +55,14 @@ pub record Settles (words : ℕ → Option Word) (old new : LinesState) : Type 0
       (serial : ℕ) → IsTrue (set.contains new.settled serial)
       ↔ (IsTrue (set.contains old.settled serial)
       ⊎ ((live : Live) × (get old.live serial ≡ Some live) × IsComplete words live.equation))
+
+-- The same equations are live, and those are settled that were, or that have this place.
+pub record SettlesAt (place : ℕ) (old new : LinesState) : Type 0 where
+  pub live : new.live ≡ old.live
+  pub settled :
+      (serial : ℕ) → IsTrue (set.contains new.settled serial)
+      ↔ (IsTrue (set.contains old.settled serial)
+      ⊎ ((live : Live) × (get old.live serial ≡ Some live) × (live.place ≡ place)))
 
 -- The same equations are live, and those are settled that were and are complete in these words.
 pub record Reopens (words : ℕ → Option Word) (old new : LinesState) : Type 0 where

@@ -4,16 +4,17 @@ ghost use Rattle.std.specs.Prelude.{◌≡◌, ◌≢◌, ◌+◌, ◌↔◌, �
 ghost use Rattle.std.specs.Option.{option_copied};
 ghost use Rattle.std.specs.FinMap.{get, len};
 ghost use Rattle.std.specs.FinSet.{contains};
-ghost use Rattle.fg_words.specs.Word.{IsMedia};
+ghost use Rattle.fg_words.specs.Word.{HasRoom as WordHasRoom, IsMedia};
 ghost use Rattle.fg_shape.specs.Shape.{IsShape};
+ghost use Rattle.fg_peel.specs.Equation.{IsSettled};
 ghost use Rattle.fg_peel.specs.declared.Line.{Line as LiveLine};
 ghost use Rattle.fg_desk.specs.State.{known, Top as TopState, Live};
 ghost use Rattle.fg_desk.specs.Facts.{Holds};
-ghost use Rattle.fg_desk.specs.Lines.{live_of};
-ghost use Rattle.fg_desk.specs.Contents.{opened, HasRoom, shared_at, kept_from, IsBareAfter, epoch_after};
+ghost use Rattle.fg_desk.specs.Lines.{live_of, IsAmong};
+ghost use Rattle.fg_desk.specs.Contents.{opened, HasRoom, AreSolved, CanFill, IsLiveAt, IsPlaceAfter, GivesWay, IsAfterArrival, ChangesInPlay, filled, known_in, shared_at, kept_from, epoch_after};
 ghost use Rattle.fg_desk.specs.Admission.{IsDue, IsReplyAt, IsEquationReply, IsLeastFree, AdmitsMedia, AdmitsParity, farther as farther_top, with_media, with_equation};
 ghost use Rattle.fg_desk.specs.Play.{IsPlay, Flushes};
-ghost use Rattle.fg_desk.specs.Inside.{IsLateAt};
+ghost use Rattle.fg_desk.specs.Inside.{IsLateAt, raised};
 ghost use Rattle.fg_desk.specs.Parts.{top_of};
 
 use crate::laws::solved_stays_peeled;
@@ -21,12 +22,16 @@ use crate::lines::{LIVE_LIMIT, Lines, lost_slot};
 use crate::reply::{Outcome, Reply};
 use crate::row::{KEPT, Row};
 use crate::tray::Tray;
-use crate::window::{close, receive, recover};
+use crate::window::{close, publish, receive, recover};
 use fg_peel::Line;
-use fg_peel::laws::{found_words_may_be_known, peelings_fill_the_closure, peelings_stay};
+use fg_peel::laws::{
+    confluence, found_words_may_be_known, peelings_fill_the_closure, peelings_stay,
+};
 use fg_shape::{Shape, last};
 use fg_unwrap::position;
+use fg_words::laws::xor_is_a_group;
 use fg_words::{Shared, Word};
+use slab::Slab;
 use std::alloc::{AllocError, Global};
 use std::marker::Model;
 
@@ -112,7 +117,8 @@ impl Desk {
         self.row.mark()
     }
 
-    /// How many plays were inconsistent.
+    /// How often solved words were withdrawn: at each inconsistent play, and where a media word came for a
+    /// position at which another one was solved.
     pub fn epoch(&self) -> u64
         ensures { result ≡ self.now.epoch }
     {
@@ -126,11 +132,30 @@ impl Desk {
         self.lines.count() as u32
     }
 
-    /// The word known at a position: kept or received. None exactly where none is known.
+    /// How many equations were ever admitted. The next one gets this serial number.
+    pub fn admitted(&self) -> u64
+        ensures { result ≡ self.now.state.admitted }
+    {
+        self.admitted
+    }
+
+    /// The word known at a position: kept, received or solved. None exactly where none is known.
     pub fn word(&self, slot: u64) -> Option<&Word>
-        ensures { option_copied result ≡ known self.now.state slot }
+        ensures { option_copied result ≡ known_in self.now slot }
     {
         self.row.word(slot)
+    }
+
+    /// The word that the desk's own datagrams and plays gave at a position: kept or received. A word that
+    /// was filled in is left aside.
+    pub fn own_word(&self, slot: u64) -> Option<&Word>
+        ensures { option_copied result ≡ known self.now.state slot }
+    {
+        if slot < self.row.mark() {
+            self.row.word(slot)
+        } else {
+            self.row.received(slot)
+        }
     }
 
     /// The share of the word known at a position. None exactly where none is known or it stands
@@ -141,11 +166,11 @@ impl Desk {
         self.row.share(slot)
     }
 
-    /// Whether the word kept at a position was repaired, so that it stands alone.
+    /// Whether the word kept at a position was repaired: it was not received when it was shown.
     pub fn repaired(&self, slot: u64) -> bool
-        ensures { result ≡ contains self.now.bare slot }
+        ensures { result ≡ contains self.now.repaired slot }
     {
-        self.row.is_bare(slot)
+        self.row.is_repaired(slot)
     }
 
     /// The position and the sequence number of the farthest media datagram. None before the first
@@ -171,11 +196,22 @@ impl Desk {
         self.lines.at(place)
     }
 
+    /// The live equations in two groups: those that a play may have to look at, and those known to come out.
+    pub fn live_lines(&self) -> (&Slab<Line>, &Slab<Line>)
+        ensures live { (line : LiveLine) → IsAmong result.0.now result.1.now line
+            ↔ (get self.now.state.equations line.serial ≡ Some (live_of line)) }
+        ensures within { (line : LiveLine) → IsAmong result.0.now result.1.now line
+            → IsShape line.shape.offset line.shape.na × (line.base ≤ 2 ^ 62) }
+    {
+        (self.lines.open(), self.lines.settled())
+    }
+
     /// Whether the desk may change: the mark and the farthest position are below 2^61, and fewer
     /// than 2^62 calls were made that may change it.
     pub fn room(&self) -> bool
         ensures room { IsTrue result ↔ HasRoom self.now.state }
         ensures facts { Holds self.now.state }
+        ensures solved { AreSolved self.now }
     {
         let top_has_room = match self.top {
             Some(top) => top.position < POSITIONS,
@@ -200,13 +236,14 @@ impl Desk {
 
     /// Admits a media datagram, or says why not.
     ///
-    /// The share is dropped with every reply but `Admitted`.
+    /// The share is dropped with every reply but `Admitted`. Where the word is admitted at a position at
+    /// which another one was solved, all solved words are withdrawn and the epoch rises.
     pub fn admit_media(&mut self, seq: u16, share: Shared) -> Reply
         requires room { HasRoom self.old.state }
         requires not_due { ¬ IsDue self.old.state seq }
         requires media { IsMedia share }
         ensures state { AdmitsMedia self.old.state seq share result self.new.state }
-        ensures rest { self.new ≡ record self.old { state = self.new.state } }
+        ensures rest { IsAfterArrival self.old seq share result self.new }
     {
         let Some(top) = self.top else {
             self.take(0, seq, share);
@@ -240,22 +277,35 @@ impl Desk {
             result self.new.state }
         ensures rest { self.new ≡ record self.old { state = self.new.state } }
     {
+        self.admit_placed(base, shape, share).0
+    }
+
+    /// As `admit_parity`, and tells the place of an equation that is admitted.
+    pub fn admit_placed(&mut self, base: u16, shape: Shape, share: Shared) -> (Reply, Option<u32>)
+        requires room { HasRoom self.old.state }
+        requires shape { IsShape shape.offset shape.na }
+        ensures state { AdmitsParity self.old.state
+            (record { base = base; offset = shape.offset; count = shape.na; word = share })
+            result.0 self.new.state }
+        ensures rest { self.new ≡ record self.old { state = self.new.state } }
+        ensures place { IsPlaceAfter self.old.state result.0 result.1 self.new.state }
+    {
         let Some(top) = self.top else {
             self.calls += 1;
-            return Reply::NotStarted;
+            return (Reply::NotStarted, None);
         };
         let Some(base) = position(top.position, top.seq, base) else {
             self.calls += 1;
-            return Reply::BeforeStart;
+            return (Reply::BeforeStart, None);
         };
         match self.equation_reply(base, shape, share.word()) {
             Reply::Admitted => {
-                self.add(base, shape, share);
-                Reply::Admitted
+                let place = self.add(base, shape, share);
+                (Reply::Admitted, Some(place))
             }
             reply => {
                 self.calls += 1;
-                reply
+                (reply, None)
             }
         }
     }
@@ -270,8 +320,7 @@ impl Desk {
             self.new.state }
         ensures count { result.count ≡ length tray.new.shown }
         ensures tray { tray.new.window ≡ tray.old.window }
-        ensures bare { IsBareAfter self.old self.new }
-        ensures epoch { self.new.epoch ≡ epoch_after self.old.epoch result.verdict }
+        ensures changes { ChangesInPlay result.verdict self.old self.new }
     {
         let played = self.play_in_place();
         self.row.show(played.first, played.count, tray);
@@ -290,14 +339,14 @@ impl Desk {
           outcome = result.verdict;
         }) self.new.state }
         ensures count { result.count ≡ self.old.state.window }
-        ensures bare { IsBareAfter self.old self.new }
-        ensures epoch { self.new.epoch ≡ epoch_after self.old.epoch result.verdict }
+        ensures changes { ChangesInPlay result.verdict self.old self.new }
     {
         found_words_may_be_known();
         peelings_fill_the_closure();
         solved_stays_peeled();
-        let first = self.row.mark();
+        confluence();
         let solved = recover(&mut self.row, &self.lines);
+        let first = self.row.mark();
         let verdict = close(&mut self.row, &mut self.lines, solved, self.window);
         self.calls += 1;
         self.epoch = next_epoch(self.epoch, verdict);
@@ -319,8 +368,7 @@ impl Desk {
           outcome = played.verdict;
         }) result) self.new.state }
         ensures some { IfSome result (λ played. (played.count ≡ length tray.new.shown)
-            × IsBareAfter self.old self.new
-            × (self.new.epoch ≡ epoch_after self.old.epoch played.verdict)) }
+            × ChangesInPlay played.verdict self.old self.new) }
         ensures none { IfNone result ((self.new ≡ record self.old { state = self.new.state })
             × (tray.new ≡ tray.old)) }
         ensures tray { tray.new.window ≡ tray.old.window }
@@ -343,13 +391,13 @@ impl Desk {
         }) result) self.new.state }
         ensures some { IfSome result (λ played. (1 ≤ played.count)
             × (played.count ≤ self.old.state.window)
-            × IsBareAfter self.old self.new
-            × (self.new.epoch ≡ epoch_after self.old.epoch played.verdict)) }
+            × ChangesInPlay played.verdict self.old self.new) }
         ensures none { IfNone result (self.new ≡ record self.old { state = self.new.state }) }
     {
         found_words_may_be_known();
         peelings_fill_the_closure();
         solved_stays_peeled();
+        confluence();
         let solved = recover(&mut self.row, &self.lines);
         let first = self.row.mark();
         self.calls += 1;
@@ -366,6 +414,27 @@ impl Desk {
         })
     }
 
+    /// Takes a word that the live equation at a place gives at its one slot without a known word. It is
+    /// solved from then on. This is none of the calls that are counted, and it takes no memory.
+    pub fn fill(&mut self, place: u32, slot: u64, share: Shared)
+        requires { IsLiveAt self.old.state place (λ equation. CanFill self.old equation slot share) }
+        ensures { self.new ≡ filled self.old slot share }
+    {
+        peelings_fill_the_closure();
+        xor_is_a_group();
+        publish(&mut self.row, &mut self.lines, slot, share);
+        self.lines.settle_at(place);
+    }
+
+    /// Takes it that the live equation at a place comes out: all its slots have known words, which sum to
+    /// its parity word. A play then needn't sum them again. Nothing else changes, and it takes no memory.
+    pub fn vouch(&mut self, place: u32)
+        requires { IsLiveAt self.old.state place (IsSettled (known_in self.old)) }
+        ensures { self.new ≡ self.old }
+    {
+        self.lines.settle_at(place);
+    }
+
     /// Takes a word in at a position that has none.
     fn take(&mut self, position: u64, seq: u16, share: Shared)
         requires ahead { self.old.state.mark ≤ position }
@@ -374,17 +443,18 @@ impl Desk {
         requires media { IsMedia share }
         requires limit { position < 2 ^ 61 + 2 ^ 16 }
         requires calls { self.old.state.calls < 2 ^ 62 }
-        ensures { self.new
-            ≡ record self.old { state = with_media self.old.state seq position share } }
+        ensures state { self.new.state ≡ with_media self.old.state seq position share }
+        ensures rest { GivesWay self.old position share self.new }
     {
         peelings_stay();
-        receive(&mut self.row, &mut self.lines, position, share);
+        let withdrawn = receive(&mut self.row, &mut self.lines, position, share);
         self.top = Some(farther(self.top, Farthest { position, seq }));
         self.calls += 1;
+        self.epoch = raised_epoch(self.epoch, withdrawn);
     }
 
-    /// Adds an equation to the live ones.
-    fn add(&mut self, base: u64, shape: Shape, share: Shared)
+    /// Adds an equation to the live ones, and tells its place.
+    fn add(&mut self, base: u64, shape: Shape, share: Shared) -> u32
         requires shape { IsShape shape.offset shape.na }
         requires base { base ≤ 2 ^ 62 }
         requires started { IsSome self.old.state.top }
@@ -392,15 +462,17 @@ impl Desk {
             (record { base = base; offset = shape.offset; count = shape.na; parity = share })
             Reply.Admitted }
         requires calls { self.old.state.calls < 2 ^ 62 }
-        ensures { (place : ℕ) × IsLeastFree self.old.state.equations place × (self.new ≡ record self.old {
-          state = with_equation self.old.state place
+        requires room { WordHasRoom share }
+        ensures { IsLeastFree self.old.state.equations result × (self.new ≡ record self.old {
+          state = with_equation self.old.state result
               (record { base = base; offset = shape.offset; count = shape.na; parity = share });
         }) }
     {
         peelings_stay();
-        self.lines.insert(base, shape, share, self.admitted);
+        let place = self.lines.insert(base, shape, share, self.admitted);
         self.admitted += 1;
         self.calls += 1;
+        place
     }
 
     /// The reply to an equation.
@@ -441,7 +513,7 @@ impl Desk {
         if position < self.row.mark() {
             return Reply::Late;
         }
-        match self.row.word(position) {
+        match self.row.received(position) {
             None => Reply::Admitted,
             Some(other) if other.same(word) => Reply::Duplicate,
             Some(_) => Reply::Conflict,
@@ -457,6 +529,14 @@ fn farther(top: Option<Farthest>, new: Farthest) -> Farthest
         Some(top) if top.position >= new.position => top,
         _ => new,
     }
+}
+
+/// The epoch after a call that withdrew solved words, or did not.
+fn raised_epoch(epoch: u64, withdrawn: bool) -> u64
+    requires { epoch ≤ 2 ^ 62 }
+    ensures { result ≡ raised epoch withdrawn }
+{
+    if withdrawn { epoch + 1 } else { epoch }
 }
 
 /// The epoch after a play.

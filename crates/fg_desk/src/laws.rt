@@ -5,6 +5,7 @@ ghost use Rattle.fg_desk.specs.Laws.{LiveStandUnderSerials, OpeningHolds, MediaK
 ghost use Rattle.fg_desk.specs.Laws.{ClosureIsPeelings, SolutionsArePeelings, StepsAreAhead, OneSolution};
 ghost use Rattle.fg_desk.specs.Laws.{ClosureGainsNothing, FlushEnds, FlushStepsJoin, FlushStepsEnd, SolvedStaysPeeled};
 ghost use Rattle.fg_desk.specs.Laws.{LaterChangesNothing, TakingsJoin, PlaysDueJoin, PlaysDueEnd, PlaysFollow, RunsStayWithin, FlushesStayWithin, OneRun};
+ghost use Rattle.fg_desk.specs.Laws.{MediaIsOne, ParityIsOne, PlayIsOne, FlushIsOne};
 ghost use Rattle.fg_desk.specs.Laws.{OneTaking, TakenPlaysComeFirst, DuePlaysComeNext, FlushStepsComeNext};
 ghost use Rattle.fg_desk.specs.Laws.{PlaysReachTheMark, DuePlaysReachTheMark, FlushStepsReachTheMark};
 ghost use Rattle.fg_desk.specs.Laws.{EachGetsAReply, CountsAreOfReplies, CountsAdd, CountsStayWithin};
@@ -85,6 +86,16 @@ pub fn runs_stay_within()
     ensures taking { RunsStayWithin }
     ensures flushing { FlushesStayWithin }
 {}
+
+/// A call has one outcome: its reply or its play, and the desk after it, follow from the desk before it.
+pub fn one_outcome()
+    ensures media { MediaIsOne }
+    ensures parity { ParityIsOne }
+    ensures play { PlayIsOne }
+    ensures flush { FlushIsOne }
+{
+    uniqueness();
+}
 
 /// A flow has one run: two of the same datagrams are the same.
 pub fn one_run()

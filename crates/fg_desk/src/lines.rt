@@ -1,6 +1,6 @@
 //! The live equations.
 
-ghost use Rattle.std.specs.Prelude.{◌≡◌, ◌+◌, ◌↔◌, ◌<◌, ◌≤◌, ◌^◌, ℕ, false, not, length, slice_index_or, Some, None, IsTrue, IsSome, IfOk, IfSome, IfNone};
+ghost use Rattle.std.specs.Prelude.{◌≡◌, ◌+◌, ◌↔◌, ◌<◌, ◌≤◌, ◌^◌, ℕ, true, false, not, length, slice_index_or, slice_set, Some, None, IsTrue, IsSome, IfOk, IfSome, IfNone};
 ghost use Rattle.std.specs.FinMap.{get, insert, len};
 ghost use Rattle.std.specs.FinSet as set;
 ghost use Rattle.slab.specs.Slab as slabs;
@@ -13,7 +13,7 @@ ghost use Rattle.fg_desk.specs.State.{last_slot};
 ghost use Rattle.fg_desk.specs.Play.{Survives};
 ghost use Rattle.fg_desk.specs.Row.{row_words};
 ghost use Rattle.fg_desk.specs.Admission.{HasSlots, IsFree, IsLeastFree};
-ghost use Rattle.fg_desk.specs.Lines.{no_lines, AreLines, AreOpen, IsLiveLine, Settles, Reopens, SettledAreBased, Retires};
+ghost use Rattle.fg_desk.specs.Lines.{no_lines, AreLines, AreOpen, AreSettled, IsLiveLine, Settles, SettlesAt, Reopens, SettledAreBased, Retires};
 ghost use Rattle.fg_desk.specs.LinesInside.{Holds, Stands, IsTaken, AreWithin, Moves, IsCompleteAs, IsBased, IsLost, Drops};
 
 use crate::row::Row;
@@ -33,8 +33,7 @@ pub(crate) const LIVE_LIMIT: usize = 512;
 pub(crate) struct Lines {
     open: Slab<Line>,
     settled: Slab<Line>,
-    /// Which of the places 0 to 511 are taken.
-    places: Vec<bool>,
+    places: Places,
     /// No line's last slot lies before this position, and none past the other: most searches and passes
     /// end here.
     earliest: u64,
@@ -51,7 +50,71 @@ impl Model for Lines {
 
     ghost view = { λ a. state_of a.«open» a.settled };
 
-    ghost invariant = { λ a. AreKept a.«open» a.settled a.places.items a.earliest a.latest };
+    ghost invariant = { λ a. AreKept a.«open» a.settled a.places a.earliest a.latest };
+}
+
+/// Which of the places 0 to 511 are taken.
+#[derive(Drop)]
+struct Places {
+    taken: Vec<bool>,
+    /// All places below this one are taken: the search for a free one begins here.
+    first: usize,
+}
+
+impl Model for Places {
+    ghost use Rattle.std.specs.Prelude.{ℕ, Bool, List, ◌<◌};
+    ghost use Rattle.fg_desk.specs.LinesInside.{IsTaken};
+
+    ghost Value = { List Bool };
+
+    ghost view = { λ a. a.taken.items };
+
+    ghost invariant = { λ a. (place : ℕ) → place < a.first → IsTaken a.taken.items place };
+}
+
+impl Places {
+    /// All are free. All memory is taken here.
+    fn new(alloc: Global) -> Result<Places, AllocError>
+        ensures count { IfOk result (λ places. length places ≡ 512) }
+        ensures free { IfOk result (λ places. (place : ℕ) → slice_index_or places place false ≡ false) }
+    {
+        Ok(Places {
+            taken: vec![in alloc; false; LIVE_LIMIT]?,
+            first: 0,
+        })
+    }
+
+    /// Takes the least free one.
+    fn take(&mut self) -> usize
+        requires { ¬ ((place : ℕ) → place < length self.old → IsTaken self.old place) }
+        ensures free { slice_index_or self.old result false ≡ false }
+        ensures below { (place : ℕ) → place < result → IsTaken self.old place }
+        ensures within { result < length self.old }
+        ensures taken { self.new ≡ slice_set self.old result true }
+    {
+        let place = first_free(&self.taken, self.first);
+        self.taken[place] = true;
+        self.first = place + 1;
+        place
+    }
+
+    /// Frees one.
+    fn release(&mut self, place: usize)
+        requires { place < length self.old }
+        ensures { self.new ≡ slice_set self.old place false }
+    {
+        self.taken[place] = false;
+        self.first = self.first.min(place);
+    }
+
+    /// Frees all.
+    fn clear(&mut self)
+        ensures count { length self.new ≡ length self.old }
+        ensures free { (place : ℕ) → slice_index_or self.new place false ≡ false }
+    {
+        free_all(&mut self.taken);
+        self.first = 0;
+    }
 }
 
 impl Lines {
@@ -62,7 +125,7 @@ impl Lines {
         Ok(Lines {
             open: Slab::with_capacity(alloc, LIVE_LIMIT)?,
             settled: Slab::with_capacity(alloc, LIVE_LIMIT)?,
-            places: vec![in alloc; false; LIVE_LIMIT]?,
+            places: Places::new(alloc)?,
             earliest: u64::MAX,
             latest: 0,
         })
@@ -89,6 +152,13 @@ impl Lines {
         ensures { AreOpen self.now result.now }
     {
         &self.open
+    }
+
+    /// The settled ones.
+    pub(crate) fn settled(&self) -> &Slab<Line>
+        ensures { AreSettled self.now result.now }
+    {
+        &self.settled
     }
 
     /// The live one of this base and shape.
@@ -121,17 +191,17 @@ impl Lines {
         }
     }
 
-    /// Adds an open one, at the least free place. It takes no memory.
-    pub(crate) fn insert(&mut self, base: u64, shape: Shape, parity: Shared, serial: u64)
+    /// Adds an open one, at the least free place, and tells the place. It takes no memory.
+    pub(crate) fn insert(&mut self, base: u64, shape: Shape, parity: Shared, serial: u64) -> u32
         requires room { len self.old.live < 512 }
         requires shape { IsShape shape.offset shape.na }
         requires base { base ≤ 2 ^ 62 }
         requires fresh { get self.old.live serial ≡ None }
         ensures facts { AreLines self.old }
-        ensures added { (place : ℕ) × IsLeastFree self.old.live place
+        ensures added { IsLeastFree self.old.live result
             × (self.new ≡ record self.old {
               live = insert self.old.live serial (record {
-                place = place;
+                place = result;
                 equation = record {
                   base = base;
                   offset = shape.offset;
@@ -141,9 +211,8 @@ impl Lines {
               });
             }) }
     {
-        let place = first_free(&self.places);
+        let place = self.places.take() as u32;
         let end = last(base, shape);
-        self.places[place] = true;
         self.earliest = self.earliest.min(end);
         self.latest = self.latest.max(end);
         self.open.insert_reserved(Line {
@@ -151,8 +220,9 @@ impl Lines {
             shape,
             parity,
             serial,
-            place: place as u32,
+            place,
         });
+        place
     }
 
     /// Settles each open one that is complete in the row.
@@ -160,6 +230,16 @@ impl Lines {
         ensures { Settles (row_words row.now) self.old self.new }
     {
         move_lines(&mut self.open, &mut self.settled, row, true);
+    }
+
+    /// Settles the one at this place.
+    pub(crate) fn settle_at(&mut self, place: u32)
+        ensures { SettlesAt place self.old self.new }
+    {
+        if let Some(key) = key_at(&self.open, place) {
+            let line = self.open.remove(key);
+            self.settled.insert_reserved(line);
+        }
     }
 
     /// Opens each settled one that is no more complete in the row.
@@ -186,7 +266,7 @@ impl Lines {
     {
         self.open.clear();
         self.settled.clear();
-        free_all(&mut self.places);
+        self.places.clear();
         self.earliest = u64::MAX;
         self.latest = 0;
     }
@@ -213,21 +293,50 @@ fn find_place(lines: &Slab<Line>, place: u32) -> Option<&Line>
     ensures none { IfNone result ((line : LiveLine) → Holds lines.now line
         → ¬ (line.place ≡ place)) }
 {
-    for (_, line) in lines.iter() {
+    match key_at(lines, place) {
+        Some(key) => lines.get(key),
+        None => None,
+    }
+}
+
+/// The key of the line at this place.
+fn key_at(lines: &Slab<Line>, place: u32) -> Option<usize>
+    ensures some { IfSome result (λ key. (line : LiveLine) × (slabs.get lines.now key ≡ Some line)
+        × (line.place ≡ place)) }
+    ensures none { IfNone result ((line : LiveLine) → Holds lines.now line
+        → ¬ (line.place ≡ place)) }
+{
+    for (key, line) in lines.iter() {
         if line.place == place {
-            return Some(line);
+            return Some(key);
         }
     }
     None
 }
 
-/// The least place that isn't taken, or the number of places where all are.
-fn first_free(places: &[bool]) -> usize
+/// A key past those of all lines: a pass over the keys needn't go farther.
+fn end_of(lines: &Slab<Line>) -> usize
+    ensures { (key : ℕ) (line : LiveLine) → slabs.get lines.now key ≡ Some line → key < result }
+{
+    if lines.is_empty() {
+        return 0;
+    }
+    match lines.iter().next_back() {
+        Some((key, _)) => {
+            prove!(key < lines.capacity());
+            key + 1
+        }
+        None => 0,
+    }
+}
+
+/// The least place that isn't taken, or the number of places where all are. Those below `first` are.
+fn first_free(places: &[bool], first: usize) -> usize
+    requires { (place : ℕ) → place < first → IsTaken places.now place }
     ensures free { slice_index_or places.now result false ≡ false }
     ensures below { (place : ℕ) → place < result → IsTaken places.now place }
-    ensures within { result ≤ length places.now }
 {
-    for i in 0..places.len() {
+    for i in first..places.len() {
         if !places[i] {
             return i;
         }
@@ -252,10 +361,7 @@ fn move_lines(source: &mut Slab<Line>, target: &mut Slab<Line>, row: &Row, compl
         (IsCompleteAs complete (row_words row.now))
         source.old target.old source.new target.new }
 {
-    if source.is_empty() {
-        return;
-    }
-    for key in 0..source.capacity() {
+    for key in 0..end_of(source) {
         if goes(source, key, row, complete) {
             let line = source.remove(key);
             target.insert_reserved(line);
@@ -279,7 +385,7 @@ fn goes(lines: &Slab<Line>, key: usize, row: &Row, complete: bool) -> bool
 
 /// Drops those lines that do not survive a play up to the row's mark, and frees their places. `based`
 /// tells that the words below the mark are kept at the slots of all.
-fn drop_lines(lines: &mut Slab<Line>, places: &mut [bool], row: &Row, based: bool)
+fn drop_lines(lines: &mut Slab<Line>, places: &mut Places, row: &Row, based: bool)
     requires within { AreWithin lines.old }
     requires places { length places.old ≡ 512 }
     requires based { IsTrue based → (line : LiveLine) → Holds lines.old line
@@ -287,20 +393,17 @@ fn drop_lines(lines: &mut Slab<Line>, places: &mut [bool], row: &Row, based: boo
     ensures { Drops (λ line. Survives row.now.mark row.now.kept (equation_of line))
         lines.old lines.new places.old places.new }
 {
-    if lines.is_empty() {
-        return;
-    }
-    for key in 0..lines.capacity() {
+    for key in 0..end_of(lines) {
         if let Some(place) = retired_place(lines, key, row, based) {
             lines.remove(key);
-            places[place as usize] = false;
+            places.release(place as usize);
         }
     }
 }
 
 /// Drops those settled lines that do not survive a play up to the row's mark, and frees their places.
 /// No last slot lies before `earliest`, and where the mark doesn't either, all survive.
-fn drop_settled(lines: &mut Slab<Line>, places: &mut [bool], row: &Row, earliest: u64)
+fn drop_settled(lines: &mut Slab<Line>, places: &mut Places, row: &Row, earliest: u64)
     requires within { AreWithin lines.old }
     requires places { length places.old ≡ 512 }
     requires based { (line : LiveLine) → Holds lines.old line

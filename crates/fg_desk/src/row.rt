@@ -1,19 +1,21 @@
 //! The row of entries around the mark.
 
-ghost use Rattle.std.specs.Prelude.{◌≡◌, ◌+◌, ◌<◌, ◌≤◌, ◌^◌, ◌↔◌, ◌++◌, ◌∷◌, [], ℕ, pos, ◌-ℤ◌, length, slice_index_or, unwrap_or, Option, None, IsSome, IsTrue, IfOk, IfSome, IfNone};
+ghost use Rattle.std.specs.Prelude.{◌≡◌, ◌+◌, ◌-◌, ◌<◌, ◌≤◌, ◌^◌, ◌↔◌, ◌++◌, ◌∷◌, [], ℕ, pos, negsuc, ◌-ℤ◌, ◌+ℤ◌, ◌≤ℤ◌, length, slice_index_or, unwrap_or, Option, None, IsSome, IsTrue, IfOk, IfSome, IfNone};
 ghost use Rattle.std.specs.Option.{option_copied};
-ghost use Rattle.std.specs.FinMap.{empty};
+ghost use Rattle.std.specs.FinMap.{empty, get};
 ghost use Rattle.std.specs.FinSet as set;
+ghost use Rattle.fg_words.specs.Word.{IsMedia};
 ghost use Rattle.fg_shape.specs.Shape.{IsShape};
 ghost use Rattle.fg_peel.specs.Solution.{IsSolution};
 ghost use Rattle.fg_peel.specs.Equation.{AreMedia, IsComplete};
 ghost use Rattle.fg_peel.specs.Peeling.{EndsPeeling};
-ghost use Rattle.fg_peel.specs.Slots.{word_in, equation_of, equations_of};
-ghost use Rattle.fg_desk.specs.Row.{opened_row, row_words, row_known, row_shared, IsRow, receives, AllLieIn, IsHighestWord, row_kept_from, Advances};
-ghost use Rattle.fg_desk.specs.RowEntries.{entry_at, words_of, row_of, live_entries, IsEmptyPast, StaysPast, received_in, is_alone, AreEntries, Recovers, IsLastWord, HasNoWordFrom, ForgetsFound};
+ghost use Rattle.fg_peel.specs.Slots.{word_in, words_at, equation_of, equations_of, AllFit};
+ghost use Rattle.fg_desk.specs.Row.{opened_row, row_received, row_words, row_known, row_shared, IsRow, receives, publishes, AllLieIn, IsHighestWord, row_kept_from, Advances};
+ghost use Rattle.fg_desk.specs.RowEntries.{entry_at, words_of, row_of, live_entries, IsEmptyPast, StaysPast, received_in, solved_in, shared_in, is_found, AreEntries, Peels, Recovers, IsLastWord, HasNoWordFrom, ForgetsCached, ForgetsFound};
 
 use crate::tray::Tray;
-use fg_peel::{Line, Slot, Verdict, peel_media};
+use fg_peel::laws::{confluence, maximal_peelings_are_tested};
+use fg_peel::{Line, Slot, Verdict, peel, peel_media};
 use fg_shape::slot;
 use fg_words::{Shared, Word};
 use slab::Slab;
@@ -31,9 +33,9 @@ const SLACK: usize = 100;
 /// The entries of the 100 positions before the mark and of those from the mark on. An entry is
 /// 1.3 kB.
 ///
-/// Before the mark an entry has the share of a kept word, or a kept word that stands alone. From
-/// the mark on it has the share of a received word, or a word that was found ahead of its play.
-/// Entries for positions below 0 are empty.
+/// Before the mark an entry has the share of a kept word, which was received or solved, or a kept word
+/// that stands alone. From the mark on it has the share of a received or a solved word, or a word that
+/// was found ahead of its play. Entries for positions below 0 are empty.
 #[derive(Drop)]
 pub(crate) struct Row {
     mark: u64,
@@ -41,11 +43,14 @@ pub(crate) struct Row {
     front: usize,
     /// The entries, before them those that were passed, and after them empty ones.
     slots: Vec<Slot>,
+    /// Whether all solved words at the mark and past it are known to be media words.
+    solved_media: bool,
 }
 
 impl Model for Row {
     ghost use Rattle.fg_desk.specs.Row.{RowState};
-    ghost use Rattle.fg_desk.specs.RowEntries.{row_code, row_of, live_entries, AreStored};
+    ghost use Rattle.std.specs.Prelude.{IsTrue};
+    ghost use Rattle.fg_desk.specs.RowEntries.{row_code, row_of, live_entries, AreStored, SolvedAreMedia};
 
     ghost Value = { RowState };
 
@@ -53,7 +58,8 @@ impl Model for Row {
 
     ghost view = { λ a. row_of a.mark (live_entries a.front a.slots.items) };
 
-    ghost invariant = { λ a. AreStored a.mark a.front a.slots.items };
+    ghost invariant = { λ a. AreStored a.mark a.front a.slots.items
+        × (IsTrue a.solved_media → SolvedAreMedia (live_entries a.front a.slots.items)) };
 }
 
 impl Row {
@@ -71,6 +77,7 @@ impl Row {
             mark: 0,
             front: 0,
             slots,
+            solved_media: true,
         })
     }
 
@@ -82,7 +89,18 @@ impl Row {
         self.mark
     }
 
-    /// The word that is kept or was received at a position.
+    /// The word that was received at a position that isn't played yet.
+    pub(crate) fn received(&self, position: u64) -> Option<&Word>
+        ensures { option_copied result ≡ get self.now.media position }
+    {
+        if self.mark <= position {
+            received_word(self.mark, live(&self.slots, self.front), position)
+        } else {
+            None
+        }
+    }
+
+    /// The word that is kept or was received or solved at a position.
     pub(crate) fn word(&self, position: u64) -> Option<&Word>
         ensures { option_copied result ≡ row_known self.now position }
     {
@@ -102,11 +120,11 @@ impl Row {
         share_at(self.mark, live(&self.slots, self.front), position)
     }
 
-    /// Whether a kept word stands alone at a position, so that no share of it is there.
-    pub(crate) fn is_bare(&self, position: u64) -> bool
-        ensures { result ≡ set.contains self.now.bare position }
+    /// Whether the word kept at a position was not received.
+    pub(crate) fn is_repaired(&self, position: u64) -> bool
+        ensures { result ≡ set.contains self.now.repaired position }
     {
-        position < self.mark && is_alone_at(self.mark, live(&self.slots, self.front), position)
+        position < self.mark && is_found_at(self.mark, live(&self.slots, self.front), position)
     }
 
     /// The word at a position, also where it was found ahead of its play.
@@ -142,14 +160,52 @@ impl Row {
         }
     }
 
-    /// Puts a received word at a position. A word that was found there goes.
+    /// The share of the word that was solved at a position.
+    pub(crate) fn solved(&self, position: u64) -> Option<&Shared>
+        ensures { option_copied result ≡ get self.now.solved position }
+    {
+        if self.mark <= position {
+            solved_share(self.mark, live(&self.slots, self.front), position)
+        } else {
+            None
+        }
+    }
+
+    /// Whether all solved words are known to be media words.
+    pub(crate) fn solved_are_media(&self) -> bool
+        ensures { IsTrue result → AreMedia (get self.now.solved) }
+    {
+        self.solved_media
+    }
+
+    /// Puts a received word at a position. A word that was solved or found there goes.
     pub(crate) fn put_media(&mut self, position: u64, share: Shared)
         requires ahead { self.old.mark ≤ position }
         requires near { position < self.old.mark + self.old.reach }
         ensures { self.new ≡ receives self.old position share }
     {
-        let index = self.front + KEPT + (position - self.mark) as usize;
+        let index = place_of(self.mark, self.front, position);
         self.slots[index] = Slot::Media(share);
+    }
+
+    /// Puts a solved word at a position. A word that was found there goes.
+    pub(crate) fn put_solved(&mut self, position: u64, share: Shared)
+        requires ahead { self.old.mark ≤ position }
+        requires near { position < self.old.mark + self.old.reach }
+        requires none { get self.old.media position ≡ None }
+        ensures { self.new ≡ publishes self.old position share }
+    {
+        let index = place_of(self.mark, self.front, position);
+        self.solved_media = stay_media(self.solved_media, &share);
+        self.slots[index] = Slot::Solved(share);
+    }
+
+    /// Forgets each word that was found ahead of its play, and each that was solved.
+    pub(crate) fn forget_found(&mut self)
+        ensures { self.new ≡ record self.old { solved = empty; cached = empty } }
+    {
+        clear_live(&mut self.slots, self.front);
+        self.solved_media = true;
     }
 
     /// Forgets each word that was found ahead of its play.
@@ -160,20 +216,29 @@ impl Row {
     }
 
     /// Finds each word that follows from the row's words and the lines, and tells whether they have
-    /// a solution. The words are then that solution.
+    /// a solution of media words. The words are then that solution.
     pub(crate) fn recover(&mut self, lines: &Slab<Line>) -> bool
         requires within { AllLieIn self.old lines.now }
-        requires media { AreMedia (row_words self.old) }
+        requires received { AreMedia (row_received self.old) }
+        requires cached { AreMedia (get self.old.cached) }
         ensures rest { self.new ≡ record self.old { cached = self.new.cached } }
         ensures peeling { EndsPeeling (equations_of lines.now)
             (row_words self.old) (row_words self.new) }
-        ensures solved { IsTrue result
-            → IsSolution (row_words self.old) (equations_of lines.now) (row_words self.new) }
-        ensures solvable { (solution : ℕ → Option Word)
+        ensures solved { IsTrue result → AreMedia (row_words self.new)
+            × IsSolution (row_words self.old) (equations_of lines.now) (row_words self.new) }
+        ensures solvable { AreMedia (row_words self.old) → (solution : ℕ → Option Word)
             → IsSolution (row_words self.old) (equations_of lines.now) solution
             → IsTrue result × (row_words self.new ≡ solution) }
     {
-        recover_live(self.mark, &mut self.slots, self.front, lines)
+        maximal_peelings_are_tested();
+        confluence();
+        recover_live(
+            self.mark,
+            &mut self.slots,
+            self.front,
+            lines,
+            self.solved_media,
+        )
     }
 
     /// Copies what the row keeps at `count` positions to a tray.
@@ -186,7 +251,7 @@ impl Row {
         tray.clear();
         for i in 0..count {
             let position = first + u64::from(i);
-            tray.show(self.word(position), self.is_bare(position));
+            tray.show(self.word(position), self.is_repaired(position));
         }
     }
 
@@ -220,6 +285,16 @@ fn entry(mark: u64, slots: &[Slot], position: u64) -> Option<&Slot>
     slots.get(index as usize)
 }
 
+/// Where the entry of a position from the mark on stands among the slots.
+fn place_of(mark: u64, front: usize, position: u64) -> usize
+    requires ahead { mark ≤ position }
+    requires front { front ≤ SLACK }
+    requires limit { position ≤ 2 ^ 62 }
+    ensures { result ≡ front + KEPT + (position - mark) }
+{
+    front + KEPT + (position - mark) as usize
+}
+
 /// The word at a position.
 fn word_at(mark: u64, slots: &[Slot], position: u64) -> Option<&Word>
     requires { mark + length slots.now ≤ 2 ^ 62 }
@@ -231,10 +306,32 @@ fn word_at(mark: u64, slots: &[Slot], position: u64) -> Option<&Word>
     }
 }
 
+/// The received word at a position.
+fn received_word(mark: u64, slots: &[Slot], position: u64) -> Option<&Word>
+    requires { mark + length slots.now ≤ 2 ^ 62 }
+    ensures { option_copied result ≡ received_in (entry_at mark slots.now position) }
+{
+    match entry(mark, slots, position) {
+        Some(Slot::Media(share)) => Some(share.word()),
+        _ => None,
+    }
+}
+
+/// The share of the solved word at a position.
+fn solved_share(mark: u64, slots: &[Slot], position: u64) -> Option<&Shared>
+    requires { mark + length slots.now ≤ 2 ^ 62 }
+    ensures { option_copied result ≡ solved_in (entry_at mark slots.now position) }
+{
+    match entry(mark, slots, position) {
+        Some(Slot::Solved(share)) => Some(share),
+        _ => None,
+    }
+}
+
 /// The share at a position.
 fn share_at(mark: u64, slots: &[Slot], position: u64) -> Option<&Shared>
     requires { mark + length slots.now ≤ 2 ^ 62 }
-    ensures { option_copied result ≡ received_in (entry_at mark slots.now position) }
+    ensures { option_copied result ≡ shared_in (entry_at mark slots.now position) }
 {
     match entry(mark, slots, position) {
         Some(slot) => share_of(slot),
@@ -242,22 +339,32 @@ fn share_at(mark: u64, slots: &[Slot], position: u64) -> Option<&Shared>
     }
 }
 
-/// The share of an entry that has a kept or a received word.
+/// The share of an entry whose word was received or solved.
 fn share_of(slot: &Slot) -> Option<&Shared>
-    ensures { option_copied result ≡ received_in slot.now }
+    ensures { option_copied result ≡ shared_in slot.now }
 {
     match slot {
-        Slot::Media(share) => Some(share),
-        Slot::Empty | Slot::Solved(_) | Slot::Filled(_) => None,
+        Slot::Media(share) | Slot::Solved(share) => Some(share),
+        Slot::Empty | Slot::Filled(_) => None,
     }
 }
 
-/// Whether the word at a position stands alone in its entry.
-fn is_alone_at(mark: u64, slots: &[Slot], position: u64) -> bool
+/// Whether there is a word at a position that was not received.
+fn is_found_at(mark: u64, slots: &[Slot], position: u64) -> bool
     requires { mark + length slots.now ≤ 2 ^ 62 }
-    ensures { result ≡ is_alone (entry_at mark slots.now position) }
+    ensures { result ≡ is_found (entry_at mark slots.now position) }
 {
-    matches!(entry(mark, slots, position), Some(Slot::Filled(_)))
+    matches!(
+        entry(mark, slots, position),
+        Some(Slot::Solved(_) | Slot::Filled(_))
+    )
+}
+
+/// Whether the solved words are still media words where this one comes.
+fn stay_media(so_far: bool, share: &Shared) -> bool
+    ensures { IsTrue result → IsTrue so_far × IsMedia share.now }
+{
+    so_far && share.word().is_media()
 }
 
 /// The position of the first entry.
@@ -268,43 +375,77 @@ fn low_of(mark: u64) -> i64
     mark as i64 - KEPT as i64
 }
 
-/// Peels the entries, and tells whether there is a solution.
-fn recover_words(mark: u64, slots: &mut [Slot], lines: &Slab<Line>) -> bool
+/// Peels entries the first of which stands for the position `low`. Where all words there are known to be
+/// media words, that takes less time.
+fn peel_entries(low: i64, slots: &mut [Slot], lines: &Slab<Line>, all_media: bool) -> Verdict
+    requires first { negsuc 99 ≤ℤ low }
+    requires last { (low +ℤ pos (length slots.old)) ≤ℤ pos (2 ^ 62) }
+    requires lines { AllFit low slots.old lines.now }
+    requires media { IsTrue all_media → AreMedia (words_at low slots.old) }
+    ensures { Peels low lines.now slots.old slots.new result }
+{
+    if all_media {
+        peel_media(low, slots, lines)
+    } else {
+        peel(low, slots, lines)
+    }
+}
+
+/// Peels the row's entries, and tells whether the words that were not received are media words and
+/// each complete equation comes out.
+fn recover_words(mark: u64, slots: &mut [Slot], lines: &Slab<Line>, all_media: bool) -> bool
     requires entries { AreEntries mark slots.old }
     requires within { AllLieIn (row_of mark slots.old) lines.now }
-    requires media { AreMedia (words_of mark slots.old) }
+    requires media { IsTrue all_media → AreMedia (words_of mark slots.old) }
     ensures { Recovers mark lines.now slots.old slots.new result }
 {
-    match peel_media(low_of(mark), slots, lines) {
+    match peel_entries(low_of(mark), slots, lines, all_media) {
         Verdict::Sound => true,
         _ => false,
     }
 }
 
-/// Peels the row's entries among the slots.
-fn recover_live(mark: u64, slots: &mut [Slot], front: usize, lines: &Slab<Line>) -> bool
+/// The same of the row's entries among the slots.
+fn recover_live(
+    mark: u64,
+    slots: &mut [Slot],
+    front: usize,
+    lines: &Slab<Line>,
+    all_media: bool,
+) -> bool
     requires front { front ≤ SLACK }
     requires some { SLACK ≤ length slots.old }
     requires entries { AreEntries mark (live_entries front slots.old) }
     requires within { AllLieIn (row_of mark (live_entries front slots.old)) lines.now }
-    requires media { AreMedia (words_of mark (live_entries front slots.old)) }
+    requires media { IsTrue all_media → AreMedia (words_of mark (live_entries front slots.old)) }
     ensures recovers { Recovers mark lines.now (live_entries front slots.old)
         (live_entries front slots.new) result }
     ensures past { StaysPast front slots.old slots.new }
 {
     let end = front + (slots.len() - SLACK);
-    recover_words(mark, &mut slots[front..end], lines)
+    recover_words(mark, &mut slots[front..end], lines, all_media)
 }
 
-/// Empties each of the row's entries from the mark on that has a word of its own.
+/// Empties each of the row's entries from the mark on whose word stands alone.
 fn forget_live(slots: &mut [Slot], front: usize)
+    requires front { front ≤ SLACK }
+    requires some { SLACK ≤ length slots.old }
+    ensures forgets { ForgetsCached (live_entries front slots.old) (live_entries front slots.new) }
+    ensures past { StaysPast front slots.old slots.new }
+{
+    let end = front + (slots.len() - SLACK);
+    forget_filled(&mut slots[front..end]);
+}
+
+/// Empties each of them whose word was not received.
+fn clear_live(slots: &mut [Slot], front: usize)
     requires front { front ≤ SLACK }
     requires some { SLACK ≤ length slots.old }
     ensures forgets { ForgetsFound (live_entries front slots.old) (live_entries front slots.new) }
     ensures past { StaysPast front slots.old slots.new }
 {
     let end = front + (slots.len() - SLACK);
-    forget_filled(&mut slots[front..end]);
+    clear_found(&mut slots[front..end]);
 }
 
 /// The last entry with a word, from the mark on.
@@ -320,12 +461,23 @@ fn last_word(slots: &[Slot]) -> Option<usize>
     None
 }
 
-/// Empties each entry from the mark on that has a word of its own.
+/// Empties each entry from the mark on whose word stands alone.
 fn forget_filled(slots: &mut [Slot])
-    ensures { ForgetsFound slots.old slots.new }
+    ensures { ForgetsCached slots.old slots.new }
 {
     for i in KEPT..slots.len() {
         if let Slot::Filled(_) = slots[i] {
+            slots[i] = Slot::Empty;
+        }
+    }
+}
+
+/// Empties each entry from the mark on whose word was not received.
+fn clear_found(slots: &mut [Slot])
+    ensures { ForgetsFound slots.old slots.new }
+{
+    for i in KEPT..slots.len() {
+        if let Slot::Solved(_) | Slot::Filled(_) = slots[i] {
             slots[i] = Slot::Empty;
         }
     }
@@ -389,17 +541,20 @@ fn take_entry(slot: &mut Slot, other: &mut Slot)
                 take_share(slot, other);
             }
         }
-        Slot::Solved(_) | Slot::Filled(_) => mem::swap(slot, other),
+        Slot::Solved(_) => take_share(slot, other),
+        Slot::Filled(_) => mem::swap(slot, other),
     }
 }
 
 /// Moves the share of an entry to another one. Nothing else of the entry is copied.
 fn take_share(slot: &mut Slot, other: &mut Slot)
-    requires { IsSome (received_in other.old) }
+    requires { IsSome (shared_in other.old) }
     ensures { slot.new ≡ other.old }
 {
-    if let Slot::Media(share) = mem::replace(other, Slot::Empty) {
-        *slot = Slot::Media(share);
+    match mem::replace(other, Slot::Empty) {
+        Slot::Media(share) => *slot = Slot::Media(share),
+        Slot::Solved(share) => *slot = Slot::Solved(share),
+        Slot::Empty | Slot::Filled(_) => {}
     }
 }
 

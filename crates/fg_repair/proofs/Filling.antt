@@ -20,14 +20,14 @@ the_shown word repaired = record { word = word; repaired = repaired }
 
 module _ (desk : Contents) where
   count_so_far : (first i : ℕ) → length (kept_from desk first i) ≡ i
-  count_so_far first i = length-map-range_with_len (kept_shown (known desk.state) desk.bare) first i
+  count_so_far first i = length-map-range_with_len (kept_shown (known desk.state) desk.repaired) first i
 
   one_more :
       (first i position : ℕ) (word : Option Word) (repaired : Bool) → position ≡ first + i
-      → word ≡ known desk.state position → repaired ≡ contains desk.bare position
+      → word ≡ known desk.state position → repaired ≡ contains desk.repaired position
       → kept_from desk first i ++ the_shown word repaired ∷ [] ≡ kept_from desk first (i + 1)
   one_more first i position word repaired at word_is repaired_is =
-      let show = kept_shown (known desk.state) desk.bare in
+      let show = kept_shown (known desk.state) desk.repaired in
       let is : the_shown word repaired ≡ show position = λ j. the_shown (word_is j) (repaired_is j) in
       ap (λ (s : Shown). kept_from desk first i ++ s ∷ []) (is ∙ ap show at)
       ∙ sym (map-range_with_len_more show first i (first + i) refl)
@@ -42,7 +42,7 @@ module _ (desk : Contents) where
 
   pub counts_one_more :
       (sum so_far new : FlowSum) (first i position : ℕ) (word : Option Word) (repaired : Bool) → position ≡ first + i
-      → word ≡ known desk.state position → repaired ≡ contains desk.bare position
+      → word ≡ known desk.state position → repaired ≡ contains desk.repaired position
       → so_far ≡ with_shown sum first (kept_from desk first i)
       → new ≡ with_shown so_far position (the_shown word repaired ∷ []) → new ≡ with_shown sum first (kept_from desk first (i + 1))
   counts_one_more sum so_far new first i position word repaired at word_is repaired_is before after =
@@ -54,7 +54,7 @@ module _ (desk : Contents) where
 
   pub lane_one_more :
       (lane new : List ℕ) (first i position : ℕ) (word : Option Word) (repaired : Bool) → position ≡ first + i
-      → word ≡ known desk.state position → repaired ≡ contains desk.bare position
+      → word ≡ known desk.state position → repaired ≡ contains desk.repaired position
       → lane ≡ flat_map shown_payload (kept_from desk first i) → new ≡ lane ++ shown_payload (the_shown word repaired)
       → new ≡ flat_map shown_payload (kept_from desk first (i + 1))
   lane_one_more lane new first i position word repaired at word_is repaired_is before after =

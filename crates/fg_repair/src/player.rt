@@ -44,7 +44,7 @@ impl Player {
         self.lane.clear();
         for i in 0..played.count {
             let position = played.first + u64::from(i);
-            let word = desk.word(position);
+            let word = desk.own_word(position);
             show(sum, &mut self.lane, position, word, desk.repaired(position))?;
         }
         count_play(sum, played.verdict);

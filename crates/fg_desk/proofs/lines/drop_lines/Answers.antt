@@ -1,4 +1,4 @@
-use Rattle.std.proofs.Common.{◌≡◌, ◌≤◌, ◌<◌, ◌+◌, ℕ, Bool, List, false, length, set, subst, sym, ap, ◌∙◌, arith}
+use Rattle.std.proofs.Common.{◌≡◌, ◌<◌, ◌+◌, ℕ, Bool, List, false, length, set, subst, sym, ap, ◌∙◌, arith}
 use Rattle.slab.specs.Slab.{Slab}
 use Rattle.fg_peel.specs.declared.Line.{Line}
 use Rattle.fg_peel.specs.Slots.{equation_of}
@@ -27,12 +27,12 @@ loop-key-preserved c =
           let within : found.0.place < length c.loop-key.places =
           (let p = (c.requires.within key found.0 (c.loop-key.invariant.left key found.0 found.1).0).place in
           let n = c.requires.places in
-          let same = c.loop-key.auto.places in
+          let same = c.loop-key.invariant.count in
           omega (arith, p, n, same)) in
           let next = drops_one Stays key old c.loop-key.lines places c.loop-key.places c.loop-key.invariant w.remove.new.self found.0
           found.1 found.3 within w.remove.ensures.updates w.remove.ensures.len w.remove.ensures.capacity in
           let set_at : set c.loop-key.places found.0.place false ≡ c.match-retired_place.places =
-          ap (λ (p : ℕ). set c.loop-key.places p false) found.2 ∙ sym w.places-is in
+          ap (λ (p : ℕ). set c.loop-key.places p false) found.2 ∙ sym w.release.ensures ∙ sym w.places-is in
           subst (λ (s : Slab Line). Q s c.match-retired_place.places) (sym w.lines-is)
           (subst (λ (ps : List Bool). Q w.remove.new.self ps) set_at next))
       | in_default w ↦
@@ -43,7 +43,6 @@ loop-key-preserved c =
 
 pub returns : goal.returns
 returns c =
-    let past : length c.args.lines.now.slots ≤ c.loop-key.key =
-    omega (arith, c.capacity-key-end.ensures.slots, c.loop-key-test.false) in
     drops_all (λ (line : Line). Survives c.args.row.now.mark c.args.row.now.kept (equation_of line)) c.loop-key.key
-    c.args.lines.now c.loop-key.lines c.args.places.now c.loop-key.places c.loop-key.invariant past
+    c.args.lines.now c.loop-key.lines c.args.places.now c.loop-key.places c.loop-key.invariant
+    (λ key line is. let within = c.end_of-key-end.ensures key line is in omega (arith, within, c.loop-key-test.false))

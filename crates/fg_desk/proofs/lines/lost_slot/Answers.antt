@@ -3,7 +3,7 @@ use Rattle.std.proofs.lemmas.List.{get_or_default}
 use Rattle.std.proofs.lemmas.List.Elements.{Contains-get_or}
 use Rattle.std.specs.FinMap.{get}
 use Rattle.fg_shape.specs.Shape.{slots_of}
-use Rattle.fg_desk.proofs.RowMaps.{if-less}
+use Rattle.fg_desk.proofs.LinesBounds.{known_before}
 use Rattle.fg_desk.proofs.RowLoops.{none_of_copied, length-slots_of}
 use Rattle.fg_desk.proofs.lines.lost_slot.Goals as goal
 
@@ -16,7 +16,7 @@ returns-then-is_none c =
     let within : c.loop-j.j < length xs = omega (arith, length-slots_of c.args.base shape.offset shape.na) in
     let below : p < row.mark = omega (arith, c.mark-mark.ensures.value, c.if-position-mark.true) in
     let known = none_of_copied _ c.word.result c.word.ensures (c.is_none.ensures ∙ ap not c.if-is_none.true) in
-    let none : get row.kept p ≡ None = sym (if-less p row.mark (get row.kept p) (get row.media p) below) ∙ known in
+    let none : get row.kept p ≡ None = sym (known_before row c.mark-mark.ensures.facts p below) ∙ known in
     let member : Contains xs p =
     subst (λ (q : ℕ). Contains xs q) (sym c.slot-position.ensures) (Contains-get_or xs c.loop-j.j 0 within) in
     record { some = record { listed = member; played = below; lost = none }; none = tt }

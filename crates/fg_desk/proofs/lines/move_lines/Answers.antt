@@ -1,4 +1,4 @@
-use Rattle.std.proofs.Common.{◌≤◌, ◌+◌, length, not, subst, sym, arith}
+use Rattle.std.proofs.Common.{◌+◌, not, subst, sym, arith}
 use Rattle.slab.specs.Slab.{Slab, get}
 use Rattle.fg_peel.specs.declared.Line.{Line}
 use Rattle.fg_desk.specs.Row.{row_words}
@@ -41,7 +41,6 @@ loop-key-preserved c =
 pub returns : goal.returns
 returns c =
     let words = row_words c.args.row.now in
-    let past : length c.args.source.now.slots ≤ c.loop-key.key =
-    omega (arith, c.capacity-key-end.ensures.slots, c.loop-key-test.false) in
     moves_all (IsCompleteAs (not c.args.complete) words) (IsCompleteAs c.args.complete words) c.loop-key.key
-    c.args.source.now c.args.target.now c.loop-key.source c.loop-key.target c.loop-key.invariant past
+    c.args.source.now c.args.target.now c.loop-key.source c.loop-key.target c.loop-key.invariant
+    (λ key line is. let within = c.end_of-key-end.ensures key line is in omega (arith, within, c.loop-key-test.false))

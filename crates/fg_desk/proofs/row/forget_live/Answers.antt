@@ -1,6 +1,6 @@
 use Rattle.std.proofs.Common.{◌≡◌, List, length, take, drop, subst, sym}
 use Rattle.fg_peel.specs.declared.Slot.{Slot}
-use Rattle.fg_desk.specs.RowEntries.{live_entries, ForgetsFound}
+use Rattle.fg_desk.specs.RowEntries.{live_entries, ForgetsCached}
 use Rattle.fg_desk.proofs.RowStored.{part_count, part_is, part_live, part_past}
 use Rattle.fg_desk.proofs.row.forget_live.Goals as goal
 
@@ -9,9 +9,9 @@ returns-clause-forgets c =
     let old = c.args.slots.now in
     let part = c.forget_filled.new.slots in
     let size : length part ≡ length (take (part_count c.args.front old) (drop c.args.front old)) = c.forget_filled.auto.slots in
-    subst (λ (s : List Slot). ForgetsFound (live_entries c.args.front old) s)
+    subst (λ (s : List Slot). ForgetsCached (live_entries c.args.front old) s)
     (sym (part_live c.args.front old part c.requires.front c.requires.some size))
-    (subst (λ (s : List Slot). ForgetsFound s part) (part_is c.args.front old) c.forget_filled.ensures)
+    (subst (λ (s : List Slot). ForgetsCached s part) (part_is c.args.front old) c.forget_filled.ensures)
 
 pub returns-clause-past : goal.returns-clause-past
 returns-clause-past c =

@@ -17,7 +17,9 @@ recover_words-requires-clause-within c =
 
 pub recover_words-requires-clause-media : goal.recover_words-requires-clause-media
 recover_words-requires-clause-media c =
-    subst (λ (s : List Slot). AreMedia (words_of c.args.mark s)) (sym (part_is c.args.front c.args.slots.now)) c.requires.media
+    λ known.
+    subst (λ (s : List Slot). AreMedia (words_of c.args.mark s)) (sym (part_is c.args.front c.args.slots.now))
+    (c.requires.media known)
 
 pub returns-clause-recovers : goal.returns-clause-recovers
 returns-clause-recovers c =

@@ -1,22 +1,26 @@
 use Rattle.std.proofs.Common.{[], refl}
+use Rattle.fg_peel.specs.Equation.{AreMedia}
 use Rattle.fg_peel.specs.Slots.{equations_of}
 use Rattle.fg_desk.specs.Lines.{live_of}
 use Rattle.fg_desk.specs.Row.{row_words}
 use Rattle.fg_desk.specs.Window.{equations_in}
+use Rattle.fg_desk.proofs.DeskWords.{words_media}
 use Rattle.fg_desk.proofs.SettledEquations.{ends_with_settled, solution_of_none, ends_of_none, all_add_nothing, open_is_live, settled_add_nothing}
 use Rattle.fg_desk.proofs.window.recover.Goals as goal
 
-pub returns-then-none_open : goal.returns-then-none_open
-returns-then-none_open c =
+pub returns-then-solved_are_media : goal.returns-then-solved_are_media
+returns-then-solved_are_media c =
     let known = row_words c.args.row.now in
     let all = equations_in c.args.lines.now in
     let adds = all_add_nothing c.args.lines.now known c.requires.settled (c.none_open.ensures.0 c.if-none_open.true) in
+    let media : AreMedia known =
+    words_media c.args.row.now c.requires.received (c.solved_are_media.ensures c.if-solved_are_media.true) c.requires.cached in
     record {
       rest = refl;
       peeling = ends_with_settled c.peelings_stay.ensures.equations c.peelings_fill_the_closure.ensures.keeps known known [] all
           adds (ends_of_none known);
-      solved = λ _. (c.settled_equations_add_nothing.ensures.solutions known [] all adds known).0 (solution_of_none known);
-      solvable = λ _ _. refl;
+      solved = λ _. (media, (c.settled_equations_add_nothing.ensures.solutions known [] all adds known).0 (solution_of_none known));
+      solvable = λ _ _ _. refl;
     }
 
 pub recover-requires-clause-within : goal.recover-requires-clause-within
@@ -36,8 +40,10 @@ returns c =
       rest = e.rest;
       peeling = ends_with_settled c.peelings_stay.ensures.equations c.peelings_fill_the_closure.ensures.keeps known
           (row_words c.recover.new.self) few all adds e.peeling;
-      solved = λ sound.
-          (c.settled_equations_add_nothing.ensures.solutions known few all adds (row_words c.recover.new.self)).0 (e.solved sound);
-      solvable = λ solution is.
-          (e.solvable solution ((c.settled_equations_add_nothing.ensures.solutions known few all adds solution).1 is)).0;
+      solved = λ sound. (
+        (e.solved sound).0,
+        (c.settled_equations_add_nothing.ensures.solutions known few all adds (row_words c.recover.new.self)).0 (e.solved sound).1,
+      );
+      solvable = λ media solution is.
+          (e.solvable media solution ((c.settled_equations_add_nothing.ensures.solutions known few all adds solution).1 is)).0;
     }

@@ -10,21 +10,21 @@ use Rattle.fg_desk.proofs.DeskAdds.{next_is_fresh, with_line, sound_with_line}
 use Rattle.fg_desk.proofs.Options.{none_has_no_value}
 use Rattle.fg_desk.proofs.desk.Desk.add.Goals as goal
 
-pub insert-requires-clause-fresh : goal.insert-requires-clause-fresh
-insert-requires-clause-fresh c = next_is_fresh (parts_of c.self.inside) c.self.invariant
+pub insert-place-requires-clause-fresh : goal.insert-place-requires-clause-fresh
+insert-place-requires-clause-fresh c = next_is_fresh (parts_of c.self.inside) c.self.invariant
 
 pub invariant_of-self : goal.invariant_of-self
 invariant_of-self c =
     let parts = parts_of c.self.inside in
     let equation : Equation =
     record { base = c.args.base; offset = c.args.shape.offset; count = c.args.shape.na; parity = c.args.share } in
-    let added = c.insert.ensures.added in
+    let added = c.insert-place.ensures.added in
     let replies : IsEquationReply (state_of parts) equation Admitted =
     subst (λ (s : Contents). IsEquationReply s.state equation Admitted) (sym c.self.view_is) c.requires.admitted in
     let opened : parts.top ≢ None =
     λ none. none_has_no_value parts.top none (subst (λ (s : Contents). IsSome s.state.top) (sym c.self.view_is) c.requires.started) in
     let calls : c.self.inside.calls < 2 ^ 62 =
     subst (λ (s : Contents). s.state.calls < 2 ^ 62) (sym c.self.view_is) c.requires.calls in
-    subst (λ (l : LinesState). AreSound (with_line parts l)) (sym added.2)
-    (sound_with_line parts c.self.invariant c.insert.ensures.facts added.0 equation c.requires.shape c.requires.base replies added.1
-    opened calls c.peelings_stay.ensures.equations)
+    subst (λ (l : LinesState). AreSound (with_line parts l)) (sym added.1)
+    (sound_with_line parts c.self.invariant c.insert-place.ensures.facts c.insert-place.result equation c.requires.shape c.requires.base replies added.0
+    opened calls c.peelings_stay.ensures.equations c.requires.room)

@@ -1,19 +1,23 @@
 use Rattle.std.proofs.Common.{◌≡◌, ◌+◌, ◌-◌, ◌<◌, ◌≤◌, ◌^◌, ℕ, min, Some, ap, sym, subst, ◌∙◌, arith}
 use Rattle.std.proofs.Math.Nat.{min-le_left}
 use Rattle.fg_desk.specs.Admission.{counted}
-use Rattle.fg_desk.specs.Contents.{Contents}
+use Rattle.fg_desk.specs.Contents.{Contents, ChangesInPlay}
 use Rattle.fg_desk.specs.Facts.{Holds}
-use Rattle.fg_desk.specs.Inside.{state_of}
+use Rattle.fg_desk.specs.Inside.{state_of, contents_of}
 use Rattle.fg_desk.specs.Parts.{parts_of}
 use Rattle.fg_desk.specs.Play.{IsPlay, IsFlushStep, HasMore}
-use Rattle.fg_desk.specs.Row.{RowState, row_kept_from}
-use Rattle.fg_desk.proofs.DeskFlushes.{counted_with, sound_with_none, has_no_more, highest_of, highest_limit, more_of, mark_stays}
-use Rattle.fg_desk.proofs.DeskPlayed.{closed_play, closed_sound, sound_with_epoch}
+use Rattle.fg_desk.specs.Row.{RowState}
+use Rattle.fg_desk.proofs.DeskFlushes.{counted_with, sound_with_none, has_no_more, highest_of, highest_limit, more_of, mark_stays, some_played}
+use Rattle.fg_desk.proofs.DeskPlayed.{closed_play, closed_sound, closed_changes, sound_with_epoch}
 use Rattle.fg_desk.proofs.DeskPlays.{played}
 use Rattle.fg_desk.proofs.DeskRecovers.{are_in_row, still_in_row, settled_are_complete}
+use Rattle.fg_desk.proofs.DeskWords.{shown_in, known_are_media}
 use Rattle.fg_desk.proofs.PlayKeeps.{flush_step_keeps}
 use Rattle.fg_desk.proofs.desk.Desk.flush_step_in_place.Goals as goal
 use Rattle.fg_desk.proofs.desk.Desk.flush_step_in_place.Goals.{After-recover-solved, After-close-verdict}
+
+pub recover-solved-requires-clause-received : goal.recover-solved-requires-clause-received
+recover-solved-requires-clause-received c = known_are_media (state_of (parts_of c.self.inside)) c.self.invariant.facts
 
 pub recover-solved-requires-clause-within : goal.recover-solved-requires-clause-within
 recover-solved-requires-clause-within c = are_in_row (parts_of c.self.inside) c.self.invariant
@@ -38,7 +42,7 @@ pub invariant_of-self : goal.invariant_of-self
 invariant_of-self c =
     let d = (goal.at.invariant_of-self c).After-recover-solved in
     sound_with_none (parts_of c.self.inside) c.self.invariant c.recover-solved.new.row c.recover-solved.result c.recover-solved.ensures
-    c.peelings_fill_the_closure.ensures.keeps (calls d) c.in_default.ensures.none
+    c.peelings_fill_the_closure.ensures.keeps c.mark-first.ensures.facts (calls d) c.in_default.ensures.none
 
 pub returns-in_default-clause-flushes : goal.returns-in_default-clause-flushes
 returns-in_default-clause-flushes c = (
@@ -80,17 +84,18 @@ module _ (c : After-close-verdict) where
 
   is_play :
       IsPlay c.min-count.result (state_of (parts_of c.self.inside))
-      (record { first = c.self.inside.row.mark; shown = row_kept_from c.close-verdict.new.row c.self.inside.row.mark c.min-count.result; outcome = c.close-verdict.result })
+      (record { first = c.self.inside.row.mark; shown = shown_in c.close-verdict.new.row c.self.inside.row.mark c.min-count.result; outcome = c.close-verdict.result })
       (state_of (played (parts_of c.self.inside) c.close-verdict.result c.close-verdict.new.row c.close-verdict.new.lines))
   is_play =
       closed_play (parts_of c.self.inside) c.self.invariant c.recover-solved.new.row c.recover-solved.result c.recover-solved.ensures
-      c.found_words_may_be_known.ensures.solutions c.min-count.result
+      c.found_words_may_be_known.ensures.solutions c.peelings_fill_the_closure.ensures.keeps c.confluence.ensures.kept
+      c.mark-first.ensures.facts c.min-count.result
       c.close-verdict.new.row c.close-verdict.new.lines c.close-verdict.result most
       c.close-verdict.ensures.closes c.close-verdict.ensures.outcome
 
   is_step :
       IsFlushStep (state_of (parts_of c.self.inside))
-      (record { first = c.mark-first.result; shown = row_kept_from c.close-verdict.new.row c.mark-first.result c.min-count.result; outcome = c.close-verdict.result })
+      (record { first = c.mark-first.result; shown = shown_in c.close-verdict.new.row c.mark-first.result c.min-count.result; outcome = c.close-verdict.result })
       (state_of (played (parts_of c.self.inside) c.close-verdict.result c.close-verdict.new.row c.close-verdict.new.lines))
   is_step =
       let new = state_of (played (parts_of c.self.inside) c.close-verdict.result c.close-verdict.new.row c.close-verdict.new.lines) in
@@ -103,11 +108,11 @@ module _ (c : After-close-verdict) where
         plays = subst
             (λ (first : ℕ). IsPlay (min c.self.inside.window (c.in-Some.highest + 1 - c.self.inside.row.mark))
             (state_of (parts_of c.self.inside))
-            (record { first = first; shown = row_kept_from c.close-verdict.new.row first c.min-count.result; outcome = c.close-verdict.result }) new)
+            (record { first = first; shown = shown_in c.close-verdict.new.row first c.min-count.result; outcome = c.close-verdict.result }) new)
             (sym parts_mark)
             (subst
             (λ (count : ℕ). IsPlay count (state_of (parts_of c.self.inside))
-            (record { first = c.self.inside.row.mark; shown = row_kept_from c.close-verdict.new.row c.self.inside.row.mark c.min-count.result; outcome = c.close-verdict.result })
+            (record { first = c.self.inside.row.mark; shown = shown_in c.close-verdict.new.row c.self.inside.row.mark c.min-count.result; outcome = c.close-verdict.result })
             new) count_is is_play);
       }
 
@@ -118,14 +123,16 @@ invariant_of-self-2 c =
     let count = c.min-count.result in
     let after = state_of (played (parts_of c.self.inside) c.close-verdict.result c.close-verdict.new.row c.close-verdict.new.lines) in
     let facts : Holds after = flush_step_keeps (state_of (parts_of c.self.inside)) after
-    (Some (record { first = c.mark-first.result; shown = row_kept_from c.close-verdict.new.row c.mark-first.result c.min-count.result; outcome = c.close-verdict.result }))
+    (Some (record { first = c.mark-first.result; shown = shown_in c.close-verdict.new.row c.mark-first.result c.min-count.result; outcome = c.close-verdict.result }))
     c.self.invariant.facts (is_step d) in
     sound_with_epoch (parts_of c.self.inside) c.self.invariant c.recover-solved.new.row c.recover-solved.result
-    c.recover-solved.ensures c.found_words_may_be_known.ensures.solutions count
+    c.recover-solved.ensures c.found_words_may_be_known.ensures.solutions
+    c.peelings_fill_the_closure.ensures.keeps c.confluence.ensures.kept c.mark-first.ensures.facts count
     c.close-verdict.new.row c.close-verdict.new.lines c.close-verdict.result c.next_epoch-self-inside.result
     c.next_epoch-self-inside.ensures
     (closed_sound (parts_of c.self.inside) c.self.invariant c.recover-solved.new.row c.recover-solved.result
-    c.recover-solved.ensures c.found_words_may_be_known.ensures.solutions count
+    c.recover-solved.ensures c.found_words_may_be_known.ensures.solutions
+    c.peelings_fill_the_closure.ensures.keeps c.confluence.ensures.kept c.mark-first.ensures.facts count
     c.close-verdict.new.row c.close-verdict.new.lines c.peelings_fill_the_closure.ensures.appended c.solved_stays_peeled.ensures
     (mark r) (calls r) (most d) c.close-verdict.result c.close-verdict.ensures.closes c.close-verdict.ensures.outcome facts)
 
@@ -134,6 +141,27 @@ returns-clause-flushes c =
     let d = (goal.at.returns-clause-flushes c).After-close-verdict in
     subst
     (λ (s : Contents). IsFlushStep s.state
-    (record { first = c.mark-first.result; shown = row_kept_from c.close-verdict.new.row c.mark-first.result c.min-count.result; outcome = c.close-verdict.result })
+    (record { first = c.mark-first.result; shown = shown_in c.close-verdict.new.row c.mark-first.result c.min-count.result; outcome = c.close-verdict.result })
     (state_of (played (parts_of c.self.inside) c.close-verdict.result c.close-verdict.new.row c.close-verdict.new.lines)))
     c.self.view_is (is_step d)
+
+pub returns-clause-some : goal.returns-clause-some
+returns-clause-some c =
+    let d = (goal.at.returns-clause-some c).After-close-verdict in
+    let is = count_is d in
+    let more = ahead d in
+    let window = c.self.invariant.facts.window.0 in
+    let some = some_played c.self.inside.window c.in-Some.highest c.self.inside.row.mark window more in
+    let least = min-le_left c.self.inside.window (c.in-Some.highest + 1 - c.self.inside.row.mark) in (
+      omega (arith, is, some),
+      subst (λ (s : Contents). c.min-count.result ≤ s.state.window) c.self.view_is (omega (arith, is, least)),
+      subst
+          (λ (s : Contents). ChangesInPlay c.close-verdict.result s
+          (contents_of (record (played (parts_of c.self.inside) c.close-verdict.result c.close-verdict.new.row c.close-verdict.new.lines) { epoch = c.next_epoch-self-inside.result })))
+          c.self.view_is
+          (closed_changes (parts_of c.self.inside) c.self.invariant c.recover-solved.new.row c.recover-solved.result
+          c.recover-solved.ensures c.found_words_may_be_known.ensures.solutions
+          c.peelings_fill_the_closure.ensures.keeps c.confluence.ensures.kept c.mark-first.ensures.facts c.min-count.result
+          c.close-verdict.new.row c.close-verdict.new.lines c.close-verdict.result c.next_epoch-self-inside.result
+          c.next_epoch-self-inside.ensures c.close-verdict.ensures.closes),
+    )

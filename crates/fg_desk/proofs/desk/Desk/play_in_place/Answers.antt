@@ -1,17 +1,21 @@
-use Rattle.std.proofs.Common.{◌≢◌, ◌<◌, ◌^◌, ℕ, None, IsSome, sym, subst}
-use Rattle.fg_desk.specs.Contents.{Contents}
+use Rattle.std.proofs.Common.{◌≢◌, ◌<◌, ◌^◌, ℕ, None, IsSome, sym, ap, subst, ◌∙◌}
+use Rattle.fg_desk.specs.Contents.{Contents, ChangesInPlay}
 use Rattle.fg_desk.specs.Facts.{Holds}
-use Rattle.fg_desk.specs.Inside.{AreSound, state_of}
+use Rattle.fg_desk.specs.Inside.{AreSound, state_of, contents_of}
 use Rattle.fg_desk.specs.Parts.{parts_of}
 use Rattle.fg_desk.specs.Play.{IsPlay}
-use Rattle.fg_desk.specs.Row.{row_kept_from}
-use Rattle.fg_desk.proofs.DeskPlayed.{closed_play, closed_sound, sound_with_epoch}
+use Rattle.fg_desk.specs.Row.{RowState}
+use Rattle.fg_desk.proofs.DeskPlayed.{closed_play, closed_sound, closed_changes, sound_with_epoch}
 use Rattle.fg_desk.proofs.DeskPlays.{played}
 use Rattle.fg_desk.proofs.DeskRecovers.{are_in_row, still_in_row, settled_are_complete}
+use Rattle.fg_desk.proofs.DeskWords.{shown_in, known_are_media}
 use Rattle.fg_desk.proofs.Options.{none_has_no_value}
 use Rattle.fg_desk.proofs.PlayKeeps.{play_keeps}
 use Rattle.fg_desk.proofs.desk.Desk.play_in_place.Goals as goal
 use Rattle.fg_desk.proofs.desk.Desk.play_in_place.Goals.{After-close-verdict}
+
+pub recover-solved-requires-clause-received : goal.recover-solved-requires-clause-received
+recover-solved-requires-clause-received c = known_are_media (state_of (parts_of c.self.inside)) c.self.invariant.facts
 
 pub recover-solved-requires-clause-within : goal.recover-solved-requires-clause-within
 recover-solved-requires-clause-within c = are_in_row (parts_of c.self.inside) c.self.invariant
@@ -28,11 +32,12 @@ close-verdict-requires-clause-settled c =
 module _ (c : After-close-verdict) where
   is_play :
       IsPlay c.self.inside.window (state_of (parts_of c.self.inside))
-      (record { first = c.self.inside.row.mark; shown = row_kept_from c.close-verdict.new.row c.self.inside.row.mark c.self.inside.window; outcome = c.close-verdict.result })
+      (record { first = c.self.inside.row.mark; shown = shown_in c.close-verdict.new.row c.self.inside.row.mark c.self.inside.window; outcome = c.close-verdict.result })
       (state_of (played (parts_of c.self.inside) c.close-verdict.result c.close-verdict.new.row c.close-verdict.new.lines))
   is_play =
       closed_play (parts_of c.self.inside) c.self.invariant c.recover-solved.new.row c.recover-solved.result c.recover-solved.ensures
-      c.found_words_may_be_known.ensures.solutions c.self.inside.window c.close-verdict.new.row
+      c.found_words_may_be_known.ensures.solutions c.peelings_fill_the_closure.ensures.keeps c.confluence.ensures.kept
+      c.mark-first.ensures.facts c.self.inside.window c.close-verdict.new.row
       c.close-verdict.new.lines c.close-verdict.result c.self.invariant.facts.window.1 c.close-verdict.ensures.closes c.close-verdict.ensures.outcome
 
   opened : (state_of (parts_of c.self.inside)).top ≢ None
@@ -44,7 +49,7 @@ module _ (c : After-close-verdict) where
   facts =
       play_keeps c.self.inside.window (state_of (parts_of c.self.inside))
       (state_of (played (parts_of c.self.inside) c.close-verdict.result c.close-verdict.new.row c.close-verdict.new.lines))
-      (record { first = c.self.inside.row.mark; shown = row_kept_from c.close-verdict.new.row c.self.inside.row.mark c.self.inside.window; outcome = c.close-verdict.result })
+      (record { first = c.self.inside.row.mark; shown = shown_in c.close-verdict.new.row c.self.inside.row.mark c.self.inside.window; outcome = c.close-verdict.result })
       c.self.invariant.facts opened is_play
 
   sound : AreSound (played (parts_of c.self.inside) c.close-verdict.result c.close-verdict.new.row c.close-verdict.new.lines)
@@ -52,7 +57,8 @@ module _ (c : After-close-verdict) where
       let mark : c.self.inside.row.mark < 2 ^ 61 = subst (λ (s : Contents). s.state.mark < 2 ^ 61) (sym c.self.view_is) c.requires.room.mark in
       let calls : c.self.inside.calls < 2 ^ 62 = subst (λ (s : Contents). s.state.calls < 2 ^ 62) (sym c.self.view_is) c.requires.room.calls in
       closed_sound (parts_of c.self.inside) c.self.invariant c.recover-solved.new.row c.recover-solved.result
-      c.recover-solved.ensures c.found_words_may_be_known.ensures.solutions c.self.inside.window
+      c.recover-solved.ensures c.found_words_may_be_known.ensures.solutions
+      c.peelings_fill_the_closure.ensures.keeps c.confluence.ensures.kept c.mark-first.ensures.facts c.self.inside.window
       c.close-verdict.new.row c.close-verdict.new.lines c.peelings_fill_the_closure.ensures.appended c.solved_stays_peeled.ensures mark
       calls c.self.invariant.facts.window.1 c.close-verdict.result c.close-verdict.ensures.closes c.close-verdict.ensures.outcome facts
 
@@ -60,7 +66,8 @@ pub invariant_of-self : goal.invariant_of-self
 invariant_of-self c =
     let d = (goal.at.invariant_of-self c).After-close-verdict in
     sound_with_epoch (parts_of c.self.inside) c.self.invariant c.recover-solved.new.row c.recover-solved.result
-    c.recover-solved.ensures c.found_words_may_be_known.ensures.solutions c.self.inside.window
+    c.recover-solved.ensures c.found_words_may_be_known.ensures.solutions
+    c.peelings_fill_the_closure.ensures.keeps c.confluence.ensures.kept c.mark-first.ensures.facts c.self.inside.window
     c.close-verdict.new.row c.close-verdict.new.lines c.close-verdict.result c.next_epoch-self-inside.result
     c.next_epoch-self-inside.ensures (sound d)
 
@@ -70,9 +77,21 @@ returns-clause-play c =
     let new = state_of (played (parts_of c.self.inside) c.close-verdict.result c.close-verdict.new.row c.close-verdict.new.lines) in
     subst
     (λ (s : Contents). IsPlay s.state.window s.state
-    (record { first = c.mark-first.result; shown = row_kept_from c.close-verdict.new.row c.mark-first.result c.self.inside.window; outcome = c.close-verdict.result }) new)
+    (record { first = c.mark-first.result; shown = shown_in c.close-verdict.new.row c.mark-first.result c.self.inside.window; outcome = c.close-verdict.result }) new)
     c.self.view_is
     (subst
     (λ (first : ℕ). IsPlay c.self.inside.window (state_of (parts_of c.self.inside))
-    (record { first = first; shown = row_kept_from c.close-verdict.new.row first c.self.inside.window; outcome = c.close-verdict.result }) new)
-    (sym c.mark-first.ensures.value) (is_play d))
+    (record { first = first; shown = shown_in c.close-verdict.new.row first c.self.inside.window; outcome = c.close-verdict.result }) new)
+    (sym (c.mark-first.ensures.value ∙ ap (λ (r : RowState). r.mark) c.recover-solved.ensures.rest)) (is_play d))
+
+pub returns-clause-changes : goal.returns-clause-changes
+returns-clause-changes c =
+    subst
+    (λ (s : Contents). ChangesInPlay c.close-verdict.result s
+    (contents_of (record (played (parts_of c.self.inside) c.close-verdict.result c.close-verdict.new.row c.close-verdict.new.lines) { epoch = c.next_epoch-self-inside.result })))
+    c.self.view_is
+    (closed_changes (parts_of c.self.inside) c.self.invariant c.recover-solved.new.row c.recover-solved.result
+    c.recover-solved.ensures c.found_words_may_be_known.ensures.solutions
+    c.peelings_fill_the_closure.ensures.keeps c.confluence.ensures.kept c.mark-first.ensures.facts c.self.inside.window
+    c.close-verdict.new.row c.close-verdict.new.lines c.close-verdict.result c.next_epoch-self-inside.result
+    c.next_epoch-self-inside.ensures c.close-verdict.ensures.closes)

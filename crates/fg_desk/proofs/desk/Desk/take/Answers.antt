@@ -1,25 +1,82 @@
-use Rattle.std.proofs.Common.{◌≡◌, ◌+◌, ◌<◌, ◌≤◌, ◌^◌, Option, None, sym, subst}
+use Rattle.std.proofs.Common.{◌≡◌, ◌+◌, ◌<◌, ◌≤◌, ◌^◌, ℕ, Some, None, sym, ap, subst, ◌∙◌}
 use Rattle.std.specs.FinMap.{get}
-use Rattle.fg_desk.specs.State.{Top}
-use Rattle.fg_desk.specs.Contents.{Contents}
-use Rattle.fg_desk.specs.Inside.{AreSound}
-use Rattle.fg_desk.specs.Parts.{parts_of}
-use Rattle.fg_desk.proofs.DeskReceives.{with_word, takes_sound}
+use Rattle.fg_desk.specs.Row.{receives}
+use Rattle.fg_desk.specs.Contents.{Contents, GivesWay}
+use Rattle.fg_desk.specs.Admission.{with_media}
+use Rattle.fg_desk.specs.Inside.{Parts, AreSound, state_of, contents_of}
+use Rattle.fg_desk.specs.Parts.{parts_of, top_of}
+use Rattle.fg_desk.proofs.DeskReceives.{raised_within, taken, takes_sound, takes_state, takes_give_way}
 use Rattle.fg_desk.proofs.desk.Desk.take.Goals as goal
+use Rattle.fg_desk.proofs.desk.Desk.take.Goals.{After-raised_epoch-self-inside}
+
+module _ (c : After-raised_epoch-self-inside) where
+  ahead : c.self.inside.row.mark ≤ c.args.position
+  ahead = subst (λ (s : Contents). s.state.mark ≤ c.args.position) (sym c.self.view_is) c.requires.ahead
+
+  none : get c.self.inside.row.media c.args.position ≡ None
+  none = subst (λ (s : Contents). get s.state.media c.args.position ≡ None) (sym c.self.view_is) c.requires.none
+
+  -- The parts after the call.
+  abbrev after : Parts
+  after = taken (parts_of c.self.inside) c.args.position c.args.seq c.args.share c.receive-withdrawn.ensures.0
+      c.receive-withdrawn.new.lines c.raised_epoch-self-inside.result
+
+  after_is :
+      record (parts_of c.self.inside) {
+        top = Some (top_of c.farther.result);
+        row = c.receive-withdrawn.new.row;
+        lines = c.receive-withdrawn.new.lines;
+        calls = c.self.inside.calls + 1;
+        epoch = c.raised_epoch-self-inside.result;
+      }
+      ≡ after
+  after_is =
+      let top = c.farther.ensures in
+      let row : c.receive-withdrawn.new.row ≡ receives c.receive-withdrawn.ensures.0 c.args.position c.args.share = c.receive-withdrawn.ensures.2 in
+      λ i. record (parts_of c.self.inside) {
+        top = top i;
+        row = row i;
+        lines = c.receive-withdrawn.new.lines;
+        calls = c.self.inside.calls + 1;
+        epoch = c.raised_epoch-self-inside.result;
+      }
+
+  sound : AreSound after
+  sound =
+      let near : c.args.position < c.self.inside.row.mark + c.self.inside.depth =
+      subst (λ (s : Contents). c.args.position < s.state.mark + s.state.depth) (sym c.self.view_is) c.requires.near in
+      let calls : c.self.inside.calls < 2 ^ 62 =
+      subst (λ (s : Contents). s.state.calls < 2 ^ 62) (sym c.self.view_is) c.requires.calls in
+      takes_sound (parts_of c.self.inside) c.self.invariant c.args.position c.args.seq c.args.share ahead none near
+      c.requires.media c.requires.limit calls c.peelings_stay.ensures.words c.receive-withdrawn.result
+      c.receive-withdrawn.ensures.0 c.receive-withdrawn.new.lines c.raised_epoch-self-inside.result
+      (subst (λ (epoch : ℕ). epoch ≤ c.self.inside.calls + 1) (sym c.raised_epoch-self-inside.ensures)
+      (raised_within c.self.inside.epoch c.self.inside.calls c.receive-withdrawn.result c.self.invariant.epoch_limit))
+      c.receive-withdrawn.ensures.1
+
+  state : state_of after ≡ with_media c.args.self.now.state c.args.seq c.args.position c.args.share
+  state =
+      takes_state (parts_of c.self.inside) c.self.invariant c.args.position c.args.seq c.args.share ahead none
+      c.receive-withdrawn.result c.receive-withdrawn.ensures.0 c.receive-withdrawn.new.lines c.raised_epoch-self-inside.result
+      c.receive-withdrawn.ensures.1
+      ∙ ap (λ (s : Contents). with_media s.state c.args.seq c.args.position c.args.share) c.self.view_is
+
+  gives_way : GivesWay c.args.self.now c.args.position c.args.share (contents_of after)
+  gives_way =
+      subst (λ (s : Contents). GivesWay s c.args.position c.args.share (contents_of after)) c.self.view_is
+      (takes_give_way (parts_of c.self.inside) c.self.invariant c.args.position c.args.seq c.args.share ahead none
+      c.receive-withdrawn.result c.receive-withdrawn.ensures.0 c.receive-withdrawn.new.lines c.raised_epoch-self-inside.result
+      c.raised_epoch-self-inside.ensures c.receive-withdrawn.ensures.1)
 
 pub invariant_of-self : goal.invariant_of-self
 invariant_of-self c =
-    let parts = parts_of c.self.inside in
-    let ahead : c.self.inside.row.mark ≤ c.args.position =
-    subst (λ (s : Contents). s.state.mark ≤ c.args.position) (sym c.self.view_is) c.requires.ahead in
-    let near : c.args.position < c.self.inside.row.mark + c.self.inside.depth =
-    subst (λ (s : Contents). c.args.position < s.state.mark + s.state.depth) (sym c.self.view_is) c.requires.near in
-    let none : get c.self.inside.row.media c.args.position ≡ None =
-    subst (λ (s : Contents). get s.state.media c.args.position ≡ None) (sym c.self.view_is) c.requires.none in
-    let calls : c.self.inside.calls < 2 ^ 62 =
-    subst (λ (s : Contents). s.state.calls < 2 ^ 62) (sym c.self.view_is) c.requires.calls in
-    subst
-    (λ (top : Option Top). AreSound (record (with_word parts c.args.position c.args.seq c.receive.new.row c.receive.new.lines) { top = top }))
-    (sym c.farther.ensures)
-    (takes_sound parts c.self.invariant c.args.position c.args.seq c.args.share ahead near none c.requires.media c.requires.limit
-    calls c.peelings_stay.ensures.words c.receive.new.row c.receive.new.lines c.receive.ensures)
+    let d = (goal.at.invariant_of-self c).After-raised_epoch-self-inside in subst AreSound (sym (after_is d)) (sound d)
+
+pub returns-clause-state : goal.returns-clause-state
+returns-clause-state c =
+    let d = (goal.at.returns-clause-state c).After-raised_epoch-self-inside in ap state_of (after_is d) ∙ state d
+
+pub returns-clause-rest : goal.returns-clause-rest
+returns-clause-rest c =
+    let d = (goal.at.returns-clause-rest c).After-raised_epoch-self-inside in
+    subst (λ (p : Parts). GivesWay c.args.self.now c.args.position c.args.share (contents_of p)) (sym (after_is d)) (gives_way d)

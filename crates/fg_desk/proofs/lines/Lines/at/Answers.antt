@@ -12,7 +12,7 @@ returns-in-Some-clause-some c =
     let IsSought : Line → Type 0 = (λ (l : Line). l.place ≡ c.args.place) in
     let line = c.in-Some.line.now in
     subst (λ (s : LinesState). IsLiveLine s line × IsSought line) c.self.view_is
-    (found_first c.self.inside.open c.self.inside.settled c.self.inside.places.items c.self.invariant.sound IsSought line c.in-Some.ensures.some)
+    (found_first c.self.inside.open c.self.inside.settled c.self.inside.places c.self.invariant.sound IsSought line c.in-Some.ensures.some)
 
 told_some :
     (IsSought IsTold : Line → Type 0) (lines : Slab Line) (found : Option (Bor Line))
@@ -32,7 +32,7 @@ returns-in-None-clause-some c =
     c.find_place-in-None.result
     (λ line found.
     subst (λ (s : LinesState). IsLiveLine s line × IsSought line) c.self.view_is
-    (found_second c.self.inside.open c.self.inside.settled c.self.inside.places.items c.self.invariant.sound IsSought line found))
+    (found_second c.self.inside.open c.self.inside.settled c.self.inside.places c.self.invariant.sound IsSought line found))
     c.find_place-in-None.ensures.some
 
 pub returns-in-None-clause-none : goal.returns-in-None-clause-none
@@ -42,6 +42,6 @@ returns-in-None-clause-none c =
     (IsFree c.args.self.now.live c.args.place) c.find_place-in-None.result
     (λ none.
     subst (λ (s : LinesState). IsFree s.live c.args.place) c.self.view_is
-    (free_place_of c.self.inside.open c.self.inside.settled c.self.inside.places.items c.self.invariant.sound c.args.place
+    (free_place_of c.self.inside.open c.self.inside.settled c.self.inside.places c.self.invariant.sound c.args.place
     (λ line stands. ⊎_elim (λ a. c.in-None.ensures.none line a) (λ b. none line b) stands)))
     c.find_place-in-None.ensures.none

@@ -16,4 +16,4 @@ returns-clause-count c =
 pub returns-clause-facts : goal.returns-clause-facts
 returns-clause-facts c =
     subst (λ (s : LinesState). AreLines s) c.self.view_is
-    (are_lines c.self.inside.open c.self.inside.settled c.self.inside.places.items c.self.invariant.sound)
+    (are_lines c.self.inside.open c.self.inside.settled c.self.inside.places c.self.invariant.sound)

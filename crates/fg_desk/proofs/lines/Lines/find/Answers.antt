@@ -15,7 +15,7 @@ returns-in-Some-clause-some c =
     let IsSought : Line → Type 0 = (λ (line : Line). HasSlots c.args.base c.args.shape.offset c.args.shape.na (equation_of line)) in
     let line = c.in-Some.line.now in
     subst (λ (s : LinesState). IsLiveLine s line × IsSought line) c.self.view_is
-    (found_first c.self.inside.open c.self.inside.settled c.self.inside.places.items c.self.invariant.sound IsSought line c.in-Some.ensures.some)
+    (found_first c.self.inside.open c.self.inside.settled c.self.inside.places c.self.invariant.sound IsSought line c.in-Some.ensures.some)
 
 told_some :
     (IsSought IsTold : Line → Type 0) (lines : Slab Line) (found : Option (Bor Line))
@@ -35,7 +35,7 @@ returns-in-None-clause-some c =
     c.find_in-in-None.result
     (λ line found.
     subst (λ (s : LinesState). IsLiveLine s line × IsSought line) c.self.view_is
-    (found_second c.self.inside.open c.self.inside.settled c.self.inside.places.items c.self.invariant.sound IsSought line found))
+    (found_second c.self.inside.open c.self.inside.settled c.self.inside.places c.self.invariant.sound IsSought line found))
     c.find_in-in-None.ensures.some
 
 pub returns-in-None-clause-none : goal.returns-in-None-clause-none
@@ -45,7 +45,7 @@ returns-in-None-clause-none c =
     ((line : Line) → IsLiveLine c.args.self.now line → IsSought line → ⊥) c.find_in-in-None.result
     (λ none.
     subst (λ (s : LinesState). (line : Line) → IsLiveLine s line → IsSought line → ⊥) c.self.view_is
-    (found_none c.self.inside.open c.self.inside.settled c.self.inside.places.items c.self.invariant.sound IsSought c.in-None.ensures.none none))
+    (found_none c.self.inside.open c.self.inside.settled c.self.inside.places c.self.invariant.sound IsSought c.in-None.ensures.none none))
     c.find_in-in-None.ensures.none
 
 -- no line that ends before this one is it
@@ -55,7 +55,7 @@ returns-then-last-self-clause-none c line is same =
     let at : last_slot (equation_of line) ≡ last_slot equation = λ i. same.base_is i + (same.count_is i - 1) * same.offset_is i in
     let end : c.last.result ≡ last_slot equation = last_is equation c.last.result c.requires.shape c.last.ensures.slot c.last.ensures.greatest in
     let both : last_slot (equation_of line) ≡ c.last.result = at ∙ sym end in
-    let stands = stands_live c.self.inside.open c.self.inside.settled c.self.inside.places.items c.self.invariant.sound line
+    let stands = stands_live c.self.inside.open c.self.inside.settled c.self.inside.places c.self.invariant.sound line
     (subst (λ (s : LinesState). IsLiveLine s line) (sym c.self.view_is) is) in
     let below = (c.self.invariant.between line stands).1 in
     omega (arith, both, below, c.if-last-self.true)

@@ -11,7 +11,7 @@ pub returns : goal.returns
 returns c =
     let first = c.self.inside.open in
     let second = c.self.inside.settled in
-    let places = c.self.inside.places.items in
+    let places = c.self.inside.places in
     let sound = c.self.invariant.sound in
     let P : LinesState → Type 0 = λ s. IsTrue c.is_empty.result
     ↔ ((serial : ℕ) → IsSome (get s.live serial) → IsTrue (set.contains s.settled serial)) in

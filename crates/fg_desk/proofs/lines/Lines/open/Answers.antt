@@ -6,4 +6,4 @@ use Rattle.fg_desk.proofs.lines.Lines.open.Goals as goal
 pub returns : goal.returns
 returns c =
     subst (λ (s : LinesState). AreOpen s c.self.inside.open) c.self.view_is
-    (are_open c.self.inside.open c.self.inside.settled c.self.inside.places.items c.self.invariant.sound)
+    (are_open c.self.inside.open c.self.inside.settled c.self.inside.places c.self.invariant.sound)

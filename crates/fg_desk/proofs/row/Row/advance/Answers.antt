@@ -3,15 +3,15 @@ use Rattle.std.proofs.lemmas.List.{with_items_is}
 use Rattle.fg_peel.specs.declared.Slot.{Slot}
 use Rattle.fg_peel.specs.declared.Slot.TheVariants.{Empty}
 use Rattle.fg_desk.specs.Row.{RowState, Advances}
-use Rattle.fg_desk.specs.RowEntries.{row_of, live_entries, IsEmptyPast, AreStored}
-use Rattle.fg_desk.proofs.RowStored.{live_long, stored_moved, row_moved}
+use Rattle.fg_desk.specs.RowEntries.{row_of, live_entries, IsEmptyPast, AreStored, SolvedAreMedia}
+use Rattle.fg_desk.proofs.RowStored.{live_long, stored_moved, media_moved, row_moved}
 use Rattle.fg_desk.proofs.row.Row.advance.Goals as goal
 use Rattle.fg_desk.proofs.row.Row.advance.Goals.{After-move_on-self-inside}
 
 pub move_on-self-inside-requires-clause-within : goal.move_on-self-inside-requires-clause-within
 move_on-self-inside-requires-clause-within c =
-    let long = live_long c.self.inside.front c.self.inside.slots.items c.self.invariant.near c.self.invariant.some in
-    let some = c.self.invariant.some in
+    let long = live_long c.self.inside.front c.self.inside.slots.items c.self.invariant.0.near c.self.invariant.0.some in
+    let some = c.self.invariant.0.some in
     omega (
       arith,
       ap (λ (r : RowState). r.reach) c.self.view_is,
@@ -23,7 +23,7 @@ move_on-self-inside-requires-clause-within c =
 
 pub move_on-self-inside-requires-clause-past : goal.move_on-self-inside-requires-clause-past
 move_on-self-inside-requires-clause-past c =
-    subst (λ (s : List Slot). IsEmptyPast c.self.inside.front s) (sym c.deref_mut.ensures.value) c.self.invariant.past
+    subst (λ (s : List Slot). IsEmptyPast c.self.inside.front s) (sym c.deref_mut.ensures.value) c.self.invariant.0.past
 
 module _ (c : After-move_on-self-inside) where
   size : length c.move_on-self-inside.new.slots ≡ length c.self.inside.slots.items
@@ -34,7 +34,7 @@ module _ (c : After-move_on-self-inside) where
 
   limit : c.self.inside.mark + c.args.count + (length c.self.inside.slots.items - 100) ≤ 2 ^ 62
   limit =
-      let long = live_long c.self.inside.front c.self.inside.slots.items c.self.invariant.near c.self.invariant.some in
+      let long = live_long c.self.inside.front c.self.inside.slots.items c.self.invariant.0.near c.self.invariant.0.some in
       omega (arith, ap (λ (r : RowState). r.mark) c.self.view_is, ap (λ (r : RowState). r.reach) c.self.view_is, long, c.requires.limit)
 
   moved :
@@ -46,22 +46,28 @@ module _ (c : After-move_on-self-inside) where
 
   stored : AreStored (c.self.inside.mark + c.args.count) c.move_on-self-inside.result c.move_on-self-inside.new.slots
   stored =
-      stored_moved c.self.inside.mark c.self.inside.front c.args.count c.self.inside.slots.items c.self.invariant c.move_on-self-inside.result
+      stored_moved c.self.inside.mark c.self.inside.front c.args.count c.self.inside.slots.items c.self.invariant.0 c.move_on-self-inside.result
       c.move_on-self-inside.new.slots size c.move_on-self-inside.ensures.front moved limit
 
   row : Advances c.args.count (row_of c.self.inside.mark (live_entries c.self.inside.front c.self.inside.slots.items))
       (row_of (c.self.inside.mark + c.args.count) (live_entries c.move_on-self-inside.result c.move_on-self-inside.new.slots))
   row =
-      row_moved c.self.inside.mark c.self.inside.front c.args.count c.self.inside.slots.items c.self.invariant c.move_on-self-inside.result
+      row_moved c.self.inside.mark c.self.inside.front c.args.count c.self.inside.slots.items c.self.invariant.0 c.move_on-self-inside.result
       c.move_on-self-inside.new.slots size c.move_on-self-inside.ensures.front moved limit
 
 pub invariant_of-self : goal.invariant_of-self
 invariant_of-self c =
     let d = (goal.at.invariant_of-self c).After-move_on-self-inside in
     let at : c.self.inside.mark + c.args.count ≡ c.self.inside.mark + c.from.result = omega (arith, c.from.ensures) in
-    subst (λ (s : List Slot). AreStored (c.self.inside.mark + c.from.result) c.move_on-self-inside.result s)
-    (sym (with_items_is c.self.inside.slots c.move_on-self-inside.new.slots (full d)))
-    (subst (λ (m : ℕ). AreStored m c.move_on-self-inside.result c.move_on-self-inside.new.slots) at (stored d))
+    let same = sym (with_items_is c.self.inside.slots c.move_on-self-inside.new.slots (full d)) in (
+      subst (λ (s : List Slot). AreStored (c.self.inside.mark + c.from.result) c.move_on-self-inside.result s) same
+          (subst (λ (m : ℕ). AreStored m c.move_on-self-inside.result c.move_on-self-inside.new.slots) at (stored d)),
+      λ known.
+          subst (λ (s : List Slot). SolvedAreMedia (live_entries c.move_on-self-inside.result s)) same
+          (media_moved c.self.inside.mark c.self.inside.front c.args.count c.self.inside.slots.items c.self.invariant.0
+          c.move_on-self-inside.result c.move_on-self-inside.new.slots (size d) c.move_on-self-inside.ensures.front (moved d) (limit d)
+          (c.self.invariant.1 known)),
+    )
 
 pub returns : goal.returns
 returns c =

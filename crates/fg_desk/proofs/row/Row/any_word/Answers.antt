@@ -10,5 +10,5 @@ pub returns : goal.returns
 returns c =
     let mark = c.self.inside.mark in
     c.word_at.ensures ∙ ap (λ (s : List Slot). word_in (entry_at mark s c.args.position)) (c.live.ensures ∙ ap (λ (s : List Slot). live_entries c.self.inside.front s) c.deref.ensures.value)
-    ∙ sym (row_words-entry mark (live_entries c.self.inside.front c.self.inside.slots.items) c.self.invariant.entries c.args.position)
+    ∙ sym (row_words-entry mark (live_entries c.self.inside.front c.self.inside.slots.items) c.args.position)
     ∙ ap (λ (r : RowState). row_words r c.args.position) c.self.view_is

@@ -10,7 +10,7 @@ returns-in-Some-clause-some c =
     let last = c.in-Some.last in
     let mark = c.self.inside.mark in
     subst (λ (r : RowState). IsHighestWord r (mark + (last - 100))) c.self.view_is
-    (highest_row mark (live_entries c.self.inside.front c.self.inside.slots.items) last c.self.invariant.entries
+    (highest_row mark (live_entries c.self.inside.front c.self.inside.slots.items) last
     (subst (λ (s : List Slot). IsLastWord s last) (c.live.ensures ∙ ap (λ (s : List Slot). live_entries c.self.inside.front s) c.deref.ensures.value) c.in-Some.ensures.some))
 
 pub returns-in-None-clause-none : goal.returns-in-None-clause-none
@@ -19,5 +19,5 @@ returns-in-None-clause-none c =
     let mark = c.self.inside.mark in
     let ahead : mark ≤ p = omega (arith, from, ap (λ (r : RowState). r.mark) c.self.view_is) in
     ap (λ (r : RowState). row_words r p) (sym c.self.view_is)
-    ∙ no_highest_row mark (live_entries c.self.inside.front c.self.inside.slots.items) c.self.invariant.entries
+    ∙ no_highest_row mark (live_entries c.self.inside.front c.self.inside.slots.items)
     (subst (λ (s : List Slot). HasNoWordFrom s 100) (c.live.ensures ∙ ap (λ (s : List Slot). live_entries c.self.inside.front s) c.deref.ensures.value) c.in-None.ensures.none) p ahead

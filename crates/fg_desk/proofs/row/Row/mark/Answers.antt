@@ -5,4 +5,4 @@ use Rattle.fg_desk.proofs.RowViews.{is_row}
 use Rattle.fg_desk.proofs.row.Row.mark.Goals as goal
 
 pub returns-clause-facts : goal.returns-clause-facts
-returns-clause-facts c = subst (λ (r : RowState). IsRow r) c.self.view_is (is_row c.self.inside.mark (live_entries c.self.inside.front c.self.inside.slots.items) c.self.invariant.entries)
+returns-clause-facts c = subst (λ (r : RowState). IsRow r) c.self.view_is (is_row c.self.inside.mark (live_entries c.self.inside.front c.self.inside.slots.items) c.self.invariant.0.entries)

@@ -1,7 +1,7 @@
 use Rattle.std.proofs.Common.{◌≡◌, ◌+◌, ◌≤◌, ℕ, length, get_or, ◌∙◌, arith}
 use Rattle.fg_peel.specs.declared.Slot.TheVariants.{Empty}
 use Rattle.fg_desk.specs.RowEntries.{live_entries}
-use Rattle.fg_desk.proofs.RowChanges.{opened_are, opened_row_is}
+use Rattle.fg_desk.proofs.RowChanges.{opened_are, opened_media, opened_row_is}
 use Rattle.fg_desk.proofs.RowStored.{live_long, live_at}
 use Rattle.fg_desk.proofs.row.Row.new.Goals as goal
 use Rattle.fg_desk.proofs.row.Row.new.Goals.{After-loop}
@@ -18,13 +18,15 @@ module _ (c : After-loop) where
 
 pub invariant_of-result : goal.invariant_of-result
 invariant_of-result c =
-    let d = (goal.at.invariant_of-result c).After-loop in
-    record {
-      near = omega arith;
-      some = some d;
-      entries = opened_are (live_entries 0 c.loop.slots.items) c.args.depth (long d) (omega arith) (empty d);
-      past = λ k from. c.loop.invariant.1 k;
-    }
+    let d = (goal.at.invariant_of-result c).After-loop in (
+      record {
+        near = omega arith;
+        some = some d;
+        entries = opened_are (live_entries 0 c.loop.slots.items) c.args.depth (long d) (omega arith) (empty d);
+        past = λ k from. c.loop.invariant.1 k;
+      },
+      λ _. opened_media (live_entries 0 c.loop.slots.items) (empty d),
+    )
 
 pub returns : goal.returns
 returns c =

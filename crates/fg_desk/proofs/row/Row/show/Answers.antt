@@ -12,7 +12,7 @@ overflow_add-position c = omega (arith, c.from.ensures, c.loop-i-test.true, c.re
 pub show-requires : goal.show-requires
 show-requires c =
     let row = c.args.self.now in
-    let size = length-map-range_with_len (kept_shown (row_known row) row.bare) c.args.first c.loop-i.i in
+    let size = length-map-range_with_len (kept_shown (row_known row) row.repaired) c.args.first c.loop-i.i in
     omega (
       arith,
       ap (λ (h : Holding). length h.shown) c.loop-i.invariant,
@@ -26,5 +26,5 @@ pub loop-i-preserved : goal.loop-i-preserved
 loop-i-preserved c =
     c.show.ensures
     ∙ one_more_shown c.args.self.now c.args.first c.loop-i.i c.args.tray.now.window (c.args.first + c.from.result) c.loop-i.tray
-    (option_copied c.word.result) c.is_bare.result c.loop-i.invariant (ap (λ (k : ℕ). c.args.first + k) c.from.ensures)
-    c.word.ensures c.is_bare.ensures
+    (option_copied c.word.result) c.is_repaired.result c.loop-i.invariant (ap (λ (k : ℕ). c.args.first + k) c.from.ensures)
+    c.word.ensures c.is_repaired.ensures

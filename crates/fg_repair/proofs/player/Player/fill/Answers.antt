@@ -16,10 +16,10 @@ loop-i-preserved c =
     ap (λ (n : ℕ). c.args.played.first + n) c.from.ensures in
     record {
       counts = counts_one_more c.args.desk.now c.args.sum.now c.loop-i.sum c.show.new.sum c.args.played.first c.loop-i.i _
-          (option_copied c.word-word.result) c.repaired.result place c.word-word.ensures c.repaired.ensures
+          (option_copied c.own_word-word.result) c.repaired.result place c.own_word-word.ensures c.repaired.ensures
           c.loop-i.invariant.counts c.in_ok-show.ensures.counts;
       lane = lane_one_more c.args.desk.now c.loop-i.self.lane.items c.show.new.lane.items c.args.played.first c.loop-i.i _
-          (option_copied c.word-word.result) c.repaired.result place c.word-word.ensures c.repaired.ensures
+          (option_copied c.own_word-word.result) c.repaired.result place c.own_word-word.ensures c.repaired.ensures
           c.loop-i.invariant.lane c.in_ok-show.ensures.lane;
     }
 

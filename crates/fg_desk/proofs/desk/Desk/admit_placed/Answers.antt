@@ -5,8 +5,8 @@ use Rattle.fg_desk.specs.Admission.{Parity, IsEquationReply, IsAfterParity}
 use Rattle.fg_desk.specs.Contents.{Contents}
 use Rattle.fg_desk.specs.Inside.{state_of, contents_of}
 use Rattle.fg_desk.specs.Parts.{parts_of, top_of}
-use Rattle.fg_desk.proofs.DeskCounts.{counted_parts, counted_sound, counted_after_parity, parity_reply_at}
-use Rattle.fg_desk.proofs.desk.Desk.admit_parity.Goals as goal
+use Rattle.fg_desk.proofs.DeskCounts.{counted_parts, counted_sound, counted_after_parity, placed_after, parity_reply_at}
+use Rattle.fg_desk.proofs.desk.Desk.admit_placed.Goals as goal
 
 pub invariant_of-self : goal.invariant_of-self
 invariant_of-self c =
@@ -42,4 +42,11 @@ returns-in_default-equation_reply c =
       };
       rest = subst (λ (s : Contents). contents_of (counted_parts parts) ≡ record s { state = state_of (counted_parts parts) })
           c.self.view_is refl;
+      place = c.in_default-equation_reply.not-Admitted;
     }
+
+pub returns-in-Admitted-clause-place : goal.returns-in-Admitted-clause-place
+returns-in-Admitted-clause-place c =
+    placed_after c.args.self.now.state c.add-place.new.self.state c.add-place.result
+    (record { base = c.in-Some-position.base; offset = c.args.shape.offset; count = c.args.shape.na; parity = c.args.share })
+    (ap (λ (s : Contents). s.state) c.add-place.ensures.1)

@@ -2,26 +2,26 @@ use Rattle.std.proofs.Common.{false, List, ap, sym, ◌∙◌, le-ltb}
 use Rattle.std.specs.FinSet.{contains}
 use Rattle.fg_peel.specs.declared.Slot.{Slot}
 use Rattle.fg_desk.specs.Row.{RowState}
-use Rattle.fg_desk.specs.RowEntries.{entry_at, is_alone, live_entries}
+use Rattle.fg_desk.specs.RowEntries.{entry_at, is_found, live_entries}
 use Rattle.fg_desk.proofs.RowMaps.{if-less, if-not_less}
-use Rattle.fg_desk.proofs.RowViews.{contains-bare}
-use Rattle.fg_desk.proofs.row.Row.is_bare.Goals as goal
+use Rattle.fg_desk.proofs.RowViews.{contains-repaired}
+use Rattle.fg_desk.proofs.row.Row.is_repaired.Goals as goal
 
 pub returns-then-position-self : goal.returns-then-position-self
 returns-then-position-self c =
     let mark = c.self.inside.mark in
     let q = c.args.position in
-    c.is_alone_at.ensures
-    ∙ ap (λ (s : List Slot). is_alone (entry_at mark s q)) (c.live.ensures ∙ ap (λ (s : List Slot). live_entries c.self.inside.front s) c.deref.ensures.value)
-    ∙ sym (contains-bare mark (live_entries c.self.inside.front c.self.inside.slots.items) q
+    c.is_found_at.ensures
+    ∙ ap (λ (s : List Slot). is_found (entry_at mark s q)) (c.live.ensures ∙ ap (λ (s : List Slot). live_entries c.self.inside.front s) c.deref.ensures.value)
+    ∙ sym (contains-repaired mark (live_entries c.self.inside.front c.self.inside.slots.items) q
     ∙ if-less q mark _ false c.if-position-self.true)
-    ∙ ap (λ (r : RowState). contains r.bare q) c.self.view_is
+    ∙ ap (λ (r : RowState). contains r.repaired q) c.self.view_is
 
 pub returns-else-position-self : goal.returns-else-position-self
 returns-else-position-self c =
     let mark = c.self.inside.mark in
     let q = c.args.position in
     le-ltb q mark c.if-position-self.false
-    ∙ sym (contains-bare mark (live_entries c.self.inside.front c.self.inside.slots.items) q
+    ∙ sym (contains-repaired mark (live_entries c.self.inside.front c.self.inside.slots.items) q
     ∙ if-not_less q mark _ false c.if-position-self.false)
-    ∙ ap (λ (r : RowState). contains r.bare q) c.self.view_is
+    ∙ ap (λ (r : RowState). contains r.repaired q) c.self.view_is

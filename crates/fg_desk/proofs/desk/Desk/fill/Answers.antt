@@ -1,0 +1,76 @@
+use Rattle.std.proofs.Common.{◌≡◌, ℕ, sym, ap, subst, ◌∙◌}
+use Rattle.fg_desk.specs.Contents.{Contents, CanFill, IsLiveAt, filled}
+use Rattle.fg_desk.specs.Inside.{AreSound, state_of, contents_of}
+use Rattle.fg_desk.specs.Lines.{SettlesAt}
+use Rattle.fg_desk.specs.Parts.{parts_of}
+use Rattle.fg_desk.specs.Row.{RowState, publishes}
+use Rattle.fg_desk.proofs.DeskFills.{fills_here, slot_ahead, slot_near, slot_no_media, slot_unsolved, filled_sound, filled_contents}
+use Rattle.fg_desk.proofs.DeskWays.{with_row}
+use Rattle.fg_desk.proofs.desk.Desk.fill.Goals as goal
+use Rattle.fg_desk.proofs.desk.Desk.fill.Goals.{After-settle_at}
+
+pub publish-requires-clause-ahead : goal.publish-requires-clause-ahead
+publish-requires-clause-ahead c =
+    let parts = parts_of c.self.inside in
+    let a = fills_here (contents_of parts) c.args.self.now c.args.place c.args.slot c.args.share c.self.view_is c.requires in
+    slot_ahead parts c.self.invariant a.0 a.1 a.2 c.args.slot a.4.missing
+
+pub publish-requires-clause-near : goal.publish-requires-clause-near
+publish-requires-clause-near c =
+    let parts = parts_of c.self.inside in
+    let a = fills_here (contents_of parts) c.args.self.now c.args.place c.args.slot c.args.share c.self.view_is c.requires in
+    slot_near parts c.self.invariant a.0 a.1 a.2 c.args.slot a.4.missing
+
+pub publish-requires-clause-none : goal.publish-requires-clause-none
+publish-requires-clause-none c =
+    let parts = parts_of c.self.inside in
+    let a = fills_here (contents_of parts) c.args.self.now c.args.place c.args.slot c.args.share c.self.view_is c.requires in
+    slot_no_media parts c.self.invariant a.0 a.1 a.2 c.args.slot a.4.missing
+
+pub publish-requires-clause-unsolved : goal.publish-requires-clause-unsolved
+publish-requires-clause-unsolved c =
+    let parts = parts_of c.self.inside in
+    let a = fills_here (contents_of parts) c.args.self.now c.args.place c.args.slot c.args.share c.self.view_is c.requires in
+    slot_unsolved parts c.self.invariant a.0 a.1 a.2 c.args.slot a.4.missing
+
+module _ (c : After-settle_at) where
+  -- The live equation that gives the word.
+  at : IsLiveAt (state_of (parts_of c.self.inside)) c.args.place
+      (λ equation. CanFill (contents_of (parts_of c.self.inside)) equation c.args.slot c.args.share)
+  at =
+      fills_here (contents_of (parts_of c.self.inside)) c.args.self.now c.args.place c.args.slot c.args.share c.self.view_is
+      c.requires
+
+  settles : SettlesAt at.1.place c.publish.new.lines c.settle_at.new.self
+  settles = subst (λ (place : ℕ). SettlesAt place c.publish.new.lines c.settle_at.new.self) (sym at.3) c.settle_at.ensures
+
+  row_is : c.publish.new.row ≡ publishes c.publish.ensures.publishes.0 c.args.slot c.args.share
+  row_is = c.publish.ensures.publishes.2
+
+  sound : AreSound (with_row (parts_of c.self.inside) c.publish.new.row c.settle_at.new.self)
+  sound =
+      subst (λ (r : RowState). AreSound (with_row (parts_of c.self.inside) r c.settle_at.new.self)) (sym row_is)
+      (filled_sound (parts_of c.self.inside) c.self.invariant at.0 at.1 at.2 c.args.slot at.4.missing c.args.share
+      c.publish.ensures.publishes.0 c.publish.new.lines c.settle_at.new.self c.publish.ensures.publishes.1 settles
+      at.4.word_is c.publish.ensures.room c.peelings_fill_the_closure.ensures.appended
+      (record {
+        commutes = c.xor_is_a_group.ensures.commutes;
+        associates = c.xor_is_a_group.ensures.associates;
+        has_zero = c.xor_is_a_group.ensures.has_zero;
+        undoes = c.xor_is_a_group.ensures.undoes_itself;
+      }))
+
+  contents :
+      contents_of (with_row (parts_of c.self.inside) c.publish.new.row c.settle_at.new.self)
+      ≡ filled c.args.self.now c.args.slot c.args.share
+  contents =
+      ap (λ (r : RowState). contents_of (with_row (parts_of c.self.inside) r c.settle_at.new.self)) row_is
+      ∙ filled_contents (parts_of c.self.inside) c.self.invariant at.0 at.1 at.2 c.args.slot at.4.missing c.args.share
+      c.publish.ensures.publishes.0 c.publish.new.lines c.settle_at.new.self c.publish.ensures.publishes.1 settles
+      ∙ ap (λ (s : Contents). filled s c.args.slot c.args.share) c.self.view_is
+
+pub invariant_of-self : goal.invariant_of-self
+invariant_of-self c = sound c
+
+pub returns : goal.returns
+returns c = contents c

@@ -1,0 +1,25 @@
+use Rattle.std.proofs.Common.{ℕ, sym, ap, subst, ◌∙◌}
+use Rattle.std.specs.FinMap.{FinMap}
+use Rattle.std.specs.Ordering.{nat_cmp}
+use Rattle.fg_peel.specs.Equation.{IsSettled}
+use Rattle.fg_desk.specs.State.{Live}
+use Rattle.fg_desk.specs.Contents.{Contents, IsLiveAt, known_in}
+use Rattle.fg_desk.specs.Inside.{state_of, contents_of}
+use Rattle.fg_desk.specs.Lines.{SettlesAt}
+use Rattle.fg_desk.specs.Parts.{parts_of}
+use Rattle.fg_desk.proofs.DeskFills.{vouched_sound}
+use Rattle.fg_desk.proofs.desk.Desk.vouch.Goals as goal
+
+pub invariant_of-self : goal.invariant_of-self
+invariant_of-self c =
+    let parts = parts_of c.self.inside in
+    let at : IsLiveAt (state_of parts) c.args.place (IsSettled (known_in (contents_of parts))) =
+    subst (λ (s : Contents). IsLiveAt s.state c.args.place (IsSettled (known_in s))) (sym c.self.view_is) c.requires in
+    vouched_sound parts c.self.invariant at.0 at.1 at.2 at.4 c.settle_at.new.self
+    (subst (λ (place : ℕ). SettlesAt place c.self.inside.lines c.settle_at.new.self) (sym at.3) c.settle_at.ensures)
+
+pub returns : goal.returns
+returns c =
+    ap (λ (m : FinMap nat_cmp Live). contents_of (record (parts_of c.self.inside) { lines = record c.settle_at.new.self { live = m } }))
+    c.settle_at.ensures.live
+    ∙ c.self.view_is
