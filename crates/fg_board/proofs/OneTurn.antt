@@ -1,0 +1,142 @@
+-- What a turn of a pass carries on, and what it tells.
+use Rattle.std.proofs.Common.{◌≡◌, ◌+◌, ◌++◌, ℕ, inl, true, false, List, [], ◌∷◌, map, Option, Some, None, refl, sym, ap, subst, ◌∙◌}
+use Rattle.std.specs.Prelude.{IsSomeAnd}
+use Rattle.std.specs.List.{All}
+use Rattle.std.specs.FinMap.{get}
+use Rattle.fg_words.specs.declared.Word.{Word}
+use Rattle.fg_desk.specs.State.{Live}
+use Rattle.fg_turn.specs.Standing.{Standing}
+use Rattle.fg_board.specs.Board.{BoardState, IsHeld, Looks, JobState, opened_board}
+use Rattle.fg_board.specs.Views.{Told, IsBorneOut, word_at, equation_is, seen_of}
+use Rattle.fg_board.specs.Core.{Call, Event, take, publish, vouch, give_back, look, offer, attest, IsOwned, IsEvent, Tells, TellsOfLook}
+use Rattle.fg_board.specs.Codes.{Entry, told_code, told_from, call_from, IsOwnedBy, GrowsFrom, ToldIsReadBack}
+use Rattle.fg_board.specs.Laws.{EventsKeepOwned, EventsKeepTold, AnswersHold}
+use Rattle.fg_board.specs.Actors.{CarriesOn, IsStep, TakesTurn}
+use Rattle.fg_board.specs.Deeds.{told_of, told_of_live, told_of_look, told_by, Follows}
+use Rattle.fg_board.specs.declared.key.Key.{Key}
+use Rattle.fg_board.specs.declared.fate.Look.{Look}
+use Rattle.fg_board.specs.declared.fate.Look.TheVariants as looked
+
+-- What holds of an option's value.
+pub some_and_weaker : {X : Type 0} (o : Option X) (P Q : X → Type 0) → ((x : X) → P x → Q x) → IsSomeAnd o P → IsSomeAnd o Q
+some_and_weaker None P Q weaker is = absurd is
+some_and_weaker (Some x) P Q weaker is = weaker x is
+
+pub some_and_of : {X : Type 0} (o : Option X) (P : X → Type 0) (Q : Type 0) → ((x : X) → o ≡ Some x → P x → Q) → IsSomeAnd o P → Q
+some_and_of None P Q from is = absurd is
+some_and_of (Some x) P Q from is = from x refl is
+
+-- What owned a board
+
+-- Entries make of a board what their calls make of it.
+pub record Owning (entries : List Entry) (board : BoardState) : Type 0 where
+  pub window : ℕ
+  pub depth : ℕ
+  pub calls : List Call
+  pub owned : IsOwned window depth calls board
+
+pub owning : (entries : List Entry) (board : BoardState) → IsOwnedBy entries board → Owning entries board
+owning [] board is = absurd is
+owning ([] ∷ entries) board is = absurd is
+owning ((window ∷ []) ∷ entries) board is = absurd is
+owning ((window ∷ depth ∷ rest) ∷ entries) board is =
+    record { window = window; depth = depth; calls = map call_from entries; owned = is }
+
+-- The same entries make another board what they make of this one, if each list of calls does.
+owned_stays :
+    (old new : BoardState) → ((window depth : ℕ) (calls : List Call) → IsOwned window depth calls old → IsOwned window depth calls new)
+    → (entries : List Entry) → IsOwnedBy entries old → IsOwnedBy entries new
+owned_stays old new keeps [] is = absurd is
+owned_stays old new keeps ([] ∷ entries) is = absurd is
+owned_stays old new keeps ((window ∷ []) ∷ entries) is = absurd is
+owned_stays old new keeps ((window ∷ depth ∷ rest) ∷ entries) is = keeps window depth (map call_from entries) is
+
+-- Each event carries on both.
+pub event_carries_on :
+    EventsKeepOwned → EventsKeepTold → (seat : Standing BoardState) (event : Event) (entered left : BoardState)
+    → Follows seat event entered left → CarriesOn None entered left
+event_carries_on keep_owned keep_told seat event entered left follows = record {
+  owned = owned_stays entered left (λ window depth calls is.
+      keep_owned window depth calls event entered left (map told_from seat.told) is follows.grows follows.can follows.does);
+  grows = λ entries told is grows.
+      (let o = owning entries entered is in
+      keep_told o.window o.depth o.calls event entered left (map told_from seat.told) (map told_from told) o.owned
+      follows.grows follows.can follows.does grows);
+}
+
+pub event_steps :
+    EventsKeepOwned → EventsKeepTold → (seat : Standing BoardState) (event : Event) (left entered : BoardState)
+    → Follows seat event entered left → IsStep None entered left
+event_steps keep_owned keep_told seat event left entered follows =
+    (inl (event, follows.does), event_carries_on keep_owned keep_told seat event entered left follows)
+
+-- What is told
+
+told_of_one : (serial : ℕ) (live : Live) (found : Option Live) → found ≡ Some live
+    → told_of_live serial found ≡ equation_is serial live.equation ∷ []
+told_of_one serial live found is = ap (told_of_live serial) is
+
+look_tells : (key : Key) (slot : ℕ) (answer : Look) (old new : BoardState) → Looks old key slot answer new
+    → TellsOfLook new key slot answer (told_of_look new key slot answer)
+look_tells key slot (looked.Gone mark epoch) old new is = refl
+look_tells key slot looked.Unknown old new is =
+    let live = ap (λ (b : BoardState). get b.desk.state.equations key.serial) is.2 ∙ is.0.1.live_is in
+    (is.0.0, live, told_of_one key.serial is.0.0 (get new.desk.state.equations key.serial) live)
+look_tells key slot (looked.Known word) old new is =
+    let live = ap (λ (b : BoardState). get b.desk.state.equations key.serial) is.2 ∙ is.0.1.live_is in (
+      is.0.0,
+      live,
+      ap (λ (told : List Told). told ++ word_at key.epoch slot word ∷ [])
+          (told_of_one key.serial is.0.0 (get new.desk.state.equations key.serial) live),
+    )
+
+pub event_tells : (event : Event) (old new : BoardState) → IsEvent old event new → Tells new event (told_of new event)
+event_tells (take None) old new is = refl
+event_tells (take (Some job)) old new is = refl
+event_tells (publish key slot word fate) old new is = refl
+event_tells (vouch key zero fate) old new is = refl
+event_tells (give_back key fate) old new is = refl
+event_tells (look key slot answer) old new is = look_tells key slot answer old new is
+event_tells (offer key slot word fate) old new is = refl
+event_tells (attest key zero fate) old new is = refl
+
+-- What was written is read back.
+pub told_back : ToldIsReadBack → (told : List Told) → map told_from (map told_code told) ≡ told
+told_back back [] = refl
+told_back back (one ∷ told) =
+    ap (λ (t : Told). t ∷ map told_from (map told_code told)) (back one) ∙ ap (λ (ts : List Told). one ∷ ts) (told_back back told)
+
+-- It holds of the board that is left.
+pub told_grows :
+    AnswersHold → ToldIsReadBack → (seat : Standing BoardState) (event : Event) (left entered : BoardState)
+    → Follows seat event entered left → GrowsFrom (told_by left event) left
+told_grows holds back seat event left entered follows =
+    let o = owning seat.calls entered follows.owned in
+    subst (λ (told : List Told). All (IsBorneOut left) told) (sym (told_back back (seen_of left ∷ told_of left event)))
+    (holds o.window o.depth o.calls event entered left (told_of left event) o.owned follows.does
+    (event_tells event entered left follows.does))
+
+-- A whole turn
+
+-- From the seat as it was, as it stood inside, and as it is, where the deed said this event.
+pub turn_taken :
+    (event said : Event) (old inner new : Standing BoardState) (entered left : BoardState) → said ≡ event
+    → inner ≡ record old { calls = inner.calls; turns = old.turns + 1; inside = true; entered = Some entered }
+    → new ≡ record inner { told = inner.told ++ told_by left said; inside = false; left = Some left }
+    → IsEvent entered event left → TakesTurn event old new
+turn_taken event said old inner new entered left same goes_in goes_out is = record {
+  turn = ap (λ (s : Standing BoardState). s.turn) goes_out ∙ ap (λ (s : Standing BoardState). s.turn) goes_in;
+  number = ap (λ (s : Standing BoardState). s.number) goes_out ∙ ap (λ (s : Standing BoardState). s.number) goes_in;
+  turns = ap (λ (s : Standing BoardState). s.turns) goes_out ∙ ap (λ (s : Standing BoardState). s.turns) goes_in;
+  entered = entered;
+  entered_is = ap (λ (s : Standing BoardState). s.entered) goes_out ∙ ap (λ (s : Standing BoardState). s.entered) goes_in;
+  left = left;
+  left_is = ap (λ (s : Standing BoardState). s.left) goes_out;
+  event_is = is;
+  told = told_of left event;
+  tells = event_tells event entered left is;
+  told_is =
+      ap (λ (s : Standing BoardState). s.told) goes_out
+      ∙ ap (λ (s : Standing BoardState). s.told ++ told_by left said) goes_in
+      ∙ ap (λ (e : Event). old.told ++ told_by left e) same;
+}

@@ -1,0 +1,20 @@
+use Rattle.std.proofs.Common.{ap, subst}
+use Rattle.fg_words.specs.declared.Word.{Word}
+use Rattle.fg_board.specs.Actors.{AdmitterState, MakesCall}
+use Rattle.fg_board.specs.Core.{Call, parity}
+use Rattle.fg_board.proofs.OneCall.{call_made}
+use Rattle.fg_board.proofs.admitter.Admitter.admit_parity.Goals as goal
+
+pub returns : goal.returns
+returns g c =
+    let call : Call = parity (record { base = c.args.base; offset = c.args.shape.offset; count = c.args.shape.na; word = c.args.share })
+    c.admit_parity-reply.result.0 c.admit_parity-reply.result.1 in
+    let window = c.self.inside.window in
+    let depth = c.self.inside.depth in
+    let owner = c.settle_owner.new.owner in
+    subst (λ (a : AdmitterState). MakesCall call a (record { seat = owner; window = window; depth = depth })) c.self.view_is
+    (call_made call (parity (record { base = c.args.base; offset = c.args.shape.offset; count = c.args.shape.na; word = c.of-word.result.value })
+    c.admit_parity-reply.result.0 c.admit_parity-reply.result.1) window depth c.self.inside.owner c.enter_own-flow.new.owner owner c.enter_own-flow.result
+    c.admit_parity-reply.new.self (ap (λ (w : Word). parity (record { base = c.args.base; offset = c.args.shape.offset; count = c.args.shape.na; word = w })
+    c.admit_parity-reply.result.0 c.admit_parity-reply.result.1) c.of-word.ensures) c.enter_own-flow.ensures.own c.enter_own-flow.ensures.seat c.settle_owner.ensures.owner
+    c.admit_parity-reply.ensures)

@@ -1,0 +1,17 @@
+use Rattle.std.proofs.Common.{refl, subst}
+use Rattle.fg_board.specs.Actors.{AdmitterState, MakesCall}
+use Rattle.fg_board.specs.Core.{Call, flush}
+use Rattle.fg_board.proofs.OneCall.{call_made, flush_is}
+use Rattle.fg_board.proofs.admitter.Admitter.flush_step.Goals as goal
+
+pub returns-clause-call : goal.returns-clause-call
+returns-clause-call g c =
+    let call : Call = flush c.flush_step-played.result in
+    let window = c.self.inside.window in
+    let depth = c.self.inside.depth in
+    let owner = c.settle_owner.new.owner in
+    subst (λ (a : AdmitterState). MakesCall call a (record { seat = owner; window = window; depth = depth })) c.self.view_is
+    (call_made call (flush c.flush_step-played.result) window depth c.self.inside.owner c.enter_own-flow.new.owner owner c.enter_own-flow.result
+    c.flush_step-played.new.self refl c.enter_own-flow.ensures.own c.enter_own-flow.ensures.seat c.settle_owner.ensures.owner
+    (flush_is c.enter_own-flow.result c.flush_step-played.new.self c.flush_step-played.new.tray.shown c.flush_step-played.result
+    c.flush_step-played.ensures.flushes c.flush_step-played.ensures.count))

@@ -1,0 +1,7 @@
+use Rattle.std.proofs.Common.{[], ◌∷◌}
+use Rattle.fg_board.specs.Codes.{opening_code}
+use Rattle.fg_board.proofs.board.Board.new.Given as goal
+
+-- the calls begin with the window and the depth
+abbrev pub ghosts-new : goal.ghosts-new
+ghosts-new a = record { entries = opening_code a.state.desk.state.window a.state.desk.state.depth ∷ [] }

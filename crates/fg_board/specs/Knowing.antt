@@ -1,0 +1,25 @@
+-- What an admitter knows of its own desk. No public contract cites it.
+use Rattle.std.specs.Prelude.{◌≡◌, ◌≤◌, ◌<◌, ◌^◌, false, ℕ, Option, IfSome, option_map}
+use Rattle.fg_desk.specs.State.{State, Top}
+use Rattle.fg_board.specs.Actors.{AdmitterState, desk_of, IsOwnDesk}
+
+-- The farthest position and its sequence number, as the desk has them.
+abbrev pub top_of : Option (ℕ × ℕ) → Option Top
+top_of = option_map (λ t. record { position = t.0; seq = t.1 })
+
+-- It is told of a desk: its window, its depth, its top, its mark and its calls.
+pub record Knows (window depth : ℕ) (top : Option (ℕ × ℕ)) (mark calls : ℕ) (desk : State) : Type 0 where
+  pub window_is : desk.window ≡ window
+  pub depth_is : desk.depth ≡ depth
+  pub top_is : top_of top ≡ desk.top
+  pub mark_is : mark ≡ desk.mark
+  pub calls_is : calls ≡ desk.calls
+  pub top_limit : IfSome desk.top (λ t. t.position ≤ 2 ^ 62)
+
+-- What an admitter has between its calls.
+pub record KnowsItsDesk (admitter : AdmitterState) (top : Option (ℕ × ℕ)) (mark calls : ℕ) : Type 0 where
+  pub outside : admitter.seat.inside ≡ false
+  pub window : (1 ≤ admitter.window) × (admitter.window ≤ 100) × (admitter.window ≤ admitter.depth)
+  pub depth : admitter.depth < 2 ^ 32
+  pub own : IsOwnDesk admitter
+  pub knows : Knows admitter.window admitter.depth top mark calls (desk_of admitter)

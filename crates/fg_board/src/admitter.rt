@@ -1,0 +1,266 @@
+//! The admitter: the one seat that takes datagrams in and plays windows.
+
+ghost use Rattle.std.specs.Prelude.{◌≡◌, ◌↔◌, ◌+◌, ◌<◌, ◌≤◌, ◌^◌, length, false, true, Some, None, IsTrue, IsSome, IfSome, IfNone, option_map};
+ghost use Rattle.fg_words.specs.Word.{IsMedia};
+ghost use Rattle.fg_shape.specs.Shape.{IsShape};
+ghost use Rattle.fg_desk.specs.Admission.{IsDue};
+ghost use Rattle.fg_desk.specs.Contents.{HasRoom};
+ghost use Rattle.fg_desk.specs.Play.{IsPlay, Flushes};
+ghost use Rattle.fg_board.specs.Actors.{MakesCall, desk_of, IsOwnDesk};
+ghost use Rattle.fg_board.specs.Codes.{IsOwnedBy, GrowsFrom};
+ghost use Rattle.fg_board.specs.Core.{media, parity, play, flush, play_of};
+ghost use Rattle.fg_board.specs.Knowing.{top_of};
+
+use crate::board::Board;
+use crate::flow::Flow;
+use crate::key::Key;
+use crate::laws::calls_make_one_desk;
+use crate::turns::{Made, settle_owner};
+use fg_desk::{Played, Reply, Tray};
+use fg_shape::Shape;
+use fg_turn::{Owner, Turn};
+use fg_unwrap::position;
+use fg_words::Shared;
+use std::marker::Model;
+use std::snapshot::Snapshot;
+use std::sync::Wait;
+
+/// The mark and the farthest position are below this where a desk may change.
+const POSITIONS: u64 = 1 << 61;
+
+/// Fewer calls than this were made where a desk may change.
+const CALLS: u64 = 1 << 62;
+
+/// What an admitter knows of its desk without a turn.
+#[derive(Clone, Copy)]
+struct Near {
+    top: Option<(u64, u16)>,
+    mark: u64,
+    calls: u64,
+}
+
+impl Near {
+    // After one call more.
+    fn after(self, flow: &Flow) -> Near
+        requires { self.calls < 2 ^ 62 }
+        ensures top { top_of result.top ≡ flow.now.desk.state.top }
+        ensures mark { result.mark ≡ flow.now.desk.state.mark }
+        ensures calls { result.calls ≡ self.calls + 1 }
+    {
+        Near {
+            top: flow.top(),
+            mark: flow.mark(),
+            calls: self.calls + 1,
+        }
+    }
+}
+
+/// The owner of a board: it admits the flow's datagrams and plays its windows. It knows the desk that its calls have
+/// made, so it needs no turn to see whether a play is due.
+///
+/// Contracts see its standing, and the window and the depth of its board.
+#[derive(Drop)]
+pub struct Admitter {
+    pub(crate) owner: Owner<Flow>,
+    window: u32,
+    depth: u32,
+    near: Near,
+}
+
+impl Model for Admitter {
+    ghost use Rattle.fg_board.specs.Actors.{AdmitterState};
+    ghost use Rattle.fg_board.specs.Standings.{admitter_code};
+    ghost use Rattle.fg_board.specs.Knowing.{KnowsItsDesk};
+
+    ghost Value = { AdmitterState };
+
+    ghost coded = { admitter_code };
+
+    ghost view = { λ a. record { seat = a.owner; window = a.window; depth = a.depth } };
+
+    ghost invariant = { λ a. KnowsItsDesk (record { seat = a.owner; window = a.window; depth = a.depth })
+        a.near.top a.near.mark a.near.calls };
+}
+
+// Enters the admitter's turn. The desk there is its own.
+fn enter_own(
+    wait: &impl Wait,
+    turn: &Turn<Flow>,
+    owner: &mut Owner<Flow>,
+    window: u32,
+    depth: u32,
+) -> Flow
+    requires turn { (owner.old.turn ≡ turn.now.name) × (owner.old.inside ≡ false) }
+    requires window { (1 ≤ window) × (window ≤ 100) × (window ≤ depth) }
+    requires own { IsOwnDesk (record { seat = owner.old; window = window; depth = depth }) }
+    ensures own { result.desk.state ≡ desk_of (record { seat = owner.old; window = window; depth = depth }) }
+    ensures owner { IsOwnedBy owner.old.calls result }
+    ensures grows { GrowsFrom owner.old.told result }
+    ensures seat { owner.new
+        ≡ record owner.old {
+          turns = owner.old.turns + 1;
+          inside = true;
+          entered = Some result;
+        } }
+{
+    calls_make_one_desk();
+    turn.enter_owner(wait, owner)
+}
+
+impl Admitter {
+    /// The owner of a new board.
+    pub(crate) fn new(owner: Owner<Flow>, window: u32, depth: u32) -> Admitter
+        requires outside { owner.inside ≡ false }
+        requires window { (1 ≤ window) × (window ≤ 100) × (window ≤ depth) }
+        requires own { IsOwnDesk (record { seat = owner; window = window; depth = depth }) }
+        requires left { owner.left ≡ None }
+        ensures { result ≡ record { seat = owner; window = window; depth = depth } }
+    {
+        let near = Near {
+            top: None,
+            mark: 0,
+            calls: 0,
+        };
+        Admitter {
+            owner,
+            window,
+            depth,
+            near,
+        }
+    }
+
+    /// Its seat, which is outside.
+    pub(crate) fn into_owner(self) -> Owner<Flow>
+        ensures owner { result ≡ self.seat }
+        ensures outside { result.inside ≡ false }
+    {
+        let Admitter {
+            owner,
+            window: _,
+            depth: _,
+            near: _,
+        } = self;
+        owner
+    }
+
+    /// Whether a play is due before a datagram of this sequence number is admitted: it lies the depth past the mark, or
+    /// farther.
+    pub fn due(&self, seq: u16) -> bool
+        ensures { IsTrue result ↔ IsDue (desk_of self.now) seq }
+    {
+        let Some((top, top_seq)) = self.near.top else {
+            return false;
+        };
+        match position(top, top_seq, seq) {
+            Some(position) => {
+                position >= self.near.mark && position - self.near.mark >= u64::from(self.depth)
+            }
+            None => false,
+        }
+    }
+
+    /// Whether its desk may change: the mark and the farthest position are below 2^61, and fewer than 2^62 calls were
+    /// made.
+    pub fn room(&self) -> bool
+        ensures { IsTrue result ↔ HasRoom (desk_of self.now) }
+    {
+        let top_has_room = match self.near.top {
+            Some((top, _)) => top < POSITIONS,
+            None => true,
+        };
+        top_has_room && self.near.mark < POSITIONS && self.near.calls < CALLS
+    }
+
+    /// How many passes are out.
+    pub fn made(&self) -> u32
+        ensures { result ≡ self.now.seat.made }
+    {
+        self.owner.made()
+    }
+
+    /// Admits a media datagram in one turn, or says why not.
+    pub fn admit_media(&mut self, wait: &impl Wait, board: &Board, seq: u16, share: Shared) -> Reply
+        requires board { self.old.seat.turn ≡ board.now.name }
+        requires room { HasRoom (desk_of self.old) }
+        requires not_due { ¬ IsDue (desk_of self.old) seq }
+        requires media { IsMedia share }
+        ensures { MakesCall (media seq share result) self.old self.new }
+    {
+        let mut flow = enter_own(wait, &board.turn, &mut self.owner, self.window, self.depth);
+        let word = Snapshot::of(&share);
+        let reply = flow.admit_media(seq, share);
+        self.near = self.near.after(&flow);
+        settle_owner(
+            &board.turn,
+            &mut self.owner,
+            flow,
+            Made::Media(seq, word, reply),
+        );
+        reply
+    }
+
+    /// Admits a parity datagram's equation in one turn, with a key to it, or says why not.
+    pub fn admit_parity(
+        &mut self,
+        wait: &impl Wait,
+        board: &Board,
+        base: u16,
+        shape: Shape,
+        share: Shared,
+    ) -> (Reply, Option<Key>)
+        requires board { self.old.seat.turn ≡ board.now.name }
+        requires room { HasRoom (desk_of self.old) }
+        requires shape { IsShape shape.offset shape.na }
+        ensures { MakesCall
+            (parity (record { base = base; offset = shape.offset; count = shape.na; word = share }) result.0 result.1)
+            self.old self.new }
+    {
+        let mut flow = enter_own(wait, &board.turn, &mut self.owner, self.window, self.depth);
+        let word = Snapshot::of(&share);
+        let (reply, key) = flow.admit_parity(base, shape, share);
+        self.near = self.near.after(&flow);
+        settle_owner(
+            &board.turn,
+            &mut self.owner,
+            flow,
+            Made::Parity(base, shape, word, reply, key),
+        );
+        (reply, key)
+    }
+
+    /// Plays a window in one turn. The tray then has what it shows.
+    pub fn play(&mut self, wait: &impl Wait, board: &Board, tray: &mut Tray) -> Played
+        requires board { self.old.seat.turn ≡ board.now.name }
+        requires room { HasRoom (desk_of self.old) }
+        requires started { IsSome (desk_of self.old).top }
+        requires tray { self.old.window ≤ tray.old.window }
+        ensures call { MakesCall (play result) self.old self.new }
+        ensures play { IsPlay self.old.window (desk_of self.old) (play_of result tray.new.shown) (desk_of self.new) }
+        ensures count { result.count ≡ length tray.new.shown }
+        ensures tray { tray.new.window ≡ tray.old.window }
+    {
+        let mut flow = enter_own(wait, &board.turn, &mut self.owner, self.window, self.depth);
+        let played = flow.play(tray);
+        self.near = self.near.after(&flow);
+        settle_owner(&board.turn, &mut self.owner, flow, Made::Play(played));
+        played
+    }
+
+    /// Makes a flush step in one turn, where one is defined. The tray then has what it shows.
+    pub fn flush_step(&mut self, wait: &impl Wait, board: &Board, tray: &mut Tray) -> Option<Played>
+        requires board { self.old.seat.turn ≡ board.now.name }
+        requires room { HasRoom (desk_of self.old) }
+        requires tray { self.old.window ≤ tray.old.window }
+        ensures call { MakesCall (flush result) self.old self.new }
+        ensures flushes { Flushes (desk_of self.old) (option_map (λ played. play_of played tray.new.shown) result) (desk_of self.new) }
+        ensures count { IfSome result (λ played. played.count ≡ length tray.new.shown) }
+        ensures none { IfNone result (tray.new ≡ tray.old) }
+        ensures tray { tray.new.window ≡ tray.old.window }
+    {
+        let mut flow = enter_own(wait, &board.turn, &mut self.owner, self.window, self.depth);
+        let played = flow.flush_step(tray);
+        self.near = self.near.after(&flow);
+        settle_owner(&board.turn, &mut self.owner, flow, Made::Flush(played));
+        played
+    }
+}

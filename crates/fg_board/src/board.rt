@@ -1,0 +1,338 @@
+//! A board: a flow's desk, and the turn in which one thread at a time works on it.
+
+ghost use Rattle.std.specs.Prelude.{◌≡◌, ◌↔◌, ◌+◌, ◌-◌, ◌<◌, ◌≤◌, ℕ, [], ◌∷◌, map, false, IfOk, IfErr, IfSome, IsTrue, option_map};
+ghost use Rattle.std.specs.FinMap.{get};
+ghost use Rattle.fg_words.specs.Word.{zero_word};
+ghost use Rattle.fg_peel.specs.declared.row.Missing.TheVariants.{One};
+ghost use Rattle.fg_peel.specs.Equation.{Equation, IsComplete};
+ghost use Rattle.fg_peel.specs.Slots.{IsMissing};
+ghost use Rattle.fg_board.specs.Actors.{TakenJob, IsLater, TakesTurn, TakesNoTurn, job_sum};
+ghost use Rattle.fg_turn.specs.Standing.{owner_of, newcomer_of};
+ghost use Rattle.fg_board.specs.Codes.{told_from, opening_code};
+ghost use Rattle.fg_board.specs.Core.{take, publish, vouch, give_back, look, offer, attest};
+ghost use Rattle.fg_board.specs.Views.{IsWorked, IsChecked};
+
+use crate::admitter::Admitter;
+use crate::fate::{Fate, Look};
+use crate::flow::Flow;
+use crate::job::Job;
+use crate::key::Key;
+use crate::laws::{codes_are_read_back, opening_is_owned};
+use crate::pass::Pass;
+use crate::turns::{Deed, settle, skip};
+use crate::work::Work;
+use fg_desk::laws::live_equations;
+use fg_turn::{Seat, Turn};
+use fg_words::Shared;
+use fg_words::laws::xor_is_a_group;
+use std::alloc::{AllocError, Global};
+use std::marker::{Brand, Model};
+use std::snapshot::Snapshot;
+use std::sync::Wait;
+
+/// What the threads of one flow share.
+#[derive(Drop)]
+pub struct Board {
+    pub(crate) turn: Turn<Flow>,
+    alloc: Global,
+}
+
+impl Model for Board {
+    ghost use Rattle.fg_turn.specs.Standing.{TurnId, turn_id_coded};
+
+    ghost Value = { TurnId };
+
+    ghost coded = { turn_id_coded };
+
+    ghost view = { λ b. b.turn };
+}
+
+// A take, in one turn.
+fn take_inside(
+    wait: &impl Wait,
+    turn: &Turn<Flow>,
+    alloc: Global,
+    seat: &mut Seat<Flow>,
+) -> Result<Option<Work>, AllocError>
+    requires { (seat.old.turn ≡ turn.now.name) × (seat.old.inside ≡ false) }
+    ensures outside { seat.new.inside ≡ false }
+    ensures taken { IfOk result (λ work. TakesTurn (take work) seat.old seat.new) }
+    ensures none { IfErr result (λ _. TakesNoTurn seat.old seat.new) }
+{
+    let mut flow = turn.enter(wait, seat);
+    match flow.take(alloc) {
+        Ok(work) => {
+            settle(turn, seat, flow, Deed::Take(Snapshot::of(&work)));
+            Ok(work)
+        }
+        Err(AllocError) => {
+            skip(turn, seat, flow);
+            Err(AllocError)
+        }
+    }
+}
+
+// A word is published, in one turn.
+fn publish_inside(
+    wait: &impl Wait,
+    turn: &Turn<Flow>,
+    seat: &mut Seat<Flow>,
+    key: Key,
+    slot: u64,
+    share: Shared,
+) -> Fate
+    requires turn { (seat.old.turn ≡ turn.now.name) × (seat.old.inside ≡ false) }
+    requires worked { (equation : Equation) × IsWorked (map told_from seat.old.told) key equation slot share }
+    ensures outside { seat.new.inside ≡ false }
+    ensures turn { TakesTurn (publish key slot share result) seat.old seat.new }
+{
+    live_equations();
+    let mut flow = turn.enter(wait, seat);
+    let word = Snapshot::of(&share);
+    let fate = flow.publish(key, slot, share);
+    settle(turn, seat, flow, Deed::Publish(key, slot, word, fate));
+    fate
+}
+
+// A check is vouched for, in one turn.
+fn vouch_inside(
+    wait: &impl Wait,
+    turn: &Turn<Flow>,
+    seat: &mut Seat<Flow>,
+    key: Key,
+    zero: bool,
+) -> Fate
+    requires turn { (seat.old.turn ≡ turn.now.name) × (seat.old.inside ≡ false) }
+    requires checked { (equation : Equation) × IsChecked (map told_from seat.old.told) key equation zero }
+    ensures outside { seat.new.inside ≡ false }
+    ensures turn { TakesTurn (vouch key zero result) seat.old seat.new }
+{
+    let mut flow = turn.enter(wait, seat);
+    let fate = flow.vouch(key, zero);
+    settle(turn, seat, flow, Deed::Vouch(key, zero, fate));
+    fate
+}
+
+// A job is given back, in one turn.
+fn give_back_inside(wait: &impl Wait, turn: &Turn<Flow>, seat: &mut Seat<Flow>, key: Key) -> Fate
+    requires { (seat.old.turn ≡ turn.now.name) × (seat.old.inside ≡ false) }
+    ensures outside { seat.new.inside ≡ false }
+    ensures turn { TakesTurn (give_back key result) seat.old seat.new }
+{
+    let mut flow = turn.enter(wait, seat);
+    let fate = flow.give_back(key);
+    settle(turn, seat, flow, Deed::GiveBack(key, fate));
+    fate
+}
+
+// A look, in one turn.
+fn look_inside(
+    wait: &impl Wait,
+    turn: &Turn<Flow>,
+    seat: &mut Seat<Flow>,
+    key: Key,
+    slot: u64,
+) -> Look
+    requires { (seat.old.turn ≡ turn.now.name) × (seat.old.inside ≡ false) }
+    ensures outside { seat.new.inside ≡ false }
+    ensures turn { TakesTurn (look key slot result) seat.old seat.new }
+{
+    let flow = turn.enter(wait, seat);
+    let answer = flow.look(key, slot);
+    settle(
+        turn,
+        seat,
+        flow,
+        Deed::Look(key, slot, Snapshot::of(&answer)),
+    );
+    answer
+}
+
+// A word is offered, in one turn.
+fn offer_inside(
+    wait: &impl Wait,
+    turn: &Turn<Flow>,
+    seat: &mut Seat<Flow>,
+    key: Key,
+    slot: u64,
+    share: Shared,
+) -> Fate
+    requires turn { (seat.old.turn ≡ turn.now.name) × (seat.old.inside ≡ false) }
+    requires worked { (equation : Equation) × IsWorked (map told_from seat.old.told) key equation slot share }
+    ensures outside { seat.new.inside ≡ false }
+    ensures turn { TakesTurn (offer key slot share result) seat.old seat.new }
+{
+    live_equations();
+    let mut flow = turn.enter(wait, seat);
+    let word = Snapshot::of(&share);
+    let fate = flow.offer(key, slot, share);
+    settle(turn, seat, flow, Deed::Offer(key, slot, word, fate));
+    fate
+}
+
+// A check is attested, in one turn.
+fn attest_inside(
+    wait: &impl Wait,
+    turn: &Turn<Flow>,
+    seat: &mut Seat<Flow>,
+    key: Key,
+    zero: bool,
+) -> Fate
+    requires turn { (seat.old.turn ≡ turn.now.name) × (seat.old.inside ≡ false) }
+    requires checked { (equation : Equation) × IsChecked (map told_from seat.old.told) key equation zero }
+    ensures outside { seat.new.inside ≡ false }
+    ensures turn { TakesTurn (attest key zero result) seat.old seat.new }
+{
+    let mut flow = turn.enter(wait, seat);
+    let fate = flow.attest(key, zero);
+    settle(turn, seat, flow, Deed::Attest(key, zero, fate));
+    fate
+}
+
+impl Board {
+    /// A new board for a flow whose plays close `window` positions, and for which a play is due where a datagram lies
+    /// `depth` positions past the mark, with its admitter. It can have up to `passes` passes at once.
+    pub fn new(
+        alloc: Global,
+        window: u32,
+        depth: u32,
+        passes: u32,
+    ) -> Result<(Board, Admitter), AllocError>
+        requires window { (1 ≤ window) × (window ≤ 100) }
+        requires depth { (window ≤ depth) × (depth ≤ 1000) }
+        requires passes { passes ≤ 65534 }
+        ensures seats { IfOk result (λ r. r.0.seats ≡ passes + 1) }
+        ensures admitter { IfOk result (λ r. r.1
+            ≡ record { seat = owner_of r.0.name (opening_code window depth ∷ []); window = window; depth = depth }) }
+    {
+        opening_is_owned();
+        let flow = Flow::new(alloc, window, depth)?;
+        let (turn, owner) = Turn::new::<Brand>(alloc, flow, passes + 1)?;
+        Ok((Board { turn, alloc }, Admitter::new(owner, window, depth)))
+    }
+
+    /// A further pass, which was told nothing. Its number is one that no pass of this board had before.
+    pub fn pass(&self, admitter: &mut Admitter) -> Pass
+        requires board { admitter.old.seat.turn ≡ self.now.name }
+        requires room { admitter.old.seat.made + 1 < self.now.seats }
+        ensures admitter { admitter.new
+            ≡ record admitter.old {
+              seat = record admitter.old.seat {
+                made = admitter.old.seat.made + 1;
+                seated = admitter.old.seat.seated + 1;
+              };
+            } }
+        ensures pass { result ≡ newcomer_of self.now.name admitter.old.seat.seated admitter.old.seat.calls }
+    {
+        let seat = self.turn.pass(&mut admitter.owner);
+        Pass { seat }
+    }
+
+    /// Takes back a pass, which is one of those that are out.
+    pub fn back(&self, admitter: &mut Admitter, pass: Pass)
+        requires board { (admitter.old.seat.turn ≡ self.now.name) × (pass.turn ≡ self.now.name) }
+        ensures out { 0 < admitter.old.seat.made }
+        ensures admitter { admitter.new
+            ≡ record admitter.old { seat = record admitter.old.seat { made = admitter.old.seat.made - 1 } } }
+    {
+        let Pass { seat } = pass;
+        self.turn.back(&mut admitter.owner, seat);
+    }
+
+    /// Ends the board, once every pass is back.
+    pub fn close(self, admitter: Admitter)
+        requires board { admitter.seat.turn ≡ self.name }
+        requires back { admitter.seat.made ≡ 0 }
+    {
+        let Board { turn, alloc: _ } = self;
+        let _flow = turn.close(admitter.into_owner());
+    }
+
+    /// Takes the open equation of the least serial number, in one turn. None exactly where no equation is open. Answers
+    /// want of memory alone, which changes nothing.
+    ///
+    /// An equation is open where nobody else has it, a share of each word known at its slots can be lent, and either one
+    /// slot has no word, or all have one and nobody found that it comes out.
+    pub fn take(&self, wait: &impl Wait, pass: &mut Pass) -> Result<Option<Job>, AllocError>
+        requires { pass.old.turn ≡ self.now.name }
+        ensures taken { IfOk result (λ job. TakesTurn (take (option_map (λ (j : TakenJob). j.job) job)) pass.old pass.new) }
+        ensures standing { IfOk result (λ job. IfSome job (λ job. job.taken ≡ pass.new)) }
+        ensures none { IfErr result (λ _. TakesNoTurn pass.old pass.new) }
+    {
+        codes_are_read_back();
+        match take_inside(wait, &self.turn, self.alloc, &mut pass.seat) {
+            Ok(Some(work)) => Ok(Some(Job::new(work, &pass.seat))),
+            Ok(None) => Ok(None),
+            Err(AllocError) => Err(AllocError),
+        }
+    }
+
+    /// Brings the word of a job's one slot that had none, in one turn, and gives the job back.
+    pub fn publish(&self, wait: &impl Wait, pass: &mut Pass, job: Job, share: Shared) -> Fate
+        requires board { pass.old.turn ≡ self.now.name }
+        requires taken { IsLater job.taken pass.old }
+        requires word { ((slot : ℕ) × IsMissing (get job.job.inputs) job.job.equation (One slot)) × (share ≡ job_sum job.job) }
+        ensures { (slot : ℕ) × IsMissing (get job.job.inputs) job.job.equation (One slot)
+            × TakesTurn (publish job.job.key slot share result) pass.old pass.new }
+    {
+        let key = job.key();
+        let slot = job.missing().unwrap();
+        publish_inside(wait, &self.turn, &mut pass.seat, key, slot, share)
+    }
+
+    /// Brings whether the equation of a job comes out, whose slots all had words, in one turn. The job is given back where
+    /// it does.
+    pub fn vouch(&self, wait: &impl Wait, pass: &mut Pass, job: Job, zero: bool) -> Fate
+        requires board { pass.old.turn ≡ self.now.name }
+        requires taken { IsLater job.taken pass.old }
+        requires complete { IsComplete (get job.job.inputs) job.job.equation }
+        requires zero { IsTrue zero ↔ (job_sum job.job ≡ zero_word) }
+        ensures { TakesTurn (vouch job.job.key zero result) pass.old pass.new }
+    {
+        xor_is_a_group();
+        job.work.room();
+        vouch_inside(wait, &self.turn, &mut pass.seat, job.key(), zero)
+    }
+
+    /// Gives a job back as it is, in one turn.
+    pub fn give_back(&self, wait: &impl Wait, pass: &mut Pass, job: Job) -> Fate
+        requires board { pass.old.turn ≡ self.now.name }
+        requires taken { job.taken.turn ≡ self.now.name }
+        ensures { TakesTurn (give_back job.job.key result) pass.old pass.new }
+    {
+        give_back_inside(wait, &self.turn, &mut pass.seat, job.key())
+    }
+
+    /// The word known at a position, asked in one turn by the key of an equation.
+    pub fn look(&self, wait: &impl Wait, pass: &mut Pass, key: Key, slot: u64) -> Look
+        requires { pass.old.turn ≡ self.now.name }
+        ensures { TakesTurn (look key slot result) pass.old pass.new }
+    {
+        look_inside(wait, &self.turn, &mut pass.seat, key, slot)
+    }
+
+    /// Brings the word of a slot of the key's equation, in one turn. It has to follow from what the pass was told.
+    pub fn offer(
+        &self,
+        wait: &impl Wait,
+        pass: &mut Pass,
+        key: Key,
+        slot: u64,
+        share: Shared,
+    ) -> Fate
+        requires board { pass.old.turn ≡ self.now.name }
+        requires word { (equation : Equation) × IsWorked (map told_from pass.old.told) key equation slot share }
+        ensures { TakesTurn (offer key slot share result) pass.old pass.new }
+    {
+        offer_inside(wait, &self.turn, &mut pass.seat, key, slot, share)
+    }
+
+    /// Brings whether the key's equation comes out, in one turn. It has to follow from what the pass was told.
+    pub fn attest(&self, wait: &impl Wait, pass: &mut Pass, key: Key, zero: bool) -> Fate
+        requires board { pass.old.turn ≡ self.now.name }
+        requires check { (equation : Equation) × IsChecked (map told_from pass.old.told) key equation zero }
+        ensures { TakesTurn (attest key zero result) pass.old pass.new }
+    {
+        attest_inside(wait, &self.turn, &mut pass.seat, key, zero)
+    }
+}

@@ -1,0 +1,34 @@
+//! What becomes of what a pass brings, and what it is told.
+
+use fg_words::Word;
+
+/// What became of a word or a check that a pass brought.
+#[derive(Clone, Copy, Debug, PartialEq, Eq)]
+pub enum Fate {
+    /// It was taken.
+    Done,
+    /// A word is known at this slot already.
+    Beaten(u64),
+    /// The equation isn't live any more, or solved words were withdrawn since the key was given.
+    Gone {
+        /// The first position that isn't played yet.
+        mark: u64,
+        /// How often solved words were withdrawn.
+        epoch: u64,
+    },
+}
+
+/// What a look at a position tells.
+pub enum Look {
+    /// The word known there.
+    Known(Word),
+    /// None is known.
+    Unknown,
+    /// The equation isn't live any more, or solved words were withdrawn since the key was given.
+    Gone {
+        /// The first position that isn't played yet.
+        mark: u64,
+        /// How often solved words were withdrawn.
+        epoch: u64,
+    },
+}

@@ -1,0 +1,388 @@
+//! A board, its admitter and three passes, of which each has one job at most.
+
+ghost use Rattle.std.specs.Prelude.{◌≡◌, ◌+◌, ◌<◌, ◌↔◌, IfOk, IfSome, IsTrue};
+ghost use Rattle.std.specs.FinMap.{get};
+ghost use Rattle.fg_words.specs.Word.{zero_word};
+ghost use Rattle.fg_peel.specs.Equation.{IsComplete};
+ghost use Rattle.fg_board.specs.Actors.{job_sum};
+
+use crate::{Admitter, Board, Fate, Job, Key, Look, Pass};
+use fg_desk::{Played, Reply, Tray};
+use fg_shape::{Shape, shape_ok};
+use fg_words::Word;
+use fg_words::laws::xor_is_a_group;
+use std::alloc::{AllocError, Global};
+use std::marker::Model;
+use std::sync::Wait;
+
+/// A pass, with the job that it took last.
+#[derive(Drop)]
+struct Hand {
+    pass: Pass,
+    job: Option<Job>,
+}
+
+impl Model for Hand {
+    ghost use Rattle.std.specs.Prelude.{IfSome};
+    ghost use Rattle.fg_turn.specs.Standing.{Standing, standing_coded};
+    ghost use Rattle.fg_board.specs.Actors.{IsLater};
+    ghost use Rattle.fg_board.specs.Board.{BoardState};
+    ghost use Rattle.fg_board.specs.Standings.{board_code};
+
+    ghost Value = { Standing BoardState };
+
+    ghost coded = { standing_coded board_code };
+
+    ghost view = { λ h. h.pass };
+
+    ghost invariant = { λ h. IfSome h.job (λ job. IsLater job.taken h.pass) };
+}
+
+// Takes a job. Answers the serial number of its equation, and the slot that has no word.
+fn take(
+    wait: &impl Wait,
+    board: &Board,
+    hand: &mut Hand,
+) -> Result<Option<(u64, Option<u64>)>, AllocError>
+    requires { hand.old.turn ≡ board.now.name }
+    ensures { hand.new.turn ≡ board.now.name }
+{
+    hand.job = None;
+    let Some(job) = board.take(wait, &mut hand.pass)? else {
+        return Ok(None);
+    };
+    let answer = (job.key().serial, job.missing());
+    hand.job = Some(job);
+    Ok(Some(answer))
+}
+
+// Solves the job and publishes the word. None where there is no job, or no slot without a word.
+fn publish(
+    wait: &impl Wait,
+    alloc: Global,
+    board: &Board,
+    hand: &mut Hand,
+) -> Result<Option<Fate>, AllocError>
+    requires { hand.old.turn ≡ board.now.name }
+    ensures { hand.new.turn ≡ board.now.name }
+{
+    let Some(job) = hand.job.take() else {
+        return Ok(None);
+    };
+    if job.missing().is_none() {
+        return Ok(None);
+    }
+    let share = job.solve(alloc)?;
+    Ok(Some(board.publish(wait, &mut hand.pass, job, share)))
+}
+
+// Whether a job's equation comes out. None where a slot has no word.
+fn check(job: &Job) -> Option<bool>
+    ensures complete { IfSome result (λ _. IsComplete (get job.now.job.inputs) job.now.job.equation) }
+    ensures zero { IfSome result (λ zero. IsTrue zero ↔ (job_sum job.now.job ≡ zero_word)) }
+{
+    match job.missing() {
+        Some(_) => None,
+        None => Some(job.check()),
+    }
+}
+
+// Checks the job and vouches for what was found. None where there is no job, or a slot without a word.
+fn vouch(wait: &impl Wait, board: &Board, hand: &mut Hand) -> Option<(bool, Fate)>
+    requires { hand.old.turn ≡ board.now.name }
+    ensures { hand.new.turn ≡ board.now.name }
+{
+    let job = hand.job.take()?;
+    let zero = check(&job)?;
+    Some((zero, board.vouch(wait, &mut hand.pass, job, zero)))
+}
+
+// As `publish`, with the job in the hand.
+fn offer(
+    wait: &impl Wait,
+    alloc: Global,
+    board: &Board,
+    hand: &mut Hand,
+) -> Result<Option<Fate>, AllocError>
+    requires { hand.old.turn ≡ board.now.name }
+    ensures { hand.new.turn ≡ board.now.name }
+{
+    let Some(job) = &hand.job else {
+        return Ok(None);
+    };
+    let Some(slot) = job.missing() else {
+        return Ok(None);
+    };
+    let share = job.solve(alloc)?;
+    let key = job.work.key();
+    Ok(Some(board.offer(wait, &mut hand.pass, key, slot, share)))
+}
+
+// As `vouch`, with the job in the hand.
+fn attest(wait: &impl Wait, board: &Board, hand: &mut Hand) -> Option<(bool, Fate)>
+    requires { hand.old.turn ≡ board.now.name }
+    ensures { hand.new.turn ≡ board.now.name }
+{
+    let Some(job) = &hand.job else {
+        return None;
+    };
+    let zero = check(job)?;
+    xor_is_a_group();
+    job.work.room();
+    let key = job.work.key();
+    Some((zero, board.attest(wait, &mut hand.pass, key, zero)))
+}
+
+// Gives the job back. None where there is none.
+fn give_back(wait: &impl Wait, board: &Board, hand: &mut Hand) -> Option<Fate>
+    requires { hand.old.turn ≡ board.now.name }
+    ensures { hand.new.turn ≡ board.now.name }
+{
+    let job = hand.job.take()?;
+    Some(board.give_back(wait, &mut hand.pass, job))
+}
+
+// Looks at a position, with the job in the hand.
+fn look(wait: &impl Wait, board: &Board, hand: &mut Hand, key: Key, slot: u64) -> Look
+    requires { hand.old.turn ≡ board.now.name }
+    ensures { hand.new.turn ≡ board.now.name }
+{
+    board.look(wait, &mut hand.pass, key, slot)
+}
+
+// A further pass.
+fn further_hand(board: &Board, admitter: &mut Admitter) -> Hand
+    requires board { admitter.old.seat.turn ≡ board.now.name }
+    requires room { admitter.old.seat.made + 1 < board.now.seats }
+    ensures admitter { admitter.new.seat.turn ≡ board.now.name }
+    ensures made { admitter.new.seat.made ≡ admitter.old.seat.made + 1 }
+    ensures window { admitter.new.window ≡ admitter.old.window }
+    ensures pass { result.turn ≡ board.now.name }
+{
+    let pass = board.pass(admitter);
+    Hand { pass, job: None }
+}
+
+// Takes a pass back.
+fn put_back(board: &Board, admitter: &mut Admitter, hand: Hand)
+    requires { (admitter.old.seat.turn ≡ board.now.name) × (hand.turn ≡ board.now.name) }
+    ensures { admitter.new.seat.turn ≡ board.now.name }
+{
+    let Hand { pass, job: _ } = hand;
+    board.back(admitter, pass);
+}
+
+// A board of the usual window and depth.
+fn open(alloc: Global) -> Result<(Board, Admitter), AllocError>
+    ensures board { IfOk result (λ r. (r.1.seat.turn ≡ r.0.name) × (r.0.seats ≡ 4)) }
+    ensures admitter { IfOk result (λ r. (r.1.seat.made ≡ 0) × (r.1.window ≡ 100)) }
+{
+    Board::new(alloc, 100, 400, 3)
+}
+
+/// Which pass.
+#[derive(Clone, Copy)]
+pub(super) enum Who {
+    A,
+    B,
+    C,
+}
+
+/// A board, its admitter and three passes.
+#[derive(Drop)]
+pub(super) struct Scene {
+    alloc: Global,
+    board: Board,
+    admitter: Admitter,
+    a: Hand,
+    b: Hand,
+    c: Hand,
+    /// Of the equations that were admitted, by their serial numbers.
+    keys: Vec<Key>,
+}
+
+impl Model for Scene {
+    ghost use Rattle.std.specs.Prelude.{◌≡◌};
+    ghost use Rattle.fg_turn.specs.Standing.{TurnId, turn_id_coded};
+
+    ghost Value = { TurnId };
+
+    ghost coded = { turn_id_coded };
+
+    ghost view = { λ s. s.board };
+
+    ghost invariant = { λ s. (s.admitter.seat.turn ≡ s.board.name) × (s.admitter.window ≡ 100)
+        × (s.a.turn ≡ s.board.name) × (s.b.turn ≡ s.board.name) × (s.c.turn ≡ s.board.name) };
+}
+
+impl Scene {
+    pub(super) fn new(alloc: Global) -> Result<Scene, AllocError> {
+        let (board, mut admitter) = open(alloc)?;
+        let a = further_hand(&board, &mut admitter);
+        let b = further_hand(&board, &mut admitter);
+        let c = further_hand(&board, &mut admitter);
+        Ok(Scene {
+            alloc,
+            board,
+            admitter,
+            a,
+            b,
+            c,
+            keys: Vec::new(alloc),
+        })
+    }
+
+    /// Admits a media datagram. None where a play is due first, or the word is no media word.
+    pub(super) fn media(
+        &mut self,
+        wait: &impl Wait,
+        seq: u16,
+        word: Word,
+    ) -> Result<Option<Reply>, AllocError> {
+        let share = word.share(self.alloc)?;
+        if !self.admitter.room() || self.admitter.due(seq) || !share.word().is_media() {
+            return Ok(None);
+        }
+        Ok(Some(self.admitter.admit_media(wait, &self.board, seq, share)))
+    }
+
+    /// Admits a parity datagram. None where there is no such shape.
+    pub(super) fn parity(
+        &mut self,
+        wait: &impl Wait,
+        base: u16,
+        shape: Shape,
+        word: Word,
+    ) -> Result<Option<Reply>, AllocError> {
+        let share = word.share(self.alloc)?;
+        if !self.admitter.room() || !shape_ok(shape) {
+            return Ok(None);
+        }
+        let (reply, key) = self
+            .admitter
+            .admit_parity(wait, &self.board, base, shape, share);
+        if let Some(key) = key {
+            self.keys.push(key)?;
+        }
+        Ok(Some(reply))
+    }
+
+    /// Plays a window. None where no play is due before this sequence number.
+    pub(super) fn play(
+        &mut self,
+        wait: &impl Wait,
+        seq: u16,
+    ) -> Result<Option<(Played, Tray)>, AllocError> {
+        let mut tray = Tray::new(self.alloc, 100)?;
+        if !self.admitter.room() || !self.admitter.due(seq) {
+            return Ok(None);
+        }
+        let played = self.admitter.play(wait, &self.board, &mut tray);
+        Ok(Some((played, tray)))
+    }
+
+    /// Plays a flush step. None where there is none.
+    pub(super) fn flush(&mut self, wait: &impl Wait) -> Result<Option<(Played, Tray)>, AllocError> {
+        let mut tray = Tray::new(self.alloc, 100)?;
+        if !self.admitter.room() {
+            return Ok(None);
+        }
+        match self.admitter.flush_step(wait, &self.board, &mut tray) {
+            Some(played) => Ok(Some((played, tray))),
+            None => Ok(None),
+        }
+    }
+
+    pub(super) fn take(
+        &mut self,
+        wait: &impl Wait,
+        who: Who,
+    ) -> Result<Option<(u64, Option<u64>)>, AllocError> {
+        match who {
+            Who::A => take(wait, &self.board, &mut self.a),
+            Who::B => take(wait, &self.board, &mut self.b),
+            Who::C => take(wait, &self.board, &mut self.c),
+        }
+    }
+
+    pub(super) fn publish(
+        &mut self,
+        wait: &impl Wait,
+        who: Who,
+    ) -> Result<Option<Fate>, AllocError> {
+        match who {
+            Who::A => publish(wait, self.alloc, &self.board, &mut self.a),
+            Who::B => publish(wait, self.alloc, &self.board, &mut self.b),
+            Who::C => publish(wait, self.alloc, &self.board, &mut self.c),
+        }
+    }
+
+    pub(super) fn vouch(&mut self, wait: &impl Wait, who: Who) -> Option<(bool, Fate)> {
+        match who {
+            Who::A => vouch(wait, &self.board, &mut self.a),
+            Who::B => vouch(wait, &self.board, &mut self.b),
+            Who::C => vouch(wait, &self.board, &mut self.c),
+        }
+    }
+
+    pub(super) fn offer(&mut self, wait: &impl Wait, who: Who) -> Result<Option<Fate>, AllocError> {
+        match who {
+            Who::A => offer(wait, self.alloc, &self.board, &mut self.a),
+            Who::B => offer(wait, self.alloc, &self.board, &mut self.b),
+            Who::C => offer(wait, self.alloc, &self.board, &mut self.c),
+        }
+    }
+
+    pub(super) fn attest(&mut self, wait: &impl Wait, who: Who) -> Option<(bool, Fate)> {
+        match who {
+            Who::A => attest(wait, &self.board, &mut self.a),
+            Who::B => attest(wait, &self.board, &mut self.b),
+            Who::C => attest(wait, &self.board, &mut self.c),
+        }
+    }
+
+    pub(super) fn give_back(&mut self, wait: &impl Wait, who: Who) -> Option<Fate> {
+        match who {
+            Who::A => give_back(wait, &self.board, &mut self.a),
+            Who::B => give_back(wait, &self.board, &mut self.b),
+            Who::C => give_back(wait, &self.board, &mut self.c),
+        }
+    }
+
+    /// Looks at a position by the key of a serial number. None where no such equation was admitted.
+    pub(super) fn look(
+        &mut self,
+        wait: &impl Wait,
+        who: Who,
+        serial: usize,
+        slot: u64,
+    ) -> Option<Look> {
+        let key = *self.keys.get(serial)?;
+        Some(match who {
+            Who::A => look(wait, &self.board, &mut self.a, key, slot),
+            Who::B => look(wait, &self.board, &mut self.b, key, slot),
+            Who::C => look(wait, &self.board, &mut self.c, key, slot),
+        })
+    }
+
+    /// Takes all passes back and ends the board. Whether no pass is out.
+    pub(super) fn close(self) -> bool {
+        let Scene {
+            alloc: _,
+            board,
+            mut admitter,
+            a,
+            b,
+            c,
+            keys: _,
+        } = self;
+        put_back(&board, &mut admitter, a);
+        put_back(&board, &mut admitter, b);
+        put_back(&board, &mut admitter, c);
+        if admitter.made() != 0 {
+            return false;
+        }
+        board.close(admitter);
+        true
+    }
+}
