@@ -1,21 +1,19 @@
 -- What passes bring: it follows from what they were told, and from what jobs tell.
-use Rattle.std.proofs.Common.{◌≡◌, ◌≢◌, ◌==◌, ◌↔◌, not, ℕ, Bool, List, [], ◌∷◌, ◌++◌, map, length, filter_map, Option, Some, None, IsSome, IsTrue, refl, sym, ap, subst, ◌∙◌, ⊎_elim, eq-eqb, ne_eqb}
+use Rattle.std.proofs.Common.{◌≡◌, ◌==◌, ◌↔◌, not, ℕ, Bool, List, [], ◌∷◌, ◌++◌, map, filter_map, Option, Some, None, IsSome, IsTrue, refl, sym, ap, subst, ◌∙◌, ⊎_elim, eq-eqb, ne_eqb}
 use Rattle.std.proofs.lemmas.Bool.{cases_eq, cond-true, cond-false}
 use Rattle.std.proofs.lemmas.List.{length-replicate, map-append}
-use Rattle.std.proofs.lemmas.List.Elements.{All-contains, All-weaker, All-contains_itself, Contains-append_left, Contains-append_right, All-map}
+use Rattle.std.proofs.lemmas.List.Elements.{All-contains, All-weaker, All-contains_itself, Contains-append_left, Contains-append_right}
 use Rattle.std.proofs.lemmas.Simd.{length-zip2}
 use Rattle.std.specs.Prelude.{bit_xor}
-use Rattle.std.specs.Ordering.{nat_cmp}
-use Rattle.std.specs.List.{All, Contains, cons_option, filter}
-use Rattle.std.specs.FinMap.{FinMap, get, entries}
-use mathlib.Core.List.{IsPrefix}
+use Rattle.std.specs.List.{All, Contains, cons_option}
+use Rattle.std.specs.FinMap.{get, entries}
 use Rattle.fg_words.specs.declared.Word.{Word}
 use Rattle.fg_words.specs.Word.{zero_word, word_xor, word_sum, HasRoom}
 use Rattle.fg_words.specs.Laws.{XorAssociates, XorCommutes, XorHasZero, XorUndoesItself}
 use Rattle.fg_peel.specs.declared.row.Missing.TheVariants.{One}
-use Rattle.fg_peel.specs.Equation.{Equation, slots, others, sum_at, IsComplete, IsSettled, ComesOut}
+use Rattle.fg_peel.specs.Equation.{Equation, slots, others, sum_at, IsComplete, IsSettled}
 use Rattle.fg_peel.specs.Slots.{IsMissing}
-use Rattle.fg_desk.specs.State.{Live, Words}
+use Rattle.fg_desk.specs.State.{Live}
 use Rattle.fg_desk.specs.Laws.{LiveStandUnderSerials}
 use Rattle.fg_turn.specs.Standing.{Standing}
 use Rattle.fg_desk.specs.Contents.{CanFill, known_in}
@@ -27,7 +25,7 @@ use Rattle.fg_board.specs.Actors.{TakenJob, WasTold, IsLater, TakesTurn, job_sum
 use Rattle.fg_board.specs.declared.key.Key.{Key}
 use Rattle.fg_board.proofs.Lists.{Contains-here, Contains-there, Contains-cases, Contains-nil}
 use Rattle.fg_board.proofs.Entries.{entry_of_get}
-use Rattle.fg_board.proofs.Values.{value_of}
+use Rattle.fg_board.proofs.Options.{value_of}
 use Rattle.fg_board.proofs.Told.{told_is_live, worked_can_fill, checked_is_settled}
 use Rattle.fg_board.proofs.OneTurn.{owning, told_back}
 

@@ -17,7 +17,7 @@ use Rattle.fg_board.specs.declared.fate.Fate.{Fate}
 use Rattle.fg_board.specs.declared.fate.Fate.TheVariants.{Done, Beaten, Gone}
 use Rattle.fg_board.specs.declared.fate.Look.{Look}
 use Rattle.fg_board.specs.declared.fate.Look.TheVariants as looked
-use Rattle.fg_board.proofs.Values.{has_value}
+use Rattle.fg_board.proofs.Options.{has_value}
 use Rattle.fg_board.proofs.Entries.{was_or_inserted, was_in}
 use Rattle.fg_board.proofs.Filled.{stays_settled, filled_keeps, stays_solved}
 use Rattle.fg_board.proofs.Told.{worked_can_fill, checked_is_settled}

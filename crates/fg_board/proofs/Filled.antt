@@ -10,7 +10,7 @@ use Rattle.fg_peel.specs.Peeling.{Step, CanFollow, after_step, end_of, given_wor
 use Rattle.fg_peel.specs.Laws.{PeelingsAppend}
 use Rattle.fg_desk.specs.State.{known, live_equations}
 use Rattle.fg_desk.specs.Contents.{Contents, AreSolved, CanFill, known_in, filled}
-use Rattle.fg_board.proofs.Values.{value_of, has_value, beside_inserted}
+use Rattle.fg_board.proofs.Options.{value_of, has_value, beside_inserted}
 use Rattle.fg_board.proofs.Entries.{inserted}
 use Rattle.fg_board.proofs.Lists.{same_sum}
 

@@ -19,7 +19,7 @@ use Rattle.fg_board.specs.declared.fate.Fate.{Fate}
 use Rattle.fg_board.specs.declared.fate.Fate.TheVariants.{Done, Beaten, Gone}
 use Rattle.fg_board.specs.declared.fate.Look.{Look}
 use Rattle.fg_board.specs.declared.fate.Look.TheVariants as looked
-use Rattle.fg_board.proofs.Values.{has_value}
+use Rattle.fg_board.proofs.Options.{has_value}
 use Rattle.fg_board.proofs.Entries.{get_of_entry}
 use Rattle.fg_board.proofs.Filled.{filled_is_known, filled_keeps}
 

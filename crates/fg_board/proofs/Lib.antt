@@ -25,4 +25,3 @@ mod Received
 mod Runs
 mod SameWords
 mod Told
-mod Values

@@ -4,16 +4,15 @@ use Rattle.std.proofs.lemmas.List.{map-append}
 use Rattle.std.proofs.lemmas.List.Elements.{All-cons, All-nil}
 use Rattle.std.specs.Prelude.{length, IfSome, option_map}
 use Rattle.std.specs.List.{All}
-use Rattle.fg_desk.specs.State.{State, opening}
 use Rattle.fg_desk.specs.declared.desk.Played.{Played}
 use Rattle.fg_desk.specs.Play.{Shown}
 use Rattle.fg_turn.specs.Standing.{Standing}
 use Rattle.fg_board.specs.Board.{BoardState, PlaysOn, FlushesOn}
 use Rattle.fg_board.specs.Views.{Told, IsBorneOut, seen_of}
 use Rattle.fg_board.specs.Core.{Call, play, flush, play_of, IsOwned, CanCall, IsCall}
-use Rattle.fg_board.specs.Codes.{Entry, call_code, call_from, told_code, told_from, opening_code, IsOwnedBy, GrowsFrom, CallsAreReadBack, ToldIsReadBack}
+use Rattle.fg_board.specs.Codes.{Entry, call_code, call_from, told_code, told_from, IsOwnedBy, GrowsFrom, CallsAreReadBack, ToldIsReadBack}
 use Rattle.fg_board.specs.Laws.{CallsExtend, CallsKeepTold}
-use Rattle.fg_board.specs.Actors.{CarriesOn, IsStep, MakesCall, AdmitterState, desk_of, IsOwnDesk}
+use Rattle.fg_board.specs.Actors.{CarriesOn, IsStep, MakesCall, desk_of}
 use Rattle.fg_board.specs.Deeds.{Makes}
 use Rattle.fg_board.proofs.Growing.{seen_holds}
 use Rattle.fg_board.proofs.OneTurn.{owning}

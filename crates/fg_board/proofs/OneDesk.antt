@@ -1,5 +1,5 @@
 -- The admitter's calls with their answers make one desk.
-use Rattle.std.proofs.Common.{◌≡◌, ℕ, List, [], ◌∷◌, Some, None, sym, subst, ◌∙◌}
+use Rattle.std.proofs.Common.{◌≡◌, List, [], ◌∷◌, Some, None, sym, subst, ◌∙◌}
 use Rattle.fg_desk.specs.State.{State, opening}
 use Rattle.fg_desk.specs.Facts.{Holds}
 use Rattle.fg_desk.specs.Laws.{OpeningHolds, MediaKeeps, ParityKeeps, PlayKeeps, FlushStepKeeps, MediaIsOne, ParityIsOne, PlayIsOne, FlushIsOne}

@@ -3,10 +3,9 @@ use Rattle.std.proofs.Common.{◌≡◌, ◌+◌, ◌++◌, ℕ, inl, true, fals
 use Rattle.std.specs.Prelude.{IsSomeAnd}
 use Rattle.std.specs.List.{All}
 use Rattle.std.specs.FinMap.{get}
-use Rattle.fg_words.specs.declared.Word.{Word}
 use Rattle.fg_desk.specs.State.{Live}
 use Rattle.fg_turn.specs.Standing.{Standing}
-use Rattle.fg_board.specs.Board.{BoardState, IsHeld, Looks, JobState, opened_board}
+use Rattle.fg_board.specs.Board.{BoardState, Looks}
 use Rattle.fg_board.specs.Views.{Told, IsBorneOut, word_at, equation_is, seen_of}
 use Rattle.fg_board.specs.Core.{Call, Event, take, publish, vouch, give_back, look, offer, attest, IsOwned, IsEvent, Tells, TellsOfLook}
 use Rattle.fg_board.specs.Codes.{Entry, told_code, told_from, call_from, IsOwnedBy, GrowsFrom, ToldIsReadBack}

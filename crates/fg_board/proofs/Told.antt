@@ -15,7 +15,7 @@ use Rattle.fg_desk.specs.Contents.{CanFill, known_in}
 use Rattle.fg_board.specs.Board.{BoardState, IsLive, IsCurrent, mark_of}
 use Rattle.fg_board.specs.Views.{Told, word_at, equation_is, IsBorneOut, Grows, IsWorked, IsChecked}
 use Rattle.fg_board.specs.declared.key.Key.{Key}
-use Rattle.fg_board.proofs.Values.{value_of, has_value}
+use Rattle.fg_board.proofs.Options.{value_of, has_value}
 use Rattle.fg_board.proofs.Lists.{other_element, same_sum}
 
 module _ (board : BoardState) (facts : Holds board.desk.state) where

@@ -19,6 +19,7 @@ pub enum Fate {
 }
 
 /// What a look at a position tells.
+#[derive(Clone, Copy)]
 pub enum Look {
     /// The word known there.
     Known(Word),

@@ -52,9 +52,10 @@ impl Job {
         }
     }
 
-    /// The key of its equation.
+    /// The key of its equation. Its pass was told the equation and the words of its slots.
     pub fn key(&self) -> Key
-        ensures { result ≡ self.now.job.key }
+        ensures key { result ≡ self.now.job.key }
+        ensures told { WasTold self.now }
     {
         self.work.key()
     }

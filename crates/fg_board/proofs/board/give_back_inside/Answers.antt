@@ -1,5 +1,5 @@
 use Rattle.std.proofs.Common.{refl}
-use Rattle.fg_board.specs.Core.{Event, give_back}
+use Rattle.fg_board.specs.Core.{give_back}
 use Rattle.fg_board.proofs.OneTurn.{turn_taken}
 use Rattle.fg_board.proofs.board.give_back_inside.Goals as goal
 

@@ -1,5 +1,5 @@
 use Rattle.std.proofs.Common.{ap}
-use Rattle.fg_board.specs.Core.{Event, publish}
+use Rattle.fg_board.specs.Core.{publish}
 use Rattle.fg_board.proofs.OneTurn.{turn_taken}
 use Rattle.fg_words.specs.declared.Word.{Word}
 use Rattle.fg_board.proofs.Bringing.{word_follows}

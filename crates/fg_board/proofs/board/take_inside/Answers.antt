@@ -1,5 +1,5 @@
 use Rattle.std.proofs.Common.{ap}
-use Rattle.fg_board.specs.Core.{Event, take}
+use Rattle.fg_board.specs.Core.{take}
 use Rattle.fg_board.proofs.OneTurn.{turn_taken}
 use Rattle.fg_board.proofs.board.take_inside.Goals as goal
 

@@ -1,5 +1,5 @@
 use Rattle.std.proofs.Common.{refl}
-use Rattle.fg_board.specs.Core.{Event, vouch}
+use Rattle.fg_board.specs.Core.{vouch}
 use Rattle.fg_board.proofs.OneTurn.{turn_taken}
 use Rattle.fg_board.proofs.Bringing.{check_follows}
 use Rattle.fg_board.proofs.board.vouch_inside.Goals as goal

@@ -18,7 +18,7 @@ publish_inside-requires-clause-worked g c =
     let seat = c.pass.inside.seat in (
       job.equation,
       subst (λ (k : Key). IsWorked (map told_from seat.told) k job.equation c.unwrap-slot.result c.args.share)
-          (sym c.key-key.ensures)
+          (sym c.key-key.ensures.key)
           (job_worked c.args.job (subst WasTold c.job.view_is c.job.invariant) seat
           (subst (λ (s : Standing BoardState). IsLater c.args.job.taken s) (sym c.pass.view_is) c.requires.taken)
           c.unwrap-slot.result c.args.share

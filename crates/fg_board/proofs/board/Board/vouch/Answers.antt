@@ -16,7 +16,7 @@ vouch_inside-requires-clause-checked g c =
     let job = c.args.job.job in
     let seat = c.pass.inside.seat in (
       job.equation,
-      subst (λ (k : Key). IsChecked (map told_from seat.told) k job.equation c.args.zero) (sym c.key.ensures)
+      subst (λ (k : Key). IsChecked (map told_from seat.told) k job.equation c.args.zero) (sym c.key.ensures.key)
           (job_checked c.args.job (subst WasTold c.job.view_is c.job.invariant) seat
           (subst (λ (s : Standing BoardState). IsLater c.args.job.taken s) (sym c.pass.view_is) c.requires.taken)
           (record {

@@ -1,4 +1,4 @@
-use Rattle.std.proofs.Common.{◌≡◌, ◌∙◌, ap, map, subst, sym}
+use Rattle.std.proofs.Common.{◌∙◌, ap, map, subst, sym}
 use Rattle.std.specs.Prelude.{Option, IfSome}
 use Rattle.fg_board.specs.Actors.{TakenJob, WasTold, IsLater}
 use Rattle.fg_board.specs.Codes.{told_from}
