@@ -8,7 +8,7 @@ top=$(cd "$here/../.." && pwd)
 work=$(mktemp -d)
 trap 'rm -rf "$work"' EXIT
 mkdir -p "$work/crates/desk_work/src" "$work/crates/desk_work/proofs"
-"$top/bench/copy_crates" "$work" fg_words fg_shape fg_unwrap fg_peel fg_desk
+"$top/bench/copy_crates" "$work" fg_desk
 echo 'desk_work: fg_words fg_shape fg_desk' >> "$work/crates.txt"
 cp "$here/program.txt" "$work/crates/desk_work/src/main.rt"
 mkdir "$work/crates/desk_work/proofs/take_media" "$work/crates/desk_work/proofs/run_all"

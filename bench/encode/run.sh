@@ -7,7 +7,7 @@ top=$(cd "$here/../.." && pwd)
 work=$(mktemp -d)
 trap 'rm -rf "$work"' EXIT
 mkdir -p "$work/crates/encode_work/src" "$work/crates/encode_work/proofs/run_all"
-"$top/bench/copy_crates" "$work" fg_words fg_io fg_shape fg_ts fg_rtp fg_fechead fg_trace fg_encode
+"$top/bench/copy_crates" "$work" fg_encode
 echo 'encode_work: fg_shape fg_ts fg_encode' >> "$work/crates.txt"
 cp "$here/program.txt" "$work/crates/encode_work/src/main.rt"
 cat > "$work/crates/encode_work/proofs/run_all/Invariants.antt" <<'END'

@@ -7,7 +7,7 @@ top=$(cd "$here/../.." && pwd)
 work=$(mktemp -d)
 trap 'rm -rf "$work"' EXIT
 mkdir -p "$work/crates/inspect_times/src"
-"$top/bench/copy_crates" "$work" fg_words fg_shape fg_io fg_flows fg_rtp fg_fechead fg_trace fg_inspect
+"$top/bench/copy_crates" "$work" fg_inspect
 printf 'inspect_times: fg_io fg_flows fg_trace fg_inspect anyhow\n' >> "$work/crates.txt"
 cp "$here/program.txt" "$work/crates/inspect_times/src/main.rt"
 cd "$work/crates/inspect_times"

@@ -8,7 +8,7 @@ top=$(cd "$here/../.." && pwd)
 work=$(mktemp -d)
 trap 'rm -rf "$work"' EXIT
 mkdir -p "$work/crates/peel_times/src" "$work/crates/peel_times/proofs"
-"$top/bench/copy_crates" "$work" fg_words fg_shape fg_peel
+"$top/bench/copy_crates" "$work" fg_peel
 echo 'peel_times: fg_words fg_shape fg_peel slab' >> "$work/crates.txt"
 cp "$here/program.txt" "$work/crates/peel_times/src/main.rt"
 # The walk through the lines is proved as in the peeler's own tests.

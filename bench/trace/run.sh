@@ -9,7 +9,7 @@ work=$(mktemp -d)
 file=$(mktemp -p /dev/shm trace.XXXXXX)
 trap 'rm -rf "$work" "$file"' EXIT
 mkdir -p "$work/crates/trace_times/src" "$work/crates/trace_times/proofs/walk_all"
-"$top/bench/copy_crates" "$work" fg_io fg_trace
+"$top/bench/copy_crates" "$work" fg_trace
 echo 'trace_times: fg_io fg_trace anyhow' >> "$work/crates.txt"
 cp "$here/program.txt" "$work/crates/trace_times/src/main.rt"
 cat > "$work/crates/trace_times/proofs/walk_all/Invariants.antt" <<'END'

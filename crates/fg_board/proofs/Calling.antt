@@ -13,7 +13,7 @@ use Rattle.fg_desk.specs.declared.desk.Played.{Played}
 use Rattle.fg_desk.specs.State.{State, Live}
 use Rattle.fg_desk.specs.Facts.{Holds}
 use Rattle.fg_desk.specs.Admission.{Parity, AdmitsParity}
-use Rattle.fg_desk.specs.RowEntries.{positions_below}
+use Rattle.fg_window.specs.RowEntries.{positions_below}
 use Rattle.fg_desk.specs.Play.{Play, Shown, IsPlay, Flushes}
 use Rattle.fg_desk.specs.Contents.{Contents, IsPlaceAfter, ChangesInPlay, opened}
 use Rattle.fg_board.specs.Board.{IsCurrent, IsHeld, AdmitsParityOn, PlaysOn, FlushesOn, GivesKey, opened_board, with_back, with_vouched}

@@ -11,7 +11,7 @@ use Rattle.std.specs.FinSet as set_of
 use Rattle.std.specs.FinSet.{FinSet, contains, contains-insert, contains-remove, contains-empty, same_set, nat_cmp-IsAntisymmetric}
 use Rattle.fg_desk.specs.State.{Live}
 use Rattle.fg_desk.specs.Facts.{Holds}
-use Rattle.fg_desk.specs.RowEntries.{positions_below}
+use Rattle.fg_window.specs.RowEntries.{positions_below}
 use Rattle.fg_desk.specs.Contents.{Contents}
 use Rattle.fg_board.specs.Board.{KeepsMarks, AreMarksAfter}
 use Rattle.fg_board.specs.Flow.{no_mark, mark_at, says, is_marked, marked, is_vouched, is_handed_out, board_of, AreKept}

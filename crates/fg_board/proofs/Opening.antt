@@ -17,7 +17,7 @@ use Rattle.fg_peel.specs.Equation.{Equation, slots, IsComplete}
 use Rattle.fg_peel.specs.Slots.{equation_of, lines_of, IsMissing}
 use Rattle.fg_desk.specs.State.{Live, known}
 use Rattle.fg_desk.specs.Facts.{Holds}
-use Rattle.fg_desk.specs.Lines.{live_of}
+use Rattle.fg_window.specs.Lines.{live_of}
 use Rattle.fg_desk.specs.Contents.{Contents, known_in, shared_at}
 use Rattle.fg_board.specs.Board.{BoardState, JobState, IsOpen, IsCurrent, IsJobOf}
 use Rattle.fg_board.specs.Work.{job_of, IsWork, MissOne, inputs_from}

@@ -11,8 +11,8 @@ use Rattle.fg_peel.specs.declared.row.Missing.TheVariants.{One}
 use Rattle.fg_peel.specs.Equation.{slots, IsComplete}
 use Rattle.fg_peel.specs.Slots.{equation_of, IsMissing}
 use Rattle.fg_desk.specs.State.{Live}
-use Rattle.fg_desk.specs.Lines.{live_of}
-use Rattle.fg_desk.specs.RowEntries.{positions_below}
+use Rattle.fg_window.specs.Lines.{live_of}
+use Rattle.fg_window.specs.RowEntries.{positions_below}
 use Rattle.fg_desk.specs.Contents.{Contents, known_in, shared_at}
 use Rattle.fg_board.specs.Board.{BoardState, IsOpen, IsCurrent}
 use Rattle.fg_board.specs.Work.{HaveRoom}

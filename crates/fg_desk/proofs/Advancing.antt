@@ -11,11 +11,11 @@ use Rattle.fg_peel.specs.Equation.{Keeps}
 use Rattle.fg_desk.specs.Admission.{kept_count}
 use Rattle.fg_desk.specs.Contents.{kept_shown}
 use Rattle.fg_desk.specs.Play.{nothing_shown}
-use Rattle.fg_desk.specs.Row.{RowState, row_received, row_known, row_words, Advances}
+use Rattle.fg_window.specs.Row.{RowState, row_received, row_known, row_words, Advances}
 use Rattle.fg_desk.specs.State.{Words}
 use Rattle.fg_desk.proofs.DeskWords.{shown_in, received_below, received_ahead, known_kept, words_kept}
-use Rattle.fg_desk.proofs.Options.{chosen}
-use Rattle.fg_desk.proofs.RowMaps.{if-less, if-not_less}
+use Rattle.fg_window.proofs.Options.{chosen}
+use Rattle.fg_window.proofs.Choices.{if-less, if-not_less}
 
 module _ (count : ℕ) (old new : RowState) (advances : Advances count old new) where
   pub rises : old.mark ≤ new.mark

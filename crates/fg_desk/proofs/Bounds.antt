@@ -10,7 +10,7 @@ use Rattle.fg_desk.specs.State.{State, Top, opening}
 use Rattle.fg_desk.specs.Contents.{HasRoom}
 use Rattle.fg_desk.specs.Admission.{Parity, IsDue, IsLeastFree, IsAfterMedia, IsAfterParity, position_on, farther, with_media, with_equation, equation_at, counted}
 use Rattle.fg_desk.specs.Play.{Play, IsPlay}
-use Rattle.fg_desk.proofs.Options.{none_or_some, some_and}
+use Rattle.fg_window.proofs.Options.{none_or_some, some_and}
 use Rattle.fg_desk.proofs.Opened.{position_at_first, position_after}
 use Rattle.fg_desk.proofs.Parities.{position_most}
 

@@ -13,14 +13,14 @@ use Rattle.fg_desk.specs.State.{Live, known, live_equations}
 use Rattle.fg_desk.specs.Admission.{IsEquationReply, IsLeastFree, live_limit, with_equation}
 use Rattle.fg_desk.specs.Facts.{Holds}
 use Rattle.fg_desk.specs.Inside.{Parts, AreSound, state_of}
-use Rattle.fg_desk.specs.Row.{row_known, row_words}
-use Rattle.fg_desk.specs.Lines.{LinesState, AreLines}
+use Rattle.fg_window.specs.Row.{row_known, row_words}
+use Rattle.fg_window.specs.Lines.{LinesState, AreLines}
 use Rattle.fg_desk.proofs.Added.{added}
 use Rattle.fg_desk.proofs.AdmissionsAdd.{stays_listed}
 use Rattle.fg_desk.proofs.DeskPlays.{AreLimited, ComeByPeeling, sound_from}
-use Rattle.fg_desk.proofs.Options.{none_or_some, none_has_no_value, inserted, beside_inserted}
+use Rattle.fg_window.proofs.Options.{none_or_some, none_has_no_value, inserted, beside_inserted}
 use Rattle.fg_desk.proofs.Parities.{IsNew, with_equation_holds}
-use Rattle.fg_desk.proofs.Places.{free_place}
+use Rattle.fg_window.proofs.Places.{free_place}
 
 -- No equation has the number that the next one gets.
 pub next_is_fresh : (parts : Parts) → AreSound parts → get parts.lines.live parts.admitted ≡ None
@@ -43,7 +43,7 @@ module _
     (opened : parts.top ≢ None) (calls : parts.calls < 2 ^ 62) where
   is_new : IsNew (state_of parts) place equation
   is_new =
-      let free = free_place (state_of parts) live_limit replies.2 in
+      let free = free_place parts.lines.live live_limit replies.2 in
       let first : place ≤ free.0 = least.1 free.0 free.2 in
       let below : free.0 < live_limit = free.1 in
       record {

@@ -13,7 +13,7 @@ use Rattle.fg_desk.specs.Inside.{Parts, AreSound, state_of}
 use Rattle.fg_desk.proofs.Added.{added}
 use Rattle.fg_desk.proofs.DeskPlays.{sound_from}
 use Rattle.fg_desk.proofs.Opened.{counted_holds}
-use Rattle.fg_desk.proofs.Options.{inserted, some_and_from}
+use Rattle.fg_window.proofs.Options.{inserted, some_and_from}
 
 abbrev pub counted_parts : Parts → Parts
 counted_parts parts = record parts { calls = parts.calls + 1 }

@@ -17,8 +17,8 @@ use Rattle.fg_desk.specs.State.{State, Live, known, live_equations}
 use Rattle.fg_desk.specs.Contents.{Contents, IsLiveAt, CanFill, filled}
 use Rattle.fg_desk.specs.Facts.{Holds}
 use Rattle.fg_desk.specs.Inside.{Parts, AreSound, SettledComeOut, state_of, contents_of}
-use Rattle.fg_desk.specs.Row.{RowState, row_received, row_known, row_words, publishes}
-use Rattle.fg_desk.specs.Lines.{LinesState, SettlesAt, Reopens}
+use Rattle.fg_window.specs.Row.{RowState, row_received, row_known, row_words, publishes}
+use Rattle.fg_window.specs.Lines.{LinesState, SettlesAt, Reopens}
 use Rattle.fg_desk.specs.Window.{MakesWay, without_cached}
 use Rattle.fg_desk.proofs.DeskOneWord.{IsWith, words_stay, same_words, peeled_with_step, settled_by_word}
 use Rattle.fg_desk.proofs.DeskPlays.{AreLimited, ComeByPeeling, StandBeside, sound_from}
@@ -28,7 +28,7 @@ use Rattle.fg_desk.proofs.DeskSums.{other_element}
 use Rattle.fg_desk.proofs.DeskWays.{Agrees, with_row, sound_without_cached, agrees_uncached}
 use Rattle.fg_desk.proofs.DeskWords.{or_first, or_second, or_neither, words_keep, received_ahead}
 use Rattle.fg_desk.proofs.Equations.{live_at}
-use Rattle.fg_desk.proofs.Options.{none_or_some, none_has_no_value, value_of, has_value, inserted, beside_inserted}
+use Rattle.fg_window.proofs.Options.{none_or_some, none_has_no_value, value_of, has_value, inserted, beside_inserted}
 use Rattle.fg_desk.proofs.Orderly.{orderly_from_holds, known_base}
 use Rattle.fg_desk.proofs.SettledWords.{sum_at-agree, settled_keeps}
 

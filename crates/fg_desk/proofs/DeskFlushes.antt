@@ -7,13 +7,13 @@ use Rattle.fg_peel.specs.Laws.{FoundKeepsClosure, MaximalPeelingsEndAtClosure, P
 use Rattle.fg_desk.specs.State.{Words, live_equations}
 use Rattle.fg_desk.specs.Play.{IsHighest, HasMore}
 use Rattle.fg_desk.specs.Inside.{Parts, AreSound, state_of}
-use Rattle.fg_desk.specs.Row.{RowState, row_received, row_known, row_words, IsRow, IsHighestWord}
+use Rattle.fg_window.specs.Row.{RowState, row_received, row_known, row_words, IsRow, IsHighestWord}
 use Rattle.fg_desk.specs.Window.{IsRecovered}
 use Rattle.fg_desk.proofs.DeskPlays.{with_found, sound_without_found, AreLimited}
 use Rattle.fg_desk.proofs.DeskRecovers.{has_closure, words_kept}
 use Rattle.fg_desk.proofs.DeskWords.{or_cases, or_neither, received_ahead, unsolved_below, uncached_below}
 use Rattle.fg_desk.proofs.Opened.{counted_holds}
-use Rattle.fg_desk.proofs.Options.{none_has_no_value, value_of, has_value}
+use Rattle.fg_window.proofs.Options.{none_has_no_value, value_of, has_value}
 use Rattle.fg_desk.proofs.SettledWords.{settled_keeps}
 
 -- No position at the mark or past it has a word.

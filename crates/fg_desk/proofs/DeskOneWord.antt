@@ -15,7 +15,7 @@ use Rattle.fg_peel.specs.Peeling.{Step, CanFollow, ArePeeled, after_step, given_
 use Rattle.fg_peel.specs.Slots.{IsMissing}
 use Rattle.fg_peel.specs.Laws.{PeelingsAppend, PeelingsTakeWords}
 use Rattle.fg_desk.proofs.DeskSums.{other_element, slots_differ, sum_split}
-use Rattle.fg_desk.proofs.Options.{has_value}
+use Rattle.fg_window.proofs.Options.{has_value}
 use Rattle.fg_desk.proofs.Peelings.{end_keeps}
 use Rattle.fg_desk.proofs.SettledWords.{sum_at-agree}
 

@@ -4,11 +4,11 @@ use Rattle.std.proofs.lemmas.Option.{none-some}
 use Rattle.std.specs.FinMap.{get-empty}
 use Rattle.std.specs.Ordering.{nat_cmp}
 use Rattle.fg_desk.specs.Inside.{Parts, AreSound}
-use Rattle.fg_desk.specs.Lines.{no_lines}
-use Rattle.fg_desk.specs.Row.{opened_row}
+use Rattle.fg_window.specs.Lines.{no_lines}
+use Rattle.fg_window.specs.Row.{opened_row}
 use Rattle.fg_desk.proofs.DeskPlays.{sound_without_found}
 use Rattle.fg_desk.proofs.Opened.{opening_holds}
-use Rattle.fg_desk.proofs.Options.{nothing_in_empty}
+use Rattle.fg_window.proofs.Options.{nothing_in_empty}
 
 abbrev pub opened_parts : ℕ → ℕ → Parts
 opened_parts window depth = record {

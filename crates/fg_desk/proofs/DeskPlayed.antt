@@ -17,14 +17,14 @@ use Rattle.fg_desk.specs.Contents.{ChangesInPlay, epoch_after}
 use Rattle.fg_desk.specs.Play.{IsPlay}
 use Rattle.fg_desk.specs.Laws.{SolvedStaysPeeled}
 use Rattle.fg_desk.specs.Inside.{Parts, AreSound, state_of, contents_of}
-use Rattle.fg_desk.specs.Row.{RowState, row_words, IsRow, Advances}
-use Rattle.fg_desk.specs.Lines.{LinesState}
+use Rattle.fg_window.specs.Row.{RowState, row_words, IsRow, Advances}
+use Rattle.fg_window.specs.Lines.{LinesState}
 use Rattle.fg_desk.specs.Window.{IsRecovered, Closes, without_found}
 use Rattle.fg_desk.proofs.Advancing.{none_solved}
 use Rattle.fg_desk.proofs.DeskPlays.{played, with_found, repaired_play, repaired_sound, received_play, received_sound}
 use Rattle.fg_desk.proofs.DeskWords.{shown_in, received_ahead, words_unfound}
-use Rattle.fg_desk.proofs.Options.{chosen}
-use Rattle.fg_desk.proofs.RowMaps.{if-less, if-not_less}
+use Rattle.fg_window.proofs.Options.{chosen}
+use Rattle.fg_window.proofs.Choices.{if-less, if-not_less}
 
 -- Where each kept word was received, no position is bare, whatever was solved.
 bare_where_received :

@@ -21,17 +21,17 @@ use Rattle.fg_desk.specs.Solution.{IsSolution}
 use Rattle.fg_desk.specs.Play.{IsPlay}
 use Rattle.fg_desk.specs.Laws.{SolvedStaysPeeled}
 use Rattle.fg_desk.specs.Inside.{Parts, AreSound, SettledComeOut, state_of}
-use Rattle.fg_desk.specs.Row.{RowState, row_received, row_known, row_words, IsRow, Advances}
-use Rattle.fg_desk.specs.Lines.{LinesState, no_lines}
+use Rattle.fg_window.specs.Row.{RowState, row_received, row_known, row_words, IsRow, Advances}
+use Rattle.fg_window.specs.Lines.{LinesState, no_lines}
 use Rattle.fg_desk.specs.Window.{IsRecovered, Keeps, without_found}
 use Rattle.fg_desk.proofs.Advancing.{unsolved_below, known_below as known_in_new, known_ahead, words_below, words_ahead, words_before, shows_kept, none_solved, none_found}
 use Rattle.fg_desk.proofs.DeskRecovers.{desk_solution, desk_solvable, all_peeled}
 use Rattle.fg_desk.proofs.DeskWords.{shown_in, known_unsolved, words_unfound, received_ahead, found_is_word, words_in_play}
 use Rattle.fg_desk.proofs.Equations.{live_at}
-use Rattle.fg_desk.proofs.Options.{none_has_no_value, nothing_in_empty, passed_over}
+use Rattle.fg_window.proofs.Options.{none_has_no_value, nothing_in_empty, passed_over}
 use Rattle.fg_desk.proofs.Orderly.{orderly_from_holds, known_below}
 use Rattle.fg_desk.proofs.Plays.{words_are_media}
-use Rattle.fg_desk.proofs.RowMaps.{if-not_less}
+use Rattle.fg_window.proofs.Choices.{if-not_less}
 use Rattle.fg_desk.proofs.SettledWords.{settled_back}
 
 -- The parts after a play.

@@ -15,8 +15,8 @@ use Rattle.fg_desk.specs.Admission.{farther, with_media}
 use Rattle.fg_desk.specs.Contents.{GivesWay}
 use Rattle.fg_desk.specs.Facts.{Holds}
 use Rattle.fg_desk.specs.Inside.{Parts, AreSound, state_of, contents_of, raised}
-use Rattle.fg_desk.specs.Row.{RowState, row_received, row_known, row_words, receives}
-use Rattle.fg_desk.specs.Lines.{LinesState, Reopens}
+use Rattle.fg_window.specs.Row.{RowState, row_received, row_known, row_words, receives}
+use Rattle.fg_window.specs.Lines.{LinesState, Reopens}
 use Rattle.fg_desk.specs.Window.{MakesWay, without_cached, without_found}
 use Rattle.fg_desk.proofs.AdmissionsAdd.{known_with_media}
 use Rattle.fg_desk.proofs.DeskOneWord.{IsWith, words_stay, peeled_with_known}
@@ -24,7 +24,7 @@ use Rattle.fg_desk.proofs.DeskPlays.{AreLimited, StandBeside, sound_from}
 use Rattle.fg_desk.proofs.DeskWays.{Agrees, with_row, sound_without_cached, sound_without_all, agrees_uncached, agrees_unfound}
 use Rattle.fg_desk.proofs.DeskWords.{or_first, or_second, or_neither, received_ahead}
 use Rattle.fg_desk.proofs.Opened.{with_media_holds}
-use Rattle.fg_desk.proofs.Options.{some_and, none_has_no_value, beside_inserted}
+use Rattle.fg_window.proofs.Options.{some_and, none_has_no_value, beside_inserted}
 use Rattle.fg_desk.proofs.SettledWords.{settled_keeps}
 
 -- The parts after the call.

@@ -10,13 +10,13 @@ use Rattle.fg_desk.specs.declared.reply.Outcome.TheVariants.{Repaired}
 use Rattle.fg_desk.specs.State.{known, live_equations}
 use Rattle.fg_desk.specs.Solution.{InClosure, IsSolution}
 use Rattle.fg_desk.specs.Inside.{Parts, AreSound, state_of}
-use Rattle.fg_desk.specs.Row.{RowState, row_words}
+use Rattle.fg_window.specs.Row.{RowState, row_words}
 use Rattle.fg_desk.specs.Window.{AreInRow, EachSettled, IsRecovered}
 use Rattle.fg_desk.proofs.Orderly.{IsOrderly, orderly_from_holds, admissible}
 use Rattle.fg_desk.proofs.Peeled.{closure_to_peel, closure_from_peel, solution_to_peel, solution_from_peel}
 use Rattle.fg_desk.proofs.Plays.{words_are_media}
 use Rattle.fg_desk.proofs.SettledWords.{complete_keeps}
-use Rattle.fg_desk.proofs.SlotRange.{slot_is_near}
+use Rattle.fg_window.proofs.SlotRange.{slot_is_near}
 
 -- The live equations can be asked of the row.
 pub are_in_row : (parts : Parts) → AreSound parts → AreInRow parts.row parts.lines

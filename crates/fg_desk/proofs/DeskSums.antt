@@ -6,7 +6,7 @@ use Rattle.fg_words.specs.declared.Word.{Word}
 use Rattle.fg_words.specs.Word.{word_xor, word_sum}
 use Rattle.fg_words.specs.Laws.{XorAssociates, XorCommutes}
 use Rattle.fg_peel.specs.Equation.{Equation, others, slots, sum_at}
-use Rattle.fg_desk.proofs.Lists.{Contains-here, Contains-there, Contains-nil, Contains-cases}
+use Rattle.fg_window.proofs.Lists.{Contains-here, Contains-there, Contains-nil, Contains-cases}
 
 -- A list whose elements differ from each other.
 abbrev pub Distinct : List ℕ → Type 0

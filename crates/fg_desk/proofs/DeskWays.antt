@@ -7,12 +7,12 @@ use Rattle.fg_words.specs.declared.Word.{Word}
 use Rattle.fg_peel.specs.Equation.{AreMedia, Keeps, IsComplete}
 use Rattle.fg_desk.specs.State.{Live, Words}
 use Rattle.fg_desk.specs.Inside.{Parts, AreSound, SettledComeOut}
-use Rattle.fg_desk.specs.Row.{RowState, row_received, row_known, row_words}
-use Rattle.fg_desk.specs.Lines.{LinesState, Reopens}
+use Rattle.fg_window.specs.Row.{RowState, row_received, row_known, row_words}
+use Rattle.fg_window.specs.Lines.{LinesState, Reopens}
 use Rattle.fg_desk.specs.Window.{MakesWay, without_cached, without_found}
 use Rattle.fg_desk.proofs.DeskPlays.{AreLimited, ComeByPeeling, StandBeside, sound_from}
 use Rattle.fg_desk.proofs.DeskWords.{or_second, known_unsolved, words_uncached, words_unfound, words_keep, words_keep_received}
-use Rattle.fg_desk.proofs.Options.{some_and, none_has_no_value}
+use Rattle.fg_window.proofs.Options.{some_and, none_has_no_value}
 use Rattle.fg_desk.proofs.SettledWords.{settled_back}
 
 -- Where nothing is solved, nothing is withdrawn.

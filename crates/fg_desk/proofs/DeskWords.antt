@@ -13,9 +13,9 @@ use Rattle.fg_desk.specs.State.{State, known}
 use Rattle.fg_desk.specs.Facts.{Holds}
 use Rattle.fg_desk.specs.Contents.{kept_shown}
 use Rattle.fg_desk.specs.Play.{Shown}
-use Rattle.fg_desk.specs.Row.{RowState, row_received, row_known, row_words, row_kept_from, IsRow}
-use Rattle.fg_desk.proofs.Options.{none_or_some, has_value}
-use Rattle.fg_desk.proofs.RowMaps.{if-less, if-not_less}
+use Rattle.fg_window.specs.Row.{RowState, row_received, row_known, row_words, row_kept_from, IsRow}
+use Rattle.fg_window.proofs.Options.{none_or_some, has_value}
+use Rattle.fg_window.proofs.Choices.{if-less, if-not_less}
 
 pub or_none : (o : Option Word) → option_or o None ≡ o
 or_none None = refl

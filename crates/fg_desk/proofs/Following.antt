@@ -8,7 +8,7 @@ use Rattle.fg_desk.specs.Admission.{Parity, IsAfterMedia, IsAfterParity, IsLeast
 use Rattle.fg_desk.specs.Play.{Play, IsPlay}
 use Rattle.fg_desk.specs.Run.{Arrival, carries, protects, refused, ArePlaysDue, Takes, TakesAll, IsFlush}
 use Rattle.fg_desk.specs.Laws.{LaterChangesNothing, AreInSuccession, PlaysFollow}
-use Rattle.fg_desk.proofs.Options.{some_and}
+use Rattle.fg_window.proofs.Options.{some_and}
 
 pub later_changes_nothing : LaterChangesNothing
 later_changes_nothing old new [] later plays replies takes =

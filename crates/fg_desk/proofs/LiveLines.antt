@@ -6,7 +6,7 @@ use Rattle.fg_shape.specs.Shape.{IsShape}
 use Rattle.fg_peel.specs.declared.Line.{Line}
 use Rattle.fg_desk.specs.Facts.{Holds}
 use Rattle.fg_desk.specs.Inside.{Parts, state_of}
-use Rattle.fg_desk.specs.Lines.{LinesState, AreOpen, AreSettled, IsAmong, IsLiveLine, live_of}
+use Rattle.fg_window.specs.Lines.{LinesState, AreOpen, AreSettled, IsAmong, IsLiveLine, live_of}
 
 true_or_false : (b : Bool) → (b ≡ true) ⊎ (b ≡ false)
 true_or_false true = inl refl

@@ -11,7 +11,7 @@ use Rattle.fg_desk.specs.declared.reply.Outcome.TheVariants.{Repaired, Inconsist
 use Rattle.fg_desk.specs.State.{State, Live, Words, known, live_equations}
 use Rattle.fg_desk.specs.Admission.{kept_count, counted}
 use Rattle.fg_desk.specs.Play.{Play, Shown, Decides, Survives, IsPlay, IsFlushStep, shown_at, nothing_shown}
-use Rattle.fg_desk.proofs.Options.{same_options}
+use Rattle.fg_window.proofs.Options.{same_options}
 use Rattle.fg_desk.proofs.Orderly.{IsOrderly, admissible}
 use Rattle.fg_desk.proofs.Peeled.{solution_to_peel}
 use Rattle.fg_desk.proofs.Flushing.{one_highest}

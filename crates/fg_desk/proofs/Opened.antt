@@ -12,7 +12,7 @@ use Rattle.fg_desk.specs.State.{State, Top, Words}
 use Rattle.fg_desk.specs.Admission.{IsDue, IsReplyAt, IsMediaReply, IsAfterMedia, position_on, farther, with_media, counted}
 use Rattle.fg_desk.specs.Facts.{Holds, IsReceived}
 use Rattle.fg_desk.specs.Laws.{OpeningHolds, MediaKeeps}
-use Rattle.fg_desk.proofs.Options.{none_or_some, some_and, some_and_from, nothing_in_empty, inserted, beside_inserted}
+use Rattle.fg_window.proofs.Options.{none_or_some, some_and, some_and_from, nothing_in_empty, inserted, beside_inserted}
 
 pub opening_holds : OpeningHolds
 opening_holds window depth one most fits = record {

@@ -9,7 +9,7 @@ use Rattle.fg_peel.specs.Equation.{Equation, slots, AreAdmissible}
 use Rattle.fg_desk.specs.State.{State, Live, known, live_equations, opening}
 use Rattle.fg_desk.specs.Admission.{HaveSameSlots}
 use Rattle.fg_desk.specs.Facts.{Holds}
-use Rattle.fg_desk.proofs.Options.{nothing_in_empty}
+use Rattle.fg_window.proofs.Options.{nothing_in_empty}
 use Rattle.fg_desk.proofs.Equations.{serial_of}
 
 pub record IsOrderly (desk : State) : Type 0 where

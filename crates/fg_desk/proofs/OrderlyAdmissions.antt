@@ -11,7 +11,7 @@ use Rattle.fg_desk.specs.declared.reply.Reply.{Reply}
 use Rattle.fg_desk.specs.declared.reply.Reply.TheVariants.{Admitted}
 use Rattle.fg_desk.specs.State.{State, Live}
 use Rattle.fg_desk.specs.Admission.{Parity, HaveSameSlots, HasTwin, IsLate, IsLeastFree, IsAfterMedia, IsAfterParity, IsParityReply, position_on, with_media, with_equation, equation_at, counted}
-use Rattle.fg_desk.proofs.Options.{some_and, inserted, beside_inserted}
+use Rattle.fg_window.proofs.Options.{some_and, inserted, beside_inserted}
 use Rattle.fg_desk.proofs.Added.{added_or_old, apart_with_added, flip_slots, no_twin_apart}
 use Rattle.fg_desk.proofs.Orderly.{IsOrderly}
 use Rattle.fg_desk.proofs.Parities.{is_admitted, based_unless_late}

@@ -15,10 +15,10 @@ use Rattle.fg_desk.specs.Contents.{HasRoom}
 use Rattle.fg_desk.specs.Admission.{Parity, IsLate, IsAhead, IsTimely, HasTwin, IsFree, IsLeastFree, IsEquationReply, IsParityReply, IsAfterParity, position_on, equation_at, with_equation, live_limit, kept_count}
 use Rattle.fg_desk.specs.Facts.{Holds, IsLive, AreApart}
 use Rattle.fg_desk.specs.Laws.{ParityKeeps}
-use Rattle.fg_desk.proofs.Options.{none_or_some, some_and, chosen, has_value}
+use Rattle.fg_window.proofs.Options.{none_or_some, some_and, chosen, has_value}
 use Rattle.fg_desk.proofs.Added.{added, added_or_old, apart_with_added, flip_slots, no_twin_apart}
 use Rattle.fg_desk.proofs.Opened.{counted_holds, position_after}
-use Rattle.fg_desk.proofs.Places.{free_place}
+use Rattle.fg_window.proofs.Places.{free_place}
 
 -- A position is at most 32,767 past the top's.
 pub position_most : (top top_seq seq position : ℕ) → position_of top top_seq seq ≡ Some position → position ≤ top + 32767
@@ -161,7 +161,7 @@ admitted_holds old new parity holds room shape replies after =
     let equation : Equation = equation_at a.0 parity in
     let most : a.0 ≤ is.top.position + 32767 = position_most is.top.position is.top.seq parity.base a.0 is.at in
     let limit : is.top.position < 2 ^ 61 = top_limit old is.top room is.top_is in
-    let free = free_place old live_limit is.replies.2 in
+    let free = free_place old.equations live_limit is.replies.2 in
     let least : a.2.0 ≤ free.0 = a.2.1.1 free.0 free.2 in
     let below : free.0 < live_limit = free.1 in
     let is_new : IsNew old a.2.0 equation = record {

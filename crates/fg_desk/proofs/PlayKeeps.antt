@@ -10,7 +10,7 @@ use Rattle.fg_desk.specs.Solution.{InClosure, given, derived}
 use Rattle.fg_desk.specs.Play.{Play, IsPlay, IsFlushStep}
 use Rattle.fg_desk.specs.Facts.{Holds, IsKept, IsReceived, IsLive}
 use Rattle.fg_desk.specs.Laws.{PlayKeeps, FlushStepKeeps, ClosureGainsNothing}
-use Rattle.fg_desk.proofs.Options.{value_of, nothing_in_empty}
+use Rattle.fg_window.proofs.Options.{value_of, nothing_in_empty}
 use Rattle.fg_desk.proofs.Equations.{serial_of}
 use Rattle.fg_desk.proofs.Orderly.{orderly_from_holds, known_below, known_ahead}
 use Rattle.fg_desk.proofs.Opened.{counted_holds}

@@ -9,7 +9,7 @@ use Rattle.fg_desk.specs.Admission.{Parity, IsAfterMedia, IsAfterParity, IsLeast
 use Rattle.fg_desk.specs.Play.{Play, IsPlay}
 use Rattle.fg_desk.specs.Run.{Arrival, carries, protects, refused, Takes}
 use Rattle.fg_desk.specs.Laws.{HavePlayed, Reach, played_count, PlaysReachTheMark, DuePlaysReachTheMark, FlushStepsReachTheMark, EachGetsAReply}
-use Rattle.fg_desk.proofs.Options.{some_and}
+use Rattle.fg_window.proofs.Options.{some_and}
 use Rattle.fg_desk.proofs.Following.{media_keeps_mark, parity_keeps_mark}
 use Rattle.fg_desk.proofs.Joining.{plays_due_end}
 

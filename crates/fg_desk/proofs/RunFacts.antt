@@ -15,10 +15,10 @@ use Rattle.fg_desk.specs.Play.{Play, IsFlushStep}
 use Rattle.fg_desk.specs.Run.{Arrival, carries, protects, refused, Takes, TakesAll}
 use Rattle.fg_desk.specs.Facts.{Holds}
 use Rattle.fg_desk.specs.Laws.{AreFlushSteps, IsRead, HavePlayed, RunsStayWithin, FlushesStayWithin}
-use Rattle.fg_desk.proofs.Options.{value_of, some_and}
+use Rattle.fg_window.proofs.Options.{value_of, some_and}
 use Rattle.fg_desk.proofs.Equations.{serial_of}
 use Rattle.fg_desk.proofs.Orderly.{known_ahead}
-use Rattle.fg_desk.proofs.SlotRange.{slot_is_near}
+use Rattle.fg_window.proofs.SlotRange.{slot_is_near}
 use Rattle.fg_desk.proofs.Opened.{opening_holds, media_keeps}
 use Rattle.fg_desk.proofs.Parities.{parity_keeps}
 use Rattle.fg_desk.proofs.Plays.{followed_before}

@@ -14,11 +14,11 @@ use Rattle.fg_peel.specs.Solution.{IsSolution}
 use Rattle.fg_peel.specs.Peeling.{Step, CanFollow, EndsPeeling, end_of}
 use Rattle.fg_peel.specs.Laws.{AddsSettled, PeelingsTakeEquations, PeelingsKeepWords}
 use Rattle.fg_desk.specs.State.{State, Live, opening}
-use Rattle.fg_desk.specs.Lines.{LinesState, AreOpen, live_of}
+use Rattle.fg_window.specs.Lines.{LinesState, AreOpen, live_of}
 use Rattle.fg_desk.specs.Window.{EachSettled, equations_in}
 use Rattle.fg_desk.proofs.Equations.{serial_of, live_at}
-use Rattle.fg_desk.proofs.Lists.{Contains-nil, Contains-map, Contains-from_map}
-use Rattle.fg_desk.proofs.Options.{value_of, has_value}
+use Rattle.fg_window.proofs.Lists.{Contains-nil, Contains-map, Contains-from_map}
+use Rattle.fg_window.proofs.Options.{value_of, has_value}
 
 -- No step follows of an equation that is complete already.
 no_step_of_complete :

@@ -4,8 +4,8 @@ use Rattle.std.specs.List.{Contains, filter_map, cons_option}
 use Rattle.fg_words.specs.declared.Word.{Word}
 use Rattle.fg_words.specs.Word.{word_sum}
 use Rattle.fg_peel.specs.Equation.{Equation, Keeps, IsComplete, IsSettled, slots, sum_at}
-use Rattle.fg_desk.proofs.Lists.{Contains-here, Contains-there}
-use Rattle.fg_desk.proofs.Options.{value_of, has_value}
+use Rattle.fg_window.proofs.Lists.{Contains-here, Contains-there}
+use Rattle.fg_window.proofs.Options.{value_of, has_value}
 
 filter_map-agree :
     (one other : ℕ → Option Word) (xs : List ℕ) → ((q : ℕ) → Contains xs q → one q ≡ other q)

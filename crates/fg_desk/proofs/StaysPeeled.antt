@@ -16,12 +16,12 @@ use Rattle.fg_desk.specs.Solution.{IsSolution}
 use Rattle.fg_desk.specs.Play.{Play, Decides, IsPlay}
 use Rattle.fg_desk.specs.Facts.{Holds}
 use Rattle.fg_desk.specs.Laws.{SolvedStaysPeeled}
-use Rattle.fg_desk.proofs.Options.{value_of, has_value}
+use Rattle.fg_window.proofs.Options.{value_of, has_value}
 use Rattle.fg_desk.proofs.Equations.{serial_of, live_at}
 use Rattle.fg_desk.proofs.Orderly.{orderly_from_holds, known_below, known_ahead, admissible}
 use Rattle.fg_desk.proofs.Peeled.{solution_to_peel}
 use Rattle.fg_desk.proofs.Plays.{mark_rises, kept_before, kept_shown, kept_is, received_is}
-use Rattle.fg_desk.proofs.SlotRange.{slot_is_near}
+use Rattle.fg_window.proofs.SlotRange.{slot_is_near}
 
 module _
     (count : ℕ) (old new : State) (play : Play) (holds : Holds old) (plays : IsPlay count old play new)

@@ -10,10 +10,10 @@ use Rattle.fg_shape.specs.Shape.{IsShape}
 use Rattle.fg_peel.specs.Equation.{Equation, IsComplete, slots}
 use Rattle.fg_desk.specs.State.{Live, last_slot}
 use Rattle.fg_desk.specs.Admission.{kept_count}
-use Rattle.fg_desk.specs.Row.{RowState, row_words, Advances}
-use Rattle.fg_desk.specs.Lines.{LinesState, Settles, Retires, SettledAreBased}
+use Rattle.fg_window.specs.Row.{RowState, row_words, Advances}
+use Rattle.fg_window.specs.Lines.{LinesState, Settles, Retires, SettledAreBased}
 use Rattle.fg_desk.specs.Window.{AreInRow, EachSettled, Keeps}
-use Rattle.fg_desk.proofs.SlotRange.{slot_is_near}
+use Rattle.fg_window.proofs.SlotRange.{slot_is_near}
 
 -- After a pass that settles, those that are settled are complete.
 pub settles_complete :

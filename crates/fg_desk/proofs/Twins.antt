@@ -9,7 +9,7 @@ use Rattle.fg_peel.specs.Equation.{Equation}
 use Rattle.fg_desk.specs.State.{State, Live}
 use Rattle.fg_peel.specs.Slots.{equation_of}
 use Rattle.fg_desk.specs.Admission.{HasSlots, HasTwin}
-use Rattle.fg_desk.specs.Lines.{LinesState, IsLiveLine, live_of}
+use Rattle.fg_window.specs.Lines.{LinesState, IsLiveLine, live_of}
 use Rattle.fg_desk.proofs.SettledEquations.{line_with}
 
 module _ (desk : State) (lines : LinesState) (same : lines.live ≡ desk.equations) (equation : Equation) where

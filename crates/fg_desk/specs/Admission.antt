@@ -1,23 +1,15 @@
 -- Which reply a datagram gets, and what the desk is then. This project's own.
 use Rattle.std.specs.Prelude.{◌≡◌, ◌≢◌, ◌+◌, ◌<◌, ◌≤◌, ◌⊎◌, ℕ, ⊤, Option, Some, None, MatchOption, IsSomeAnd, nat_lt, if◌then◌else◌}
 use Rattle.std.specs.List.{Contains}
-use Rattle.std.specs.Ordering.{nat_cmp}
-use Rattle.std.specs.FinMap.{FinMap, get, insert, len}
+use Rattle.std.specs.FinMap.{get, insert, len}
 use Rattle.fg_words.specs.declared.Word.{Word}
 use Rattle.fg_unwrap.specs.Position.{position_of}
 use Rattle.fg_peel.specs.Equation.{Equation, slots}
-use Rattle.fg_peel.specs.Verdict.{IsLeast}
+pub use Rattle.fg_window.specs.Words.{kept_count}
+pub use Rattle.fg_window.specs.Live.{live_limit, HasSlots, IsFree, IsLeastFree}
 use Rattle.fg_desk.specs.declared.reply.Reply.{Reply}
 use Rattle.fg_desk.specs.declared.reply.Reply.TheVariants.{Admitted, Duplicate, Conflict, Late, NotStarted, BeforeStart, Ahead, Crowded}
 use Rattle.fg_desk.specs.State.{State, Top, Live, last_slot}
-
--- How many positions before the mark have kept words.
-abbrev pub kept_count : ℕ
-kept_count = 100
-
--- How many equations may be live.
-abbrev pub live_limit : ℕ
-live_limit = 512
 
 -- The desk after a call that changed nothing else.
 abbrev pub counted : State → State
@@ -91,12 +83,6 @@ IsLate desk equation =
 abbrev pub IsAhead : State → Equation → Type 0
 IsAhead desk equation = desk.mark + desk.depth + kept_count ≤ last_slot equation
 
--- An equation of this base and shape.
-pub record HasSlots (base offset count : ℕ) (equation : Equation) : Type 0 where
-  pub base_is : equation.base ≡ base
-  pub offset_is : equation.offset ≡ offset
-  pub count_is : equation.count ≡ count
-
 -- Two equations have the same base and shape.
 abbrev pub HaveSameSlots : Equation → Equation → Type 0
 HaveSameSlots one other = HasSlots other.base other.offset other.count one
@@ -148,14 +134,6 @@ IsParityReply desk parity reply =
     MatchOption desk.top (reply ≡ NotStarted) (λ top.
     MatchOption (position_of top.position top.seq parity.base) (reply ≡ BeforeStart) (λ position.
     IsEquationReply desk (equation_at position parity) reply))
-
--- None of these equations has the place.
-abbrev pub IsFree : FinMap nat_cmp Live → ℕ → Type 0
-IsFree equations place = (serial : ℕ) (live : Live) → get equations serial ≡ Some live → live.place ≢ place
-
--- It is the least such place.
-abbrev pub IsLeastFree : FinMap nat_cmp Live → ℕ → Type 0
-IsLeastFree equations = IsLeast (IsFree equations)
 
 -- The desk with one more equation.
 abbrev pub with_equation : State → ℕ → Equation → State

@@ -11,6 +11,7 @@ use Rattle.fg_peel.specs.declared.row.Missing.TheVariants.{One}
 use Rattle.fg_peel.specs.Equation.{Equation}
 use Rattle.fg_peel.specs.Peeling.{ArePeeled, given_word}
 use Rattle.fg_peel.specs.Slots.{IsMissing}
+pub use Rattle.fg_window.specs.Shown.{Holding, kept_shown}
 use Rattle.fg_desk.specs.declared.reply.Reply.{Reply}
 use Rattle.fg_desk.specs.declared.reply.Reply.TheVariants.{Admitted}
 use Rattle.fg_desk.specs.declared.reply.Outcome.{Outcome}
@@ -130,15 +131,6 @@ pub record ChangesInPlay (outcome : Outcome) (old new : Contents) : Type 0 where
   pub solved : IsSolvedAfter outcome old new
   pub epoch : new.epoch ≡ epoch_after old.epoch outcome
 
--- What words show at a position, where it is told which were repaired.
-abbrev pub kept_shown : (ℕ → Option Word) → FinSet nat_cmp → ℕ → Shown
-kept_shown words repaired position = record { word = words position; repaired = contains repaired position }
-
 -- What a desk keeps at `count` positions from a first one on. After a play it keeps what it showed.
 abbrev pub kept_from : Contents → ℕ → ℕ → List Shown
 kept_from desk first count = map (kept_shown (known desk.state) desk.repaired) (range_with_len first count)
-
--- A tray: how many positions it has room for, and what the last play showed.
-pub record Holding : Type 0 where
-  pub window : ℕ
-  pub shown : List Shown

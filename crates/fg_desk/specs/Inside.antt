@@ -13,10 +13,10 @@ use Rattle.fg_peel.specs.Peeling.{ArePeeled}
 use Rattle.fg_desk.specs.State.{State, Top, Live, Words, known, live_equations}
 use Rattle.fg_desk.specs.Facts.{Holds}
 use Rattle.fg_desk.specs.Contents.{Contents}
-use Rattle.fg_desk.specs.Row.{RowState, row_known, row_words}
-use Rattle.fg_desk.specs.RowEntries.{words_code}
-use Rattle.fg_desk.specs.Lines.{LinesState}
-use Rattle.fg_desk.specs.LinesInside.{live_code}
+use Rattle.fg_window.specs.Row.{RowState, row_known, row_words}
+use Rattle.fg_window.specs.RowEntries.{words_code}
+use Rattle.fg_window.specs.Lines.{LinesState}
+use Rattle.fg_window.specs.LinesInside.{live_code}
 
 -- How contents are told apart.
 abbrev pub top_code : Coded Top

@@ -4,14 +4,9 @@ pub mod Contents
 pub mod Facts
 pub mod Inside
 pub mod Laws
-pub mod Lines
-pub mod LinesInside
 pub mod Parts
 pub mod Play
-pub mod Row
-pub mod RowEntries
 pub mod Run
 pub mod Solution
 pub mod State
-pub mod TrayPlaces
 pub mod Window

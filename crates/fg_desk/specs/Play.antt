@@ -1,22 +1,15 @@
 -- What a play shows, and what the desk is then. This project's own.
-use Rattle.std.specs.Prelude.{◌≡◌, ◌+◌, ◌-◌, ◌<◌, ◌≤◌, ◌↔◌, ℕ, Bool, false, ◌&&◌, not, is_some, List, length, min, slice_index_or, nat_lt, nat_le, Option, Some, None, IsSome, if◌then◌else◌}
-use Rattle.std.specs.List.{Contains}
+use Rattle.std.specs.Prelude.{◌≡◌, ◌+◌, ◌-◌, ◌<◌, ◌≤◌, ◌↔◌, ℕ, ◌&&◌, not, is_some, List, length, min, slice_index_or, nat_lt, nat_le, Option, Some, None, if◌then◌else◌}
 use Rattle.std.specs.FinMap.{get}
 use Rattle.fg_words.specs.declared.Word.{Word}
-use Rattle.fg_peel.specs.Equation.{Equation, slots}
+pub use Rattle.fg_window.specs.Words.{IsGreatest}
+pub use Rattle.fg_window.specs.Live.{Survives}
+pub use Rattle.fg_window.specs.Shown.{Shown, nothing_shown}
 use Rattle.fg_desk.specs.declared.reply.Outcome.{Outcome}
 use Rattle.fg_desk.specs.declared.reply.Outcome.TheVariants.{Repaired, Inconsistent}
-use Rattle.fg_desk.specs.State.{State, Live, Words, last_slot}
+use Rattle.fg_desk.specs.State.{State, Live}
 use Rattle.fg_desk.specs.Admission.{kept_count, counted}
 use Rattle.fg_desk.specs.Solution.{InClosure, IsSolution}
-
--- What a play shows at a position: a word, or none; and whether the word was not received but repaired.
-pub record Shown : Type 0 where
-  pub word : Option Word
-  pub repaired : Bool
-
-abbrev pub nothing_shown : Shown
-nothing_shown = record { word = None; repaired = false }
 
 -- A play: its first position, what each position from there on shows, and its outcome.
 pub record Play : Type 0 where
@@ -37,12 +30,6 @@ shown_at desk words position = record {
   word = words position;
   repaired = is_some (words position) && not (is_some (get desk.media position));
 }
-
--- An equation is live after a play: its last slot is the new mark or past it, and the words at its slots below the new
--- mark are kept.
-pub record Survives (mark : ℕ) (kept : Words) (equation : Equation) : Type 0 where
-  pub reaches : mark ≤ last_slot equation
-  pub based : (slot : ℕ) → Contains (slots equation) slot → slot < mark → IsSome (get kept slot)
 
 -- A play of `count` positions from the mark on.
 pub record IsPlay (count : ℕ) (old : State) (play : Play) (new : State) : Type 0 where
@@ -72,11 +59,6 @@ pub record IsPlay (count : ℕ) (old : State) (play : Play) (new : State) : Type
 -- The closure has a position that isn't played yet: a flush step is defined.
 abbrev pub HasMore : State → Type 0
 HasMore desk = (position : ℕ) × InClosure desk position × (desk.mark ≤ position)
-
--- The greatest number with a property.
-pub record IsGreatest (P : ℕ → Type 0) (n : ℕ) : Type 0 where
-  pub inside : P n
-  pub greatest : (other : ℕ) → P other → other ≤ n
 
 -- The highest position of the closure.
 abbrev pub IsHighest : State → ℕ → Type 0

@@ -12,8 +12,8 @@ use Rattle.fg_desk.specs.declared.reply.Outcome.{Outcome}
 use Rattle.fg_desk.specs.declared.reply.Outcome.TheVariants.{Repaired, Inconsistent}
 use Rattle.fg_desk.specs.State.{Live, Words}
 use Rattle.fg_desk.specs.Play.{Survives}
-use Rattle.fg_desk.specs.Row.{RowState, row_known, row_words, Advances}
-use Rattle.fg_desk.specs.Lines.{LinesState, no_lines, Reopens}
+use Rattle.fg_window.specs.Row.{RowState, row_known, row_words, Advances}
+use Rattle.fg_window.specs.Lines.{LinesState, no_lines, Reopens}
 
 -- What the live equations say.
 abbrev pub equations_in : LinesState → List Equation

@@ -10,7 +10,7 @@ ghost use Rattle.fg_peel.specs.Equation.{IsSettled};
 ghost use Rattle.fg_peel.specs.declared.Line.{Line as LiveLine};
 ghost use Rattle.fg_desk.specs.State.{known, Top as TopState, Live};
 ghost use Rattle.fg_desk.specs.Facts.{Holds};
-ghost use Rattle.fg_desk.specs.Lines.{live_of, IsAmong};
+ghost use Rattle.fg_window.specs.Lines.{live_of, IsAmong};
 ghost use Rattle.fg_desk.specs.Contents.{opened, HasRoom, AreSolved, CanFill, IsLiveAt, IsPlaceAfter, GivesWay, IsAfterArrival, ChangesInPlay, filled, known_in, shared_at, kept_from, epoch_after};
 ghost use Rattle.fg_desk.specs.Admission.{IsDue, IsReplyAt, IsEquationReply, IsLeastFree, AdmitsMedia, AdmitsParity, farther as farther_top, with_media, with_equation};
 ghost use Rattle.fg_desk.specs.Play.{IsPlay, Flushes};
@@ -18,10 +18,7 @@ ghost use Rattle.fg_desk.specs.Inside.{IsLateAt, raised};
 ghost use Rattle.fg_desk.specs.Parts.{top_of};
 
 use crate::laws::solved_stays_peeled;
-use crate::lines::{LIVE_LIMIT, Lines, lost_slot};
 use crate::reply::{Outcome, Reply};
-use crate::row::{KEPT, Row};
-use crate::tray::Tray;
 use crate::window::{close, publish, receive, recover};
 use fg_peel::Line;
 use fg_peel::laws::{
@@ -29,6 +26,7 @@ use fg_peel::laws::{
 };
 use fg_shape::{Shape, last};
 use fg_unwrap::position;
+use fg_window::{KEPT, LIVE_LIMIT, Lines, Row, Tray, lost_slot};
 use fg_words::laws::xor_is_a_group;
 use fg_words::{Shared, Word};
 use slab::Slab;

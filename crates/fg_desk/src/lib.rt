@@ -3,16 +3,13 @@
 
 mod desk;
 pub mod laws;
-mod lines;
 mod reply;
-mod row;
 mod run;
 #[cfg(test)]
 mod tests;
-mod tray;
 mod window;
 
 pub use desk::{Desk, Played};
+pub use fg_window::Tray;
 pub use reply::{Outcome, Reply};
 pub use run::{Datagram, FlowRun, ShownPlay, ShownWord, Stream, run_flow};
-pub use tray::Tray;

@@ -5,14 +5,13 @@ ghost use Rattle.std.specs.FinMap.{get};
 ghost use Rattle.fg_words.specs.Word.{HasRoom};
 ghost use Rattle.fg_peel.specs.Equation.{AreMedia, IsComplete, IsSettled};
 ghost use Rattle.fg_desk.specs.declared.reply.Outcome.{Outcome as OutcomeValue};
-ghost use Rattle.fg_desk.specs.Row.{RowState, row_received, row_known, row_words, receives, publishes, Advances};
-ghost use Rattle.fg_desk.specs.Lines.{no_lines};
+ghost use Rattle.fg_window.specs.Row.{RowState, row_received, row_known, row_words, receives, publishes, Advances};
+ghost use Rattle.fg_window.specs.Lines.{no_lines};
 ghost use Rattle.fg_desk.specs.Window.{equations_in, AreInRow, EachSettled, IsRecovered, Keeps, Closes, MakesWay, IsOther, without_found};
 
-use crate::lines::Lines;
 use crate::reply::Outcome;
-use crate::row::Row;
 use fg_peel::laws::{peelings_fill_the_closure, peelings_stay, settled_equations_add_nothing};
+use fg_window::{Lines, Row};
 use fg_words::{Shared, Word};
 
 /// Finds each word that follows from the row's words and the live equations, and tells whether they

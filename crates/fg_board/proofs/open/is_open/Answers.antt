@@ -1,6 +1,6 @@
 use Rattle.std.proofs.Common.{true≢false, not, inl, inr, sym, ap, ◌∙◌, ⊎_elim, arith}
 use Rattle.fg_peel.specs.Slots.{equation_of}
-use Rattle.fg_desk.specs.Lines.{live_of}
+use Rattle.fg_window.specs.Lines.{live_of}
 use Rattle.fg_desk.specs.Contents.{known_in}
 use Rattle.fg_board.specs.Flow.{is_vouched, is_handed_out}
 use Rattle.fg_board.specs.declared.key.Key.{Key}

@@ -2,7 +2,7 @@ use Rattle.std.proofs.Common.{◌≡◌, [], Option, Some, Bor, IfSome, sym, sub
 use Rattle.std.specs.FinMap.{get}
 use Rattle.fg_peel.specs.declared.Line.{Line}
 use Rattle.fg_desk.specs.State.{Live}
-use Rattle.fg_desk.specs.Lines.{live_of}
+use Rattle.fg_window.specs.Lines.{live_of}
 use Rattle.fg_desk.specs.Contents.{Contents}
 use Rattle.fg_board.specs.Board.{JobState, IsJobOf}
 use Rattle.fg_board.specs.Flow.{board_of, IsReady}

@@ -1,8 +1,8 @@
 use Rattle.std.proofs.Common.{[], refl}
 use Rattle.fg_peel.specs.Equation.{AreMedia}
 use Rattle.fg_peel.specs.Slots.{equations_of}
-use Rattle.fg_desk.specs.Lines.{live_of}
-use Rattle.fg_desk.specs.Row.{row_words}
+use Rattle.fg_window.specs.Lines.{live_of}
+use Rattle.fg_window.specs.Row.{row_words}
 use Rattle.fg_desk.specs.Window.{equations_in}
 use Rattle.fg_desk.proofs.DeskWords.{words_media}
 use Rattle.fg_desk.proofs.SettledEquations.{ends_with_settled, solution_of_none, ends_of_none, all_add_nothing, open_is_live, settled_add_nothing}

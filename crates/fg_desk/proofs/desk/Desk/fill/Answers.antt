@@ -1,9 +1,9 @@
 use Rattle.std.proofs.Common.{◌≡◌, ℕ, sym, ap, subst, ◌∙◌}
 use Rattle.fg_desk.specs.Contents.{Contents, CanFill, IsLiveAt, filled}
 use Rattle.fg_desk.specs.Inside.{AreSound, state_of, contents_of}
-use Rattle.fg_desk.specs.Lines.{SettlesAt}
+use Rattle.fg_window.specs.Lines.{SettlesAt}
 use Rattle.fg_desk.specs.Parts.{parts_of}
-use Rattle.fg_desk.specs.Row.{RowState, publishes}
+use Rattle.fg_window.specs.Row.{RowState, publishes}
 use Rattle.fg_desk.proofs.DeskFills.{fills_here, slot_ahead, slot_near, slot_no_media, slot_unsolved, filled_sound, filled_contents}
 use Rattle.fg_desk.proofs.DeskWays.{with_row}
 use Rattle.fg_desk.proofs.desk.Desk.fill.Goals as goal

@@ -6,7 +6,7 @@ use Rattle.fg_desk.specs.Facts.{Holds}
 use Rattle.fg_desk.specs.Inside.{state_of, contents_of}
 use Rattle.fg_desk.specs.Parts.{parts_of}
 use Rattle.fg_desk.specs.Play.{IsPlay, IsFlushStep, HasMore}
-use Rattle.fg_desk.specs.Row.{RowState}
+use Rattle.fg_window.specs.Row.{RowState}
 use Rattle.fg_desk.proofs.DeskFlushes.{counted_with, sound_with_none, has_no_more, highest_of, highest_limit, more_of, mark_stays, some_played}
 use Rattle.fg_desk.proofs.DeskPlayed.{closed_play, closed_sound, closed_changes, sound_with_epoch}
 use Rattle.fg_desk.proofs.DeskPlays.{played}

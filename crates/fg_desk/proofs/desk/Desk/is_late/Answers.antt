@@ -1,7 +1,8 @@
 use Rattle.std.proofs.Common.{◌≡◌, ◌+◌, ◌-◌, ◌*◌, ◌<◌, true, inl, inr, ap, subst, ⊎_elim, arith, lt-ltb}
 use Rattle.fg_desk.specs.Contents.{Contents}
 use Rattle.fg_desk.specs.Inside.{IsLateAt}
-use Rattle.fg_desk.proofs.Lost.{last_at, is_lost}
+use Rattle.fg_desk.proofs.Lost.{is_lost}
+use Rattle.fg_window.proofs.SlotRange.{last_at}
 use Rattle.fg_desk.proofs.desk.Desk.is_late.Goals as goal
 
 pub returns-then-last-mark : goal.returns-then-last-mark

@@ -4,12 +4,12 @@ use Rattle.fg_desk.specs.Facts.{Holds}
 use Rattle.fg_desk.specs.Inside.{AreSound, state_of, contents_of}
 use Rattle.fg_desk.specs.Parts.{parts_of}
 use Rattle.fg_desk.specs.Play.{IsPlay}
-use Rattle.fg_desk.specs.Row.{RowState}
+use Rattle.fg_window.specs.Row.{RowState}
 use Rattle.fg_desk.proofs.DeskPlayed.{closed_play, closed_sound, closed_changes, sound_with_epoch}
 use Rattle.fg_desk.proofs.DeskPlays.{played}
 use Rattle.fg_desk.proofs.DeskRecovers.{are_in_row, still_in_row, settled_are_complete}
 use Rattle.fg_desk.proofs.DeskWords.{shown_in, known_are_media}
-use Rattle.fg_desk.proofs.Options.{none_has_no_value}
+use Rattle.fg_window.proofs.Options.{none_has_no_value}
 use Rattle.fg_desk.proofs.PlayKeeps.{play_keeps}
 use Rattle.fg_desk.proofs.desk.Desk.play_in_place.Goals as goal
 use Rattle.fg_desk.proofs.desk.Desk.play_in_place.Goals.{After-close-verdict}

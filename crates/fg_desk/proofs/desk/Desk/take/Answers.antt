@@ -1,6 +1,6 @@
 use Rattle.std.proofs.Common.{◌≡◌, ◌+◌, ◌<◌, ◌≤◌, ◌^◌, ℕ, Some, None, sym, ap, subst, ◌∙◌}
 use Rattle.std.specs.FinMap.{get}
-use Rattle.fg_desk.specs.Row.{receives}
+use Rattle.fg_window.specs.Row.{receives}
 use Rattle.fg_desk.specs.Contents.{Contents, GivesWay}
 use Rattle.fg_desk.specs.Admission.{with_media}
 use Rattle.fg_desk.specs.Inside.{Parts, AreSound, state_of, contents_of}

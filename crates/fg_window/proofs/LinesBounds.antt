@@ -1,0 +1,77 @@
+-- What early ends of searches and passes rest on.
+use Rattle.std.proofs.Common.{◌≡◌, ◌<◌, ◌≤◌, ℕ, Bool, List, [], Option, Some, None, inl, refl, ◌∙◌, ⊎_elim, arith}
+use Rattle.std.specs.Option.{option_or}
+use Rattle.std.specs.FinMap.{get}
+use Rattle.slab.specs.Slab.{Slab}
+use Rattle.fg_words.specs.declared.Word.{Word}
+use Rattle.fg_peel.specs.declared.Line.{Line}
+use Rattle.fg_peel.specs.Slots.{equation_of}
+use Rattle.fg_window.specs.Live.{last_slot, Survives}
+use Rattle.fg_window.specs.Words.{Words}
+use Rattle.fg_window.specs.Row.{RowState, IsRow, row_known, row_received}
+use Rattle.fg_window.specs.LinesInside.{Holds, AreBetween, IsBased, Moves, Drops}
+use Rattle.fg_window.proofs.Options.{none_or_some, has_value}
+use Rattle.fg_window.proofs.Choices.{if-less}
+use Rattle.fg_window.proofs.LinesInserts.{none_at}
+
+-- where all are left, nothing moves
+pub nothing_moves :
+    (IsLeft IsGone : Line → Type 0) (source target : Slab Line) → ((line : Line) → Holds source line → IsLeft line)
+    → Moves IsLeft IsGone source target source target
+nothing_moves IsLeft IsGone source target all = record {
+  left = λ line h. (h, all line h);
+  gone = λ line h. inl h;
+  every = λ line stands. stands;
+  kept = λ line h. h;
+  each = λ number each. each;
+  count = refl;
+  source_capacity = refl;
+  target_capacity = refl;
+}
+
+-- where all stay, nothing is dropped
+pub nothing_drops :
+    (Stays : Line → Type 0) (lines : Slab Line) (places : List Bool) → ((line : Line) → Holds lines line → Stays line)
+    → Drops Stays lines lines places places
+nothing_drops Stays lines places all = record {
+  left = λ key line. (λ is. (is, all line (key, is)), λ is. is.0);
+  freed = λ place. (λ taken. (taken, λ line h same. all line h), λ taken. taken.0);
+  count = refl;
+  fewer = omega arith;
+  capacity = refl;
+}
+
+pub all_survive :
+    (mark earliest : ℕ) (kept : Words) (lines : Slab Line) → mark ≤ earliest
+    → ((line : Line) → Holds lines line → IsBased mark kept (equation_of line))
+    → ((line : Line) → Holds lines line → earliest ≤ last_slot (equation_of line))
+    → (line : Line) → Holds lines line → Survives mark kept (equation_of line)
+all_survive mark earliest kept lines before based from line h =
+    let near = from line h in
+    let reaches : mark ≤ last_slot (equation_of line) = omega (arith, before, near) in
+    record { reaches = reaches; based = based line h reaches }
+
+-- bounds of no lines
+pub nothing_between :
+    (earliest latest : ℕ) (first second : Slab Line) → first.slots ≡ [] → second.slots ≡ []
+    → AreBetween earliest latest first second
+nothing_between earliest latest first second none none' line stands =
+    ⊎_elim (λ a. absurd (none_at first none a.0 line a.1)) (λ b. absurd (none_at second none' b.0 line b.1)) stands
+
+-- below the mark a row tells the words that it keeps, and no others
+or_nothing : (one other : Option Word) → other ≡ None → option_or one other ≡ one
+or_nothing None other none = none
+or_nothing (Some word) other none = refl
+
+pub known_before :
+    (row : RowState) → IsRow row → (position : ℕ) → position < row.mark
+    → row_known row position ≡ get row.kept position
+known_before row is position before =
+    let unsolved : get row.solved position ≡ None = ⊎_elim
+    (λ none. none)
+    (λ some.
+    let from = (is.solved position (has_value (get row.solved position) some.0 some.1)).0 in
+    absurd (omega (arith, before, from)))
+    (none_or_some (get row.solved position)) in
+    or_nothing (row_received row position) (get row.solved position) unsolved
+    ∙ if-less position row.mark (get row.kept position) (get row.media position) before

@@ -1,0 +1,10 @@
+use Rattle.std.proofs.Common.{get_or, sym, ap, ◌∙◌}
+use Rattle.fg_window.specs.Shown.{Holding, Shown, nothing_shown}
+use Rattle.fg_window.proofs.TrayPlaces.{shown_at_place}
+use Rattle.fg_window.proofs.tray.Tray.repaired.Goals as goal
+
+pub returns-then-i-self : goal.returns-then-i-self
+returns-then-i-self c =
+    let inside = c.self.inside in
+    ap (λ (s : Shown). s.repaired) (sym (shown_at_place inside.places.items inside.count c.args.i c.index.result.now c.if-i-self.true c.self.invariant c.index.ensures))
+    ∙ ap (λ (h : Holding). (get_or h.shown c.args.i nothing_shown).repaired) c.self.view_is

@@ -1,0 +1,8 @@
+pub mod Lines
+pub mod LinesInside
+pub mod Live
+pub mod Row
+pub mod RowEntries
+pub mod Shown
+pub mod TrayPlaces
+pub mod Words

@@ -1,0 +1,129 @@
+//! Trays: what a play shows.
+
+ghost use Rattle.std.specs.Prelude.{◌≡◌, ◌<◌, ◌≤◌, ◌++◌, ◌∷◌, [], length, slice_index_or, IfOk};
+ghost use Rattle.std.specs.Option.{option_copied};
+ghost use Rattle.fg_window.specs.Shown.{nothing_shown};
+ghost use Rattle.fg_window.specs.TrayPlaces.{shown_of};
+
+use fg_words::Word;
+use std::alloc::{AllocError, Global};
+use std::marker::Model;
+
+/// What a play shows at one position. The word is written in place, and counts where `has_word`
+/// says so.
+#[derive(Clone, Copy)]
+struct Place {
+    has_word: bool,
+    repaired: bool,
+    word: Word,
+}
+
+impl Place {
+    /// The word, where one is shown.
+    fn word(&self) -> Option<&Word>
+        ensures { option_copied result ≡ (shown_of self.now).word }
+    {
+        if self.has_word {
+            Some(&self.word)
+        } else {
+            None
+        }
+    }
+
+    /// Shows nothing, or a copy of a word.
+    fn show(&mut self, word: Option<&Word>, repaired: bool)
+        ensures { shown_of self.new
+            ≡ record { word = option_copied word.entry; repaired = repaired } }
+    {
+        self.repaired = repaired;
+        self.has_word = word.is_some();
+        if let Some(word) = word {
+            self.word = *word;
+        }
+    }
+}
+
+/// Room for what one play shows, 1.3 kB for each position. It is filled again and again, and takes
+/// memory only where it is made.
+#[derive(Drop)]
+pub struct Tray {
+    places: Vec<Place>,
+    count: usize,
+}
+
+impl Model for Tray {
+    ghost use Rattle.std.specs.Prelude.{◌≤◌, map, take, length};
+    ghost use Rattle.fg_window.specs.Shown.{Holding};
+    ghost use Rattle.fg_window.specs.RowEntries.{holding_code};
+    ghost use Rattle.fg_window.specs.TrayPlaces.{shown_of};
+
+    ghost Value = { Holding };
+
+    ghost coded = { holding_code };
+
+    ghost view = { λ a. record {
+      window = length a.places.items;
+      shown = map shown_of (take a.count a.places.items);
+    } };
+
+    ghost invariant = { λ a. a.count ≤ length a.places.items };
+}
+
+impl Tray {
+    /// A tray with room for this many positions, 1 to 100. Nothing is shown yet.
+    pub fn new(alloc: Global, window: u32) -> Result<Tray, AllocError>
+        requires some { 1 ≤ window }
+        requires limit { window ≤ 100 }
+        ensures { IfOk result (λ tray. tray ≡ record { window = window; shown = [] }) }
+    {
+        let mut places = Vec::with_capacity(alloc, window as usize)?;
+        for _ in 0..window {
+            places.push(Place {
+                has_word: false,
+                repaired: false,
+                word: Word::zero(),
+            })?;
+        }
+        Ok(Tray { places, count: 0 })
+    }
+
+    /// The word that the last play showed at its position `i`, counted from 0. There is none where
+    /// it showed none, nor past its positions.
+    pub fn word(&self, i: u32) -> Option<&Word>
+        ensures { option_copied result ≡ (slice_index_or self.now.shown i nothing_shown).word }
+    {
+        let i = i as usize;
+        if i < self.count {
+            self.places[i].word()
+        } else {
+            None
+        }
+    }
+
+    /// Whether that word was not received, but recovered.
+    pub fn repaired(&self, i: u32) -> bool
+        ensures { result ≡ (slice_index_or self.now.shown i nothing_shown).repaired }
+    {
+        let i = i as usize;
+        i < self.count && self.places[i].repaired
+    }
+
+    /// Takes off what the last play showed.
+    pub fn clear(&mut self)
+        ensures { self.new ≡ record self.old { shown = [] } }
+    {
+        self.count = 0;
+    }
+
+    /// Shows nothing, or a copy of a word, at the next position.
+    pub fn show(&mut self, word: Option<&Word>, repaired: bool)
+        requires { length self.old.shown < self.old.window }
+        ensures { self.new ≡ record self.old {
+          shown = self.old.shown
+              ++ record { word = option_copied word.entry; repaired = repaired } ∷ [];
+        } }
+    {
+        self.places[self.count].show(word, repaired);
+        self.count += 1;
+    }
+}
