@@ -14,19 +14,16 @@ use Rattle.fg_peel.specs.declared.row.Missing.TheVariants.{One}
 use Rattle.fg_peel.specs.Equation.{Equation, slots, others, sum_at, IsComplete, IsSettled}
 use Rattle.fg_peel.specs.Slots.{IsMissing}
 use Rattle.fg_desk.specs.State.{Live}
-use Rattle.fg_desk.specs.Laws.{LiveStandUnderSerials}
 use Rattle.fg_turn.specs.Standing.{Standing}
 use Rattle.fg_desk.specs.Contents.{CanFill, known_in}
-use Rattle.fg_board.specs.Board.{BoardState, JobState, IsCurrent}
-use Rattle.fg_board.specs.Core.{take}
-use Rattle.fg_board.specs.Views.{Told, word_at, equation_is, seen_of, IsWorked, IsChecked, told_of_job}
-use Rattle.fg_board.specs.Codes.{Entry, told_code, told_from, IsOwnedBy, GrowsFrom, ToldIsReadBack}
-use Rattle.fg_board.specs.Actors.{TakenJob, WasTold, IsLater, TakesTurn, job_sum}
-use Rattle.fg_board.specs.declared.key.Key.{Key}
-use Rattle.fg_board.proofs.Lists.{Contains-here, Contains-there, Contains-cases, Contains-nil}
-use Rattle.fg_board.proofs.Entries.{entry_of_get}
-use Rattle.fg_board.proofs.Options.{value_of}
-use Rattle.fg_board.proofs.Told.{told_is_live, worked_can_fill, checked_is_settled}
+use Rattle.fg_core.specs.Board.{BoardState, JobState, IsCurrent, job_sum}
+use Rattle.fg_core.specs.Core.{take}
+use Rattle.fg_core.specs.Views.{Told, word_at, equation_is, seen_of, IsWorked, IsChecked, told_of_job}
+use Rattle.fg_core.specs.Codes.{Entry, told_code, told_from, IsOwnedBy, GrowsFrom, ToldIsReadBack}
+use Rattle.fg_core.specs.Laws.{WorkedWordsFollow, CheckedComeOut}
+use Rattle.fg_board.specs.Actors.{TakenJob, WasTold, IsLater, TakesTurn}
+use Rattle.fg_core.specs.declared.key.Key.{Key}
+use Rattle.fg_board.proofs.Lists.{Contains-here, Contains-there, Contains-map, value_of, entry_of_get}
 use Rattle.fg_board.proofs.OneTurn.{owning, told_back}
 
 -- For a seat that has seen these calls and was told this, on the board that it entered
@@ -34,30 +31,22 @@ use Rattle.fg_board.proofs.OneTurn.{owning, told_back}
 module _ (calls told : List Entry) (board : BoardState) (owned : IsOwnedBy calls board) (grows : GrowsFrom told board) (key : Key) where
   -- a word that follows from what was told is one that the live equation gives,
   pub word_follows :
-      LiveStandUnderSerials → (slot : ℕ) (word : Word) → (equation : Equation) × IsWorked (map told_from told) key equation slot word
+      WorkedWordsFollow → (slot : ℕ) (word : Word) → (equation : Equation) × IsWorked (map told_from told) key equation slot word
       → (live : Live) → IsCurrent board key live → known_in board.desk slot ≡ None → CanFill board.desk live.equation slot word
-  word_follows stand slot word worked live current unknown =
-      let facts = (owning calls board owned).owned.facts in
-      subst (λ (e : Equation). CanFill board.desk e slot word)
-      (sym (told_is_live board facts (map told_from told) grows key live current worked.0 worked.1.equation_told))
-      (worked_can_fill board facts (map told_from told) grows key live current stand worked.0 slot word worked.1 unknown)
+  word_follows follow slot word worked live current unknown =
+      let o = owning calls board owned in
+      follow o.window o.depth o.calls board (map told_from told) key live worked.0 slot word o.owned grows current worked.1
+      unknown
 
   -- and a check that follows from it holds.
   pub check_follows :
-      (comes : Bool) → (equation : Equation) × IsChecked (map told_from told) key equation comes → IsTrue comes
+      CheckedComeOut → (comes : Bool) → (equation : Equation) × IsChecked (map told_from told) key equation comes → IsTrue comes
       → (live : Live) → IsCurrent board key live → IsSettled (known_in board.desk) live.equation
-  check_follows comes checked is live current =
-      let facts = (owning calls board owned).owned.facts in
-      checked_is_settled board facts (map told_from told) grows key live current checked.0 comes checked.1 is
+  check_follows come_out comes checked is live current =
+      let o = owning calls board owned in
+      come_out o.window o.depth o.calls board (map told_from told) key live checked.0 comes o.owned grows current checked.1 is
 
--- Lists and sums
-
-Contains-map : {X Y : Type 0} (f : X → Y) (xs : List X) (x : X) → Contains xs x → Contains (map f xs) (f x)
-Contains-map f [] x c = absurd (Contains-nil x c)
-Contains-map f (first ∷ xs) x c = ⊎_elim
-    (λ here. subst (λ z. Contains (map f (first ∷ xs)) (f z)) (sym here) (Contains-here (f first) (map f xs)))
-    (λ there. Contains-there (f first) (map f xs) (f x) (Contains-map f xs x there))
-    (Contains-cases first xs x c)
+-- Sums
 
 -- A slot without a word adds nothing to a sum.
 without_slot :

@@ -1,5 +1,5 @@
 -- What a turn of the admitter carries on.
-use Rattle.std.proofs.Common.{◌≡◌, ◌+◌, ◌++◌, ℕ, true, false, List, [], ◌∷◌, map, Option, Some, None, refl, sym, ap, subst, ◌∙◌}
+use Rattle.std.proofs.Common.{◌≡◌, ◌+◌, ◌++◌, ℕ, true, false, List, [], ◌∷◌, map, Option, Some, None, refl, sym, ap, subst, ◌∙◌, le_refl}
 use Rattle.std.proofs.lemmas.List.{map-append}
 use Rattle.std.proofs.lemmas.List.Elements.{All-cons, All-nil}
 use Rattle.std.specs.Prelude.{length, IfSome, option_map}
@@ -7,14 +7,14 @@ use Rattle.std.specs.List.{All}
 use Rattle.fg_desk.specs.declared.desk.Played.{Played}
 use Rattle.fg_desk.specs.Play.{Shown}
 use Rattle.fg_turn.specs.Standing.{Standing}
-use Rattle.fg_board.specs.Board.{BoardState, PlaysOn, FlushesOn}
-use Rattle.fg_board.specs.Views.{Told, IsBorneOut, seen_of}
-use Rattle.fg_board.specs.Core.{Call, play, flush, play_of, IsOwned, CanCall, IsCall}
-use Rattle.fg_board.specs.Codes.{Entry, call_code, call_from, told_code, told_from, IsOwnedBy, GrowsFrom, CallsAreReadBack, ToldIsReadBack}
-use Rattle.fg_board.specs.Laws.{CallsExtend, CallsKeepTold}
-use Rattle.fg_board.specs.Actors.{CarriesOn, IsStep, MakesCall, desk_of}
+use Rattle.fg_core.specs.Board.{BoardState, PlaysOn, FlushesOn, mark_of}
+use Rattle.fg_core.specs.Views.{Told, IsBorneOut, seen_of}
+use Rattle.fg_core.specs.Core.{Call, play, flush, play_of, IsOwned, CanCall, IsCall}
+use Rattle.fg_core.specs.Codes.{Entry, call_code, call_from, told_code, told_from, IsOwnedBy, GrowsFrom, CallsAreReadBack, ToldIsReadBack}
+use Rattle.fg_core.specs.Laws.{CallsExtend, CallsKeepTold}
+use Rattle.fg_core.specs.Steps.{CarriesOn, IsStep}
+use Rattle.fg_board.specs.Actors.{MakesCall, desk_of}
 use Rattle.fg_board.specs.Deeds.{Makes}
-use Rattle.fg_board.proofs.Growing.{seen_holds}
 use Rattle.fg_board.proofs.OneTurn.{owning}
 
 module _
@@ -55,6 +55,9 @@ call_owned extend keep_told back seat call left entered makes =
     call_extends extend keep_told back call entered left makes.can makes.does seat.calls makes.owned
 
 -- The three numbers of a board hold of it.
+seen_holds : (board : BoardState) → IsBorneOut board (seen_of board)
+seen_holds board = (le_refl (mark_of board), le_refl board.desk.epoch, le_refl board.desk.state.admitted)
+
 pub seen_grows : ToldIsReadBack → (board : BoardState) → GrowsFrom (told_code (seen_of board) ∷ []) board
 seen_grows back board =
     subst (λ (t : Told). All (IsBorneOut board) (t ∷ [])) (sym (back (seen_of board)))
@@ -71,17 +74,20 @@ pub call_made :
       inside = false;
       left = Some left;
     }
-    → IsCall entered call left
+    → IsOwnedBy old.calls entered → GrowsFrom old.told entered → IsCall entered call left
     → MakesCall call (record { seat = old; window = window; depth = depth }) (record { seat = new; window = window; depth = depth })
-call_made call said window depth old inner new entered left same own goes_in goes_out is = record {
+call_made call said window depth old inner new entered left same own goes_in goes_out owned grows is = record {
   window = refl;
   depth = refl;
   turn = ap (λ (s : Standing BoardState). s.turn) goes_out ∙ ap (λ (s : Standing BoardState). s.turn) goes_in;
   made = ap (λ (s : Standing BoardState). s.made) goes_out ∙ ap (λ (s : Standing BoardState). s.made) goes_in;
+  seated = ap (λ (s : Standing BoardState). s.seated) goes_out ∙ ap (λ (s : Standing BoardState). s.seated) goes_in;
   turns = ap (λ (s : Standing BoardState). s.turns) goes_out ∙ ap (λ (s : Standing BoardState). s.turns) goes_in;
   entered = entered;
   entered_is = ap (λ (s : Standing BoardState). s.entered) goes_out ∙ ap (λ (s : Standing BoardState). s.entered) goes_in;
   own = own;
+  owned = owned;
+  grows = grows;
   left = left;
   left_is = ap (λ (s : Standing BoardState). s.left) goes_out;
   call_is = is;

@@ -3,18 +3,20 @@ use Rattle.std.proofs.Common.{◌≡◌, ◌+◌, ◌++◌, ℕ, inl, true, fals
 use Rattle.std.specs.Prelude.{IsSomeAnd}
 use Rattle.std.specs.List.{All}
 use Rattle.std.specs.FinMap.{get}
+use mathlib.Core.List.{IsPrefix}
 use Rattle.fg_desk.specs.State.{Live}
 use Rattle.fg_turn.specs.Standing.{Standing}
-use Rattle.fg_board.specs.Board.{BoardState, Looks}
-use Rattle.fg_board.specs.Views.{Told, IsBorneOut, word_at, equation_is, seen_of}
-use Rattle.fg_board.specs.Core.{Call, Event, take, publish, vouch, give_back, look, offer, attest, IsOwned, IsEvent, Tells, TellsOfLook}
-use Rattle.fg_board.specs.Codes.{Entry, told_code, told_from, call_from, IsOwnedBy, GrowsFrom, ToldIsReadBack}
-use Rattle.fg_board.specs.Laws.{EventsKeepOwned, EventsKeepTold, AnswersHold}
-use Rattle.fg_board.specs.Actors.{CarriesOn, IsStep, TakesTurn}
+use Rattle.fg_core.specs.Board.{BoardState, Looks}
+use Rattle.fg_core.specs.Views.{Told, IsBorneOut, word_at, equation_is, seen_of}
+use Rattle.fg_core.specs.Core.{Call, Event, take, publish, vouch, give_back, look, offer, attest, IsOwned, IsEvent, Tells, TellsOfLook}
+use Rattle.fg_core.specs.Codes.{Entry, told_code, told_from, call_from, IsOwnedBy, GrowsFrom, ToldIsReadBack}
+use Rattle.fg_core.specs.Laws.{EventsKeepOwned, EventsKeepTold, AnswersHold}
+use Rattle.fg_core.specs.Steps.{CarriesOn, IsStep}
+use Rattle.fg_board.specs.Actors.{TakesTurn}
 use Rattle.fg_board.specs.Deeds.{told_of, told_of_live, told_of_look, told_by, Follows}
-use Rattle.fg_board.specs.declared.key.Key.{Key}
-use Rattle.fg_board.specs.declared.fate.Look.{Look}
-use Rattle.fg_board.specs.declared.fate.Look.TheVariants as looked
+use Rattle.fg_core.specs.declared.key.Key.{Key}
+use Rattle.fg_core.specs.declared.fate.Look.{Look}
+use Rattle.fg_core.specs.declared.fate.Look.TheVariants as looked
 
 -- What holds of an option's value.
 pub some_and_weaker : {X : Type 0} (o : Option X) (P Q : X → Type 0) → ((x : X) → P x → Q x) → IsSomeAnd o P → IsSomeAnd o Q
@@ -122,8 +124,9 @@ pub turn_taken :
     (event said : Event) (old inner new : Standing BoardState) (entered left : BoardState) → said ≡ event
     → inner ≡ record old { calls = inner.calls; turns = old.turns + 1; inside = true; entered = Some entered }
     → new ≡ record inner { told = inner.told ++ told_by left said; inside = false; left = Some left }
+    → IsPrefix old.calls inner.calls → IsOwnedBy inner.calls entered → GrowsFrom old.told entered
     → IsEvent entered event left → TakesTurn event old new
-turn_taken event said old inner new entered left same goes_in goes_out is = record {
+turn_taken event said old inner new entered left same goes_in goes_out calls owned grows is = record {
   turn = ap (λ (s : Standing BoardState). s.turn) goes_out ∙ ap (λ (s : Standing BoardState). s.turn) goes_in;
   number = ap (λ (s : Standing BoardState). s.number) goes_out ∙ ap (λ (s : Standing BoardState). s.number) goes_in;
   turns = ap (λ (s : Standing BoardState). s.turns) goes_out ∙ ap (λ (s : Standing BoardState). s.turns) goes_in;
@@ -132,6 +135,9 @@ turn_taken event said old inner new entered left same goes_in goes_out is = reco
   left = left;
   left_is = ap (λ (s : Standing BoardState). s.left) goes_out;
   event_is = is;
+  calls = subst (λ (s : Standing BoardState). IsPrefix old.calls s.calls) (sym goes_out) calls;
+  owned = subst (λ (s : Standing BoardState). IsOwnedBy s.calls entered) (sym goes_out) owned;
+  grows = grows;
   told = told_of left event;
   tells = event_tells event entered left is;
   told_is =

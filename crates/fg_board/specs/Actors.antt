@@ -1,36 +1,14 @@
 -- What contracts see of a board, its admitter, its passes and their jobs, and what one turn of theirs is. This project's
 -- own.
-use Rattle.std.specs.Prelude.{◌≡◌, ◌⊎◌, ◌+◌, ℕ, List, [], ◌∷◌, ◌++◌, map, Option, Some, None}
+use Rattle.std.specs.Prelude.{◌≡◌, ◌+◌, ℕ, List, [], ◌∷◌, ◌++◌, map, Some, None}
 use Rattle.std.specs.List.{All, Contains}
-use Rattle.std.specs.FinMap.{get}
 use mathlib.Core.List.{IsPrefix}
-use Rattle.fg_words.specs.declared.Word.{Word}
-use Rattle.fg_words.specs.Word.{word_xor}
-use Rattle.fg_peel.specs.Equation.{slots, sum_at}
 use Rattle.fg_desk.specs.State.{State, opening}
 use Rattle.fg_turn.specs.Standing.{Standing}
-use Rattle.fg_board.specs.Board.{BoardState, JobState}
-use Rattle.fg_board.specs.Views.{Told, seen_of, told_of_job}
-use Rattle.fg_board.specs.Core.{Call, Event, IsCall, IsEvent, Tells, AreCallsOn}
-use Rattle.fg_board.specs.Codes.{Entry, call_code, call_from, told_code, told_from, opening_code, IsOwnedBy, GrowsFrom}
-
--- The guarded state
-
--- The owner's entries with one more, or with none.
-abbrev pub extended : List Entry → Option Entry → List Entry
-extended entries None = entries
-extended entries (Some entry) = entries ++ entry ∷ []
-
--- A step makes of the old board one that is what the entries, with the step's own, make of it, and keeps what was told.
--- That it does is what the laws of the core say of each call and each event.
-pub record CarriesOn (entry : Option Entry) (old new : BoardState) : Type 0 where
-  pub owned : (entries : List Entry) → IsOwnedBy entries old → IsOwnedBy (extended entries entry) new
-  pub grows : (entries told : List Entry) → IsOwnedBy entries old → GrowsFrom told old → GrowsFrom told new
-
--- What a step is: a call of the admitter, of its entry; or an event of a pass, or a turn that found no memory.
-abbrev pub IsStep : Option Entry → BoardState → BoardState → Type 0
-IsStep (Some entry) old new = IsCall old (call_from entry) new × CarriesOn (Some entry) old new
-IsStep None old new = (((event : Event) × IsEvent old event new) ⊎ (new ≡ old)) × CarriesOn None old new
+use Rattle.fg_core.specs.Board.{BoardState, JobState}
+use Rattle.fg_core.specs.Views.{Told, seen_of, told_of_job}
+use Rattle.fg_core.specs.Core.{Call, Event, IsCall, IsEvent, Tells, AreCallsOn}
+use Rattle.fg_core.specs.Codes.{Entry, call_code, call_from, told_code, told_from, opening_code, IsOwnedBy, GrowsFrom}
 
 -- Passes
 
@@ -40,8 +18,9 @@ pub record IsLater (earlier later : Standing BoardState) : Type 0 where
   pub number : later.number ≡ earlier.number
   pub told : IsPrefix earlier.told later.told
 
--- One turn of a pass: one event, from the state that it entered to the one that it left. It was told what the answer
--- tells.
+-- One turn of a pass: one event, from the state that it entered to the one that it left. What was entered is what the
+-- admitter's calls so far made of the board, and has grown from all that the pass was told. The pass was told what the
+-- answer tells.
 pub record TakesTurn (event : Event) (old new : Standing BoardState) : Type 0 where
   pub turn : new.turn ≡ old.turn
   pub number : new.number ≡ old.number
@@ -51,6 +30,9 @@ pub record TakesTurn (event : Event) (old new : Standing BoardState) : Type 0 wh
   pub left : BoardState
   pub left_is : new.left ≡ Some left
   pub event_is : IsEvent entered event left
+  pub calls : IsPrefix old.calls new.calls
+  pub owned : IsOwnedBy new.calls entered
+  pub grows : GrowsFrom old.told entered
   pub told : List Told
   pub tells : Tells left event told
   pub told_is : new.told ≡ old.told ++ map told_code (seen_of left ∷ told)
@@ -74,10 +56,6 @@ pub record TakenJob : Type 0 where
 abbrev pub WasTold : TakenJob → Type 0
 WasTold taken = All (λ told. Contains (map told_from taken.taken.told) told) (told_of_job taken.job)
 
--- The XOR of its parity word and its inputs.
-abbrev pub job_sum : JobState → Word
-job_sum job = word_xor job.equation.parity (sum_at (get job.inputs) (slots job.equation))
-
 -- The admitter
 
 -- The admitter as contracts see it: its seat, and the window and the depth of its board.
@@ -100,15 +78,19 @@ IsOwnDesk admitter =
     × AreCallsOn (opening admitter.window admitter.depth) (map call_from entries) (desk_of admitter)
 
 -- One turn of the admitter: one call, from the state that it entered, whose desk is its own, to the one that it left.
+-- What was entered is what its calls so far made of the board, and has grown from all that it was told.
 pub record MakesCall (call : Call) (old new : AdmitterState) : Type 0 where
   pub window : new.window ≡ old.window
   pub depth : new.depth ≡ old.depth
   pub turn : new.seat.turn ≡ old.seat.turn
   pub made : new.seat.made ≡ old.seat.made
+  pub seated : new.seat.seated ≡ old.seat.seated
   pub turns : new.seat.turns ≡ old.seat.turns + 1
   pub entered : BoardState
   pub entered_is : new.seat.entered ≡ Some entered
   pub own : entered.desk.state ≡ desk_of old
+  pub owned : IsOwnedBy old.seat.calls entered
+  pub grows : GrowsFrom old.seat.told entered
   pub left : BoardState
   pub left_is : new.seat.left ≡ Some left
   pub call_is : IsCall entered call left

@@ -3,17 +3,17 @@ use Rattle.std.specs.Prelude.{ℕ, List, [], ◌∷◌, ◌++◌, map, Option, S
 use Rattle.std.specs.FinMap.{get}
 use Rattle.fg_desk.specs.State.{Live}
 use Rattle.fg_turn.specs.Standing.{Standing}
-use Rattle.fg_board.specs.Board.{BoardState}
-use Rattle.fg_board.specs.Views.{Told, word_at, equation_is, seen_of, told_of_job}
-use Rattle.fg_board.specs.Core.{Call, media, parity, play, flush, Event, take, publish, vouch, give_back, look, offer, attest, CanCall, CanDo, IsCall, IsEvent, told_of_fate}
-use Rattle.fg_board.specs.Codes.{Entry, call_code, told_code, told_from, IsOwnedBy, GrowsFrom}
+use Rattle.fg_core.specs.Board.{BoardState}
+use Rattle.fg_core.specs.Views.{Told, word_at, equation_is, seen_of, told_of_job}
+use Rattle.fg_core.specs.Core.{Call, media, parity, play, flush, Event, take, publish, vouch, give_back, look, offer, attest, CanCall, CanDo, IsCall, IsEvent, told_of_fate}
+use Rattle.fg_core.specs.Codes.{Entry, call_code, told_code, told_from, IsOwnedBy, GrowsFrom}
 use Rattle.fg_board.specs.declared.turns.Deed.{Deed}
 use Rattle.fg_board.specs.declared.turns.Deed.TheVariants as deed
 use Rattle.fg_board.specs.declared.turns.Made.{Made}
 use Rattle.fg_board.specs.declared.turns.Made.TheVariants as made
-use Rattle.fg_board.specs.declared.fate.Look.{Look}
-use Rattle.fg_board.specs.declared.fate.Look.TheVariants as looked
-use Rattle.fg_board.specs.declared.key.Key.{Key}
+use Rattle.fg_core.specs.declared.fate.Look.{Look}
+use Rattle.fg_core.specs.declared.fate.Look.TheVariants as looked
+use Rattle.fg_core.specs.declared.key.Key.{Key}
 
 -- Passes
 

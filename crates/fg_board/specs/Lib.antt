@@ -1,12 +1,4 @@
 pub mod Actors
-pub mod Board
-pub mod Codes
-pub mod Core
 pub mod Deeds
-pub mod Flow
-pub mod Guarding
 pub mod Knowing
-pub mod Laws
 pub mod Standings
-pub mod Views
-pub mod Work

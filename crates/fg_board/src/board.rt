@@ -6,22 +6,19 @@ ghost use Rattle.fg_words.specs.Word.{zero_word};
 ghost use Rattle.fg_peel.specs.declared.row.Missing.TheVariants.{One};
 ghost use Rattle.fg_peel.specs.Equation.{Equation, IsComplete};
 ghost use Rattle.fg_peel.specs.Slots.{IsMissing};
-ghost use Rattle.fg_board.specs.Actors.{TakenJob, IsLater, TakesTurn, TakesNoTurn, job_sum};
 ghost use Rattle.fg_turn.specs.Standing.{owner_of, newcomer_of};
-ghost use Rattle.fg_board.specs.Codes.{told_from, opening_code};
-ghost use Rattle.fg_board.specs.Core.{take, publish, vouch, give_back, look, offer, attest};
-ghost use Rattle.fg_board.specs.Views.{IsWorked, IsChecked};
+ghost use Rattle.fg_core.specs.Board.{job_sum};
+ghost use Rattle.fg_core.specs.Codes.{told_from, opening_code};
+ghost use Rattle.fg_core.specs.Core.{take, publish, vouch, give_back, look, offer, attest};
+ghost use Rattle.fg_core.specs.Views.{IsWorked, IsChecked};
+ghost use Rattle.fg_board.specs.Actors.{TakenJob, IsLater, TakesTurn, TakesNoTurn};
 
 use crate::admitter::Admitter;
-use crate::fate::{Fate, Look};
-use crate::flow::Flow;
 use crate::job::Job;
-use crate::key::Key;
-use crate::laws::{codes_are_read_back, opening_is_owned};
 use crate::pass::Pass;
 use crate::turns::{Deed, settle, skip};
-use crate::work::Work;
-use fg_desk::laws::live_equations;
+use fg_core::laws::{checked_come_out, codes_are_read_back, opening_is_owned, worked_words_follow};
+use fg_core::{Fate, Flow, Key, Look, Work};
 use fg_turn::{Seat, Turn};
 use fg_words::Shared;
 use fg_words::laws::xor_is_a_group;
@@ -86,7 +83,7 @@ fn publish_inside(
     ensures outside { seat.new.inside ≡ false }
     ensures turn { TakesTurn (publish key slot share result) seat.old seat.new }
 {
-    live_equations();
+    worked_words_follow();
     let mut flow = turn.enter(wait, seat);
     let word = Snapshot::of(&share);
     let fate = flow.publish(key, slot, share);
@@ -107,6 +104,7 @@ fn vouch_inside(
     ensures outside { seat.new.inside ≡ false }
     ensures turn { TakesTurn (vouch key zero result) seat.old seat.new }
 {
+    checked_come_out();
     let mut flow = turn.enter(wait, seat);
     let fate = flow.vouch(key, zero);
     settle(turn, seat, flow, Deed::Vouch(key, zero, fate));
@@ -162,7 +160,7 @@ fn offer_inside(
     ensures outside { seat.new.inside ≡ false }
     ensures turn { TakesTurn (offer key slot share result) seat.old seat.new }
 {
-    live_equations();
+    worked_words_follow();
     let mut flow = turn.enter(wait, seat);
     let word = Snapshot::of(&share);
     let fate = flow.offer(key, slot, share);
@@ -183,6 +181,7 @@ fn attest_inside(
     ensures outside { seat.new.inside ≡ false }
     ensures turn { TakesTurn (attest key zero result) seat.old seat.new }
 {
+    checked_come_out();
     let mut flow = turn.enter(wait, seat);
     let fate = flow.attest(key, zero);
     settle(turn, seat, flow, Deed::Attest(key, zero, fate));

@@ -6,11 +6,10 @@ ghost use Rattle.fg_words.specs.Word.{zero_word};
 ghost use Rattle.fg_peel.specs.declared.row.Missing.TheVariants.{One};
 ghost use Rattle.fg_peel.specs.Equation.{IsComplete};
 ghost use Rattle.fg_peel.specs.Slots.{IsMissing};
-ghost use Rattle.fg_board.specs.Actors.{WasTold, job_sum};
+ghost use Rattle.fg_board.specs.Actors.{WasTold};
+ghost use Rattle.fg_core.specs.Board.{job_sum};
 
-use crate::flow::Flow;
-use crate::key::Key;
-use crate::work::Work;
+use fg_core::{Flow, Key, Work};
 use fg_turn::Seat;
 use fg_words::Shared;
 use std::alloc::{AllocError, Global};

@@ -1,6 +1,6 @@
 //! Passes: the seats of threads that solve and check equations.
 
-use crate::flow::Flow;
+use fg_core::Flow;
 use fg_turn::Seat;
 use std::marker::Model;
 
@@ -16,8 +16,8 @@ pub struct Pass {
 impl Model for Pass {
     ghost use Rattle.std.specs.Prelude.{◌≡◌, false};
     ghost use Rattle.fg_turn.specs.Standing.{Standing, standing_coded};
-    ghost use Rattle.fg_board.specs.Board.{BoardState};
-    ghost use Rattle.fg_board.specs.Standings.{board_code};
+    ghost use Rattle.fg_core.specs.Board.{BoardState};
+    ghost use Rattle.fg_core.specs.Codings.{board_code};
 
     ghost Value = { Standing BoardState };
 

@@ -1,20 +1,17 @@
 //! How turns end: what was done, and what it tells.
 
 ghost use Rattle.std.specs.Prelude.{◌≡◌, ◌++◌, ◌∷◌, [], true, false, None, Some, IsSomeAnd};
-ghost use Rattle.fg_board.specs.Actors.{IsStep};
-ghost use Rattle.fg_board.specs.Codes.{call_code, told_code, IsOwnedBy, GrowsFrom};
-ghost use Rattle.fg_board.specs.Core.{Tells};
+ghost use Rattle.fg_core.specs.Steps.{IsStep};
+ghost use Rattle.fg_core.specs.Codes.{call_code, told_code, IsOwnedBy, GrowsFrom};
+ghost use Rattle.fg_core.specs.Core.{Tells};
 ghost use Rattle.fg_board.specs.Deeds.{event_of, told_of, told_by, Follows, call_of, named_by, Makes};
-ghost use Rattle.fg_board.specs.Views.{seen_of};
+ghost use Rattle.fg_core.specs.Views.{seen_of};
 
-use crate::fate::{Fate, Look};
-use crate::flow::Flow;
-use crate::key::Key;
-use crate::laws::{
+use fg_core::laws::{
     answers_hold, calls_extend, calls_keep_told, codes_are_read_back, events_keep_owned,
     events_keep_told,
 };
-use crate::work::Work;
+use fg_core::{Fate, Flow, Key, Look, Work};
 use fg_desk::{Played, Reply};
 use fg_shape::Shape;
 use fg_turn::{Named, Owner, Seat, Turn};

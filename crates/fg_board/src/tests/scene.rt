@@ -4,7 +4,7 @@ ghost use Rattle.std.specs.Prelude.{◌≡◌, ◌+◌, ◌<◌, ◌↔◌, IfOk
 ghost use Rattle.std.specs.FinMap.{get};
 ghost use Rattle.fg_words.specs.Word.{zero_word};
 ghost use Rattle.fg_peel.specs.Equation.{IsComplete};
-ghost use Rattle.fg_board.specs.Actors.{job_sum};
+ghost use Rattle.fg_core.specs.Board.{job_sum};
 
 use crate::{Admitter, Board, Fate, Job, Key, Look, Pass};
 use fg_desk::{Played, Reply, Tray};
@@ -26,8 +26,8 @@ impl Model for Hand {
     ghost use Rattle.std.specs.Prelude.{IfSome};
     ghost use Rattle.fg_turn.specs.Standing.{Standing, standing_coded};
     ghost use Rattle.fg_board.specs.Actors.{IsLater};
-    ghost use Rattle.fg_board.specs.Board.{BoardState};
-    ghost use Rattle.fg_board.specs.Standings.{board_code};
+    ghost use Rattle.fg_core.specs.Board.{BoardState};
+    ghost use Rattle.fg_core.specs.Codings.{board_code};
 
     ghost Value = { Standing BoardState };
 

@@ -1,5 +1,5 @@
 use Rattle.std.proofs.Common.{refl}
-use Rattle.fg_board.specs.Core.{give_back}
+use Rattle.fg_core.specs.Core.{give_back}
 use Rattle.fg_board.proofs.OneTurn.{turn_taken}
 use Rattle.fg_board.proofs.board.give_back_inside.Goals as goal
 
@@ -7,4 +7,5 @@ pub returns-clause-turn : goal.returns-clause-turn
 returns-clause-turn g c =
     turn_taken (give_back c.args.key c.give_back-fate.result) (give_back c.args.key c.give_back-fate.result) c.args.seat.now
     c.enter-flow.new.seat c.settle.new.seat c.enter-flow.result c.give_back-fate.new.self
-    refl c.enter-flow.ensures.seat c.settle.ensures.seat c.give_back-fate.ensures
+    refl c.enter-flow.ensures.seat c.settle.ensures.seat
+    c.enter-flow.ensures.calls c.enter-flow.ensures.owner c.enter-flow.ensures.grows c.give_back-fate.ensures

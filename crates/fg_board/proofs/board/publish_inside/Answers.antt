@@ -1,5 +1,5 @@
 use Rattle.std.proofs.Common.{ap}
-use Rattle.fg_board.specs.Core.{publish}
+use Rattle.fg_core.specs.Core.{publish}
 use Rattle.fg_board.proofs.OneTurn.{turn_taken}
 use Rattle.fg_words.specs.declared.Word.{Word}
 use Rattle.fg_board.proofs.Bringing.{word_follows}
@@ -8,11 +8,12 @@ use Rattle.fg_board.proofs.board.publish_inside.Goals as goal
 pub publish-fate-requires : goal.publish-fate-requires
 publish-fate-requires g c = record {
   follows = word_follows c.enter-flow.new.seat.calls c.args.seat.now.told c.enter-flow.result c.enter-flow.ensures.owner
-      c.enter-flow.ensures.grows c.args.key c.live_equations.ensures c.args.slot c.args.share c.requires.worked;
+      c.enter-flow.ensures.grows c.args.key c.worked_words_follow.ensures c.args.slot c.args.share c.requires.worked;
 }
 
 pub returns-clause-turn : goal.returns-clause-turn
 returns-clause-turn g c =
     turn_taken (publish c.args.key c.args.slot c.args.share c.publish-fate.result) (publish c.args.key c.args.slot c.of-word.result.value c.publish-fate.result) c.args.seat.now
     c.enter-flow.new.seat c.settle.new.seat c.enter-flow.result c.publish-fate.new.self
-    (ap (λ (w : Word). publish c.args.key c.args.slot w c.publish-fate.result) c.of-word.ensures) c.enter-flow.ensures.seat c.settle.ensures.seat c.publish-fate.ensures
+    (ap (λ (w : Word). publish c.args.key c.args.slot w c.publish-fate.result) c.of-word.ensures) c.enter-flow.ensures.seat c.settle.ensures.seat
+    c.enter-flow.ensures.calls c.enter-flow.ensures.owner c.enter-flow.ensures.grows c.publish-fate.ensures

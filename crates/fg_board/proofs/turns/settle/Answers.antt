@@ -1,6 +1,6 @@
-use Rattle.fg_board.specs.Core.{Tells}
-use Rattle.fg_board.specs.Codes.{GrowsFrom}
-use Rattle.fg_board.specs.Actors.{IsStep}
+use Rattle.fg_core.specs.Core.{Tells}
+use Rattle.fg_core.specs.Codes.{GrowsFrom}
+use Rattle.fg_core.specs.Steps.{IsStep}
 use Rattle.std.specs.Prelude.{None}
 use Rattle.fg_board.specs.Deeds.{event_of, told_of, told_by, Follows}
 use Rattle.fg_board.proofs.OneTurn.{some_and_weaker, some_and_of, event_steps, event_tells, told_grows}

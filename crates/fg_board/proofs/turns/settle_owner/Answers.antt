@@ -1,9 +1,9 @@
 use Rattle.std.proofs.Common.{◌++◌, ◌∷◌, [], ap, sym, subst}
 use Rattle.std.specs.Prelude.{List, Some}
 use Rattle.fg_turn.specs.Standing.{Standing}
-use Rattle.fg_board.specs.Actors.{IsStep}
-use Rattle.fg_board.specs.Board.{BoardState}
-use Rattle.fg_board.specs.Codes.{Entry, call_code, IsOwnedBy}
+use Rattle.fg_core.specs.Steps.{IsStep}
+use Rattle.fg_core.specs.Board.{BoardState}
+use Rattle.fg_core.specs.Codes.{Entry, call_code, IsOwnedBy}
 use Rattle.fg_board.specs.Deeds.{call_of, Makes}
 use Rattle.fg_board.proofs.OneTurn.{some_and_weaker, some_and_of}
 use Rattle.fg_board.proofs.OneCall.{call_steps, call_owned, seen_grows}

@@ -1,7 +1,7 @@
 use Rattle.std.proofs.Common.{ap, subst}
 use Rattle.fg_words.specs.declared.Word.{Word}
 use Rattle.fg_board.specs.Actors.{AdmitterState, MakesCall}
-use Rattle.fg_board.specs.Core.{Call, media}
+use Rattle.fg_core.specs.Core.{Call, media}
 use Rattle.fg_board.proofs.OneCall.{call_made}
 use Rattle.fg_board.proofs.admitter.Admitter.admit_media.Goals as goal
 
@@ -14,4 +14,5 @@ returns g c =
     subst (λ (a : AdmitterState). MakesCall call a (record { seat = owner; window = window; depth = depth })) c.self.view_is
     (call_made call (media c.args.seq c.of-word.result.value c.admit_media-reply.result) window depth c.self.inside.owner c.enter_own-flow.new.owner owner c.enter_own-flow.result
     c.admit_media-reply.new.self (ap (λ (w : Word). media c.args.seq w c.admit_media-reply.result) c.of-word.ensures) c.enter_own-flow.ensures.own c.enter_own-flow.ensures.seat c.settle_owner.ensures.owner
+    c.enter_own-flow.ensures.owner c.enter_own-flow.ensures.grows
     c.admit_media-reply.ensures)

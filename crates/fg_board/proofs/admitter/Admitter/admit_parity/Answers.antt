@@ -1,7 +1,7 @@
 use Rattle.std.proofs.Common.{ap, subst}
 use Rattle.fg_words.specs.declared.Word.{Word}
 use Rattle.fg_board.specs.Actors.{AdmitterState, MakesCall}
-use Rattle.fg_board.specs.Core.{Call, parity}
+use Rattle.fg_core.specs.Core.{Call, parity}
 use Rattle.fg_board.proofs.OneCall.{call_made}
 use Rattle.fg_board.proofs.admitter.Admitter.admit_parity.Goals as goal
 
@@ -17,4 +17,5 @@ returns g c =
     c.admit_parity-reply.result.0 c.admit_parity-reply.result.1) window depth c.self.inside.owner c.enter_own-flow.new.owner owner c.enter_own-flow.result
     c.admit_parity-reply.new.self (ap (λ (w : Word). parity (record { base = c.args.base; offset = c.args.shape.offset; count = c.args.shape.na; word = w })
     c.admit_parity-reply.result.0 c.admit_parity-reply.result.1) c.of-word.ensures) c.enter_own-flow.ensures.own c.enter_own-flow.ensures.seat c.settle_owner.ensures.owner
+    c.enter_own-flow.ensures.owner c.enter_own-flow.ensures.grows
     c.admit_parity-reply.ensures)

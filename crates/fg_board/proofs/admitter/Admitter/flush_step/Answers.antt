@@ -1,6 +1,6 @@
 use Rattle.std.proofs.Common.{refl, subst}
 use Rattle.fg_board.specs.Actors.{AdmitterState, MakesCall}
-use Rattle.fg_board.specs.Core.{Call, flush}
+use Rattle.fg_core.specs.Core.{Call, flush}
 use Rattle.fg_board.proofs.OneCall.{call_made, flush_is}
 use Rattle.fg_board.proofs.admitter.Admitter.flush_step.Goals as goal
 
@@ -13,5 +13,6 @@ returns-clause-call g c =
     subst (λ (a : AdmitterState). MakesCall call a (record { seat = owner; window = window; depth = depth })) c.self.view_is
     (call_made call (flush c.flush_step-played.result) window depth c.self.inside.owner c.enter_own-flow.new.owner owner c.enter_own-flow.result
     c.flush_step-played.new.self refl c.enter_own-flow.ensures.own c.enter_own-flow.ensures.seat c.settle_owner.ensures.owner
+    c.enter_own-flow.ensures.owner c.enter_own-flow.ensures.grows
     (flush_is c.enter_own-flow.result c.flush_step-played.new.self c.flush_step-played.new.tray.shown c.flush_step-played.result
     c.flush_step-played.ensures.flushes c.flush_step-played.ensures.count))

@@ -1,6 +1,6 @@
 use Rattle.std.proofs.Common.{refl, subst}
 use Rattle.fg_board.specs.Actors.{AdmitterState, MakesCall}
-use Rattle.fg_board.specs.Core.{Call, play}
+use Rattle.fg_core.specs.Core.{Call, play}
 use Rattle.fg_board.proofs.OneCall.{call_made, play_is}
 use Rattle.fg_board.proofs.admitter.Admitter.play.Goals as goal
 
@@ -13,5 +13,6 @@ returns-clause-call g c =
     subst (λ (a : AdmitterState). MakesCall call a (record { seat = owner; window = window; depth = depth })) c.self.view_is
     (call_made call (play c.play-played.result) window depth c.self.inside.owner c.enter_own-flow.new.owner owner c.enter_own-flow.result
     c.play-played.new.self refl c.enter_own-flow.ensures.own c.enter_own-flow.ensures.seat c.settle_owner.ensures.owner
+    c.enter_own-flow.ensures.owner c.enter_own-flow.ensures.grows
     (play_is c.enter_own-flow.result c.play-played.new.self c.play-played.result c.play-played.new.tray.shown
     c.play-played.ensures.play c.play-played.ensures.count))

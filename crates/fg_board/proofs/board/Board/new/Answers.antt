@@ -1,6 +1,6 @@
 use Rattle.std.proofs.Common.{[], subst, sym}
-use Rattle.fg_board.specs.Board.{BoardState}
-use Rattle.fg_board.specs.Core.{IsOwned}
+use Rattle.fg_core.specs.Board.{BoardState}
+use Rattle.fg_core.specs.Core.{IsOwned}
 use Rattle.fg_board.proofs.board.Board.new.Goals as goal
 
 pub new-requires-2-clause-owner : goal.new-requires-2-clause-owner

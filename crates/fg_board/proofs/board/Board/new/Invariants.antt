@@ -1,5 +1,5 @@
 use Rattle.std.proofs.Common.{[], ◌∷◌}
-use Rattle.fg_board.specs.Codes.{opening_code}
+use Rattle.fg_core.specs.Codes.{opening_code}
 use Rattle.fg_board.proofs.board.Board.new.Given as goal
 
 -- the calls begin with the window and the depth

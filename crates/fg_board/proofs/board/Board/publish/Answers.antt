@@ -5,10 +5,10 @@ use Rattle.fg_peel.specs.declared.row.Missing.TheVariants.{One}
 use Rattle.fg_peel.specs.Slots.{IsMissing}
 use Rattle.fg_turn.specs.Standing.{Standing}
 use Rattle.fg_board.specs.Actors.{WasTold, IsLater}
-use Rattle.fg_board.specs.Board.{BoardState}
-use Rattle.fg_board.specs.Codes.{told_from}
-use Rattle.fg_board.specs.Views.{IsWorked}
-use Rattle.fg_board.specs.declared.key.Key.{Key}
+use Rattle.fg_core.specs.Board.{BoardState}
+use Rattle.fg_core.specs.Codes.{told_from}
+use Rattle.fg_core.specs.Views.{IsWorked}
+use Rattle.fg_core.specs.declared.key.Key.{Key}
 use Rattle.fg_board.proofs.Bringing.{job_worked}
 use Rattle.fg_board.proofs.board.Board.publish.Goals as goal
 

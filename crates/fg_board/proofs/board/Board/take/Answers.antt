@@ -1,8 +1,8 @@
 use Rattle.std.proofs.Common.{subst}
 use Rattle.std.specs.Prelude.{Option}
 use Rattle.fg_board.specs.Actors.{TakesTurn}
-use Rattle.fg_board.specs.Board.{JobState}
-use Rattle.fg_board.specs.Core.{take}
+use Rattle.fg_core.specs.Board.{JobState}
+use Rattle.fg_core.specs.Core.{take}
 use Rattle.fg_board.proofs.Bringing.{taken_told}
 use Rattle.fg_board.proofs.board.Board.take.Goals as goal
 

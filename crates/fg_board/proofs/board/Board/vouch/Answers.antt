@@ -4,10 +4,10 @@ use Rattle.fg_words.specs.declared.Word.{Word}
 use Rattle.fg_words.specs.Word.{HasRoom}
 use Rattle.fg_turn.specs.Standing.{Standing}
 use Rattle.fg_board.specs.Actors.{TakenJob, WasTold, IsLater}
-use Rattle.fg_board.specs.Board.{BoardState}
-use Rattle.fg_board.specs.Codes.{told_from}
-use Rattle.fg_board.specs.Views.{IsChecked}
-use Rattle.fg_board.specs.declared.key.Key.{Key}
+use Rattle.fg_core.specs.Board.{BoardState}
+use Rattle.fg_core.specs.Codes.{told_from}
+use Rattle.fg_core.specs.Views.{IsChecked}
+use Rattle.fg_core.specs.declared.key.Key.{Key}
 use Rattle.fg_board.proofs.Bringing.{job_checked}
 use Rattle.fg_board.proofs.board.Board.vouch.Goals as goal
 

@@ -1,6 +1,6 @@
 use Rattle.std.proofs.Common.{sym, subst}
 use Rattle.fg_turn.specs.Standing.{Standing}
-use Rattle.fg_board.specs.Board.{BoardState}
+use Rattle.fg_core.specs.Board.{BoardState}
 use Rattle.fg_board.specs.Actors.{WasTold}
 use Rattle.fg_board.proofs.job.Job.new.Goals as goal
 

@@ -1,9 +1,9 @@
 use Rattle.std.proofs.Common.{◌∙◌, ap, map, subst, sym}
 use Rattle.std.specs.Prelude.{Option, IfSome}
 use Rattle.fg_board.specs.Actors.{TakenJob, WasTold, IsLater}
-use Rattle.fg_board.specs.Codes.{told_from}
-use Rattle.fg_board.specs.Views.{IsWorked}
-use Rattle.fg_board.specs.declared.key.Key.{Key}
+use Rattle.fg_core.specs.Codes.{told_from}
+use Rattle.fg_core.specs.Views.{IsWorked}
+use Rattle.fg_core.specs.declared.key.Key.{Key}
 use Rattle.fg_board.proofs.Bringing.{job_worked}
 use Rattle.fg_board.proofs.tests.scene.offer.Goals as goal
 

@@ -1,5 +1,0 @@
-use Rattle.fg_board.proofs.Growing.{events_keep_told}
-use Rattle.fg_board.proofs.laws.events_keep_told.Goals as goal
-
-pub returns : goal.returns
-returns c = events_keep_told

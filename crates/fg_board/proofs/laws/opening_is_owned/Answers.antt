@@ -1,5 +1,0 @@
-use Rattle.fg_board.proofs.Owned.{opening_is_owned}
-use Rattle.fg_board.proofs.laws.opening_is_owned.Goals as goal
-
-pub returns : goal.returns
-returns c = opening_is_owned c.facts_are_kept.ensures.opening

@@ -1,5 +1,0 @@
-use Rattle.fg_board.proofs.Growing.{told_words_are_found}
-use Rattle.fg_board.proofs.laws.told_words_are_found.Goals as goal
-
-pub returns : goal.returns
-returns c = told_words_are_found

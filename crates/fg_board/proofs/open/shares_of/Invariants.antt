@@ -1,5 +1,0 @@
-use Rattle.fg_board.specs.Flow.{AreSharesAt}
-use Rattle.fg_board.proofs.open.shares_of.Given as goal
-
-abbrev pub invariant-loop-j : goal.invariant-loop-j
-invariant-loop-j l = AreSharesAt l.desk l.line l.j l.shares.items

@@ -1,0 +1,219 @@
+-- What a media datagram makes of what is known and solved.
+use Rattle.std.proofs.Common.{◌≡◌, ◌≢◌, ◌+◌, ◌==◌, ◌⊎◌, ℕ, cond, filter, List, Option, Some, None, IsSome, is_none, inl, inr, sym, ap, subst, ◌∙◌, ⊎_elim, arith, eq-eqb, ne_eqb}
+use Rattle.std.proofs.lemmas.Bool.{cases_eq, cond-true, cond-false}
+use Rattle.std.proofs.lemmas.Option.{same_Some, none-some}
+use Rattle.std.specs.Ordering.{nat_cmp}
+use Rattle.std.specs.FinMap.{FinMap, get, remove, empty}
+use Rattle.std.specs.Option.{option_or}
+use Rattle.fg_words.specs.declared.Word.{Word}
+use Rattle.fg_peel.specs.Equation.{Equation, Keeps, Agree}
+use Rattle.fg_peel.specs.Peeling.{Step, IsPeeling, end_of}
+use Rattle.fg_peel.specs.Laws.{PeelingsTakeWords}
+use Rattle.fg_desk.specs.declared.reply.Reply.{Reply}
+use Rattle.fg_desk.specs.declared.reply.Reply.TheVariants.{Admitted}
+use Rattle.fg_desk.specs.State.{State, Live, Words, known, live_equations}
+use Rattle.fg_desk.specs.Admission.{AdmitsMedia, IsMediaReply, IsAfterMedia, position_on, with_media}
+use Rattle.fg_desk.specs.Facts.{Holds}
+use Rattle.fg_desk.specs.Laws.{MediaAdds}
+use Rattle.fg_desk.specs.Contents.{Contents, AreSolved, GivesWay, IsContradicted, IsAfterArrival, known_in}
+use Rattle.fg_core.proofs.Known.{known_first, solved_second, nothing_solved}
+use Rattle.fg_core.proofs.Next.{IsNext, AreBareKept, is_next_counted}
+use Rattle.fg_core.proofs.Options.{none_or_some, none_has_no_value, some_and, some_and_from, or_first, or_twice, same_options, in_empty, removed, beside_removed}
+use Rattle.fg_core.proofs.SameWords.{same_or_other}
+
+-- Another word was solved at the position, or none was but this one.
+module _ (old : Contents) (position : ℕ) (word : Word) where
+  pub contradicted_or_not :
+      IsContradicted old position word ⊎ ((other : Word) → get old.solved position ≡ Some other → other ≡ word)
+  contradicted_or_not = ⊎_elim
+      (λ none. inr (λ other is. absurd (none-some other (sym none ∙ is))))
+      (λ some. ⊎_elim
+      (λ same. inr (λ other is. same_Some other some.0 (sym is ∙ some.1) ∙ same))
+      (λ differs. inl (some_and_from (get old.solved position) (λ other. other ≢ word) some.0 some.1 differs))
+      (same_or_other some.0 word))
+      (none_or_some (get old.solved position))
+
+  pub not_contradicted :
+      ((other : Word) → get old.solved position ≡ Some other → other ≡ word) → ¬ IsContradicted old position word
+  not_contradicted agrees contradicted =
+      let r = some_and (get old.solved position) (λ other. other ≢ word) contradicted in r.2 (agrees r.0 r.1)
+
+-- What one more received word changes in the state.
+record Receives (old state : State) (position : ℕ) (word : Word) : Type 0 where
+  mark_is : state.mark ≡ old.mark
+  kept_is : state.kept ≡ old.kept
+  equations_are : state.equations ≡ old.equations
+  admitted_is : state.admitted ≡ old.admitted
+  was_none : known old position ≡ None
+  known_is : (other : ℕ) → known state other ≡ cond (other == position) (Some word) (known old other)
+  lives_are : live_equations state ≡ live_equations old
+
+module _ (old : State) (state : State) (position : ℕ) (word : Word) (receives : Receives old state position word) where
+  known_here : (other : ℕ) → other ≡ position → known state other ≡ Some word
+  known_here other here =
+      receives.known_is other ∙ cond-true (other == position) (Some word) (known old other) (eq-eqb other position here)
+
+  known_beside : (other : ℕ) → other ≢ position → known state other ≡ known old other
+  known_beside other beside =
+      receives.known_is other ∙ cond-false (other == position) (Some word) (known old other) (ne_eqb other position beside)
+
+  none_here : (other : ℕ) → other ≡ position → known old other ≡ None
+  none_here other here = ap (known old) here ∙ receives.was_none
+
+  still_live :
+      (serial : ℕ) (live : Live) → get state.equations serial ≡ Some live → get old.equations serial ≡ Some live
+  still_live serial live is = sym (ap (λ (m : FinMap nat_cmp Live). get m serial) receives.equations_are) ∙ is
+
+module _
+    (old : Contents) (state : State) (position : ℕ) (word : Word) (receives : Receives old.state state position word)
+    (bare : AreBareKept old) where
+  bare_after : (p : ℕ) → IsSome (get old.state.kept p) → IsSome (get state.kept p)
+  bare_after p some = subst (λ (o : Option Word). IsSome o) (sym (ap (λ (m : Words). get m p) receives.kept_is)) some
+
+  -- All that was solved is withdrawn.
+  is_next_withdrawn : IsNext old (record old { state = state; solved = empty; epoch = old.epoch + 1 })
+  is_next_withdrawn =
+      let m = receives.mark_is in
+      let a = receives.admitted_is in
+      record {
+        mark = omega (arith, m);
+        admitted = omega (arith, a);
+        epoch = omega arith;
+        one_more = omega arith;
+        words = λ same. absurd (omega (arith, same));
+        lives = λ serial live _ is. still_live old.state state position word receives serial live is;
+        solved = nothing_solved (record old { state = state; solved = empty; epoch = old.epoch + 1 }) (λ q. in_empty q);
+        bare = λ p is. bare_after p (bare p is);
+      }
+
+  -- The position is received and no more solved.
+  module _
+      (take_words : PeelingsTakeWords) (solved : AreSolved old)
+      (agrees : (other : Word) → get old.solved position ≡ Some other → other ≡ word) where
+    abbrev after : Contents
+    after = record old { state = state; solved = remove old.solved position }
+
+    -- A word that was known at the position is the received one.
+    was_the_word : (q : ℕ) (other : Word) → q ≡ position → known_in old q ≡ Some other → other ≡ word
+    was_the_word q other here is =
+        agrees other (sym (ap (get old.solved) here) ∙ sym (solved_second old q (none_here old.state state position word receives q here)) ∙ is)
+
+    keeps : Keeps (known old.state) (known state)
+    keeps q other is = ⊎_elim
+        (λ here. absurd (none-some other (sym (none_here old.state state position word receives q here) ∙ is)))
+        (λ beside. known_beside old.state state position word receives q beside ∙ is)
+        (cases_eq q position)
+
+    agrees_with_end : Agree (known state) (known_in old)
+    agrees_with_end q first second is is' = ⊎_elim
+        (λ here.
+        same_Some first word (sym is ∙ known_here old.state state position word receives q here)
+        ∙ sym (was_the_word q second here is'))
+        (λ beside.
+        same_Some first second
+        (sym (known_first old q first (sym (known_beside old.state state position word receives q beside) ∙ is)) ∙ is'))
+        (cases_eq q position)
+
+    -- What is known is what was known, and the received word.
+    known_after : (q : ℕ) → known_in after q ≡ option_or (known state q) (known_in old q)
+    known_after q = ⊎_elim
+        (λ here.
+        let is = known_here old.state state position word receives q here in
+        or_first (known state q) (get (remove old.solved position) q) word is ∙ sym (or_first (known state q) (known_in old q) word is))
+        (λ beside.
+        let same = known_beside old.state state position word receives q beside in
+        ap (option_or (known state q)) (beside_removed old.solved position q beside)
+        ∙ ap (λ (o : Option Word). option_or o (get old.solved q)) same
+        ∙ or_twice (known old.state q) (get old.solved q)
+        ∙ sym (ap (λ (o : Option Word). option_or o (known_in old q)) same))
+        (cases_eq q position)
+
+    solved_after : AreSolved after
+    solved_after =
+        let steps = solved.peeled.0 in
+        let end : known_in old ≡ end_of (known old.state) steps = solved.peeled.2 in
+        let rest : List Step = filter (λ (step : Step). is_none (known state step.position)) steps in
+        let taken = take_words (known old.state) (known state) (live_equations old.state) steps solved.peeled.1 keeps
+        (subst (λ (f : ℕ → Option Word). Agree (known state) f) end agrees_with_end) in
+        record {
+          peeled = (
+            rest,
+            subst (λ (es : List Equation). IsPeeling (known state) es rest) (sym receives.lives_are) taken.0,
+            same_options (known_in after) (end_of (known state) rest)
+                (λ q. known_after q ∙ ap (λ (f : ℕ → Option Word). option_or (known state q) (f q)) end ∙ sym (taken.1 q)),
+          );
+          beside = λ q some. ⊎_elim
+              (λ here. absurd (none_has_no_value (get (remove old.solved position) q) (removed old.solved position q here) some))
+              (λ beside.
+              known_beside old.state state position word receives q beside
+              ∙ solved.beside q (subst (λ (o : Option Word). IsSome o) (beside_removed old.solved position q beside) some))
+              (cases_eq q position);
+        }
+
+    words_after : (q : ℕ) (other : Word) → known_in old q ≡ Some other → known_in after q ≡ Some other
+    words_after q other is = ⊎_elim
+        (λ here.
+        known_first after q word (known_here old.state state position word receives q here)
+        ∙ ap Some (sym (was_the_word q other here is)))
+        (λ beside.
+        let same = known_beside old.state state position word receives q beside in
+        ap (option_or (known state q)) (beside_removed old.solved position q beside)
+        ∙ ap (λ (o : Option Word). option_or o (get old.solved q)) same ∙ is)
+        (cases_eq q position)
+
+    is_next_agreed : IsNext old after
+    is_next_agreed =
+        let m = receives.mark_is in
+        let a = receives.admitted_is in
+        record {
+          mark = omega (arith, m);
+          admitted = omega (arith, a);
+          epoch = omega arith;
+          one_more = omega arith;
+          words = λ _ q other _ is. words_after q other is;
+          lives = λ serial live _ is. still_live old.state state position word receives serial live is;
+          solved = solved_after;
+          bare = λ p is. bare_after p (bare p is);
+        }
+
+module _ (media_adds : MediaAdds) (take_words : PeelingsTakeWords) (old new : Contents) (seq : ℕ) (word : Word) (holds : Holds old.state) where
+  -- What is known after a word is admitted at a position.
+  receives : (position : ℕ) → position_on old.state seq ≡ Some position → AdmitsMedia old.state seq word Admitted new.state → Receives old.state new.state position word
+  receives position at admits =
+      let after = some_and (position_on old.state seq) (λ (p : ℕ). new.state ≡ with_media old.state seq p word) admits.after in
+      let adds = media_adds old.state new.state seq word holds admits in
+      let same : adds.0 ≡ position = same_Some adds.0 position (sym adds.1 ∙ at) in
+      record {
+        mark_is = ap (λ (s : State). s.mark) after.2;
+        kept_is = ap (λ (s : State). s.kept) after.2;
+        equations_are = ap (λ (s : State). s.equations) after.2;
+        admitted_is = ap (λ (s : State). s.admitted) after.2;
+        was_none = subst (λ (p : ℕ). known old.state p ≡ None) same adds.3;
+        known_is = subst
+            (λ (p : ℕ). (other : ℕ) → known new.state other ≡ cond (other == p) (Some word) (known old.state other)) same adds.4;
+        lives_are = adds.5;
+      }
+
+  admitted_is_next :
+      AreSolved old → AreBareKept old → AdmitsMedia old.state seq word Admitted new.state
+      → IsAfterArrival old seq word Admitted new → IsNext old new
+  admitted_is_next solved bare admits after =
+      let a = some_and (position_on old.state seq) (λ (p : ℕ). GivesWay old p word new) after in
+      let r = receives a.0 a.1 admits in
+      ⊎_elim
+      (λ contradicted.
+      subst (λ (d : Contents). IsNext old d) (sym (a.2.withdrawn contradicted)) (is_next_withdrawn old new.state a.0 word r bare))
+      (λ agrees.
+      subst (λ (d : Contents). IsNext old d) (sym (a.2.agreed (not_contradicted old a.0 word agrees)))
+      (is_next_agreed old new.state a.0 word r bare take_words solved agrees))
+      (contradicted_or_not old a.0 word)
+
+  pub media_is_next :
+      (reply : Reply) → AreSolved old → AreBareKept old → AdmitsMedia old.state seq word reply new.state
+      → IsAfterArrival old seq word reply new → IsNext old new
+  media_is_next reply solved bare admits after = go reply admits.reply_is admits.after after
+    where
+      go : (reply : Reply) → IsMediaReply old.state seq word reply → IsAfterMedia old.state seq word reply new.state
+          → IsAfterArrival old seq word reply new → IsNext old new
+      go Admitted is state_is after = admitted_is_next solved bare (record { reply_is = is; after = state_is }) after
+      go other is state_is after = is_next_counted old new solved bare after state_is

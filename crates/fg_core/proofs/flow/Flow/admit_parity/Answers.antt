@@ -1,0 +1,36 @@
+use Rattle.std.proofs.Common.{◌≡◌, sym, ap, subst, ◌∙◌, Option}
+use Rattle.fg_desk.specs.Contents.{Contents, IsPlaceAfter}
+use Rattle.fg_desk.specs.Admission.{Parity, AdmitsParity}
+use Rattle.fg_core.specs.Board.{BoardState, AdmitsParityOn}
+use Rattle.fg_desk.specs.declared.reply.Reply.{Reply}
+use Rattle.fg_core.specs.declared.key.Key.{Key}
+use Rattle.fg_core.specs.Flow.{board_of}
+use Rattle.fg_core.proofs.Calling.{parity_on, key_of}
+use Rattle.fg_core.proofs.flow.Flow.admit_parity.Goals as goal
+use Rattle.fg_core.proofs.flow.Flow.admit_parity.Goals.{in-Some, in-None}
+
+pub returns : goal.returns
+returns c =
+    let f = c.self.inside in
+    let old : Contents = f.desk.value in
+    let new : Contents = c.admit_placed-reply.new.self in
+    let e = c.admit_placed-reply.ensures in
+    let value = c.deref_mut.ensures.value in
+    let parity : Parity = record { base = c.args.base; offset = c.args.shape.offset; count = c.args.shape.na; word = c.args.share } in
+    let reply = c.admit_placed-reply.result.0 in
+    let place = c.admit_placed-reply.result.1 in
+    let serial_is : c.admitted-serial.result ≡ old.state.admitted =
+    c.admitted-serial.ensures ∙ ap (λ (d : Contents). d.state.admitted) c.deref-2.ensures in
+    let epoch_is : c.epoch-epoch.result ≡ new.epoch = c.epoch-epoch.ensures ∙ ap (λ (d : Contents). d.epoch) c.deref-3.ensures in
+    let result_is : c.match-place.result ≡ (reply, key_of old.state.admitted new.epoch place) =
+    elim c.match-place.branch [
+      | in-Some w ↦ w.result-is ∙ (λ i. (reply, key_of (serial_is i) (epoch_is i) (sym w.in-Some.is i)))
+      | in-None w ↦ w.result-is ∙ (λ i. (reply, key_of (serial_is i) (epoch_is i) (sym w.in-None.is i)))
+    ] in
+    let on : AdmitsParityOn (board_of old f.marks) parity reply (key_of old.state.admitted new.epoch place) (board_of new f.marks) =
+    parity_on old new f.marks c.self.invariant parity reply place
+    (subst (λ (d : Contents). AdmitsParity d.state parity reply new.state) value e.state)
+    (subst (λ (d : Contents). new ≡ record d { state = new.state }) value e.rest)
+    (subst (λ (d : Contents). IsPlaceAfter d.state reply place new.state) value e.place) in
+    subst (λ (b : BoardState). AdmitsParityOn b parity c.match-place.result.0 c.match-place.result.1 (board_of new f.marks)) c.self.view_is
+    (subst (λ (r : Reply × Option Key). AdmitsParityOn (board_of old f.marks) parity r.0 r.1 (board_of new f.marks)) (sym result_is) on)

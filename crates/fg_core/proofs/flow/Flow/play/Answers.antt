@@ -1,0 +1,20 @@
+use Rattle.std.proofs.Common.{subst}
+use Rattle.fg_desk.specs.Contents.{Contents, ChangesInPlay}
+use Rattle.fg_desk.specs.Play.{Play, IsPlay}
+use Rattle.fg_core.specs.Board.{BoardState, PlaysOn}
+use Rattle.fg_core.specs.Core.{play_of}
+use Rattle.fg_core.specs.Flow.{board_of}
+use Rattle.fg_core.proofs.Calling.{plays_on}
+use Rattle.fg_core.proofs.flow.Flow.play.Goals as goal
+
+pub returns-clause-play : goal.returns-clause-play
+returns-clause-play c =
+    let f = c.self.inside in
+    let old : Contents = f.desk.value in
+    let new : Contents = c.play.new.self in
+    let value = c.deref_mut.ensures.value in
+    let play : Play = play_of c.play.result c.play.new.tray.shown in
+    subst (λ (b : BoardState). PlaysOn b play (board_of new f.marks)) c.self.view_is
+    (plays_on old new f.marks c.self.invariant play
+    (subst (λ (d : Contents). IsPlay d.state.window d.state play new.state) value c.play.ensures.play)
+    (subst (λ (d : Contents). ChangesInPlay c.play.result.verdict d new) value c.play.ensures.changes))

@@ -1,0 +1,73 @@
+use Rattle.std.proofs.Common.{true≢false, not, inl, inr, sym, ap, ◌∙◌, ⊎_elim, arith}
+use Rattle.fg_peel.specs.Slots.{equation_of}
+use Rattle.fg_window.specs.Lines.{live_of}
+use Rattle.fg_desk.specs.Contents.{known_in}
+use Rattle.fg_core.specs.Flow.{is_vouched, is_handed_out}
+use Rattle.fg_core.specs.declared.key.Key.{Key}
+use Rattle.fg_core.proofs.Opening.{false_of_not, flag_is, opens, one_not_complete}
+use Rattle.fg_core.proofs.open.is_open.Goals as goal
+
+pub mark_of-mark-requires : goal.mark_of-mark-requires
+mark_of-mark-requires c =
+    let placed = (c.facts.ensures.facts.live c.args.line.now.serial (live_of c.args.line.now) c.requires.within.live_is).placed in
+    let is = ap (λ (k : Key). k.place) c.key_of.ensures in
+    omega (arith, placed, is)
+
+pub returns-then-mark : goal.returns-then-mark
+returns-then-mark c = (
+  λ is. absurd (true≢false (sym is)),
+  λ is_open.
+      sym is_open.free
+      ∙ flag_is c.args.desk.now c.args.marks.now c.args.line.now c.facts.ensures.facts c.requires.within c.requires.bare c.mark_of-mark.result
+      is_handed_out c.key_of.result c.key_of.ensures c.mark_of-mark.ensures.handed_out
+      ∙ c.if-mark.true,
+)
+
+pub returns-then-not-mark : goal.returns-then-not-mark
+returns-then-not-mark c =
+    let desk = c.args.desk.now in
+    let marks = c.args.marks.now in
+    let line = c.args.line.now in
+    let mark = c.mark_of-mark.result in
+    let facts = c.facts.ensures.facts in (
+      λ shared. opens desk marks line facts c.requires.within c.requires.bare mark
+          (flag_is desk marks line facts c.requires.within c.requires.bare mark is_handed_out c.key_of.result c.key_of.ensures
+          c.mark_of-mark.ensures.handed_out ∙ c.if-mark.false) (c.are_shared.ensures.0 shared)
+          (inr (
+            c.in-Nothing.ensures,
+            flag_is desk marks line facts c.requires.within c.requires.bare mark is_vouched c.key_of.result c.key_of.ensures
+                c.mark_of-mark.ensures.vouched ∙ false_of_not mark.vouched c.if-not-mark.true,
+          )),
+      λ is_open. c.are_shared.ensures.1 (λ slot listed _. is_open.shared slot listed),
+    )
+
+pub returns-else-not-mark : goal.returns-else-not-mark
+returns-else-not-mark c =
+    let desk = c.args.desk.now in
+    let marks = c.args.marks.now in
+    let line = c.args.line.now in
+    let mark = c.mark_of-mark.result in
+    let facts = c.facts.ensures.facts in (
+      λ is. absurd (true≢false (sym is ∙ c.if-not-mark.false)),
+      λ is_open. ⊎_elim
+          (λ one. absurd (one_not_complete (known_in desk) (equation_of line) one.0 one.1 c.in-Nothing.ensures))
+          (λ all.
+          ap not
+          (sym (flag_is desk marks line facts c.requires.within c.requires.bare mark is_vouched c.key_of.result c.key_of.ensures
+          c.mark_of-mark.ensures.vouched) ∙ all.1))
+          is_open.work,
+    )
+
+pub returns-in-One : goal.returns-in-One
+returns-in-One c =
+    let desk = c.args.desk.now in
+    let marks = c.args.marks.now in
+    let line = c.args.line.now in
+    let mark = c.mark_of-mark.result in
+    let facts = c.facts.ensures.facts in (
+      λ shared. opens desk marks line facts c.requires.within c.requires.bare mark
+          (flag_is desk marks line facts c.requires.within c.requires.bare mark is_handed_out c.key_of.result c.key_of.ensures
+          c.mark_of-mark.ensures.handed_out ∙ c.if-mark.false) (c.are_shared-in-One.ensures.0 shared)
+          (inl (c.in-One.field-0, c.in-One.ensures)),
+      λ is_open. c.are_shared-in-One.ensures.1 (λ slot listed _. is_open.shared slot listed),
+    )

@@ -1,0 +1,10 @@
+pub mod Board
+pub mod Codes
+pub mod Codings
+pub mod Core
+pub mod Flow
+pub mod Guarding
+pub mod Laws
+pub mod Steps
+pub mod Views
+pub mod Work

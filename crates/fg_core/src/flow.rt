@@ -1,0 +1,305 @@
+//! The state of a board: a desk, and which of its live equations are handed out and which were vouched for.
+
+ghost use Rattle.std.specs.Prelude.{◌≡◌, ◌↔◌, ◌<◌, ◌≤◌, length, Some, None, Option, IsSome, IfOk, IfErr, IfSome, IfNone, IsTrue, option_map};
+ghost use Rattle.std.specs.FinMap.{get};
+ghost use Rattle.std.specs.FinSet.{insert};
+ghost use Rattle.fg_words.specs.Word.{IsMedia};
+ghost use Rattle.fg_shape.specs.Shape.{IsShape};
+ghost use Rattle.fg_peel.specs.Equation.{IsSettled};
+ghost use Rattle.fg_desk.specs.State.{Live};
+ghost use Rattle.fg_desk.specs.Admission.{IsDue};
+ghost use Rattle.fg_desk.specs.Contents.{HasRoom, CanFill, known_in};
+ghost use Rattle.fg_core.specs.Board.{opened_board, IsCurrent, IsHeld, AdmitsMediaOn, AdmitsParityOn, PlaysOn, FlushesOn, Takes, Offers, Publishes, Attests, Vouches, GivesBack, Looks, with_back, with_vouched};
+ghost use Rattle.fg_core.specs.Core.{play_of};
+
+use crate::fate::{Fate, Look};
+use crate::key::Key;
+use crate::marks::Marks;
+use crate::open::{facts, mark_of, next_open, work_of};
+use crate::work::Work;
+use fg_desk::{Desk, Played, Reply, Tray};
+use fg_shape::Shape;
+use fg_words::Shared;
+use std::alloc::{AllocError, Global};
+use std::marker::Model;
+
+/// What a board's turn guards. It is two handles, so that it moves cheaply.
+///
+/// Contracts see the desk with what was solved between its plays, and the serial numbers of the equations that were
+/// vouched for and of those that are handed out.
+#[derive(Drop)]
+pub struct Flow {
+    desk: Box<Desk>,
+    marks: Marks,
+}
+
+impl Model for Flow {
+    ghost use Rattle.fg_core.specs.Board.{BoardState};
+    ghost use Rattle.fg_core.specs.Codings.{board_code};
+    ghost use Rattle.fg_core.specs.Flow.{board_of, AreKept};
+
+    ghost Value = { BoardState };
+
+    ghost coded = { board_code };
+
+    ghost view = { λ f. board_of f.desk.value f.marks };
+
+    ghost invariant = { λ f. AreKept f.desk.value f.marks };
+}
+
+/// Whether a key's equation is live and no solved word was withdrawn since the key was given.
+fn is_held(desk: &Desk, key: Key) -> bool
+    ensures { IsTrue result ↔ ((live : Live) × (get desk.now.state.equations key.serial ≡ Some live)
+        × (live.place ≡ key.place) × (key.epoch ≡ desk.now.epoch)) }
+{
+    facts(desk);
+    match desk.line(key.place) {
+        Some(line) => line.serial == key.serial && key.epoch == desk.epoch(),
+        None => false,
+    }
+}
+
+impl Flow {
+    /// A new board's state. All its memory is taken here.
+    pub fn new(alloc: Global, window: u32, depth: u32) -> Result<Flow, AllocError>
+        requires window { (1 ≤ window) × (window ≤ 100) }
+        requires depth { (window ≤ depth) × (depth ≤ 1000) }
+        ensures { IfOk result (λ flow. flow ≡ opened_board window depth) }
+    {
+        Ok(Flow {
+            desk: Box::new(alloc, Desk::new(alloc, window, depth)?)?,
+            marks: Marks::new(alloc)?,
+        })
+    }
+
+    /// The position and the sequence number of the farthest media datagram.
+    pub fn top(&self) -> Option<(u64, u16)>
+        ensures { option_map (λ top. record { position = top.0; seq = top.1 }) result ≡ self.now.desk.state.top }
+    {
+        self.desk.top()
+    }
+
+    /// The first position that isn't played yet.
+    pub fn mark(&self) -> u64
+        ensures { result ≡ self.now.desk.state.mark }
+    {
+        self.desk.mark()
+    }
+
+    /// Admits a media datagram, or says why not.
+    pub fn admit_media(&mut self, seq: u16, share: Shared) -> Reply
+        requires room { HasRoom self.old.desk.state }
+        requires not_due { ¬ IsDue self.old.desk.state seq }
+        requires media { IsMedia share }
+        ensures { AdmitsMediaOn self.old seq share result self.new }
+    {
+        self.desk.admit_media(seq, share)
+    }
+
+    /// Admits a parity datagram's equation, with a key to it, or says why not.
+    pub fn admit_parity(&mut self, base: u16, shape: Shape, share: Shared) -> (Reply, Option<Key>)
+        requires room { HasRoom self.old.desk.state }
+        requires shape { IsShape shape.offset shape.na }
+        ensures { AdmitsParityOn self.old
+            (record { base = base; offset = shape.offset; count = shape.na; word = share })
+            result.0 result.1 self.new }
+    {
+        facts(&self.desk);
+        let serial = self.desk.admitted();
+        let (reply, place) = self.desk.admit_placed(base, shape, share);
+        let epoch = self.desk.epoch();
+        match place {
+            Some(place) => {
+                let key = Key {
+                    place,
+                    serial,
+                    epoch,
+                };
+                (reply, Some(key))
+            }
+            None => (reply, None),
+        }
+    }
+
+    /// Plays a window. The tray then has what it shows.
+    pub fn play(&mut self, tray: &mut Tray) -> Played
+        requires room { HasRoom self.old.desk.state }
+        requires started { IsSome self.old.desk.state.top }
+        requires tray { self.old.desk.state.window ≤ tray.old.window }
+        ensures play { PlaysOn self.old (play_of result tray.new.shown) self.new }
+        ensures count { result.count ≡ length tray.new.shown }
+        ensures tray { tray.new.window ≡ tray.old.window }
+    {
+        self.desk.play(tray)
+    }
+
+    /// Makes a flush step, where one is defined.
+    pub fn flush_step(&mut self, tray: &mut Tray) -> Option<Played>
+        requires room { HasRoom self.old.desk.state }
+        requires tray { self.old.desk.state.window ≤ tray.old.window }
+        ensures flushes { FlushesOn self.old (option_map (λ played. play_of played tray.new.shown) result) self.new }
+        ensures count { IfSome result (λ played. played.count ≡ length tray.new.shown) }
+        ensures none { IfNone result (tray.new ≡ tray.old) }
+        ensures tray { tray.new.window ≡ tray.old.window }
+    {
+        self.desk.flush_step(tray)
+    }
+
+    /// Hands out the open equation of the least serial number, with a share of each word known at its slots. Want of
+    /// memory changes nothing.
+    pub fn take(&mut self, alloc: Global) -> Result<Option<Work>, AllocError>
+        ensures taken { IfOk result (λ job. Takes self.old job self.new) }
+        ensures none { IfErr result (λ _. self.new ≡ self.old) }
+    {
+        let Some(key) = next_open(&self.desk, &self.marks) else {
+            return Ok(None);
+        };
+        let work = work_of(alloc, &self.desk, key)?;
+        self.hand_out(key);
+        Ok(Some(work))
+    }
+
+    /// Takes a word that is offered for a slot of the key's equation.
+    pub fn offer(&mut self, key: Key, slot: u64, share: Shared) -> Fate
+        requires follows { (live : Live) → IsCurrent self.old key live → known_in self.old.desk slot ≡ None
+            → CanFill self.old.desk live.equation slot share }
+        ensures { Offers self.old key slot share result self.new }
+    {
+        if !self.holds(key) {
+            return self.gone();
+        }
+        if self.desk.word(slot).is_some() {
+            return Fate::Beaten(slot);
+        }
+        self.desk.fill(key.place, slot, share);
+        Fate::Done
+    }
+
+    /// As `offer`, by who holds the job.
+    pub fn publish(&mut self, key: Key, slot: u64, share: Shared) -> Fate
+        requires follows { (live : Live) → IsCurrent self.old key live → known_in self.old.desk slot ≡ None
+            → CanFill self.old.desk live.equation slot share }
+        ensures { Publishes self.old key slot share result self.new }
+    {
+        match self.offer(key, slot, share) {
+            Fate::Done => {
+                self.free(key);
+                Fate::Done
+            }
+            Fate::Beaten(other) => {
+                self.free(key);
+                Fate::Beaten(other)
+            }
+            Fate::Gone { mark, epoch } => Fate::Gone { mark, epoch },
+        }
+    }
+
+    /// Takes it that the key's equation comes out, where that is said.
+    pub fn attest(&mut self, key: Key, zero: bool) -> Fate
+        requires follows { IsTrue zero → (live : Live) → IsCurrent self.old key live
+            → IsSettled (known_in self.old.desk) live.equation }
+        ensures { Attests self.old key zero result self.new }
+    {
+        if !self.holds(key) {
+            return self.gone();
+        }
+        if zero {
+            self.settle(key);
+        }
+        Fate::Done
+    }
+
+    /// As `attest`, by who holds the job.
+    pub fn vouch(&mut self, key: Key, zero: bool) -> Fate
+        requires follows { IsTrue zero → (live : Live) → IsCurrent self.old key live
+            → IsSettled (known_in self.old.desk) live.equation }
+        ensures { Vouches self.old key zero result self.new }
+    {
+        if !self.holds(key) {
+            return self.gone();
+        }
+        if zero {
+            self.settle(key);
+            self.free(key);
+        }
+        Fate::Done
+    }
+
+    /// Takes a job back.
+    pub fn give_back(&mut self, key: Key) -> Fate
+        ensures { GivesBack self.old key result self.new }
+    {
+        if !self.holds(key) {
+            return self.gone();
+        }
+        self.free(key);
+        Fate::Done
+    }
+
+    /// The word known at a position.
+    pub fn look(&self, key: Key, slot: u64) -> Look
+        ensures { Looks self.now key slot result self.now }
+    {
+        if !self.holds(key) {
+            return Look::Gone {
+                mark: self.desk.mark(),
+                epoch: self.desk.epoch(),
+            };
+        }
+        match self.desk.word(slot) {
+            Some(word) => Look::Known(*word),
+            None => Look::Unknown,
+        }
+    }
+
+    /// Whether a key's equation is live and no solved word was withdrawn since the key was given.
+    fn holds(&self, key: Key) -> bool
+        ensures { IsTrue result ↔ IsHeld self.now key }
+    {
+        is_held(&self.desk, key)
+    }
+
+    /// Tells that a key's equation is gone.
+    fn gone(&self) -> Fate
+        ensures { result ≡ Fate.Gone self.now.desk.state.mark self.now.desk.epoch }
+    {
+        Fate::Gone {
+            mark: self.desk.mark(),
+            epoch: self.desk.epoch(),
+        }
+    }
+
+    /// Takes it that an equation comes out.
+    fn settle(&mut self, key: Key)
+        requires { (live : Live) × IsCurrent self.old key live × IsSettled (known_in self.old.desk) live.equation }
+        ensures { self.new ≡ with_vouched self.old key.serial }
+    {
+        facts(&self.desk);
+        self.desk.vouch(key.place);
+        let mut mark = mark_of(&self.marks, key);
+        mark.vouched = true;
+        self.marks.put(key.place, mark);
+    }
+
+    /// Marks an equation as handed out no more.
+    fn free(&mut self, key: Key)
+        requires { IsHeld self.old key }
+        ensures { self.new ≡ with_back self.old key.serial }
+    {
+        facts(&self.desk);
+        let mut mark = mark_of(&self.marks, key);
+        mark.handed_out = false;
+        self.marks.put(key.place, mark);
+    }
+
+    /// Marks an equation as handed out.
+    fn hand_out(&mut self, key: Key)
+        requires { IsHeld self.old key }
+        ensures { self.new ≡ record self.old { handed_out = insert self.old.handed_out key.serial } }
+    {
+        facts(&self.desk);
+        let mut mark = mark_of(&self.marks, key);
+        mark.handed_out = true;
+        self.marks.put(key.place, mark);
+    }
+}
