@@ -1,5 +1,11 @@
-//! Boards on which three passes take their turns in an order that is given.
+//! Boards on which three passes take their turns, in an order that is given, at random, or as threads.
 
+mod admit;
+mod bare;
+mod fates;
 mod jobs;
+mod random;
 mod scene;
 mod script;
+mod threads;
+mod twins;

@@ -1,14 +1,16 @@
 //! A board, its admitter and three passes, of which each has one job at most.
 
-ghost use Rattle.std.specs.Prelude.{◌≡◌, ◌+◌, ◌<◌, ◌↔◌, IfOk, IfSome, IsTrue};
+ghost use Rattle.std.specs.Prelude.{◌≡◌, ◌≢◌, ◌+◌, ◌<◌, ◌≤◌, ◌↔◌, IfOk, IfSome, IsTrue};
 ghost use Rattle.std.specs.FinMap.{get};
 ghost use Rattle.fg_words.specs.Word.{zero_word};
 ghost use Rattle.fg_peel.specs.Equation.{IsComplete};
 ghost use Rattle.fg_core.specs.Board.{job_sum};
+ghost use Rattle.fg_board.specs.Actors.{IsLater};
 
+use super::admit;
 use crate::{Admitter, Board, Fate, Job, Key, Look, Pass};
 use fg_desk::{Played, Reply, Tray};
-use fg_shape::{Shape, shape_ok};
+use fg_shape::Shape;
 use fg_words::Word;
 use fg_words::laws::xor_is_a_group;
 use std::alloc::{AllocError, Global};
@@ -17,7 +19,7 @@ use std::sync::Wait;
 
 /// A pass, with the job that it took last.
 #[derive(Drop)]
-struct Hand {
+pub(super) struct Hand {
     pass: Pass,
     job: Option<Job>,
 }
@@ -38,8 +40,8 @@ impl Model for Hand {
     ghost invariant = { λ h. IfSome h.job (λ job. IsLater job.taken h.pass) };
 }
 
-// Takes a job. Answers the serial number of its equation, and the slot that has no word.
-fn take(
+/// Takes a job. Answers the serial number of its equation, and the slot that has no word.
+pub(super) fn take(
     wait: &impl Wait,
     board: &Board,
     hand: &mut Hand,
@@ -142,6 +144,94 @@ fn give_back(wait: &impl Wait, board: &Board, hand: &mut Hand) -> Option<Fate>
     Some(board.give_back(wait, &mut hand.pass, job))
 }
 
+// Gives a job back. The pass was told what the job tells, and still is.
+fn give_back_job(wait: &impl Wait, board: &Board, pass: &mut Pass, job: Job) -> Fate
+    requires board { pass.old.turn ≡ board.now.name }
+    requires taken { IsLater job.taken pass.old }
+    ensures board { pass.new.turn ≡ board.now.name }
+    ensures taken { IsLater job.taken pass.new }
+{
+    board.give_back(wait, pass, job)
+}
+
+// Gives the job back, and offers its word afterwards. None where there is no job, or no slot without a word.
+fn back_and_offer(
+    wait: &impl Wait,
+    alloc: Global,
+    board: &Board,
+    hand: &mut Hand,
+) -> Result<Option<(Fate, Fate)>, AllocError>
+    requires { hand.old.turn ≡ board.now.name }
+    ensures { hand.new.turn ≡ board.now.name }
+{
+    let Some(job) = hand.job.take() else {
+        return Ok(None);
+    };
+    let Some(slot) = job.missing() else {
+        return Ok(None);
+    };
+    let share = job.solve(alloc)?;
+    let key = job.work.key();
+    let back = give_back_job(wait, board, &mut hand.pass, job);
+    Ok(Some((back, board.offer(wait, &mut hand.pass, key, slot, share))))
+}
+
+// Gives the job back, and attests afterwards what its check says. None where there is no job, or a slot without a word.
+fn back_and_attest(wait: &impl Wait, board: &Board, hand: &mut Hand) -> Option<(bool, Fate, Fate)>
+    requires { hand.old.turn ≡ board.now.name }
+    ensures { hand.new.turn ≡ board.now.name }
+{
+    let job = hand.job.take()?;
+    let zero = check(&job)?;
+    xor_is_a_group();
+    job.work.room();
+    let key = job.work.key();
+    let back = give_back_job(wait, board, &mut hand.pass, job);
+    Some((zero, back, board.attest(wait, &mut hand.pass, key, zero)))
+}
+
+/// Does the job and brings what was found: its word, or what its check says. None where there is no job.
+pub(super) fn bring(
+    wait: &impl Wait,
+    alloc: Global,
+    board: &Board,
+    hand: &mut Hand,
+) -> Result<Option<Fate>, AllocError>
+    requires { hand.old.turn ≡ board.now.name }
+    ensures { hand.new.turn ≡ board.now.name }
+{
+    if solves(hand) {
+        publish(wait, alloc, board, hand)
+    } else {
+        Ok(vouch(wait, board, hand).map(|(_, fate)| fate))
+    }
+}
+
+// As `bring`, with the job in the hand.
+fn bring_and_keep(
+    wait: &impl Wait,
+    alloc: Global,
+    board: &Board,
+    hand: &mut Hand,
+) -> Result<Option<Fate>, AllocError>
+    requires { hand.old.turn ≡ board.now.name }
+    ensures { hand.new.turn ≡ board.now.name }
+{
+    if solves(hand) {
+        offer(wait, alloc, board, hand)
+    } else {
+        Ok(attest(wait, board, hand).map(|(_, fate)| fate))
+    }
+}
+
+// Whether there is a job, with a slot without a word.
+fn solves(hand: &Hand) -> bool {
+    match &hand.job {
+        Some(job) => job.missing().is_some(),
+        None => false,
+    }
+}
+
 // Looks at a position, with the job in the hand.
 fn look(wait: &impl Wait, board: &Board, hand: &mut Hand, key: Key, slot: u64) -> Look
     requires { hand.old.turn ≡ board.now.name }
@@ -150,8 +240,8 @@ fn look(wait: &impl Wait, board: &Board, hand: &mut Hand, key: Key, slot: u64) -
     board.look(wait, &mut hand.pass, key, slot)
 }
 
-// A further pass.
-fn further_hand(board: &Board, admitter: &mut Admitter) -> Hand
+/// A further pass.
+pub(super) fn further_hand(board: &Board, admitter: &mut Admitter) -> Hand
     requires board { admitter.old.seat.turn ≡ board.now.name }
     requires room { admitter.old.seat.made + 1 < board.now.seats }
     ensures admitter { admitter.new.seat.turn ≡ board.now.name }
@@ -163,8 +253,23 @@ fn further_hand(board: &Board, admitter: &mut Admitter) -> Hand
     Hand { pass, job: None }
 }
 
-// Takes a pass back.
-fn put_back(board: &Board, admitter: &mut Admitter, hand: Hand)
+/// A hand with this pass and no job.
+pub(super) fn hand_of(pass: Pass) -> Hand
+    ensures { result.turn ≡ pass.turn }
+{
+    Hand { pass, job: None }
+}
+
+/// The pass of a hand, without its job.
+pub(super) fn pass_of(hand: Hand) -> Pass
+    ensures { result.turn ≡ hand.turn }
+{
+    let Hand { pass, job: _ } = hand;
+    pass
+}
+
+/// Takes a pass back.
+pub(super) fn put_back(board: &Board, admitter: &mut Admitter, hand: Hand)
     requires { (admitter.old.seat.turn ≡ board.now.name) × (hand.turn ≡ board.now.name) }
     ensures { admitter.new.seat.turn ≡ board.now.name }
 {
@@ -172,12 +277,14 @@ fn put_back(board: &Board, admitter: &mut Admitter, hand: Hand)
     board.back(admitter, pass);
 }
 
-// A board of the usual window and depth.
-fn open(alloc: Global) -> Result<(Board, Admitter), AllocError>
+/// A board with room for three passes.
+pub(super) fn open(alloc: Global, window: u32, depth: u32) -> Result<(Board, Admitter), AllocError>
+    requires window { (1 ≤ window) × (window ≤ 100) }
+    requires depth { (window ≤ depth) × (depth ≤ 1000) }
     ensures board { IfOk result (λ r. (r.1.seat.turn ≡ r.0.name) × (r.0.seats ≡ 4)) }
-    ensures admitter { IfOk result (λ r. (r.1.seat.made ≡ 0) × (r.1.window ≡ 100)) }
+    ensures admitter { IfOk result (λ r. (r.1.seat.made ≡ 0) × (r.1.window ≡ window)) }
 {
-    Board::new(alloc, 100, 400, 3)
+    Board::new(alloc, window, depth, 3)
 }
 
 /// Which pass.
@@ -202,7 +309,7 @@ pub(super) struct Scene {
 }
 
 impl Model for Scene {
-    ghost use Rattle.std.specs.Prelude.{◌≡◌};
+    ghost use Rattle.std.specs.Prelude.{◌≡◌, ◌≤◌};
     ghost use Rattle.fg_turn.specs.Standing.{TurnId, turn_id_coded};
 
     ghost Value = { TurnId };
@@ -211,13 +318,16 @@ impl Model for Scene {
 
     ghost view = { λ s. s.board };
 
-    ghost invariant = { λ s. (s.admitter.seat.turn ≡ s.board.name) × (s.admitter.window ≡ 100)
+    ghost invariant = { λ s. (s.admitter.seat.turn ≡ s.board.name) × (s.admitter.window ≤ 100)
         × (s.a.turn ≡ s.board.name) × (s.b.turn ≡ s.board.name) × (s.c.turn ≡ s.board.name) };
 }
 
 impl Scene {
-    pub(super) fn new(alloc: Global) -> Result<Scene, AllocError> {
-        let (board, mut admitter) = open(alloc)?;
+    pub(super) fn new(alloc: Global, window: u32, depth: u32) -> Result<Scene, AllocError>
+        requires window { (1 ≤ window) × (window ≤ 100) }
+        requires depth { (window ≤ depth) × (depth ≤ 1000) }
+    {
+        let (board, mut admitter) = open(alloc, window, depth)?;
         let a = further_hand(&board, &mut admitter);
         let b = further_hand(&board, &mut admitter);
         let c = further_hand(&board, &mut admitter);
@@ -232,6 +342,25 @@ impl Scene {
         })
     }
 
+    /// Whether a play is due before a datagram of this sequence number.
+    pub(super) fn due(&self, seq: u16) -> bool {
+        self.admitter.due(seq)
+    }
+
+    /// How many equations were admitted.
+    pub(super) fn admitted(&self) -> usize {
+        self.keys.len()
+    }
+
+    /// Whether a pass has a job.
+    pub(super) fn is_busy(&self, who: Who) -> bool {
+        match who {
+            Who::A => self.a.job.is_some(),
+            Who::B => self.b.job.is_some(),
+            Who::C => self.c.job.is_some(),
+        }
+    }
+
     /// Admits a media datagram. None where a play is due first, or the word is no media word.
     pub(super) fn media(
         &mut self,
@@ -240,10 +369,7 @@ impl Scene {
         word: Word,
     ) -> Result<Option<Reply>, AllocError> {
         let share = word.share(self.alloc)?;
-        if !self.admitter.room() || self.admitter.due(seq) || !share.word().is_media() {
-            return Ok(None);
-        }
-        Ok(Some(self.admitter.admit_media(wait, &self.board, seq, share)))
+        Ok(admit::media(wait, &self.board, &mut self.admitter, seq, share))
     }
 
     /// Admits a parity datagram. None where there is no such shape.
@@ -255,12 +381,10 @@ impl Scene {
         word: Word,
     ) -> Result<Option<Reply>, AllocError> {
         let share = word.share(self.alloc)?;
-        if !self.admitter.room() || !shape_ok(shape) {
+        let done = admit::parity(wait, &self.board, &mut self.admitter, base, shape, share);
+        let Some((reply, key)) = done else {
             return Ok(None);
-        }
-        let (reply, key) = self
-            .admitter
-            .admit_parity(wait, &self.board, base, shape, share);
+        };
         if let Some(key) = key {
             self.keys.push(key)?;
         }
@@ -273,24 +397,12 @@ impl Scene {
         wait: &impl Wait,
         seq: u16,
     ) -> Result<Option<(Played, Tray)>, AllocError> {
-        let mut tray = Tray::new(self.alloc, 100)?;
-        if !self.admitter.room() || !self.admitter.due(seq) {
-            return Ok(None);
-        }
-        let played = self.admitter.play(wait, &self.board, &mut tray);
-        Ok(Some((played, tray)))
+        admit::play(wait, self.alloc, &self.board, &mut self.admitter, seq)
     }
 
     /// Plays a flush step. None where there is none.
     pub(super) fn flush(&mut self, wait: &impl Wait) -> Result<Option<(Played, Tray)>, AllocError> {
-        let mut tray = Tray::new(self.alloc, 100)?;
-        if !self.admitter.room() {
-            return Ok(None);
-        }
-        match self.admitter.flush_step(wait, &self.board, &mut tray) {
-            Some(played) => Ok(Some((played, tray))),
-            None => Ok(None),
-        }
+        admit::flush(wait, self.alloc, &self.board, &mut self.admitter)
     }
 
     pub(super) fn take(
@@ -346,6 +458,54 @@ impl Scene {
             Who::A => give_back(wait, &self.board, &mut self.a),
             Who::B => give_back(wait, &self.board, &mut self.b),
             Who::C => give_back(wait, &self.board, &mut self.c),
+        }
+    }
+
+    /// Gives the job back and offers its word.
+    pub(super) fn back_and_offer(
+        &mut self,
+        wait: &impl Wait,
+        who: Who,
+    ) -> Result<Option<(Fate, Fate)>, AllocError> {
+        match who {
+            Who::A => back_and_offer(wait, self.alloc, &self.board, &mut self.a),
+            Who::B => back_and_offer(wait, self.alloc, &self.board, &mut self.b),
+            Who::C => back_and_offer(wait, self.alloc, &self.board, &mut self.c),
+        }
+    }
+
+    /// Gives the job back and attests its check.
+    pub(super) fn back_and_attest(
+        &mut self,
+        wait: &impl Wait,
+        who: Who,
+    ) -> Option<(bool, Fate, Fate)> {
+        match who {
+            Who::A => back_and_attest(wait, &self.board, &mut self.a),
+            Who::B => back_and_attest(wait, &self.board, &mut self.b),
+            Who::C => back_and_attest(wait, &self.board, &mut self.c),
+        }
+    }
+
+    /// Publishes the job's word or vouches for its check, as the job needs it.
+    pub(super) fn bring(&mut self, wait: &impl Wait, who: Who) -> Result<Option<Fate>, AllocError> {
+        match who {
+            Who::A => bring(wait, self.alloc, &self.board, &mut self.a),
+            Who::B => bring(wait, self.alloc, &self.board, &mut self.b),
+            Who::C => bring(wait, self.alloc, &self.board, &mut self.c),
+        }
+    }
+
+    /// As `bring`, and the pass keeps the job.
+    pub(super) fn bring_and_keep(
+        &mut self,
+        wait: &impl Wait,
+        who: Who,
+    ) -> Result<Option<Fate>, AllocError> {
+        match who {
+            Who::A => bring_and_keep(wait, self.alloc, &self.board, &mut self.a),
+            Who::B => bring_and_keep(wait, self.alloc, &self.board, &mut self.b),
+            Who::C => bring_and_keep(wait, self.alloc, &self.board, &mut self.c),
         }
     }
 

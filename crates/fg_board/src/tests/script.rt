@@ -36,6 +36,10 @@ pub(super) enum Step {
     Attest(Who, bool, Fate),
     /// The job is given back.
     GiveBack(Who, Fate),
+    /// The job is given back, and then its word is offered.
+    BackAndOffer(Who, Fate),
+    /// The job is given back, and then its check is attested: whether its equation comes out.
+    BackAndAttest(Who, bool, Fate),
     /// A look by the key of the equation of this serial number, at a position.
     Look(Who, usize, u64, Sight),
     /// A play, which is due before a sequence number.
@@ -65,7 +69,7 @@ pub(super) struct Shows {
 }
 
 /// The media word of this number.
-fn word_of(number: u32) -> Word {
+pub(super) fn word_of(number: u32) -> Word {
     let mut word = Word::zero();
     word.pt = 33;
     word.ts = number % FLIPPED;
@@ -82,7 +86,7 @@ fn word_of(number: u32) -> Word {
 }
 
 /// The sum of the words at the slots of a shape, of which the first has this number.
-fn sum_of(number: u32, shape: Shape) -> Word {
+pub(super) fn sum_of(number: u32, shape: Shape) -> Word {
     let mut sum = Word::zero();
     for j in 0..u32::from(shape.na) {
         let at = j.wrapping_mul(u32::from(shape.offset));
@@ -164,7 +168,7 @@ fn looks(scene: &mut Scene, wait: &impl Wait, who: Who, serial: usize, slot: u64
     seen(look, (slot % u64::from(FLIPPED)) as u32)
 }
 
-/// Whether a call answers as is wanted.
+/// Whether a call of the admitter, or a look, answers as is wanted.
 fn answers(scene: &mut Scene, wait: &impl Wait, step: Step) -> Result<bool, AllocError> {
     match step {
         Step::Media(seq, number, want) => {
@@ -175,17 +179,31 @@ fn answers(scene: &mut Scene, wait: &impl Wait, step: Step) -> Result<bool, Allo
             let shape = Shape { offset, na };
             Ok(scene.parity(wait, base, shape, sum_of(number, shape))? == Some(want))
         }
+        Step::Look(who, serial, slot, want) => {
+            Ok(looks(scene, wait, who, serial, slot) == Some(want))
+        }
+        Step::Play(seq, want) => Ok(is_shown(scene.play(wait, seq)?, want)),
+        Step::Flush(want) => Ok(is_shown(scene.flush(wait)?, want)),
+        _ => is_brought(scene, wait, step),
+    }
+}
+
+/// Whether a pass that takes, brings or gives back is answered as is wanted.
+fn is_brought(scene: &mut Scene, wait: &impl Wait, step: Step) -> Result<bool, AllocError> {
+    match step {
         Step::Take(who, want) => Ok(scene.take(wait, who)? == want),
         Step::Publish(who, want) => Ok(scene.publish(wait, who)? == Some(want)),
         Step::Vouch(who, zero, want) => Ok(scene.vouch(wait, who) == Some((zero, want))),
         Step::Offer(who, want) => Ok(scene.offer(wait, who)? == Some(want)),
         Step::Attest(who, zero, want) => Ok(scene.attest(wait, who) == Some((zero, want))),
         Step::GiveBack(who, want) => Ok(scene.give_back(wait, who) == Some(want)),
-        Step::Look(who, serial, slot, want) => {
-            Ok(looks(scene, wait, who, serial, slot) == Some(want))
+        Step::BackAndOffer(who, want) => {
+            Ok(scene.back_and_offer(wait, who)? == Some((Fate::Done, want)))
         }
-        Step::Play(seq, want) => Ok(is_shown(scene.play(wait, seq)?, want)),
-        Step::Flush(want) => Ok(is_shown(scene.flush(wait)?, want)),
+        Step::BackAndAttest(who, zero, want) => {
+            Ok(scene.back_and_attest(wait, who) == Some((zero, Fate::Done, want)))
+        }
+        _ => Ok(false),
     }
 }
 
@@ -195,7 +213,7 @@ pub(super) fn follows(
     alloc: Global,
     script: &[Step],
 ) -> Result<(), Fail> {
-    let mut scene = Scene::new(alloc)?;
+    let mut scene = Scene::new(alloc, 100, 400)?;
     for (i, step) in script.iter().enumerate() {
         assert!(rt; answers(&mut scene, rt, *step)?, "step {i}");
     }

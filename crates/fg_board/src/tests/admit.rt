@@ -1,0 +1,90 @@
+//! What an admitter does, where the conditions of its calls are met.
+
+ghost use Rattle.std.specs.Prelude.{◌≡◌, ◌≤◌};
+
+use crate::{Admitter, Board, Key};
+use fg_desk::{Played, Reply, Tray};
+use fg_shape::{Shape, shape_ok};
+use fg_words::Shared;
+use std::alloc::{AllocError, Global};
+use std::sync::Wait;
+
+/// Admits a media datagram. None where a play is due first, or the word is no media word.
+pub(super) fn media(
+    wait: &impl Wait,
+    board: &Board,
+    admitter: &mut Admitter,
+    seq: u16,
+    share: Shared,
+) -> Option<Reply>
+    requires { admitter.old.seat.turn ≡ board.now.name }
+    ensures turn { admitter.new.seat.turn ≡ admitter.old.seat.turn }
+    ensures window { admitter.new.window ≡ admitter.old.window }
+{
+    if !admitter.room() || admitter.due(seq) || !share.word().is_media() {
+        return None;
+    }
+    Some(admitter.admit_media(wait, board, seq, share))
+}
+
+/// Admits a parity datagram. None where there is no such shape.
+pub(super) fn parity(
+    wait: &impl Wait,
+    board: &Board,
+    admitter: &mut Admitter,
+    base: u16,
+    shape: Shape,
+    share: Shared,
+) -> Option<(Reply, Option<Key>)>
+    requires { admitter.old.seat.turn ≡ board.now.name }
+    ensures turn { admitter.new.seat.turn ≡ admitter.old.seat.turn }
+    ensures window { admitter.new.window ≡ admitter.old.window }
+{
+    if !admitter.room() || !shape_ok(shape) {
+        return None;
+    }
+    Some(admitter.admit_parity(wait, board, base, shape, share))
+}
+
+/// Plays a window. None where no play is due before this sequence number.
+pub(super) fn play(
+    wait: &impl Wait,
+    alloc: Global,
+    board: &Board,
+    admitter: &mut Admitter,
+    seq: u16,
+) -> Result<Option<(Played, Tray)>, AllocError>
+    requires turn { admitter.old.seat.turn ≡ board.now.name }
+    requires window { admitter.old.window ≤ 100 }
+    ensures turn { admitter.new.seat.turn ≡ admitter.old.seat.turn }
+    ensures window { admitter.new.window ≡ admitter.old.window }
+{
+    let mut tray = Tray::new(alloc, 100)?;
+    if !admitter.room() || !admitter.due(seq) {
+        return Ok(None);
+    }
+    let played = admitter.play(wait, board, &mut tray);
+    Ok(Some((played, tray)))
+}
+
+/// Plays a flush step. None where there is none.
+pub(super) fn flush(
+    wait: &impl Wait,
+    alloc: Global,
+    board: &Board,
+    admitter: &mut Admitter,
+) -> Result<Option<(Played, Tray)>, AllocError>
+    requires turn { admitter.old.seat.turn ≡ board.now.name }
+    requires window { admitter.old.window ≤ 100 }
+    ensures turn { admitter.new.seat.turn ≡ admitter.old.seat.turn }
+    ensures window { admitter.new.window ≡ admitter.old.window }
+{
+    let mut tray = Tray::new(alloc, 100)?;
+    if !admitter.room() {
+        return Ok(None);
+    }
+    match admitter.flush_step(wait, board, &mut tray) {
+        Some(played) => Ok(Some((played, tray))),
+        None => Ok(None),
+    }
+}

@@ -1,0 +1,374 @@
+//! Random turns of a board's admitter and its three passes, beside a desk alone.
+
+ghost use Rattle.std.specs.Prelude.{◌≤◌};
+
+use super::bare;
+use super::bare::same_plays;
+use super::scene::{Scene, Who};
+use super::script::word_of;
+use crate::{Fate, Look};
+use fg_desk::Desk;
+use fg_shape::Shape;
+use fg_words::Word;
+use rand_core::utils::NextWord;
+use rand_pcg::Pcg32;
+use std::alloc::{AllocError, Global};
+use std::process::Abort;
+use std::sync::Wait;
+use std::test::Fail;
+
+/// The generator's state at first.
+const SEED: u64 = 2022;
+
+/// How many flows there are.
+const FLOWS: u32 = 20;
+
+/// How many steps a flow has before it is flushed.
+const STEPS: u32 = 120;
+
+/// The sequence number of position 0.
+const FIRST: u16 = 65_500;
+
+/// How often passes were answered what.
+#[derive(Clone, Copy)]
+struct Came {
+    done: u32,
+    beaten: u32,
+    gone: u32,
+    /// Gone, since a word that was solved was contradicted.
+    withdrawn: u32,
+}
+
+/// A board, and a desk that takes the same.
+#[derive(Drop)]
+struct Both {
+    scene: Scene,
+    desk: Desk,
+    depth: u32,
+    came: Came,
+}
+
+/// A media word with this timestamp.
+fn stamped(timestamp: u32) -> Word {
+    let mut word = word_of(0);
+    word.ts = timestamp;
+    word
+}
+
+/// The timestamp that was sent at a position.
+fn sent(position: u64) -> u32 {
+    ((position % 65_536) as u32).wrapping_mul(0x9e37_79b1)
+}
+
+fn seq_of(position: u64) -> u16 {
+    FIRST.wrapping_add((position % 65_536) as u16)
+}
+
+/// The parity word of what was sent at these slots.
+fn parity_of(base: u64, shape: Shape) -> Word {
+    let mut word = if shape.na % 2 == 0 {
+        Word::zero()
+    } else {
+        stamped(0)
+    };
+    for j in 0..u64::from(shape.na) {
+        word.ts ^= sent(base.wrapping_add(j.wrapping_mul(u64::from(shape.offset))));
+    }
+    word
+}
+
+/// One of so many, or 0 where there are none.
+fn one_of(random: &mut Pcg32, count: u64) -> u64 {
+    u64::from(random.next_word()) % count.max(1)
+}
+
+/// Both play a window where one is due before a sequence number. Whether they agree.
+fn both_play(
+    wait: &impl Wait,
+    alloc: Global,
+    both: &mut Both,
+    seq: u16,
+) -> Result<bool, AllocError> {
+    let due = both.scene.due(seq);
+    if due != both.desk.due(seq) {
+        return Ok(false);
+    }
+    if !due {
+        return Ok(true);
+    }
+    let shared = both.scene.play(wait, seq)?;
+    let alone = bare::play(&mut both.desk, alloc, seq)?;
+    Ok(shared.is_some() && same_plays(&shared, &alone))
+}
+
+/// Both make a flush step. Whether they agree.
+fn both_flush(wait: &impl Wait, alloc: Global, both: &mut Both) -> Result<bool, AllocError> {
+    let shared = both.scene.flush(wait)?;
+    let alone = bare::flush(&mut both.desk, alloc)?;
+    Ok(same_plays(&shared, &alone))
+}
+
+/// Both play while a play is due before a sequence number.
+fn both_play_on(
+    wait: &impl Wait,
+    alloc: Global,
+    both: &mut Both,
+    seq: u16,
+) -> Result<bool, AllocError> {
+    for _ in 0..4 {
+        if !both_play(wait, alloc, both, seq)? {
+            return Ok(false);
+        }
+    }
+    Ok(true)
+}
+
+/// What was sent at a position, or now and then another word.
+fn arriving(random: &mut Pcg32, position: u64) -> Word {
+    let wrong = if random.next_word() % 8 == 0 {
+        1 + random.next_word() % 2
+    } else {
+        0
+    };
+    stamped(sent(position) ^ wrong)
+}
+
+/// A media datagram near the mark comes to both, after the plays that it makes due.
+fn both_take_media(
+    wait: &impl Wait,
+    alloc: Global,
+    both: &mut Both,
+    random: &mut Pcg32,
+) -> Result<bool, AllocError> {
+    let near = one_of(random, u64::from(both.depth).saturating_add(6));
+    let from_three = both.desk.mark().saturating_add(near);
+    let seq = seq_of(from_three).wrapping_sub(3);
+    if !both_play_on(wait, alloc, both, seq)? {
+        return Ok(false);
+    }
+    let word = arriving(random, from_three.wrapping_sub(3));
+    let shared = both.scene.media(wait, seq, word)?;
+    let alone = bare::media(&mut both.desk, seq, word.share(alloc)?);
+    Ok(shared.is_some() && shared == alone)
+}
+
+/// A parity datagram comes to both.
+fn both_take_parity(
+    wait: &impl Wait,
+    alloc: Global,
+    both: &mut Both,
+    random: &mut Pcg32,
+) -> Result<bool, AllocError> {
+    let shape = Shape {
+        offset: (1 + random.next_word() % 4) as u8,
+        na: (1 + random.next_word() % 5) as u8,
+    };
+    let near = one_of(random, u64::from(both.depth).saturating_add(10));
+    let from_eight = both.desk.mark().saturating_add(near);
+    let seq = seq_of(from_eight).wrapping_sub(8);
+    let mut word = parity_of(from_eight.wrapping_sub(8), shape);
+    if random.next_word() % 24 == 0 {
+        word.ts ^= 1;
+    }
+    let shared = both.scene.parity(wait, seq, shape, word)?;
+    let alone = bare::parity(&mut both.desk, seq, shape, word.share(alloc)?);
+    Ok(shared.is_some() && shared == alone)
+}
+
+/// A pass looks at a position near the mark. Whether it is shown what the desk alone has there, or a word that was solved.
+fn look_agrees(wait: &impl Wait, both: &mut Both, who: Who, random: &mut Pcg32) -> bool {
+    let serial = one_of(random, both.scene.admitted() as u64);
+    let slot = both
+        .desk
+        .mark()
+        .saturating_add(one_of(random, 30))
+        .saturating_sub(10);
+    let Some(look) = both.scene.look(wait, who, serial as usize, slot) else {
+        return true;
+    };
+    match (look, both.desk.word(slot)) {
+        (Look::Known(word), Some(other)) => word.same(other),
+        (Look::Known(_), None) => slot >= both.desk.mark(),
+        (Look::Unknown, alone) => alone.is_none(),
+        (Look::Gone { mark, epoch }, _) => {
+            mark == both.desk.mark() && epoch >= both.desk.epoch()
+        }
+    }
+}
+
+/// Counts what a pass was answered. Whether it tells the mark and the epoch as they are.
+fn count(came: &mut Came, desk: &Desk, fate: Option<Fate>) -> bool {
+    match fate {
+        Some(Fate::Done) => came.done = came.done.saturating_add(1),
+        Some(Fate::Beaten(_)) => came.beaten = came.beaten.saturating_add(1),
+        Some(Fate::Gone { mark, epoch }) => {
+            came.gone = came.gone.saturating_add(1);
+            if epoch > desk.epoch() {
+                came.withdrawn = came.withdrawn.saturating_add(1);
+            }
+            return mark == desk.mark() && epoch >= desk.epoch();
+        }
+        None => return false,
+    }
+    true
+}
+
+fn pass_of(number: u32) -> Who {
+    match number % 3 {
+        0 => Who::A,
+        1 => Who::B,
+        _ => Who::C,
+    }
+}
+
+/// A pass that has a job gives it back or does it.
+fn end_job(
+    wait: &impl Wait,
+    scene: &mut Scene,
+    who: Who,
+    kind: u32,
+) -> Result<Option<Fate>, AllocError> {
+    if kind == 4 {
+        return Ok(scene.give_back(wait, who));
+    }
+    if kind < 7 {
+        return scene.bring_and_keep(wait, who);
+    }
+    scene.bring(wait, who)
+}
+
+/// One turn of a pass, which is of no effect on what the admitter is answered.
+fn pass_goes_on(wait: &impl Wait, both: &mut Both, random: &mut Pcg32) -> Result<bool, AllocError> {
+    let who = pass_of(random.next_word());
+    let kind = random.next_word() % 16;
+    if kind < 3 {
+        return Ok(look_agrees(wait, both, who, random));
+    }
+    // Now and then a job is forgotten.
+    if kind == 3 || !both.scene.is_busy(who) {
+        both.scene.take(wait, who)?;
+        return Ok(true);
+    }
+    let fate = end_job(wait, &mut both.scene, who, kind)?;
+    Ok(count(&mut both.came, &both.desk, fate))
+}
+
+/// One step of the admitter, and of the desk alone. Whether they agree.
+fn admitter_goes_on(
+    wait: &impl Wait,
+    alloc: Global,
+    both: &mut Both,
+    random: &mut Pcg32,
+    kind: u32,
+) -> Result<bool, AllocError> {
+    if kind < 13 {
+        both_take_media(wait, alloc, both, random)
+    } else {
+        both_take_parity(wait, alloc, both, random)
+    }
+}
+
+/// One step. Whether board and desk agree.
+fn go_on(
+    wait: &impl Wait,
+    alloc: Global,
+    both: &mut Both,
+    random: &mut Pcg32,
+) -> Result<bool, AllocError> {
+    let kind = random.next_word() % 40;
+    if kind == 39 {
+        both_flush(wait, alloc, both)
+    } else if kind < 21 {
+        admitter_goes_on(wait, alloc, both, random, kind)
+    } else {
+        pass_goes_on(wait, both, random)
+    }
+}
+
+/// A new board and a new desk.
+fn new_both(alloc: Global, window: u32, depth: u32, came: Came) -> Result<Both, AllocError>
+    requires window { (1 ≤ window) × (window ≤ 100) }
+    requires depth { (window ≤ depth) × (depth ≤ 1000) }
+{
+    let scene = Scene::new(alloc, window, depth)?;
+    let desk = Desk::new(alloc, window, depth)?;
+    Ok(Both {
+        scene,
+        desk,
+        depth,
+        came,
+    })
+}
+
+/// Both take the first datagram.
+fn both_start(wait: &impl Wait, alloc: Global, both: &mut Both) -> Result<bool, AllocError> {
+    let word = stamped(sent(0));
+    let shared = both.scene.media(wait, FIRST, word)?;
+    let alone = bare::media(&mut both.desk, FIRST, word.share(alloc)?);
+    Ok(shared.is_some() && shared == alone)
+}
+
+fn steps(
+    rt: &(impl Abort + Wait),
+    alloc: Global,
+    both: &mut Both,
+    random: &mut Pcg32,
+) -> Result<(), Fail> {
+    for i in 0..STEPS {
+        assert!(rt; go_on(rt, alloc, both, random)?, "step {i}");
+    }
+    Ok(())
+}
+
+fn flush_steps(rt: &(impl Abort + Wait), alloc: Global, both: &mut Both) -> Result<(), Fail> {
+    for i in 0..30 {
+        assert!(rt; both_flush(rt, alloc, both)?, "flush step {i}");
+    }
+    Ok(())
+}
+
+/// Steps of a new board and a new desk, which flush at last.
+fn try_flow(
+    rt: &(impl Abort + Wait),
+    alloc: Global,
+    came: Came,
+    random: &mut Pcg32,
+) -> Result<Came, Fail> {
+    let window = 1 + random.next_word() % 8;
+    let depth = window + random.next_word() % 20;
+    assert!(rt; 1 <= window && window <= 100 && window <= depth && depth <= 1000);
+    let mut both = new_both(alloc, window, depth, came)?;
+    assert!(rt; both_start(rt, alloc, &mut both)?);
+    steps(rt, alloc, &mut both, random)?;
+    flush_steps(rt, alloc, &mut both)?;
+    let Both { scene, came, .. } = both;
+    assert!(rt; scene.close());
+    Ok(came)
+}
+
+/// All flows, and what passes were answered in them.
+fn try_flows(rt: &(impl Abort + Wait), alloc: Global, random: &mut Pcg32) -> Result<Came, Fail> {
+    let mut came = Came {
+        done: 0,
+        beaten: 0,
+        gone: 0,
+        withdrawn: 0,
+    };
+    for _ in 0..FLOWS {
+        came = try_flow(rt, alloc, came, random)?;
+    }
+    Ok(came)
+}
+
+/// Whether each answer came.
+fn all_came(came: Came) -> bool {
+    came.done > 0 && came.beaten > 0 && came.gone > 0 && came.withdrawn > 0
+}
+
+#[test]
+fn random_turns(rt: HostRuntime) -> Result<(), Fail> {
+    let mut random = Pcg32::new(SEED, 7);
+    let came = try_flows(&rt, rt.alloc(), &mut random)?;
+    assert!(rt; all_came(came));
+    Ok(())
+}
