@@ -1,5 +1,5 @@
 -- Which live equations are open, and the work of one that is.
-use Rattle.std.proofs.Common.{◌≡◌, ◌⊎◌, ◌+◌, ◌<◌, ◌≤◌, ℕ, Bool, not, true, false, List, [], ◌∷◌, ◌++◌, map, length, get_or, Option, Some, None, IsSome, IfSome, inl, inr, refl, sym, ap, subst, ◌∙◌, ⊎_elim, arith}
+use Rattle.std.proofs.Common.{◌≡◌, ◌⊎◌, ◌+◌, ◌<◌, ◌≤◌, ℕ, Bool, true, false, List, [], ◌∷◌, ◌++◌, map, length, get_or, Option, Some, None, IsSome, IfSome, inl, inr, refl, sym, ap, subst, ◌∙◌, ⊎_elim, arith}
 use Rattle.std.proofs.lemmas.Bool.{cases_eq, cases_lt, cases_Bool, cond-true, cond-false}
 use Rattle.std.proofs.lemmas.Option.{same_Some, none-some}
 use Rattle.std.proofs.lemmas.List.{get_or_append_left, get_or_push, get_or_past, length-append}
@@ -200,10 +200,6 @@ module _ (desk : Contents) (marks : List Mark) (lines : Slab Line) (first : Opti
         })
 
 -- Whether a line is open
-
-pub false_of_not : (b : Bool) → not b ≡ true → b ≡ false
-false_of_not true is = absurd (cc)
-false_of_not false is = refl
 
 bare_known : (desk : Contents) → Holds desk.state → BareAreKept desk → (slot : ℕ) → contains desk.bare slot ≡ true → IsSome (known_in desk slot)
 bare_known desk facts bare slot is =

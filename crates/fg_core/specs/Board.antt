@@ -1,5 +1,5 @@
 -- The state of a board, and what each event does to it and answers. This project's own.
-use Rattle.std.specs.Prelude.{◌≡◌, ◌⊎◌, ◌≤◌, ◌↔◌, ℕ, Bool, false, Option, Some, None, IsSome, IfSome, IsTrue, ⊤, if◌then◌else◌}
+use Rattle.std.specs.Prelude.{◌≡◌, ◌⊎◌, ◌≤◌, ◌↔◌, ℕ, Bool, true, false, Option, Some, None, IsSome, IfSome, IsTrue, ⊤, if◌then◌else◌}
 use Rattle.std.specs.List.{Contains}
 use Rattle.std.specs.Ordering.{nat_cmp}
 use Rattle.std.specs.FinMap.{get}
@@ -115,6 +115,12 @@ pub record IsOpen (board : BoardState) (serial : ℕ) (live : Live) : Type 0 whe
   pub work :
       ((slot : ℕ) × IsMissing (known_in board.desk) live.equation (One slot))
       ⊎ (IsComplete (known_in board.desk) live.equation × (contains board.vouched serial ≡ false))
+
+-- Each live equation that was found to come out has words at all its slots. So it isn't open.
+abbrev pub VouchedAreComplete : BoardState → Type 0
+VouchedAreComplete board =
+    (serial : ℕ) (live : Live) → IsLive board serial live → contains board.vouched serial ≡ true
+    → IsComplete (known_in board.desk) live.equation
 
 -- A job: an equation that is handed out, with the words known at its slots.
 pub record JobState : Type 0 where

@@ -9,7 +9,7 @@ ghost use Rattle.fg_peel.specs.Equation.{IsSettled};
 ghost use Rattle.fg_desk.specs.State.{Live};
 ghost use Rattle.fg_desk.specs.Admission.{IsDue};
 ghost use Rattle.fg_desk.specs.Contents.{HasRoom, CanFill, known_in};
-ghost use Rattle.fg_core.specs.Board.{opened_board, IsCurrent, IsHeld, AdmitsMediaOn, AdmitsParityOn, PlaysOn, FlushesOn, Takes, Offers, Publishes, Attests, Vouches, GivesBack, Looks, with_back, with_vouched};
+ghost use Rattle.fg_core.specs.Board.{opened_board, IsCurrent, IsHeld, AdmitsMediaOn, AdmitsParityOn, PlaysOn, FlushesOn, Takes, Offers, Publishes, Attests, Vouches, GivesBack, Looks, with_back, with_vouched, VouchedAreComplete};
 ghost use Rattle.fg_core.specs.Core.{play_of};
 
 use crate::fate::{Fate, Look};
@@ -148,6 +148,7 @@ impl Flow {
     /// Hands out the open equation of the least serial number, with a share of each word known at its slots. Want of
     /// memory changes nothing.
     pub fn take(&mut self, alloc: Global) -> Result<Option<Work>, AllocError>
+        requires { VouchedAreComplete self.old }
         ensures taken { IfOk result (λ job. Takes self.old job self.new) }
         ensures none { IfErr result (λ _. self.new ≡ self.old) }
     {

@@ -10,7 +10,7 @@ ghost use Rattle.fg_peel.specs.Slots.{equation_of, lines_of, IsMissing};
 ghost use Rattle.fg_desk.specs.State.{Live};
 ghost use Rattle.fg_desk.specs.Facts.{Holds};
 ghost use Rattle.fg_desk.specs.Contents.{known_in, shared_at};
-ghost use Rattle.fg_core.specs.Board.{IsOpen, IsJobOf};
+ghost use Rattle.fg_core.specs.Board.{IsOpen, IsJobOf, VouchedAreComplete};
 ghost use Rattle.fg_core.specs.Flow.{mark_at, says, is_vouched, is_handed_out, board_of, BareAreKept, IsWithin, AreShared, IsOpenLine, IsKeyOfOpen, IsAtMost, AreSharesAt, IsReady};
 
 use crate::key::Key;
@@ -106,10 +106,12 @@ fn are_shared(desk: &Desk, line: &Line) -> bool
     true
 }
 
-/// Whether a live equation is open. What is quick to see comes first.
+/// Whether a live equation is open. Its mark is quick to see, and its slots are looked at only where it says nothing: up to
+/// the second without a word.
 fn is_open(desk: &Desk, marks: &Marks, line: &Line) -> bool
     requires within { IsWithin desk.now line.now }
     requires bare { BareAreKept desk.now }
+    requires vouched { VouchedAreComplete (board_of desk.now marks.now) }
     ensures { IsTrue result ↔ IsOpenLine desk.now marks.now line.now }
 {
     facts(desk);
@@ -117,8 +119,11 @@ fn is_open(desk: &Desk, marks: &Marks, line: &Line) -> bool
     if mark.handed_out {
         return false;
     }
+    if mark.vouched {
+        return false;
+    }
     match missing(desk, line) {
-        Missing::Nothing => !mark.vouched && are_shared(desk, line),
+        Missing::Nothing => are_shared(desk, line),
         Missing::One(_) => are_shared(desk, line),
         Missing::Several => false,
     }
@@ -139,6 +144,7 @@ fn is_less(serial: u64, best: Option<Key>) -> bool
 fn least_open(desk: &Desk, marks: &Marks, lines: &Slab<Line>, best: Option<Key>) -> Option<Key>
     requires within { (line : LiveLine) → Contains (lines_of lines.now) line → IsWithin desk.now line }
     requires bare { BareAreKept desk.now }
+    requires vouched { VouchedAreComplete (board_of desk.now marks.now) }
     requires best { IfSome best (IsKeyOfOpen (board_of desk.now marks.now)) }
     ensures open { IfSome result (IsKeyOfOpen (board_of desk.now marks.now)) }
     ensures best { IfSome best (λ best. IsAtMost result best.serial) }
@@ -157,6 +163,7 @@ fn least_open(desk: &Desk, marks: &Marks, lines: &Slab<Line>, best: Option<Key>)
 /// The key of the open equation of the least serial number.
 pub(crate) fn next_open(desk: &Desk, marks: &Marks) -> Option<Key>
     requires bare { BareAreKept desk.now }
+    requires vouched { VouchedAreComplete (board_of desk.now marks.now) }
     ensures open { IfSome result (IsKeyOfOpen (board_of desk.now marks.now)) }
     ensures least { (serial : ℕ) (live : Live) → IsOpen (board_of desk.now marks.now) serial live
         → IsAtMost result serial }

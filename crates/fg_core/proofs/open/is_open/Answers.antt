@@ -1,10 +1,10 @@
-use Rattle.std.proofs.Common.{true≢false, not, inl, inr, sym, ap, ◌∙◌, ⊎_elim, arith}
+use Rattle.std.proofs.Common.{true≢false, inl, inr, sym, ap, ◌∙◌, ⊎_elim, arith}
 use Rattle.fg_peel.specs.Slots.{equation_of}
 use Rattle.fg_window.specs.Lines.{live_of}
 use Rattle.fg_desk.specs.Contents.{known_in}
 use Rattle.fg_core.specs.Flow.{is_vouched, is_handed_out}
 use Rattle.fg_core.specs.declared.key.Key.{Key}
-use Rattle.fg_core.proofs.Opening.{false_of_not, flag_is, opens, one_not_complete}
+use Rattle.fg_core.proofs.Opening.{flag_is, opens, one_not_complete}
 use Rattle.fg_core.proofs.open.is_open.Goals as goal
 
 pub mark_of-mark-requires : goal.mark_of-mark-requires
@@ -23,8 +23,27 @@ returns-then-mark c = (
       ∙ c.if-mark.true,
 )
 
-pub returns-then-not-mark : goal.returns-then-not-mark
-returns-then-not-mark c =
+-- What was vouched for is complete, and so isn't open.
+pub returns-then-mark-2 : goal.returns-then-mark-2
+returns-then-mark-2 c =
+    let desk = c.args.desk.now in
+    let marks = c.args.marks.now in
+    let line = c.args.line.now in
+    let mark = c.mark_of-mark.result in
+    let facts = c.facts.ensures.facts in
+    let vouched = flag_is desk marks line facts c.requires.within c.requires.bare mark is_vouched c.key_of.result c.key_of.ensures
+    c.mark_of-mark.ensures.vouched ∙ c.if-mark-2.true in (
+      λ is. absurd (true≢false (sym is)),
+      λ is_open. ⊎_elim
+          (λ one.
+          absurd (one_not_complete (known_in desk) (equation_of line) one.0 one.1
+          (c.requires.vouched line.serial (live_of line) c.requires.within.live_is vouched)))
+          (λ all. absurd (true≢false (sym vouched ∙ all.1)))
+          is_open.work,
+    )
+
+pub returns-in-Nothing : goal.returns-in-Nothing
+returns-in-Nothing c =
     let desk = c.args.desk.now in
     let marks = c.args.marks.now in
     let line = c.args.line.now in
@@ -36,26 +55,9 @@ returns-then-not-mark c =
           (inr (
             c.in-Nothing.ensures,
             flag_is desk marks line facts c.requires.within c.requires.bare mark is_vouched c.key_of.result c.key_of.ensures
-                c.mark_of-mark.ensures.vouched ∙ false_of_not mark.vouched c.if-not-mark.true,
+                c.mark_of-mark.ensures.vouched ∙ c.if-mark-2.false,
           )),
       λ is_open. c.are_shared.ensures.1 (λ slot listed _. is_open.shared slot listed),
-    )
-
-pub returns-else-not-mark : goal.returns-else-not-mark
-returns-else-not-mark c =
-    let desk = c.args.desk.now in
-    let marks = c.args.marks.now in
-    let line = c.args.line.now in
-    let mark = c.mark_of-mark.result in
-    let facts = c.facts.ensures.facts in (
-      λ is. absurd (true≢false (sym is ∙ c.if-not-mark.false)),
-      λ is_open. ⊎_elim
-          (λ one. absurd (one_not_complete (known_in desk) (equation_of line) one.0 one.1 c.in-Nothing.ensures))
-          (λ all.
-          ap not
-          (sym (flag_is desk marks line facts c.requires.within c.requires.bare mark is_vouched c.key_of.result c.key_of.ensures
-          c.mark_of-mark.ensures.vouched) ∙ all.1))
-          is_open.work,
     )
 
 pub returns-in-One : goal.returns-in-One

@@ -2,11 +2,16 @@ use Rattle.std.proofs.Common.{◌≡◌, ◌≤◌, ℕ, [], sym, ap, subst, ◌
 use Rattle.std.specs.FinSet.{insert}
 use Rattle.fg_desk.specs.State.{Live}
 use Rattle.fg_desk.specs.Contents.{Contents}
-use Rattle.fg_core.specs.Board.{BoardState, JobState, IsOpen, IsJobOf}
+use Rattle.fg_core.specs.Board.{BoardState, JobState, IsOpen, IsJobOf, VouchedAreComplete}
 use Rattle.fg_core.specs.Flow.{board_of, IsKeyOfOpen, IsReady}
 use Rattle.fg_core.specs.declared.key.Key.{Key}
 use Rattle.fg_core.proofs.Opening.{ready_of, job_on}
 use Rattle.fg_core.proofs.flow.Flow.take.Goals as goal
+
+pub next_open-requires-clause-vouched : goal.next_open-requires-clause-vouched
+next_open-requires-clause-vouched c =
+    let f = c.self.inside in
+    subst VouchedAreComplete (sym (ap (λ (d : Contents). board_of d f.marks) c.deref.ensures ∙ c.self.view_is)) c.requires
 
 pub returns-clause-taken : goal.returns-clause-taken
 returns-clause-taken c =
