@@ -67,7 +67,7 @@ closure_limit desk =
         let less = slot_limit equation position listed slot in
         omega (arith, less)
 
-decided_some : (o : Option Word) → IsDecided (IsSome o)
+pub decided_some : (o : Option Word) → IsDecided (IsSome o)
 decided_some o = ⊎_elim (λ none. inr (none_has_no_value o none)) (λ some. inl (has_value o some.0 some.1)) (none_or_some o)
 
 -- A word that wasn't known is a media word.

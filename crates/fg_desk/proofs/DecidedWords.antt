@@ -6,10 +6,10 @@ use Rattle.fg_words.specs.declared.Word.{Word}
 use Rattle.fg_words.specs.Word.{IsMedia}
 use Rattle.fg_desk.proofs.Decided.{IsDecided, decided_both, decided_if, decided_as, decided_below, decided_somewhere}
 
-decided_less : (m n : ℕ) → IsDecided (m < n)
+pub decided_less : (m n : ℕ) → IsDecided (m < n)
 decided_less m n = ⊎_elim (λ less. inl less) (λ past. inr (λ less. omega (arith, less, past))) (cases_lt m n)
 
-decided_most : (m n : ℕ) → IsDecided (m ≤ n)
+pub decided_most : (m n : ℕ) → IsDecided (m ≤ n)
 decided_most m n = ⊎_elim (λ past. inr (λ most. omega (arith, most, past))) (λ most. inl most) (cases_lt n m)
 
 decided_numbers : (xs ys : List ℕ) → IsDecided (xs ≡ ys)

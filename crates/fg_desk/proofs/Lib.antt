@@ -38,10 +38,13 @@ pub mod Peeled
 pub mod Peelings
 pub mod PlainRuns
 pub mod PlayKeeps
+pub mod PlayOutcomes
 pub mod Plays
 pub mod Reaching
 pub mod Replies
+pub mod ReplyOutcomes
 pub mod RunFacts
+pub mod RunsExist
 pub mod SettledEquations
 pub mod SettledWords
 pub mod StaysPeeled
