@@ -16,8 +16,8 @@ use Rattle.fg_desk.specs.Admission.{Parity, AdmitsMedia, AdmitsParity, IsLeastFr
 use Rattle.fg_desk.specs.Solution.{InClosure, given}
 use Rattle.fg_desk.specs.Play.{Play, IsPlay}
 use Rattle.fg_desk.specs.Run.{Arrival, carries, protects, refused, ArePlaysDue, Takes, TakesAll, IsFlush, IsRun}
+use Rattle.fg_desk.specs.Existence.{RunsExist}
 use Rattle.fg_desk.specs.Facts.{Holds}
-use Rattle.fg_drill.specs.Existing.{RunsExist}
 use Rattle.fg_desk.specs.Laws.{IsRead, LiveStandUnderSerials, SolutionsArePeelings, MediaAdds, ParityAdds, RunsStayWithin, TakingsJoin, HavePlayed, PlaysDueJoin, AreFlushSteps, FlushStepsJoin}
 use Rattle.fg_drill.specs.Repaired.{MakesPlay, due, flushed, Closes, ArrivalsPeel}
 use Rattle.fg_drill.specs.True.{number_of, AreInFull, IsTrueArrival, ComesInTurn, AreTrueArrivals, last_after, AreSentTrue}

@@ -1,7 +1,6 @@
 -- The definitions that the contracts of this crate cite.
 pub mod ComesBack
 pub mod Drawn
-pub mod Existing
 pub mod Few
 pub mod Made
 pub mod PayloadLaws

@@ -1,6 +1,5 @@
 //! What comes back of a thinned encoding that is repaired.
-ghost use Rattle.fg_drill.specs.ComesBack.{NothingIsInconsistent, NothingLostIsAll, NothingLostIsFew, PeelingBringsAllBack, ThinnedTraceComesBack, ThinnedTraceIsRead, WhatIsShownComesBack};
-ghost use Rattle.fg_drill.specs.Existing.{AllComesBack, NothingPeels};
+ghost use Rattle.fg_drill.specs.ComesBack.{EncodingComesBack, NothingIsInconsistent, NothingLostIsAll, NothingLostIsFew, NothingLostPeels, PeelingBringsAllBack, ThinnedTraceComesBack, ThinnedTraceIsRead, WhatIsShownComesBack};
 
 use crate::laws::full::full_arrivals_peel;
 use crate::laws::sent::{
@@ -31,8 +30,8 @@ pub fn thinned_comes_back()
 pub fn nothing_lost_peels()
     ensures few { NothingLostIsFew }
     ensures all { NothingLostIsAll }
-    ensures peels { NothingPeels }
-    ensures whole { AllComesBack }
+    ensures peels { NothingLostPeels }
+    ensures whole { EncodingComesBack }
 {
     sent_words_are_media();
     sent_records_are_true();

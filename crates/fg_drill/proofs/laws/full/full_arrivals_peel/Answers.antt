@@ -2,7 +2,8 @@ use Rattle.fg_drill.proofs.InFull as proof
 use Rattle.fg_drill.proofs.laws.full.full_arrivals_peel.Goals as goal
 
 pub returns : goal.returns
-returns c = λ exist. proof.full_arrivals_peel exist
+returns c = proof.full_arrivals_peel
+    c.runs_exist.ensures
     c.runs_join.ensures.plays
     c.flushes_end.ensures.joined
     c.live_equations.ensures
