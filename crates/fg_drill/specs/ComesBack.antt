@@ -1,8 +1,11 @@
 -- What comes back of a thinned encoding that is repaired. This project's own.
-use Rattle.std.specs.Prelude.{◌≡◌, ◌≤◌, ◌^◌, ℕ, Bool, List, length}
-use Rattle.std.specs.List.{flat_map}
+use Rattle.std.specs.Prelude.{◌≡◌, ◌≤◌, ◌^◌, ℕ, Bool, false, List, length}
+use Rattle.std.specs.List.{Contains, flat_map}
+use Rattle.fg_shape.specs.declared.layouts.Layout.{Layout}
 use Rattle.fg_shape.specs.declared.encoding.Settings.{Settings}
+use Rattle.fg_trace.specs.Trace.{Record, Ending, Ended, IsTrace, trace_of}
 use Rattle.fg_encode.specs.Encoder.{CanEncode}
+use Rattle.fg_encode.specs.Encoding.{encoding}
 use Rattle.fg_encode.specs.Payloads.{total_length, ArePayloads}
 use Rattle.fg_repair.specs.Flow.{FlowResult, IsFlowResult}
 use Rattle.fg_drill.specs.Repaired.{Peels, stream_shown}
@@ -48,3 +51,65 @@ PeelingBringsAllBack =
     → IsFlowResult window depth (thinned settings lost payloads) settings.port result
     → Peels window depth settings.port (thinned settings lost payloads) (length payloads)
     → result.lane ≡ stream_of payloads
+
+-- What comes back of a thinned encoding, as one fact of its flow's result.
+pub record FlowComesBack
+    (window depth : ℕ) (settings : Settings) (payloads : List (List ℕ)) (lost : ℕ → Bool) (result : FlowResult)
+    : Type 0 where
+  pub is : IsFlowResult window depth (thinned settings lost payloads) settings.port result
+  pub consistent : result.sum.inconsistent ≡ 0
+  pub shown : result.lane ≡ stream_shown payloads is.plays
+  pub peels :
+      Peels window depth settings.port (thinned settings lost payloads) (length payloads) → result.lane ≡ stream_of payloads
+
+-- The bytes are exactly the trace of a thinned encoding, within the limit on their number, and its flow is one of those that
+-- are repaired.
+pub record IsThinnedTrace
+    (window depth : ℕ) (flows : List ℕ) (max : ℕ) (bytes : List ℕ) (settings : Settings) (payloads : List (List ℕ))
+    (lost : ℕ → Bool) : Type 0 where
+  pub can : CanComeBack window depth settings payloads lost
+  pub flow : Contains flows settings.port
+  pub spelled : bytes ≡ trace_of (thinned settings lost payloads)
+  pub within : length bytes ≤ max
+
+-- It is read as the records of the thinned encoding, and as nothing else.
+abbrev pub ThinnedTraceIsRead : Type 0
+ThinnedTraceIsRead =
+    (window depth max : ℕ) (flows bytes : List ℕ) (settings : Settings) (payloads : List (List ℕ)) (lost : ℕ → Bool)
+    → IsThinnedTrace window depth flows max bytes settings payloads lost
+    → IsTrace bytes max (thinned settings lost payloads) Ended
+    × ((records : List Record) (end : Ending) → IsTrace bytes max records end
+    → (records ≡ thinned settings lost payloads) × (end ≡ Ended))
+
+-- So what its records give the flow comes back.
+abbrev pub ThinnedTraceComesBack : Type 0
+ThinnedTraceComesBack =
+    (window depth max : ℕ) (flows bytes : List ℕ) (settings : Settings) (payloads : List (List ℕ)) (lost : ℕ → Bool)
+    (records : List Record) (end : Ending) (result : FlowResult)
+    → IsThinnedTrace window depth flows max bytes settings payloads lost → IsTrace bytes max records end
+    → IsFlowResult window depth records settings.port result → FlowComesBack window depth settings payloads lost result
+
+-- No loss at all is few losses.
+abbrev pub NothingLostIsFew : Type 0
+NothingLostIsFew =
+    (layout : Layout) (count : ℕ) (lost : ℕ → Bool) → ((number : ℕ) → lost number ≡ false) → AreFew layout count lost
+
+-- An encoding of which nothing was left out peels, at every window and depth.
+abbrev pub NothingLostPeels : Type 0
+NothingLostPeels =
+    (window depth : ℕ) (settings : Settings) (payloads : List (List ℕ)) (lost : ℕ → Bool)
+    → CanComeBack window depth settings payloads lost → ((number : ℕ) → lost number ≡ false)
+    → Peels window depth settings.port (thinned settings lost payloads) (length payloads)
+
+-- What is sent of it is all of it.
+abbrev pub NothingLostIsAll : Type 0
+NothingLostIsAll =
+    (settings : Settings) (payloads : List (List ℕ)) (lost : ℕ → Bool)
+    → ((number : ℕ) → lost number ≡ false) → thinned settings lost payloads ≡ encoding settings payloads
+
+-- So a repair of a whole encoding gives the whole stream.
+abbrev pub EncodingComesBack : Type 0
+EncodingComesBack =
+    (window depth : ℕ) (settings : Settings) (payloads : List (List ℕ)) (result : FlowResult)
+    → CanComeBack window depth settings payloads (λ _. false)
+    → IsFlowResult window depth (encoding settings payloads) settings.port result → result.lane ≡ stream_of payloads

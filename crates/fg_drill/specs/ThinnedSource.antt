@@ -1,5 +1,5 @@
 -- What contracts see of a source of a thinned encoding: this project's own rule.
-use Rattle.std.specs.Prelude.{◌≡◌, ◌≤◌, ℕ, Bool, true, Option, None, Some, List, ◌++◌, drop}
+use Rattle.std.specs.Prelude.{◌≡◌, ◌≤◌, ℕ, Bool, true, false, Option, None, Some, List, ◌++◌, drop}
 use Rattle.std.specs.Option.{option_map}
 use Rattle.std.specs.List.{concat}
 use Rattle.std.specs.Io.KnownBytes.{prepend_known}
@@ -7,7 +7,7 @@ use Rattle.fg_shape.specs.declared.encoding.Losses.{Losses}
 use Rattle.fg_shape.specs.declared.encoding.Settings.{Settings}
 use Rattle.fg_ts.specs.declared.TsFault.TheVariants.{Ragged as RaggedPayload, NoSync as UnsyncedPayload}
 use Rattle.fg_trace.specs.Trace.{trace_of}
-use Rattle.fg_encode.specs.Stream.{IsCut, Whole, Ragged, NoSync, TooLong as PastLimit}
+use Rattle.fg_encode.specs.Stream.{StreamEnding, IsCut, Whole, Ragged, NoSync, TooLong as PastLimit}
 use Rattle.fg_drill.specs.declared.thinned.StreamFault.{StreamFault}
 use Rattle.fg_drill.specs.declared.thinned.StreamFault.TheVariants.{NotTransport, TooLong}
 use Rattle.fg_drill.specs.Payloads.{payloads_of}
@@ -79,6 +79,14 @@ EndsFor (Some (NotTransport (RaggedPayload n))) packets max bytes =
     IsCut packets max bytes (payloads_of packets max bytes) (Ragged n)
 EndsFor (Some (NotTransport (UnsyncedPayload k))) packets max bytes =
     IsCut packets max bytes (payloads_of packets max bytes) (NoSync k)
+
+-- The ending that was told, once a read has told one.
+abbrev pub ending_told : Bool → Option StreamFault → Option StreamEnding
+ending_told false fault = None
+ending_told true None = Some Whole
+ending_told true (Some (TooLong n)) = Some (PastLimit n)
+ending_told true (Some (NotTransport (RaggedPayload n))) = Some (Ragged n)
+ending_told true (Some (NotTransport (UnsyncedPayload k))) = Some (NoSync k)
 
 -- Such an ending is found where the stream has no byte left.
 abbrev pub LeavesNothing : Option StreamFault → Type 0

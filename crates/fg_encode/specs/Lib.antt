@@ -5,6 +5,7 @@ pub mod Ends
 pub mod Laws
 pub mod Lines
 pub mod Payloads
+pub mod Reading
 pub mod Stream
 pub mod StreamReader
 pub mod StreamSteps
