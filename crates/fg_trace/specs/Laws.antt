@@ -5,7 +5,7 @@ use Rattle.fg_trace.specs.declared.step.Finish.{Finish}
 use Rattle.fg_trace.specs.declared.step.Step.TheVariants.{End}
 use Rattle.fg_trace.specs.Trace.{Record, Fits, Ending, Ended, IsTrace, trace_of}
 use Rattle.fg_trace.specs.Finish.{IsFault}
-use Rattle.fg_trace.specs.Reader.{Answer, ReaderState, StandsBefore, StandsAfter, IsEnding}
+use Rattle.fg_trace.specs.Reader.{Answer, ReaderState, StandsBefore, StandsAfter, IsEnding, Walks}
 use Rattle.fg_trace.specs.Reading.{HasReached, IsReadFor}
 
 -- Bytes have at most one list of records, and one ending.
@@ -36,6 +36,11 @@ SpelledIsWalked = (reader : ReaderState) (now : Option (List ℕ)) (records all 
     → StandsAfter reader (Some (trace_of all)) now records
     → (records ≡ take (length records) all)
     × ((answer : Answer) → IsEnding answer (trace_of all) reader.max records → (records ≡ all) × (answer ≡ Ok End))
+
+-- Whatever `next` answers, the reader stands after some records.
+abbrev pub WalksOn : Type 0
+WalksOn = (answer : Answer) (reader : ReaderState) (first now : Option (List ℕ)) (records : List Record)
+    → Walks answer reader first now records → (all : List Record) × StandsAfter reader first now all
 
 -- Where nothing was read, a fault needs no more.
 abbrev pub UnreadIsReadFor : Type 0
