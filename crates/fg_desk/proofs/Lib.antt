@@ -40,6 +40,8 @@ pub mod Replies
 pub mod RunFacts
 pub mod SettledEquations
 pub mod SettledWords
+pub mod ShownWords
 pub mod StaysPeeled
 pub mod Survivors
+pub mod TrayPlaces
 pub mod Twins
