@@ -4,7 +4,7 @@ use Rattle.std.proofs.lemmas.Bool.{cases_eq, cond-true, cond-false}
 use Rattle.std.proofs.lemmas.List.{length-replicate, map-append}
 use Rattle.std.proofs.lemmas.List.Elements.{All-contains, All-weaker, All-contains_itself, Contains-append_left, Contains-append_right}
 use Rattle.std.proofs.lemmas.Simd.{length-zip2}
-use Rattle.std.specs.Prelude.{bit_xor}
+use Rattle.std.specs.Prelude.{bit_xor, Result, Ok, Err, IfOk}
 use Rattle.std.specs.List.{All, Contains, cons_option}
 use Rattle.std.specs.FinMap.{get, entries}
 use Rattle.fg_words.specs.declared.Word.{Word}
@@ -21,7 +21,7 @@ use Rattle.fg_core.specs.Core.{take}
 use Rattle.fg_core.specs.Views.{Told, word_at, equation_is, seen_of, IsWorked, IsChecked, told_of_job}
 use Rattle.fg_core.specs.Codes.{Entry, told_code, told_from, IsOwnedBy, GrowsFrom, ToldIsReadBack}
 use Rattle.fg_core.specs.Laws.{WorkedWordsFollow, CheckedComeOut}
-use Rattle.fg_board.specs.Actors.{TakenJob, WasTold, IsLater, TakesTurn}
+use Rattle.fg_board.specs.Actors.{TakenJob, WasTold, IsLater, TakesTurn, IsWorkedBy}
 use Rattle.fg_core.specs.declared.key.Key.{Key}
 use Rattle.fg_board.proofs.Lists.{Contains-here, Contains-there, Contains-map, value_of, entry_of_get}
 use Rattle.fg_board.proofs.OneTurn.{owning, told_back}
@@ -171,3 +171,11 @@ module _
         xor_is_zero laws taken.job.equation.parity (sum_at (get taken.job.inputs) (slots taken.job.equation)) room
         (sum_has_room (get taken.job.inputs) rooms (slots taken.job.equation)) (says.0 is);
   }
+
+-- So it is with what a job answers as its word.
+pub job_worked_by :
+    {E : Type 0} (taken : TakenJob) → WasTold taken → (answer : Result Word E) → IfOk answer (λ word. word ≡ job_sum taken.job)
+    → IfOk answer (λ word. (slot : ℕ) → IsMissing (get taken.job.inputs) taken.job.equation (One slot) → IsWorkedBy taken slot word)
+job_worked_by taken was (Ok word) is = λ slot missing later goes_on.
+    (taken.job.equation, job_worked taken was later goes_on slot word missing is)
+job_worked_by taken was (Err error) is = is

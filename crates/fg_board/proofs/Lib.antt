@@ -2,3 +2,4 @@ mod Bringing
 mod Lists
 mod OneCall
 mod OneTurn
+pub mod OwnDesk

@@ -74,9 +74,9 @@ pub call_made :
       inside = false;
       left = Some left;
     }
-    → IsOwnedBy old.calls entered → GrowsFrom old.told entered → IsCall entered call left
+    → IsOwnedBy old.calls entered → GrowsFrom old.told entered → IsCall entered call left → IsOwnedBy new.calls left
     → MakesCall call (record { seat = old; window = window; depth = depth }) (record { seat = new; window = window; depth = depth })
-call_made call said window depth old inner new entered left same own goes_in goes_out owned grows is = record {
+call_made call said window depth old inner new entered left same own goes_in goes_out owned grows is left_owned = record {
   window = refl;
   depth = refl;
   turn = ap (λ (s : Standing BoardState). s.turn) goes_out ∙ ap (λ (s : Standing BoardState). s.turn) goes_in;
@@ -91,6 +91,7 @@ call_made call said window depth old inner new entered left same own goes_in goe
   left = left;
   left_is = ap (λ (s : Standing BoardState). s.left) goes_out;
   call_is = is;
+  left_owned = left_owned;
   calls =
       ap (λ (s : Standing BoardState). s.calls) goes_out
       ∙ ap (λ (s : Standing BoardState). s.calls ++ call_code said ∷ []) goes_in

@@ -1,13 +1,23 @@
 -- What contracts see of a board, its admitter, its passes and their jobs, and what one turn of theirs is. This project's
 -- own.
-use Rattle.std.specs.Prelude.{◌≡◌, ◌+◌, ℕ, List, [], ◌∷◌, ◌++◌, map, Some, None}
+use Rattle.std.specs.Prelude.{◌≡◌, ◌≢◌, ◌+◌, ◌<◌, ℕ, Bool, List, [], ◌∷◌, ◌++◌, map, Option, Some, None, IsSomeAnd, MatchOption}
 use Rattle.std.specs.List.{All, Contains}
 use mathlib.Core.List.{IsPrefix}
-use Rattle.fg_desk.specs.State.{State, opening}
+use Rattle.std.specs.FinMap.{get}
+use Rattle.fg_words.specs.declared.Word.{Word}
+use Rattle.fg_desk.specs.declared.reply.Reply.{Reply}
+use Rattle.fg_desk.specs.declared.reply.Reply.TheVariants.{Admitted}
+use Rattle.fg_desk.specs.State.{State}
+use Rattle.fg_desk.specs.Admission.{live_limit}
 use Rattle.fg_turn.specs.Standing.{Standing}
 use Rattle.fg_core.specs.Board.{BoardState, JobState}
 use Rattle.fg_core.specs.Views.{Told, seen_of, told_of_job}
-use Rattle.fg_core.specs.Core.{Call, Event, IsCall, IsEvent, Tells, AreCallsOn}
+use Rattle.fg_core.specs.Core.{Call, Event, IsCall, IsEvent, Tells}
+use Rattle.fg_peel.specs.Equation.{Equation}
+use Rattle.fg_core.specs.Board.{opened_board}
+use Rattle.fg_core.specs.Core.{IsOwned}
+use Rattle.fg_core.specs.Views.{IsWorked, IsChecked}
+use Rattle.fg_core.specs.declared.key.Key.{Key}
 use Rattle.fg_core.specs.Codes.{Entry, call_code, call_from, told_code, told_from, opening_code, IsOwnedBy, GrowsFrom}
 
 -- Passes
@@ -56,6 +66,18 @@ pub record TakenJob : Type 0 where
 abbrev pub WasTold : TakenJob → Type 0
 WasTold taken = All (λ told. Contains (map told_from taken.taken.told) told) (told_of_job taken.job)
 
+-- The word of its one slot that had none follows from what its pass was told, at each later standing of the pass.
+abbrev pub IsWorkedBy : TakenJob → ℕ → Word → Type 0
+IsWorkedBy taken slot word =
+    (later : Standing BoardState) → IsLater taken.taken later
+    → (equation : Equation) × IsWorked (map told_from later.told) taken.job.key equation slot word
+
+-- And so does whether its equation comes out, where all slots had words.
+abbrev pub IsCheckedBy : TakenJob → Bool → Type 0
+IsCheckedBy taken zero =
+    (later : Standing BoardState) → IsLater taken.taken later
+    → (equation : Equation) × IsChecked (map told_from later.told) taken.job.key equation zero
+
 -- The admitter
 
 -- The admitter as contracts see it: its seat, and the window and the depth of its board.
@@ -64,21 +86,26 @@ pub record AdmitterState : Type 0 where
   pub window : ℕ
   pub depth : ℕ
 
--- The desk that its calls have made, which is that of the state that it left last.
-abbrev pub desk_of : AdmitterState → State
-desk_of admitter = elim admitter.seat.left as (λ _. State) [
-  | None ↦ opening admitter.window admitter.depth
-  | Some left ↦ left.desk.state
+-- The board that it left last, which is a new one before its first call.
+abbrev pub board_of : AdmitterState → BoardState
+board_of admitter = elim admitter.seat.left as (λ _. BoardState) [
+  | None ↦ opened_board admitter.window admitter.depth
+  | Some left ↦ left
 ]
 
--- The desk is what its calls make of an empty one.
-abbrev pub IsOwnDesk : AdmitterState → Type 0
-IsOwnDesk admitter =
+-- The desk that its calls have made.
+abbrev pub desk_of : AdmitterState → State
+desk_of admitter = (board_of admitter).desk.state
+
+-- That board is what its calls make of an empty desk, whatever passes did between them.
+abbrev pub IsOwnBoard : AdmitterState → Type 0
+IsOwnBoard admitter =
     (entries : List Entry) × (admitter.seat.calls ≡ opening_code admitter.window admitter.depth ∷ entries)
-    × AreCallsOn (opening admitter.window admitter.depth) (map call_from entries) (desk_of admitter)
+    × IsOwned admitter.window admitter.depth (map call_from entries) (board_of admitter)
 
 -- One turn of the admitter: one call, from the state that it entered, whose desk is its own, to the one that it left.
--- What was entered is what its calls so far made of the board, and has grown from all that it was told.
+-- What was entered is what its calls so far made of the board, and has grown from all that it was told. What was left is
+-- what its calls made with this one.
 pub record MakesCall (call : Call) (old new : AdmitterState) : Type 0 where
   pub window : new.window ≡ old.window
   pub depth : new.depth ≡ old.depth
@@ -94,5 +121,19 @@ pub record MakesCall (call : Call) (old new : AdmitterState) : Type 0 where
   pub left : BoardState
   pub left_is : new.seat.left ≡ Some left
   pub call_is : IsCall entered call left
+  pub left_owned : IsOwnedBy new.seat.calls left
   pub calls : new.seat.calls ≡ old.seat.calls ++ call_code call ∷ []
   pub told : new.seat.told ≡ old.seat.told ++ told_code (seen_of left) ∷ []
+
+-- A key that a call gave is that of the equation which it admitted: it has the equation's serial number, its place, which is
+-- one of 512, and the epoch at the end of the call.
+pub record IsKeyGiven (old : AdmitterState) (key : Key) (new : AdmitterState) : Type 0 where
+  pub serial : key.serial ≡ (desk_of old).admitted
+  pub live : IsSomeAnd (get (desk_of new).equations key.serial) (λ live. live.place ≡ key.place)
+  pub place : key.place < live_limit
+  pub epoch : key.epoch ≡ (board_of new).desk.epoch
+
+-- A call gives a key with an equation that it admits, and with no other reply.
+abbrev pub GivesKeyOf : AdmitterState → Reply → Option Key → AdmitterState → Type 0
+GivesKeyOf old reply key new =
+    MatchOption key (reply ≢ Admitted) (λ key. (reply ≡ Admitted) × IsKeyGiven old key new)

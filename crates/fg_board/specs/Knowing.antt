@@ -1,7 +1,7 @@
 -- What an admitter knows of its own desk. No public contract cites it.
 use Rattle.std.specs.Prelude.{◌≡◌, ◌≤◌, ◌<◌, ◌^◌, false, ℕ, Option, IfSome, option_map}
 use Rattle.fg_desk.specs.State.{State, Top}
-use Rattle.fg_board.specs.Actors.{AdmitterState, desk_of, IsOwnDesk}
+use Rattle.fg_board.specs.Actors.{AdmitterState, desk_of, IsOwnBoard}
 
 -- The farthest position and its sequence number, as the desk has them.
 abbrev pub top_of : Option (ℕ × ℕ) → Option Top
@@ -21,5 +21,5 @@ pub record KnowsItsDesk (admitter : AdmitterState) (top : Option (ℕ × ℕ)) (
   pub outside : admitter.seat.inside ≡ false
   pub window : (1 ≤ admitter.window) × (admitter.window ≤ 100) × (admitter.window ≤ admitter.depth)
   pub depth : admitter.depth < 2 ^ 32
-  pub own : IsOwnDesk admitter
+  pub own : IsOwnBoard admitter
   pub knows : Knows admitter.window admitter.depth top mark calls (desk_of admitter)

@@ -1,19 +1,20 @@
 //! The admitter: the one seat that takes datagrams in and plays windows.
 
-ghost use Rattle.std.specs.Prelude.{◌≡◌, ◌↔◌, ◌+◌, ◌<◌, ◌≤◌, ◌^◌, length, false, true, Some, None, IsTrue, IsSome, IfSome, IfNone, option_map};
+ghost use Rattle.std.specs.Prelude.{◌≡◌, ◌↔◌, ◌+◌, ◌<◌, ◌≤◌, ◌^◌, [], ◌∷◌, length, false, true, Some, None, IsTrue, IsSome, IfSome, IfNone, option_map};
 ghost use Rattle.fg_words.specs.Word.{IsMedia};
 ghost use Rattle.fg_shape.specs.Shape.{IsShape};
-ghost use Rattle.fg_desk.specs.Admission.{IsDue};
-ghost use Rattle.fg_desk.specs.Contents.{HasRoom};
+ghost use Rattle.fg_desk.specs.Admission.{IsDue, AdmitsMedia, AdmitsParity};
+ghost use Rattle.fg_desk.specs.Contents.{HasRoom, AreSolved};
+ghost use Rattle.fg_desk.specs.Facts.{Holds};
 ghost use Rattle.fg_desk.specs.Play.{IsPlay, Flushes};
-ghost use Rattle.fg_board.specs.Actors.{MakesCall, desk_of, IsOwnDesk};
-ghost use Rattle.fg_core.specs.Codes.{IsOwnedBy, GrowsFrom};
+ghost use Rattle.fg_board.specs.Actors.{MakesCall, board_of, desk_of, IsOwnBoard, GivesKeyOf};
+ghost use Rattle.fg_core.specs.Codes.{opening_code, IsOwnedBy, GrowsFrom};
 ghost use Rattle.fg_core.specs.Core.{media, parity, play, flush, play_of};
 ghost use Rattle.fg_board.specs.Knowing.{top_of};
 
 use crate::board::Board;
 use crate::turns::{Made, settle_owner};
-use fg_core::laws::calls_make_one_desk;
+use fg_core::laws::{calls_make_one_desk, opening_is_owned};
 use fg_core::{Flow, Key};
 use fg_desk::{Played, Reply, Tray};
 use fg_shape::Shape;
@@ -91,7 +92,7 @@ fn enter_own(
 ) -> Flow
     requires turn { (owner.old.turn ≡ turn.now.name) × (owner.old.inside ≡ false) }
     requires window { (1 ≤ window) × (window ≤ 100) × (window ≤ depth) }
-    requires own { IsOwnDesk (record { seat = owner.old; window = window; depth = depth }) }
+    requires own { IsOwnBoard (record { seat = owner.old; window = window; depth = depth }) }
     ensures own { result.desk.state ≡ desk_of (record { seat = owner.old; window = window; depth = depth }) }
     ensures owner { IsOwnedBy owner.old.calls result }
     ensures grows { GrowsFrom owner.old.told result }
@@ -111,10 +112,11 @@ impl Admitter {
     pub(crate) fn new(owner: Owner<Flow>, window: u32, depth: u32) -> Admitter
         requires outside { owner.inside ≡ false }
         requires window { (1 ≤ window) × (window ≤ 100) × (window ≤ depth) }
-        requires own { IsOwnDesk (record { seat = owner; window = window; depth = depth }) }
+        requires calls { owner.calls ≡ opening_code window depth ∷ [] }
         requires left { owner.left ≡ None }
         ensures { result ≡ record { seat = owner; window = window; depth = depth } }
     {
+        opening_is_owned();
         let near = Near {
             top: None,
             mark: 0,
@@ -161,7 +163,12 @@ impl Admitter {
     /// Whether its desk may change: the mark and the farthest position are below 2^61, and fewer than 2^62 calls were
     /// made.
     pub fn room(&self) -> bool
-        ensures { IsTrue result ↔ HasRoom (desk_of self.now) }
+        ensures room { IsTrue result ↔ HasRoom (desk_of self.now) }
+        ensures facts { Holds (desk_of self.now) }
+        ensures solved { AreSolved (board_of self.now).desk }
+        ensures own { IsOwnBoard self.now }
+        ensures window { (desk_of self.now).window ≡ self.now.window }
+        ensures depth { (desk_of self.now).depth ≡ self.now.depth }
     {
         let top_has_room = match self.near.top {
             Some((top, _)) => top < POSITIONS,
@@ -183,7 +190,8 @@ impl Admitter {
         requires room { HasRoom (desk_of self.old) }
         requires not_due { ¬ IsDue (desk_of self.old) seq }
         requires media { IsMedia share }
-        ensures { MakesCall (media seq share result) self.old self.new }
+        ensures call { MakesCall (media seq share result) self.old self.new }
+        ensures state { AdmitsMedia (desk_of self.old) seq share result (desk_of self.new) }
     {
         let mut flow = enter_own(wait, &board.turn, &mut self.owner, self.window, self.depth);
         let word = Snapshot::of(&share);
@@ -210,9 +218,13 @@ impl Admitter {
         requires board { self.old.seat.turn ≡ board.now.name }
         requires room { HasRoom (desk_of self.old) }
         requires shape { IsShape shape.offset shape.na }
-        ensures { MakesCall
+        ensures call { MakesCall
             (parity (record { base = base; offset = shape.offset; count = shape.na; word = share }) result.0 result.1)
             self.old self.new }
+        ensures state { AdmitsParity (desk_of self.old)
+            (record { base = base; offset = shape.offset; count = shape.na; word = share })
+            result.0 (desk_of self.new) }
+        ensures key { GivesKeyOf self.old result.0 result.1 self.new }
     {
         let mut flow = enter_own(wait, &board.turn, &mut self.owner, self.window, self.depth);
         let word = Snapshot::of(&share);

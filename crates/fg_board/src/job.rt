@@ -6,12 +6,13 @@ ghost use Rattle.fg_words.specs.Word.{zero_word};
 ghost use Rattle.fg_peel.specs.declared.row.Missing.TheVariants.{One};
 ghost use Rattle.fg_peel.specs.Equation.{IsComplete};
 ghost use Rattle.fg_peel.specs.Slots.{IsMissing};
-ghost use Rattle.fg_board.specs.Actors.{WasTold};
+ghost use Rattle.fg_board.specs.Actors.{WasTold, IsWorkedBy, IsCheckedBy};
 ghost use Rattle.fg_core.specs.Board.{job_sum};
 
 use fg_core::{Flow, Key, Work};
 use fg_turn::Seat;
 use fg_words::Shared;
+use fg_words::laws::xor_is_a_group;
 use std::alloc::{AllocError, Global};
 use std::marker::Model;
 use std::snapshot::Snapshot;
@@ -67,20 +68,26 @@ impl Job {
         self.work.missing()
     }
 
-    /// The word of the one slot that has none. Answers want of memory alone.
+    /// The word of the one slot that has none. Its pass may offer it, at any later standing: it follows from what the
+    /// pass was told. Answers want of memory alone.
     pub fn solve(&self, alloc: Global) -> Result<Shared, AllocError>
         requires { (slot : ℕ) × IsMissing (get self.now.job.inputs) self.now.job.equation (One slot) }
-        ensures { IfOk result (λ share. share ≡ job_sum self.now.job) }
+        ensures word { IfOk result (λ share. share ≡ job_sum self.now.job) }
+        ensures worked { IfOk result (λ share. (slot : ℕ)
+            → IsMissing (get self.now.job.inputs) self.now.job.equation (One slot) → IsWorkedBy self.now slot share) }
     {
         let sum = self.work.sum();
         Shared::of_payload(alloc, sum.pt, sum.ts, sum.len, &sum.bytes)
     }
 
-    /// Whether the words of its slots sum to its parity word.
+    /// Whether the words of its slots sum to its parity word. Its pass may attest it, at any later standing.
     pub fn check(&self) -> bool
         requires { IsComplete (get self.now.job.inputs) self.now.job.equation }
-        ensures { IsTrue result ↔ (job_sum self.now.job ≡ zero_word) }
+        ensures zero { IsTrue result ↔ (job_sum self.now.job ≡ zero_word) }
+        ensures checked { IsCheckedBy self.now result }
     {
+        xor_is_a_group();
+        self.work.room();
         self.work.sum().is_zero()
     }
 }

@@ -13,7 +13,8 @@ use Rattle.fg_desk.specs.State.{State, known}
 use Rattle.fg_desk.specs.Facts.{Holds}
 use Rattle.fg_desk.specs.Contents.{kept_shown}
 use Rattle.fg_desk.specs.Play.{Shown}
-use Rattle.fg_window.specs.Row.{RowState, row_received, row_known, row_words, row_kept_from, IsRow}
+use Rattle.fg_desk.specs.TrayPlaces.{row_kept_from}
+use Rattle.fg_window.specs.Row.{RowState, row_received, row_known, row_words, IsRow}
 use Rattle.fg_window.proofs.Options.{none_or_some, has_value}
 use Rattle.fg_window.proofs.Choices.{if-less, if-not_less}
 

@@ -47,6 +47,8 @@ pub mod RunFacts
 pub mod RunsExist
 pub mod SettledEquations
 pub mod SettledWords
+pub mod ShownWords
 pub mod StaysPeeled
 pub mod Survivors
+pub mod TrayPlaces
 pub mod Twins

@@ -3,7 +3,8 @@ use Rattle.std.proofs.Common.{◌≡◌, Some, None, refl, sym, ap, subst, ◌�
 use Rattle.fg_peel.specs.Laws.{Uniqueness}
 use Rattle.fg_desk.specs.declared.reply.Reply.{Reply}
 use Rattle.fg_desk.specs.Admission.{IsAfterMedia, IsAfterParity}
-use Rattle.fg_desk.specs.Laws.{MediaIsOne, ParityIsOne, PlayIsOne, FlushIsOne}
+use Rattle.fg_desk.specs.Play.{Play}
+use Rattle.fg_desk.specs.Laws.{MediaIsOne, ParityIsOne, PlayIsOne, FlushIsOne, PlaysShowOneList, FlushStepsShowOneList}
 use Rattle.fg_desk.proofs.Orderly.{orderly_from_holds}
 use Rattle.fg_desk.proofs.Replies.{one_media_reply, one_parity_reply}
 use Rattle.fg_desk.proofs.OnePlay.{one_play, one_state_after, one_flush_step, one_state_after_step}
@@ -42,3 +43,16 @@ flush_is_one unique old one other (Some play) (Some play') holds a b =
       ap Some (one_flush_step unique old orderly play play' one other a b),
       one_state_after_step unique old orderly play play' one other a b,
     )
+
+-- So what is shown is one list.
+pub plays_show_one_list : Uniqueness → PlaysShowOneList
+plays_show_one_list unique count old one other first first' shown shown' outcome outcome' holds a b =
+    ap (λ (play : Play). play.shown) (one_play unique count old (orderly_from_holds old holds)
+    (record { first = first; shown = shown; outcome = outcome }) (record { first = first'; shown = shown'; outcome = outcome' })
+    one other a b)
+
+pub flush_steps_show_one_list : Uniqueness → FlushStepsShowOneList
+flush_steps_show_one_list unique old one other first first' shown shown' outcome outcome' holds a b =
+    ap (λ (play : Play). play.shown) (one_flush_step unique old (orderly_from_holds old holds)
+    (record { first = first; shown = shown; outcome = outcome }) (record { first = first'; shown = shown'; outcome = outcome' })
+    one other a b)

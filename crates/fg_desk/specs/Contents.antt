@@ -11,7 +11,7 @@ use Rattle.fg_peel.specs.declared.row.Missing.TheVariants.{One}
 use Rattle.fg_peel.specs.Equation.{Equation}
 use Rattle.fg_peel.specs.Peeling.{ArePeeled, given_word}
 use Rattle.fg_peel.specs.Slots.{IsMissing}
-pub use Rattle.fg_window.specs.Shown.{Holding, kept_shown}
+pub use Rattle.fg_desk.specs.Shown.{Holding, kept_shown}
 use Rattle.fg_desk.specs.declared.reply.Reply.{Reply}
 use Rattle.fg_desk.specs.declared.reply.Reply.TheVariants.{Admitted}
 use Rattle.fg_desk.specs.declared.reply.Outcome.{Outcome}

@@ -11,12 +11,13 @@ use Rattle.fg_peel.specs.Closure as peel
 use Rattle.fg_peel.specs.Solution as peeled
 use Rattle.fg_desk.specs.declared.reply.Reply.{Reply}
 use Rattle.fg_desk.specs.declared.reply.Reply.TheVariants.{Admitted}
+use Rattle.fg_desk.specs.declared.reply.Outcome.{Outcome}
 use Rattle.fg_desk.specs.declared.reply.Outcome.TheVariants.{Repaired}
 use Rattle.fg_desk.specs.State.{State, Live, known, live_equations, opening}
 use Rattle.fg_desk.specs.Contents.{HasRoom}
 use Rattle.fg_desk.specs.Solution.{InClosure, IsSolution}
 use Rattle.fg_desk.specs.Admission.{Parity, AdmitsMedia, AdmitsParity, IsDue, position_on, equation_at}
-use Rattle.fg_desk.specs.Play.{Play, IsPlay, IsFlushStep, IsHighest, HasMore, Flushes}
+use Rattle.fg_desk.specs.Play.{Play, Shown, IsPlay, IsFlushStep, IsHighest, HasMore, Flushes}
 use Rattle.fg_desk.specs.declared.run.Stream.{Stream}
 use Rattle.fg_desk.specs.Run.{Arrival, carries, protects, refused, came_by, is_counted, count_of, ArePlaysDue, TakesAll, IsFlush, IsRun}
 use Rattle.fg_desk.specs.Facts.{Holds}
@@ -242,6 +243,24 @@ abbrev pub FlushIsOne : Type 0
 FlushIsOne =
     (old one other : State) (play play' : Option Play) → Holds old
     → Flushes old play one → Flushes old play' other → (play ≡ play') × (one ≡ other)
+
+-- What a play shows is one list: two lists that a call over one desk is told to show are equal, whatever else is told.
+
+abbrev pub PlaysShowOneList : Type 0
+PlaysShowOneList =
+    (count : ℕ) (old one other : State) (first first' : ℕ) (shown shown' : List Shown) (outcome outcome' : Outcome)
+    → Holds old
+    → IsPlay count old (record { first = first; shown = shown; outcome = outcome }) one
+    → IsPlay count old (record { first = first'; shown = shown'; outcome = outcome' }) other
+    → shown ≡ shown'
+
+abbrev pub FlushStepsShowOneList : Type 0
+FlushStepsShowOneList =
+    (old one other : State) (first first' : ℕ) (shown shown' : List Shown) (outcome outcome' : Outcome)
+    → Holds old
+    → Flushes old (Some (record { first = first; shown = shown; outcome = outcome })) one
+    → Flushes old (Some (record { first = first'; shown = shown'; outcome = outcome' })) other
+    → shown ≡ shown'
 
 -- The plays of a run's first datagrams come first in it.
 abbrev pub TakenPlaysComeFirst : Type 0

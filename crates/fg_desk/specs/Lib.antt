@@ -8,6 +8,8 @@ pub mod Laws
 pub mod Parts
 pub mod Play
 pub mod Run
+pub mod Shown
 pub mod Solution
 pub mod State
+pub mod TrayPlaces
 pub mod Window

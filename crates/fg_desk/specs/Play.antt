@@ -4,7 +4,7 @@ use Rattle.std.specs.FinMap.{get}
 use Rattle.fg_words.specs.declared.Word.{Word}
 pub use Rattle.fg_window.specs.Words.{IsGreatest}
 pub use Rattle.fg_window.specs.Live.{Survives}
-pub use Rattle.fg_window.specs.Shown.{Shown, nothing_shown}
+pub use Rattle.fg_desk.specs.Shown.{Shown, nothing_shown}
 use Rattle.fg_desk.specs.declared.reply.Outcome.{Outcome}
 use Rattle.fg_desk.specs.declared.reply.Outcome.TheVariants.{Repaired, Inconsistent}
 use Rattle.fg_desk.specs.State.{State, Live}

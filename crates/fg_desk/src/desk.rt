@@ -19,6 +19,7 @@ ghost use Rattle.fg_desk.specs.Parts.{top_of};
 
 use crate::laws::solved_stays_peeled;
 use crate::reply::{Outcome, Reply};
+use crate::tray::Tray;
 use crate::window::{close, publish, receive, recover};
 use fg_peel::Line;
 use fg_peel::laws::{
@@ -26,7 +27,7 @@ use fg_peel::laws::{
 };
 use fg_shape::{Shape, last};
 use fg_unwrap::position;
-use fg_window::{KEPT, LIVE_LIMIT, Lines, Row, Tray, lost_slot};
+use fg_window::{KEPT, LIVE_LIMIT, Lines, Row, lost_slot};
 use fg_words::laws::xor_is_a_group;
 use fg_words::{Shared, Word};
 use slab::Slab;
@@ -321,7 +322,7 @@ impl Desk {
         ensures changes { ChangesInPlay result.verdict self.old self.new }
     {
         let played = self.play_in_place();
-        self.row.show(played.first, played.count, tray);
+        tray.show_kept(&self.row, played.first, played.count);
         played
     }
 
@@ -374,7 +375,7 @@ impl Desk {
         let Some(step) = self.flush_step_in_place() else {
             return None;
         };
-        self.row.show(step.first, step.count, tray);
+        tray.show_kept(&self.row, step.first, step.count);
         Some(step)
     }
 

@@ -6,6 +6,7 @@ ghost use Rattle.fg_desk.specs.Laws.{ClosureIsPeelings, SolutionsArePeelings, St
 ghost use Rattle.fg_desk.specs.Laws.{ClosureGainsNothing, FlushEnds, FlushStepsJoin, FlushStepsEnd, SolvedStaysPeeled};
 ghost use Rattle.fg_desk.specs.Laws.{LaterChangesNothing, TakingsJoin, PlaysDueJoin, PlaysDueEnd, PlaysFollow, RunsStayWithin, FlushesStayWithin, OneRun};
 ghost use Rattle.fg_desk.specs.Laws.{MediaIsOne, ParityIsOne, PlayIsOne, FlushIsOne};
+ghost use Rattle.fg_desk.specs.Laws.{PlaysShowOneList, FlushStepsShowOneList};
 ghost use Rattle.fg_desk.specs.Laws.{OneTaking, TakenPlaysComeFirst, DuePlaysComeNext, FlushStepsComeNext};
 ghost use Rattle.fg_desk.specs.Laws.{PlaysReachTheMark, DuePlaysReachTheMark, FlushStepsReachTheMark};
 ghost use Rattle.fg_desk.specs.Laws.{EachGetsAReply, CountsAreOfReplies, CountsAdd, CountsStayWithin};
@@ -96,6 +97,14 @@ pub fn one_outcome()
     ensures parity { ParityIsOne }
     ensures play { PlayIsOne }
     ensures flush { FlushIsOne }
+{
+    uniqueness();
+}
+
+/// What a call shows is one list: what its contract says of the words that it showed holds of no other ones.
+pub fn one_list_is_shown()
+    ensures play { PlaysShowOneList }
+    ensures flush { FlushStepsShowOneList }
 {
     uniqueness();
 }

@@ -7,9 +7,10 @@ mod reply;
 mod run;
 #[cfg(test)]
 mod tests;
+mod tray;
 mod window;
 
 pub use desk::{Desk, Played};
-pub use fg_window::Tray;
 pub use reply::{Outcome, Reply};
 pub use run::{Datagram, FlowRun, ShownPlay, ShownWord, Stream, run_flow};
+pub use tray::Tray;

@@ -13,8 +13,8 @@ ghost use Rattle.fg_desk.specs.Arrivals.{arrival_of, play_of, IsGiven, StaysWith
 use crate::desk::{Desk, Played};
 use crate::laws::{flushes_end, runs_join, runs_stay_within};
 use crate::reply::{Outcome, Reply};
+use crate::tray::Tray;
 use fg_shape::{Shape, shape_ok};
-use fg_window::Tray;
 use fg_words::Word;
 use std::alloc::{AllocError, Global};
 

@@ -17,6 +17,4 @@ pub mod RowMaps
 pub mod RowPeels
 pub mod RowStored
 pub mod RowViews
-pub mod Shown
 pub mod SlotRange
-pub mod TrayPlaces

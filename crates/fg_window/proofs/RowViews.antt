@@ -13,6 +13,7 @@ use Rattle.fg_peel.specs.Slots.{word_in}
 use Rattle.fg_window.specs.Row.{RowState, row_received, row_words, row_known, row_shared, IsRow}
 use Rattle.fg_window.specs.RowEntries.{entry_at, received_in, solved_in, shared_in, cached_in, is_alone, is_found, kept_at, received_at, solved_at, cached_at, bare_at, repaired_at, words_below, row_of, AreEntries}
 use Rattle.fg_window.proofs.Choices.{if-less, if-not_less}
+use Rattle.fg_window.proofs.Options.{has_value, value_of}
 use Rattle.fg_window.proofs.RowMaps.{get-words_below, contains-positions_below}
 
 -- the entry of a position of the row, and of one before it
@@ -307,3 +308,13 @@ row_words-before row is q before = ap (option_or (row_known row q)) (go (map.get
     go : (o : Option Word) → map.get row.cached q ≡ o → map.get row.cached q ≡ None
     go None e = e
     go (Some word) e = absurd (omega (arith, (is.cached q (some_along _ _ (sym e) refl)).0, before))
+
+-- a position that is told as repaired has a word
+pub repaired_is_known :
+    (row : RowState) → IsRow row → (q : ℕ) → set.contains row.repaired q ≡ true → IsSome (row_known row q)
+repaired_is_known row is q repaired =
+    let kept = is.repaired q repaired in
+    let word = value_of (map.get row.kept q) kept in
+    has_value (row_known row q) word.0
+    (ap (λ (o : Option Word). option_or o (map.get row.solved q))
+    (if-less q row.mark (map.get row.kept q) (map.get row.media q) (is.kept q kept).0 ∙ word.1))

@@ -3,6 +3,4 @@ pub mod LinesInside
 pub mod Live
 pub mod Row
 pub mod RowEntries
-pub mod Shown
-pub mod TrayPlaces
 pub mod Words

@@ -1,6 +1,6 @@
 -- The row of a desk: the words at the 100 positions before the mark, and at those from the mark on.
-use Rattle.std.specs.Prelude.{◌≡◌, ◌+◌, ◌<◌, ◌≤◌, ◌^◌, ℕ, true, ◌&&◌, not, is_some, nat_lt, nat_le, Option, None, IsSome, List, map, if◌then◌else◌}
-use Rattle.std.specs.List.{Contains, range_with_len}
+use Rattle.std.specs.Prelude.{◌≡◌, ◌+◌, ◌<◌, ◌≤◌, ◌^◌, ℕ, true, ◌&&◌, not, is_some, nat_lt, nat_le, Option, None, IsSome, if◌then◌else◌}
+use Rattle.std.specs.List.{Contains}
 use Rattle.std.specs.Option.{option_or}
 use Rattle.std.specs.Ordering.{nat_cmp}
 use Rattle.std.specs.FinMap.{get, empty, insert, remove}
@@ -12,7 +12,6 @@ use Rattle.fg_peel.specs.declared.Line.{Line}
 use Rattle.fg_peel.specs.Equation.{slots}
 use Rattle.fg_peel.specs.Slots.{equation_of, lines_of}
 use Rattle.fg_window.specs.Words.{Words, words_around, kept_count, IsGreatest}
-use Rattle.fg_window.specs.Shown.{Shown, kept_shown}
 
 pub record RowState : Type 0 where
   -- The first position that isn't played yet.
@@ -103,10 +102,6 @@ AllLieIn row lines = (line : Line) → Contains (lines_of lines) line → LiesIn
 -- The greatest position with a word, at the mark or past it.
 abbrev pub IsHighestWord : RowState → ℕ → Type 0
 IsHighestWord row position = (row.mark ≤ position) × IsGreatest (λ other. IsSome (row_words row other)) position
-
--- What the row keeps at `count` positions from a first one on.
-abbrev pub row_kept_from : RowState → ℕ → ℕ → List Shown
-row_kept_from row first count = map (kept_shown (row_known row) row.repaired) (range_with_len first count)
 
 -- The mark has moved on by `count` positions: the words of the row at the 100 positions before it are kept, and what was
 -- received and found is left at the mark and past it.

@@ -1,7 +1,7 @@
 -- A row of entries, the first of which stands for 100 positions before the mark, and what it is seen as.
 use Rattle.std.specs.Prelude.{◌≡◌, ◌↔◌, ◌+◌, ◌-◌, ◌<◌, ◌≤◌, ◌^◌, ℕ, ℤ, zero, suc, Bool, true, false, List, take, drop, length, nat_lt, slice_index_or, Option, Some, None, IsSome, IsTrue, refl, if◌then◌else◌}
 use Rattle.std.specs.Ordering.{nat_cmp}
-use Rattle.std.specs.Coded.{Coded, code_by, coded×, coded_ℕ, coded_bool, coded_list, coded_option}
+use Rattle.std.specs.Coded.{Coded, code_by, coded×, coded_ℕ, coded_list}
 use Rattle.std.specs.FinMap as map
 use Rattle.std.specs.FinSet as set
 use Rattle.fg_words.specs.declared.Word.{Word}
@@ -17,7 +17,6 @@ use Rattle.fg_peel.specs.Peeling.{EndsPeeling}
 use Rattle.fg_peel.specs.Slots.{word_in, recovered_in, before_first, words_at, recovered_at, equations_of, OnlyFills}
 use Rattle.fg_peel.specs.Verdict.{IsVerdict}
 use Rattle.fg_window.specs.Words.{Words, kept_count}
-use Rattle.fg_window.specs.Shown.{Holding, Shown}
 use Rattle.fg_window.specs.Row.{RowState}
 
 -- The entry of a position.
@@ -234,13 +233,3 @@ row_code =
       repaired = p.1.1.1.1.1.1.1;
     })
     (λ _. refl)
-
-abbrev pub shown_code : Coded Shown
-shown_code =
-    code_by (Option Word × Bool) (coded× (coded_option word_code) coded_bool)
-    (λ s. (s.word, s.repaired)) (λ p. record { word = p.0; repaired = p.1 }) (λ _. refl)
-
-abbrev pub holding_code : Coded Holding
-holding_code =
-    code_by (ℕ × List Shown) (coded× coded_ℕ (coded_list shown_code))
-    (λ h. (h.window, h.shown)) (λ p. record { window = p.0; shown = p.1 }) (λ _. refl)

@@ -1,10 +1,8 @@
-//! The storage of a flow's window: the words around the mark, the live equations, and what a play shows.
+//! The storage of a flow's window: the words around the mark, and the live equations.
 #![tactic(auto)]
 
 mod lines;
 mod row;
-mod tray;
 
 pub use lines::{LIVE_LIMIT, Lines, lost_slot};
 pub use row::{KEPT, Row};
-pub use tray::Tray;

@@ -10,10 +10,9 @@ ghost use Rattle.fg_peel.specs.Solution.{IsSolution};
 ghost use Rattle.fg_peel.specs.Equation.{AreMedia, IsComplete};
 ghost use Rattle.fg_peel.specs.Peeling.{EndsPeeling};
 ghost use Rattle.fg_peel.specs.Slots.{word_in, words_at, equation_of, equations_of, AllFit};
-ghost use Rattle.fg_window.specs.Row.{opened_row, row_received, row_words, row_known, row_shared, IsRow, receives, publishes, AllLieIn, IsHighestWord, row_kept_from, Advances};
+ghost use Rattle.fg_window.specs.Row.{opened_row, row_received, row_words, row_known, row_shared, IsRow, receives, publishes, AllLieIn, IsHighestWord, Advances};
 ghost use Rattle.fg_window.specs.RowEntries.{entry_at, words_of, row_of, live_entries, IsEmptyPast, StaysPast, received_in, solved_in, shared_in, is_found, AreEntries, Peels, Recovers, IsLastWord, HasNoWordFrom, ForgetsCached, ForgetsFound};
 
-use crate::tray::Tray;
 use fg_peel::laws::{confluence, maximal_peelings_are_tested};
 use fg_peel::{Line, Slot, Verdict, peel, peel_media};
 use fg_shape::slot;
@@ -120,9 +119,10 @@ impl Row {
         share_at(self.mark, live(&self.slots, self.front), position)
     }
 
-    /// Whether the word kept at a position was not received.
+    /// Whether the word kept at a position was not received. Then there is a word.
     pub fn is_repaired(&self, position: u64) -> bool
-        ensures { result ≡ set.contains self.now.repaired position }
+        ensures value { result ≡ set.contains self.now.repaired position }
+        ensures word { IsTrue result → IsSome (row_known self.now position) }
     {
         position < self.mark && is_found_at(self.mark, live(&self.slots, self.front), position)
     }
@@ -239,20 +239,6 @@ impl Row {
             lines,
             self.solved_media,
         )
-    }
-
-    /// Copies what the row keeps at `count` positions to a tray.
-    pub fn show(&self, first: u64, count: u32, tray: &mut Tray)
-        requires room { count ≤ tray.old.window }
-        requires limit { first + count ≤ 2 ^ 62 }
-        ensures { tray.new
-            ≡ record { window = tray.old.window; shown = row_kept_from self.now first count } }
-    {
-        tray.clear();
-        for i in 0..count {
-            let position = first + u64::from(i);
-            tray.show(self.word(position), self.is_repaired(position));
-        }
     }
 
     /// Moves the mark on. What is played stays as long as it is kept.

@@ -9,7 +9,7 @@ pub loop-i-preserved : goal.loop-i-preserved
 loop-i-preserved c =
     let word : ShownWord = record { word = c.copied.result; repaired = c.repaired.result } in
     one_more_shown c.loop-i.shown.items c.push.new.self.items word c.args.tray.now.shown c.loop-i.i (omega arith) c.loop-i.invariant
-    (same_shown c.copied.result c.repaired.result (get_or c.args.tray.now.shown c.loop-i.i nothing_shown) (c.copied.ensures ∙ c.word.ensures) c.repaired.ensures) c.in_ok-push.ensures.items
+    (same_shown c.copied.result c.repaired.result (get_or c.args.tray.now.shown c.loop-i.i nothing_shown) (c.copied.ensures ∙ c.word.ensures) c.repaired.ensures.value) c.in_ok-push.ensures.items
 
 pub returns : goal.returns
 returns c =

@@ -3,10 +3,11 @@ use Rattle.fg_words.specs.declared.Word.{Word}
 use Rattle.fg_board.specs.Actors.{AdmitterState, MakesCall}
 use Rattle.fg_core.specs.Core.{Call, media}
 use Rattle.fg_board.proofs.OneCall.{call_made}
+use Rattle.fg_board.proofs.OwnDesk.{media_by_desk}
 use Rattle.fg_board.proofs.admitter.Admitter.admit_media.Goals as goal
 
-pub returns : goal.returns
-returns g c =
+pub returns-clause-call : goal.returns-clause-call
+returns-clause-call g c =
     let call : Call = media c.args.seq c.args.share c.admit_media-reply.result in
     let window = c.self.inside.window in
     let depth = c.self.inside.depth in
@@ -15,4 +16,10 @@ returns g c =
     (call_made call (media c.args.seq c.of-word.result.value c.admit_media-reply.result) window depth c.self.inside.owner c.enter_own-flow.new.owner owner c.enter_own-flow.result
     c.admit_media-reply.new.self (ap (λ (w : Word). media c.args.seq w c.admit_media-reply.result) c.of-word.ensures) c.enter_own-flow.ensures.own c.enter_own-flow.ensures.seat c.settle_owner.ensures.owner
     c.enter_own-flow.ensures.owner c.enter_own-flow.ensures.grows
-    c.admit_media-reply.ensures)
+    c.admit_media-reply.ensures c.settle_owner.ensures.owned)
+
+pub returns-clause-state : goal.returns-clause-state
+returns-clause-state g c =
+    media_by_desk c.args.seq c.args.share c.admit_media-reply.result c.args.self.now
+    (record { seat = c.settle_owner.new.owner; window = c.self.inside.window; depth = c.self.inside.depth })
+    (returns-clause-call g c)

@@ -15,4 +15,5 @@ returns-clause-call g c =
     c.flush_step-played.new.self refl c.enter_own-flow.ensures.own c.enter_own-flow.ensures.seat c.settle_owner.ensures.owner
     c.enter_own-flow.ensures.owner c.enter_own-flow.ensures.grows
     (flush_is c.enter_own-flow.result c.flush_step-played.new.self c.flush_step-played.new.tray.shown c.flush_step-played.result
-    c.flush_step-played.ensures.flushes c.flush_step-played.ensures.count))
+    c.flush_step-played.ensures.flushes c.flush_step-played.ensures.count)
+    c.settle_owner.ensures.owned)

@@ -15,4 +15,5 @@ returns-clause-call g c =
     c.play-played.new.self refl c.enter_own-flow.ensures.own c.enter_own-flow.ensures.seat c.settle_owner.ensures.owner
     c.enter_own-flow.ensures.owner c.enter_own-flow.ensures.grows
     (play_is c.enter_own-flow.result c.play-played.new.self c.play-played.result c.play-played.new.tray.shown
-    c.play-played.ensures.play c.play-played.ensures.count))
+    c.play-played.ensures.play c.play-played.ensures.count)
+    c.settle_owner.ensures.owned)

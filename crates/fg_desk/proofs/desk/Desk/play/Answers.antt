@@ -15,8 +15,8 @@ returns-clause-play c =
     let moved = plays.mark in
     let begins = plays.first in
     let within : first + count ≤ c.self.inside.row.mark = omega (arith, mark, moved, begins, played.ensures.count) in
-    let shown : c.show.new.tray.shown ≡ kept_from new first count =
-    ap (λ (h : Holding). h.shown) c.show.ensures
+    let shown : c.show_kept.new.self.shown ≡ kept_from new first count =
+    ap (λ (h : Holding). h.shown) c.show_kept.ensures
     ∙ shown_is_kept c.self.inside.row first count (λ q some. (c.self.invariant.beside q some).0) within
     ∙ ap (λ (s : Contents). kept_from s first count) c.self.view_is in
     subst

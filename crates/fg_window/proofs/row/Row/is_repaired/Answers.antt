@@ -1,14 +1,14 @@
-use Rattle.std.proofs.Common.{false, List, ap, sym, ◌∙◌, le-ltb}
+use Rattle.std.proofs.Common.{false, List, ap, sym, subst, ◌∙◌, le-ltb}
 use Rattle.std.specs.FinSet.{contains}
 use Rattle.fg_peel.specs.declared.Slot.{Slot}
-use Rattle.fg_window.specs.Row.{RowState}
+use Rattle.fg_window.specs.Row.{RowState, IsRow}
 use Rattle.fg_window.specs.RowEntries.{entry_at, is_found, live_entries}
 use Rattle.fg_window.proofs.Choices.{if-less, if-not_less}
-use Rattle.fg_window.proofs.RowViews.{contains-repaired}
+use Rattle.fg_window.proofs.RowViews.{contains-repaired, is_row, repaired_is_known}
 use Rattle.fg_window.proofs.row.Row.is_repaired.Goals as goal
 
-pub returns-then-position-self : goal.returns-then-position-self
-returns-then-position-self c =
+pub returns-then-position-self-clause-value : goal.returns-then-position-self-clause-value
+returns-then-position-self-clause-value c =
     let mark = c.self.inside.mark in
     let q = c.args.position in
     c.is_found_at.ensures
@@ -17,11 +17,16 @@ returns-then-position-self c =
     ∙ if-less q mark _ false c.if-position-self.true)
     ∙ ap (λ (r : RowState). contains r.repaired q) c.self.view_is
 
-pub returns-else-position-self : goal.returns-else-position-self
-returns-else-position-self c =
+pub returns-else-position-self-clause-value : goal.returns-else-position-self-clause-value
+returns-else-position-self-clause-value c =
     let mark = c.self.inside.mark in
     let q = c.args.position in
     le-ltb q mark c.if-position-self.false
     ∙ sym (contains-repaired mark (live_entries c.self.inside.front c.self.inside.slots.items) q
     ∙ if-not_less q mark _ false c.if-position-self.false)
     ∙ ap (λ (r : RowState). contains r.repaired q) c.self.view_is
+
+pub returns-then-position-self-clause-word : goal.returns-then-position-self-clause-word
+returns-then-position-self-clause-word c =
+    let is : IsRow c.args.self.now = subst (λ (r : RowState). IsRow r) c.self.view_is (is_row c.self.inside.mark (live_entries c.self.inside.front c.self.inside.slots.items) c.self.invariant.0.entries) in
+    λ repaired. repaired_is_known c.args.self.now is c.args.position (sym (returns-then-position-self-clause-value c) ∙ repaired)

@@ -1,10 +1,11 @@
 //! Trays: what a play shows.
 
-ghost use Rattle.std.specs.Prelude.{◌≡◌, ◌<◌, ◌≤◌, ◌++◌, ◌∷◌, [], length, slice_index_or, IfOk};
+ghost use Rattle.std.specs.Prelude.{◌≡◌, ◌+◌, ◌<◌, ◌≤◌, ◌^◌, ◌++◌, ◌∷◌, [], length, slice_index_or, IfOk, IsSome, IsTrue};
 ghost use Rattle.std.specs.Option.{option_copied};
-ghost use Rattle.fg_window.specs.Shown.{nothing_shown};
-ghost use Rattle.fg_window.specs.TrayPlaces.{shown_of};
+ghost use Rattle.fg_desk.specs.Shown.{nothing_shown};
+ghost use Rattle.fg_desk.specs.TrayPlaces.{shown_of, row_kept_from};
 
+use fg_window::Row;
 use fg_words::Word;
 use std::alloc::{AllocError, Global};
 use std::marker::Model;
@@ -53,9 +54,8 @@ pub struct Tray {
 
 impl Model for Tray {
     ghost use Rattle.std.specs.Prelude.{◌≤◌, map, take, length};
-    ghost use Rattle.fg_window.specs.Shown.{Holding};
-    ghost use Rattle.fg_window.specs.RowEntries.{holding_code};
-    ghost use Rattle.fg_window.specs.TrayPlaces.{shown_of};
+    ghost use Rattle.fg_desk.specs.Shown.{Holding, OnlyWordsAreRepaired};
+    ghost use Rattle.fg_desk.specs.TrayPlaces.{shown_of, holding_code};
 
     ghost Value = { Holding };
 
@@ -66,7 +66,8 @@ impl Model for Tray {
       shown = map shown_of (take a.count a.places.items);
     } };
 
-    ghost invariant = { λ a. a.count ≤ length a.places.items };
+    ghost invariant = { λ a. (a.count ≤ length a.places.items)
+        × OnlyWordsAreRepaired (map shown_of (take a.count a.places.items)) };
 }
 
 impl Tray {
@@ -100,24 +101,40 @@ impl Tray {
         }
     }
 
-    /// Whether that word was not received, but recovered.
+    /// Whether that word was not received, but recovered. Where there is no word, it was not.
     pub fn repaired(&self, i: u32) -> bool
-        ensures { result ≡ (slice_index_or self.now.shown i nothing_shown).repaired }
+        ensures value { result ≡ (slice_index_or self.now.shown i nothing_shown).repaired }
+        ensures word { IsTrue result → IsSome (slice_index_or self.now.shown i nothing_shown).word }
     {
         let i = i as usize;
         i < self.count && self.places[i].repaired
     }
 
+    /// Shows what a row keeps at `count` positions from a first one on, and no more of the last play.
+    pub(crate) fn show_kept(&mut self, row: &Row, first: u64, count: u32)
+        requires room { count ≤ self.old.window }
+        requires limit { first + count ≤ 2 ^ 62 }
+        ensures { self.new
+            ≡ record { window = self.old.window; shown = row_kept_from row.now first count } }
+    {
+        self.clear();
+        for i in 0..count {
+            let position = first + u64::from(i);
+            self.show(row.word(position), row.is_repaired(position));
+        }
+    }
+
     /// Takes off what the last play showed.
-    pub fn clear(&mut self)
+    fn clear(&mut self)
         ensures { self.new ≡ record self.old { shown = [] } }
     {
         self.count = 0;
     }
 
     /// Shows nothing, or a copy of a word, at the next position.
-    pub fn show(&mut self, word: Option<&Word>, repaired: bool)
-        requires { length self.old.shown < self.old.window }
+    fn show(&mut self, word: Option<&Word>, repaired: bool)
+        requires room { length self.old.shown < self.old.window }
+        requires word { IsTrue repaired → IsSome (option_copied word) }
         ensures { self.new ≡ record self.old {
           shown = self.old.shown
               ++ record { word = option_copied word.entry; repaired = repaired } ∷ [];

@@ -3,8 +3,9 @@ use Rattle.std.proofs.Common.{◌≡◌, ◌+◌, ◌++◌, ◌∷◌, [], ℕ, 
 use Rattle.std.proofs.lemmas.List.FromFn.{map-range_with_len_more}
 use Rattle.std.specs.FinSet.{contains}
 use Rattle.fg_words.specs.declared.Word.{Word}
-use Rattle.fg_window.specs.Shown.{Holding, kept_shown, Shown}
-use Rattle.fg_window.specs.Row.{RowState, row_known, row_kept_from}
+use Rattle.fg_desk.specs.Shown.{Holding, kept_shown, Shown}
+use Rattle.fg_window.specs.Row.{RowState, row_known}
+use Rattle.fg_desk.specs.TrayPlaces.{row_kept_from}
 
 pub one_more_shown :
     (row : RowState) (first i window position : ℕ) (tray : Holding) (word : Option Word) (alone : Bool)

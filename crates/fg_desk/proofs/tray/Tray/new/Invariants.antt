@@ -1,5 +1,5 @@
 use Rattle.std.proofs.Common.{◌≡◌, length}
-use Rattle.fg_window.proofs.tray.Tray.new.Given as goal
+use Rattle.fg_desk.proofs.tray.Tray.new.Given as goal
 
 abbrev pub invariant-loop : goal.invariant-loop
 invariant-loop l = length l.places.items ≡ l.counter

@@ -1,0 +1,30 @@
+-- What a place of a tray shows, and what a tray shows of a row. No public contract cites it.
+use Rattle.std.specs.Prelude.{ℕ, Bool, List, map, Option, Some, None, refl, if◌then◌else◌}
+use Rattle.std.specs.List.{range_with_len}
+use Rattle.std.specs.Coded.{Coded, code_by, coded×, coded_ℕ, coded_bool, coded_list, coded_option}
+use Rattle.fg_words.specs.declared.Word.{Word}
+use Rattle.fg_window.specs.Row.{RowState, row_known}
+use Rattle.fg_window.specs.RowEntries.{word_code}
+use Rattle.fg_desk.specs.declared.tray.Place.{Place}
+use Rattle.fg_desk.specs.Shown.{Shown, Holding, kept_shown}
+
+abbrev pub shown_of : Place → Shown
+shown_of place = record {
+  word = (if place.has_word then Some place.word else None);
+  repaired = place.repaired;
+}
+
+-- What a row keeps at `count` positions from a first one on.
+abbrev pub row_kept_from : RowState → ℕ → ℕ → List Shown
+row_kept_from row first count = map (kept_shown (row_known row) row.repaired) (range_with_len first count)
+
+-- How what is shown and a tray are told apart.
+abbrev pub shown_code : Coded Shown
+shown_code =
+    code_by (Option Word × Bool) (coded× (coded_option word_code) coded_bool)
+    (λ s. (s.word, s.repaired)) (λ p. record { word = p.0; repaired = p.1 }) (λ _. refl)
+
+abbrev pub holding_code : Coded Holding
+holding_code =
+    code_by (ℕ × List Shown) (coded× coded_ℕ (coded_list shown_code))
+    (λ h. (h.window, h.shown)) (λ p. record { window = p.0; shown = p.1 }) (λ _. refl)
