@@ -15,6 +15,6 @@ mod turns;
 
 pub use admitter::Admitter;
 pub use board::Board;
-pub use fg_core::{Fate, Key, Look, laws};
+pub use fg_core::{Asked, Fate, Key, Look, laws};
 pub use job::Job;
 pub use pass::Pass;
