@@ -11,11 +11,11 @@ use Rattle.fg_desk.specs.State.{Live}
 use Rattle.fg_turn.specs.Standing.{Standing}
 use Rattle.fg_core.specs.Board.{BoardState, IsLive, IsHeld, Looks, Asks, look_of, equation_with}
 use Rattle.fg_core.specs.Views.{Told, IsBorneOut, word_at, equation_is, seen_of, WasAnswered}
-use Rattle.fg_core.specs.Core.{Call, Event, take, publish, vouch, give_back, look, offer, attest, IsOwned, IsEvent, Tells, TellsOfLook}
+use Rattle.fg_core.specs.Core.{Call, Event, take, publish, vouch, give_back, look, offer, attest, IsOwned, CanDo, IsEvent, Tells, TellsOfLook}
 use Rattle.fg_core.specs.Codes.{Entry, told_code, told_from, call_from, IsOwnedBy, GrowsFrom, ToldIsReadBack}
 use Rattle.fg_core.specs.Laws.{EventsKeepOwned, EventsKeepTold, AnswersHold}
 use Rattle.fg_core.specs.Steps.{CarriesOn, IsStep}
-use Rattle.fg_board.specs.Actors.{TakesTurn}
+use Rattle.fg_board.specs.Actors.{TakesTurn, TakesNoTurn}
 use Rattle.fg_board.specs.Deeds.{told_of, told_of_live, told_of_look, told_by, Follows}
 use Rattle.fg_core.specs.declared.key.Key.{Key}
 use Rattle.fg_core.specs.declared.fate.Look.{Look}
@@ -170,8 +170,8 @@ pub turn_taken :
     → inner ≡ record old { calls = inner.calls; turns = old.turns + 1; inside = true; entered = Some entered }
     → new ≡ record inner { told = inner.told ++ told_by left said; inside = false; left = Some left }
     → IsPrefix old.calls inner.calls → IsOwnedBy inner.calls entered → GrowsFrom old.told entered
-    → IsEvent entered event left → TakesTurn event old new
-turn_taken event said old inner new entered left same goes_in goes_out calls owned grows is = record {
+    → CanDo (map told_from old.told) event → IsEvent entered event left → TakesTurn event old new
+turn_taken event said old inner new entered left same goes_in goes_out calls owned grows can is = record {
   turn = ap (λ (s : Standing BoardState). s.turn) goes_out ∙ ap (λ (s : Standing BoardState). s.turn) goes_in;
   number = ap (λ (s : Standing BoardState). s.number) goes_out ∙ ap (λ (s : Standing BoardState). s.number) goes_in;
   turns = ap (λ (s : Standing BoardState). s.turns) goes_out ∙ ap (λ (s : Standing BoardState). s.turns) goes_in;
@@ -179,6 +179,7 @@ turn_taken event said old inner new entered left same goes_in goes_out calls own
   entered_is = ap (λ (s : Standing BoardState). s.entered) goes_out ∙ ap (λ (s : Standing BoardState). s.entered) goes_in;
   left = left;
   left_is = ap (λ (s : Standing BoardState). s.left) goes_out;
+  can = can;
   event_is = is;
   calls = subst (λ (s : Standing BoardState). IsPrefix old.calls s.calls) (sym goes_out) calls;
   owned = subst (λ (s : Standing BoardState). IsOwnedBy s.calls entered) (sym goes_out) owned;
@@ -189,4 +190,26 @@ turn_taken event said old inner new entered left same goes_in goes_out calls own
       ap (λ (s : Standing BoardState). s.told) goes_out
       ∙ ap (λ (s : Standing BoardState). s.told ++ told_by left said) goes_in
       ∙ ap (λ (e : Event). old.told ++ told_by left e) same;
+}
+
+-- And one that found no memory.
+pub no_turn_taken :
+    (old inner new : Standing BoardState) (entered left : BoardState) → left ≡ entered
+    → inner ≡ record old { calls = inner.calls; turns = old.turns + 1; inside = true; entered = Some entered }
+    → new ≡ record inner { inside = false; left = Some left }
+    → IsPrefix old.calls inner.calls → IsOwnedBy inner.calls entered → GrowsFrom old.told entered → TakesNoTurn old new
+no_turn_taken old inner new entered left same goes_in goes_out calls owned grows = record {
+  turn = ap (λ (s : Standing BoardState). s.turn) goes_out ∙ ap (λ (s : Standing BoardState). s.turn) goes_in;
+  number = ap (λ (s : Standing BoardState). s.number) goes_out ∙ ap (λ (s : Standing BoardState). s.number) goes_in;
+  turns = ap (λ (s : Standing BoardState). s.turns) goes_out ∙ ap (λ (s : Standing BoardState). s.turns) goes_in;
+  entered = entered;
+  entered_is = ap (λ (s : Standing BoardState). s.entered) goes_out ∙ ap (λ (s : Standing BoardState). s.entered) goes_in;
+  same =
+      ap (λ (s : Standing BoardState). s.left) goes_out
+      ∙ ap (λ (b : BoardState). Some b) same
+      ∙ sym (ap (λ (s : Standing BoardState). s.entered) goes_out ∙ ap (λ (s : Standing BoardState). s.entered) goes_in);
+  calls = subst (λ (s : Standing BoardState). IsPrefix old.calls s.calls) (sym goes_out) calls;
+  owned = subst (λ (s : Standing BoardState). IsOwnedBy s.calls entered) (sym goes_out) owned;
+  grows = grows;
+  told = ap (λ (s : Standing BoardState). s.told) goes_out ∙ ap (λ (s : Standing BoardState). s.told) goes_in;
 }

@@ -272,6 +272,7 @@ impl Board {
         requires { pass.old.turn ≡ self.now.name }
         ensures taken { IfOk result (λ job. TakesTurn (take (option_map (λ (j : TakenJob). j.job) job)) pass.old pass.new) }
         ensures standing { IfOk result (λ job. IfSome job (λ job. job.taken ≡ pass.new)) }
+        ensures later { IfOk result (λ job. IfSome job (λ job. IsLater job.taken pass.new)) }
         ensures none { IfErr result (λ _. TakesNoTurn pass.old pass.new) }
     {
         codes_are_read_back();

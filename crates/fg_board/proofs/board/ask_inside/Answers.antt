@@ -15,7 +15,7 @@ returns-clause-turn g c =
     turn_taken (look c.args.key None (look_of c.ask-answer.result)) (look c.args.key None (look_of c.of.result.value))
     c.args.seat.now c.enter-flow.new.seat c.settle.new.seat c.enter-flow.result c.enter-flow.result
     (ap (λ (a : Asked). look c.args.key None (look_of a)) c.of.ensures) c.enter-flow.ensures.seat c.settle.ensures.seat
-    c.enter-flow.ensures.calls c.enter-flow.ensures.owner c.enter-flow.ensures.grows c.ask-answer.ensures.asks.looks
+    c.enter-flow.ensures.calls c.enter-flow.ensures.owner c.enter-flow.ensures.grows tt c.ask-answer.ensures.asks.looks
 
 pub returns-clause-equation : goal.returns-clause-equation
 returns-clause-equation g c =
