@@ -24,6 +24,7 @@ use Rattle.fg_core.specs.Laws.{WorkedWordsFollow, CheckedComeOut}
 use Rattle.fg_board.specs.Actors.{TakenJob, WasTold, IsLater, TakesTurn, IsWorkedBy}
 use Rattle.fg_core.specs.declared.key.Key.{Key}
 use Rattle.fg_board.proofs.Lists.{Contains-here, Contains-there, Contains-map, value_of, entry_of_get}
+use Rattle.fg_board.proofs.Later.{still_told}
 use Rattle.fg_board.proofs.OneTurn.{owning, told_back}
 
 -- For a seat that has seen these calls and was told this, on the board that it entered
@@ -114,17 +115,14 @@ taken_told back job old new turn =
 module _
     (taken : TakenJob) (was : WasTold taken) (later : Standing BoardState) (goes_on : IsLater taken.taken later) where
   -- What a job tells its pass was told, and later still.
-  still_told : (one : Told) → Contains (told_of_job taken.job) one → Contains (map told_from later.told) one
-  still_told one c =
-      let before = map told_from taken.taken.told in
-      subst (λ (ts : List Told). Contains ts one)
-      (sym (map-append told_from taken.taken.told goes_on.told.0) ∙ ap (map told_from) goes_on.told.1)
-      (Contains-append_left before (map told_from goes_on.told.0) one
-      (All-contains (Contains before) (told_of_job taken.job) one was c))
+  job_still_told : (one : Told) → Contains (told_of_job taken.job) one → Contains (map told_from later.told) one
+  job_still_told one c =
+      still_told taken.taken later goes_on one
+      (All-contains (Contains (map told_from taken.taken.told)) (told_of_job taken.job) one was c)
 
   equation_still_told : Contains (map told_from later.told) (equation_is taken.job.key.serial taken.job.equation)
   equation_still_told =
-      still_told (equation_is taken.job.key.serial taken.job.equation)
+      job_still_told (equation_is taken.job.key.serial taken.job.equation)
       (Contains-here (equation_is taken.job.key.serial taken.job.equation)
       (map (λ entry. word_at taken.job.key.epoch entry.0 entry.1) (entries taken.job.inputs)))
 
@@ -138,7 +136,7 @@ module _
       let tell : ℕ × Word → Told = λ entry. word_at taken.job.key.epoch entry.0 entry.1 in (
         v.0,
         v.1,
-        still_told (word_at taken.job.key.epoch slot v.0)
+        job_still_told (word_at taken.job.key.epoch slot v.0)
             (Contains-there (equation_is taken.job.key.serial taken.job.equation) (map tell (entries taken.job.inputs))
             (word_at taken.job.key.epoch slot v.0)
             (Contains-map tell (entries taken.job.inputs) (slot, v.0) (entry_of_get taken.job.inputs slot v.0 v.1))),

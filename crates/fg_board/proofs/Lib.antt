@@ -1,4 +1,5 @@
 mod Bringing
+mod Later
 mod Lists
 mod OneCall
 mod OneTurn

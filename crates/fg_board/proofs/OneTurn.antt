@@ -1,22 +1,28 @@
 -- What a turn of a pass carries on, and what it tells.
 use Rattle.std.proofs.Common.{◌≡◌, ◌+◌, ◌++◌, ℕ, inl, true, false, List, [], ◌∷◌, map, Option, Some, None, refl, sym, ap, subst, ◌∙◌}
 use Rattle.std.specs.Prelude.{IsSomeAnd}
-use Rattle.std.specs.List.{All}
+use Rattle.std.proofs.lemmas.List.{map-append}
+use Rattle.std.proofs.lemmas.List.Elements.{Contains-append_right}
+use Rattle.std.specs.List.{All, Contains}
 use Rattle.std.specs.FinMap.{get}
 use mathlib.Core.List.{IsPrefix}
+use Rattle.fg_peel.specs.Equation.{Equation}
 use Rattle.fg_desk.specs.State.{Live}
 use Rattle.fg_turn.specs.Standing.{Standing}
-use Rattle.fg_core.specs.Board.{BoardState, Looks}
-use Rattle.fg_core.specs.Views.{Told, IsBorneOut, word_at, equation_is, seen_of}
-use Rattle.fg_core.specs.Core.{Call, Event, take, publish, vouch, give_back, look, offer, attest, IsOwned, IsEvent, Tells, TellsOfLook}
+use Rattle.fg_core.specs.Board.{BoardState, IsLive, IsHeld, Looks, Asks, look_of, equation_with}
+use Rattle.fg_core.specs.Views.{Told, IsBorneOut, word_at, equation_is, seen_of, WasAnswered}
+use Rattle.fg_core.specs.Core.{Call, Event, take, publish, vouch, give_back, look, offer, attest, IsOwned, CanDo, IsEvent, Tells, TellsOfLook}
 use Rattle.fg_core.specs.Codes.{Entry, told_code, told_from, call_from, IsOwnedBy, GrowsFrom, ToldIsReadBack}
 use Rattle.fg_core.specs.Laws.{EventsKeepOwned, EventsKeepTold, AnswersHold}
 use Rattle.fg_core.specs.Steps.{CarriesOn, IsStep}
-use Rattle.fg_board.specs.Actors.{TakesTurn}
+use Rattle.fg_board.specs.Actors.{TakesTurn, TakesNoTurn}
 use Rattle.fg_board.specs.Deeds.{told_of, told_of_live, told_of_look, told_by, Follows}
 use Rattle.fg_core.specs.declared.key.Key.{Key}
 use Rattle.fg_core.specs.declared.fate.Look.{Look}
 use Rattle.fg_core.specs.declared.fate.Look.TheVariants as looked
+use Rattle.fg_core.specs.declared.fate.Asked.{Asked}
+use Rattle.fg_core.specs.declared.fate.Asked.TheVariants as asked
+use Rattle.fg_board.proofs.Lists.{Contains-here, Contains-there}
 
 -- What holds of an option's value.
 pub some_and_weaker : {X : Type 0} (o : Option X) (P Q : X → Type 0) → ((x : X) → P x → Q x) → IsSomeAnd o P → IsSomeAnd o Q
@@ -77,13 +83,22 @@ told_of_one : (serial : ℕ) (live : Live) (found : Option Live) → found ≡ S
     → told_of_live serial found ≡ equation_is serial live.equation ∷ []
 told_of_one serial live found is = ap (told_of_live serial) is
 
-look_tells : (key : Key) (slot : ℕ) (answer : Look) (old new : BoardState) → Looks old key slot answer new
+-- The key's equation, which is live.
+equation_tells :
+    (key : Key) (old new : BoardState) → IsHeld old key → new ≡ old
+    → (live : Live) × IsLive new key.serial live
+    × (told_of_live key.serial (get new.desk.state.equations key.serial) ≡ equation_is key.serial live.equation ∷ [])
+equation_tells key old new held same =
+    let live = ap (λ (b : BoardState). get b.desk.state.equations key.serial) same ∙ held.1.live_is in
+    (held.0, live, told_of_one key.serial held.0 (get new.desk.state.equations key.serial) live)
+
+look_tells : (key : Key) (slot : Option ℕ) (answer : Look) (old new : BoardState) → Looks old key slot answer new
     → TellsOfLook new key slot answer (told_of_look new key slot answer)
 look_tells key slot (looked.Gone mark epoch) old new is = refl
-look_tells key slot looked.Unknown old new is =
-    let live = ap (λ (b : BoardState). get b.desk.state.equations key.serial) is.2 ∙ is.0.1.live_is in
-    (is.0.0, live, told_of_one key.serial is.0.0 (get new.desk.state.equations key.serial) live)
-look_tells key slot (looked.Known word) old new is =
+look_tells key None looked.Unknown old new is = equation_tells key old new is.0 is.1
+look_tells key (Some slot) looked.Unknown old new is = equation_tells key old new is.0 is.2
+look_tells key None (looked.Known word) old new is = absurd is
+look_tells key (Some slot) (looked.Known word) old new is =
     let live = ap (λ (b : BoardState). get b.desk.state.equations key.serial) is.2 ∙ is.0.1.live_is in (
       is.0.0,
       live,
@@ -107,6 +122,36 @@ told_back back [] = refl
 told_back back (one ∷ told) =
     ap (λ (t : Told). t ∷ map told_from (map told_code told)) (back one) ∙ ap (λ (ts : List Told). one ∷ ts) (told_back back told)
 
+-- So what was written behind other things is told.
+pub told_after :
+    ToldIsReadBack → (before : List Entry) (told : List Told)
+    → map told_from (before ++ map told_code told) ≡ map told_from before ++ told
+told_after back before told =
+    map-append told_from before (map told_code told) ∙ ap (λ (ts : List Told). map told_from before ++ ts) (told_back back told)
+
+pub is_told :
+    ToldIsReadBack → (before : List Entry) (told : List Told) (one : Told) → Contains told one
+    → Contains (map told_from (before ++ map told_code told)) one
+is_told back before told one c =
+    subst (λ (ts : List Told). Contains ts one) (sym (told_after back before told))
+    (Contains-append_right (map told_from before) told one c)
+
+-- An equation that is answered is told.
+pub answer_told :
+    ToldIsReadBack → (key : Key) (answer : Asked) (old new : BoardState) → Asks old key answer new → (before : List Entry)
+    → WasAnswered (map told_from (before ++ told_by new (look key None (look_of answer)))) key answer
+answer_told back key (asked.Gone mark epoch) old new asks before = tt
+answer_told back key (asked.Live base shape parity) old new asks before =
+    let live = asks.equation.0 in
+    let is = ap (λ (b : BoardState). get b.desk.state.equations key.serial) asks.looks.1 ∙ asks.equation.1.live_is in
+    let told = told_of_live key.serial (get new.desk.state.equations key.serial) in
+    let same = told_of_one key.serial live (get new.desk.state.equations key.serial) is in
+    is_told back before (seen_of new ∷ told) (equation_is key.serial (equation_with base shape parity))
+    (Contains-there (seen_of new) told (equation_is key.serial (equation_with base shape parity))
+    (subst (λ (ts : List Told). Contains ts (equation_is key.serial (equation_with base shape parity))) (sym same)
+    (subst (λ (e : Equation). Contains (equation_is key.serial live.equation ∷ []) (equation_is key.serial e)) asks.equation.2
+    (Contains-here (equation_is key.serial live.equation) []))))
+
 -- It holds of the board that is left.
 pub told_grows :
     AnswersHold → ToldIsReadBack → (seat : Standing BoardState) (event : Event) (left entered : BoardState)
@@ -125,8 +170,8 @@ pub turn_taken :
     → inner ≡ record old { calls = inner.calls; turns = old.turns + 1; inside = true; entered = Some entered }
     → new ≡ record inner { told = inner.told ++ told_by left said; inside = false; left = Some left }
     → IsPrefix old.calls inner.calls → IsOwnedBy inner.calls entered → GrowsFrom old.told entered
-    → IsEvent entered event left → TakesTurn event old new
-turn_taken event said old inner new entered left same goes_in goes_out calls owned grows is = record {
+    → CanDo (map told_from old.told) event → IsEvent entered event left → TakesTurn event old new
+turn_taken event said old inner new entered left same goes_in goes_out calls owned grows can is = record {
   turn = ap (λ (s : Standing BoardState). s.turn) goes_out ∙ ap (λ (s : Standing BoardState). s.turn) goes_in;
   number = ap (λ (s : Standing BoardState). s.number) goes_out ∙ ap (λ (s : Standing BoardState). s.number) goes_in;
   turns = ap (λ (s : Standing BoardState). s.turns) goes_out ∙ ap (λ (s : Standing BoardState). s.turns) goes_in;
@@ -134,6 +179,7 @@ turn_taken event said old inner new entered left same goes_in goes_out calls own
   entered_is = ap (λ (s : Standing BoardState). s.entered) goes_out ∙ ap (λ (s : Standing BoardState). s.entered) goes_in;
   left = left;
   left_is = ap (λ (s : Standing BoardState). s.left) goes_out;
+  can = can;
   event_is = is;
   calls = subst (λ (s : Standing BoardState). IsPrefix old.calls s.calls) (sym goes_out) calls;
   owned = subst (λ (s : Standing BoardState). IsOwnedBy s.calls entered) (sym goes_out) owned;
@@ -144,4 +190,26 @@ turn_taken event said old inner new entered left same goes_in goes_out calls own
       ap (λ (s : Standing BoardState). s.told) goes_out
       ∙ ap (λ (s : Standing BoardState). s.told ++ told_by left said) goes_in
       ∙ ap (λ (e : Event). old.told ++ told_by left e) same;
+}
+
+-- And one that found no memory.
+pub no_turn_taken :
+    (old inner new : Standing BoardState) (entered left : BoardState) → left ≡ entered
+    → inner ≡ record old { calls = inner.calls; turns = old.turns + 1; inside = true; entered = Some entered }
+    → new ≡ record inner { inside = false; left = Some left }
+    → IsPrefix old.calls inner.calls → IsOwnedBy inner.calls entered → GrowsFrom old.told entered → TakesNoTurn old new
+no_turn_taken old inner new entered left same goes_in goes_out calls owned grows = record {
+  turn = ap (λ (s : Standing BoardState). s.turn) goes_out ∙ ap (λ (s : Standing BoardState). s.turn) goes_in;
+  number = ap (λ (s : Standing BoardState). s.number) goes_out ∙ ap (λ (s : Standing BoardState). s.number) goes_in;
+  turns = ap (λ (s : Standing BoardState). s.turns) goes_out ∙ ap (λ (s : Standing BoardState). s.turns) goes_in;
+  entered = entered;
+  entered_is = ap (λ (s : Standing BoardState). s.entered) goes_out ∙ ap (λ (s : Standing BoardState). s.entered) goes_in;
+  same =
+      ap (λ (s : Standing BoardState). s.left) goes_out
+      ∙ ap (λ (b : BoardState). Some b) same
+      ∙ sym (ap (λ (s : Standing BoardState). s.entered) goes_out ∙ ap (λ (s : Standing BoardState). s.entered) goes_in);
+  calls = subst (λ (s : Standing BoardState). IsPrefix old.calls s.calls) (sym goes_out) calls;
+  owned = subst (λ (s : Standing BoardState). IsOwnedBy s.calls entered) (sym goes_out) owned;
+  grows = grows;
+  told = ap (λ (s : Standing BoardState). s.told) goes_out ∙ ap (λ (s : Standing BoardState). s.told) goes_in;
 }

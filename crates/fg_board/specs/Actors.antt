@@ -9,14 +9,11 @@ use Rattle.fg_desk.specs.declared.reply.Reply.{Reply}
 use Rattle.fg_desk.specs.declared.reply.Reply.TheVariants.{Admitted}
 use Rattle.fg_desk.specs.State.{State}
 use Rattle.fg_desk.specs.Admission.{live_limit}
-use Rattle.fg_turn.specs.Standing.{Standing}
-use Rattle.fg_core.specs.Board.{BoardState, JobState}
-use Rattle.fg_core.specs.Views.{Told, seen_of, told_of_job}
-use Rattle.fg_core.specs.Core.{Call, Event, IsCall, IsEvent, Tells}
 use Rattle.fg_peel.specs.Equation.{Equation}
-use Rattle.fg_core.specs.Board.{opened_board}
-use Rattle.fg_core.specs.Core.{IsOwned}
-use Rattle.fg_core.specs.Views.{IsWorked, IsChecked}
+use Rattle.fg_turn.specs.Standing.{Standing}
+use Rattle.fg_core.specs.Board.{BoardState, JobState, opened_board}
+use Rattle.fg_core.specs.Views.{Told, IsWorked, IsChecked, seen_of, told_of_job}
+use Rattle.fg_core.specs.Core.{Call, Event, CanDo, IsCall, IsEvent, IsOwned, Tells}
 use Rattle.fg_core.specs.declared.key.Key.{Key}
 use Rattle.fg_core.specs.Codes.{Entry, call_code, call_from, told_code, told_from, opening_code, IsOwnedBy, GrowsFrom}
 
@@ -29,8 +26,8 @@ pub record IsLater (earlier later : Standing BoardState) : Type 0 where
   pub told : IsPrefix earlier.told later.told
 
 -- One turn of a pass: one event, from the state that it entered to the one that it left. What was entered is what the
--- admitter's calls so far made of the board, and has grown from all that the pass was told. The pass was told what the
--- answer tells.
+-- admitter's calls so far made of the board, and has grown from all that the pass was told. By that the pass could do the
+-- event, and it was told what the answer tells.
 pub record TakesTurn (event : Event) (old new : Standing BoardState) : Type 0 where
   pub turn : new.turn ≡ old.turn
   pub number : new.number ≡ old.number
@@ -39,6 +36,7 @@ pub record TakesTurn (event : Event) (old new : Standing BoardState) : Type 0 wh
   pub entered_is : new.entered ≡ Some entered
   pub left : BoardState
   pub left_is : new.left ≡ Some left
+  pub can : CanDo (map told_from old.told) event
   pub event_is : IsEvent entered event left
   pub calls : IsPrefix old.calls new.calls
   pub owned : IsOwnedBy new.calls entered
@@ -47,12 +45,17 @@ pub record TakesTurn (event : Event) (old new : Standing BoardState) : Type 0 wh
   pub tells : Tells left event told
   pub told_is : new.told ≡ old.told ++ map told_code (seen_of left ∷ told)
 
--- One turn that found no memory, which changed nothing and told nothing.
+-- One turn that found no memory, which changed nothing and told nothing. What was entered is what it is in every turn.
 pub record TakesNoTurn (old new : Standing BoardState) : Type 0 where
   pub turn : new.turn ≡ old.turn
   pub number : new.number ≡ old.number
   pub turns : new.turns ≡ old.turns + 1
+  pub entered : BoardState
+  pub entered_is : new.entered ≡ Some entered
   pub same : new.left ≡ new.entered
+  pub calls : IsPrefix old.calls new.calls
+  pub owned : IsOwnedBy new.calls entered
+  pub grows : GrowsFrom old.told entered
   pub told : new.told ≡ old.told
 
 -- Jobs

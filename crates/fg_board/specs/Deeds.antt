@@ -3,7 +3,7 @@ use Rattle.std.specs.Prelude.{ℕ, List, [], ◌∷◌, ◌++◌, map, Option, S
 use Rattle.std.specs.FinMap.{get}
 use Rattle.fg_desk.specs.State.{Live}
 use Rattle.fg_turn.specs.Standing.{Standing}
-use Rattle.fg_core.specs.Board.{BoardState}
+use Rattle.fg_core.specs.Board.{BoardState, look_of}
 use Rattle.fg_core.specs.Views.{Told, word_at, equation_is, seen_of, told_of_job}
 use Rattle.fg_core.specs.Core.{Call, media, parity, play, flush, Event, take, publish, vouch, give_back, look, offer, attest, CanCall, CanDo, IsCall, IsEvent, told_of_fate}
 use Rattle.fg_core.specs.Codes.{Entry, call_code, told_code, told_from, IsOwnedBy, GrowsFrom}
@@ -22,7 +22,8 @@ event_of (deed.Take job) = take job.value
 event_of (deed.Publish key slot share fate) = publish key slot share.value fate
 event_of (deed.Vouch key zero fate) = vouch key zero fate
 event_of (deed.GiveBack key fate) = give_back key fate
-event_of (deed.Look key slot answer) = look key slot answer.value
+event_of (deed.Look key slot answer) = look key (Some slot) answer.value
+event_of (deed.Ask key answer) = look key None (look_of answer.value)
 event_of (deed.Offer key slot share fate) = offer key slot share.value fate
 event_of (deed.Attest key zero fate) = attest key zero fate
 
@@ -31,10 +32,11 @@ abbrev pub told_of_live : ℕ → Option Live → List Told
 told_of_live serial None = []
 told_of_live serial (Some live) = equation_is serial live.equation ∷ []
 
-abbrev pub told_of_look : BoardState → Key → ℕ → Look → List Told
+abbrev pub told_of_look : BoardState → Key → Option ℕ → Look → List Told
 told_of_look board key slot (looked.Gone mark epoch) = []
 told_of_look board key slot looked.Unknown = told_of_live key.serial (get board.desk.state.equations key.serial)
-told_of_look board key slot (looked.Known word) =
+told_of_look board key None (looked.Known word) = []
+told_of_look board key (Some slot) (looked.Known word) =
     told_of_live key.serial (get board.desk.state.equations key.serial) ++ word_at key.epoch slot word ∷ []
 
 -- What an event's answer tells beside the three numbers.

@@ -1,4 +1,5 @@
 pub mod Actors
 pub mod Deeds
 pub mod Knowing
+pub mod Laws
 pub mod Standings

@@ -1,16 +1,16 @@
 //! A board: a flow's desk, and the turn in which one thread at a time works on it.
 
-ghost use Rattle.std.specs.Prelude.{◌≡◌, ◌↔◌, ◌+◌, ◌-◌, ◌<◌, ◌≤◌, ℕ, [], ◌∷◌, map, false, IfOk, IfErr, IfSome, IsTrue, option_map};
+ghost use Rattle.std.specs.Prelude.{◌≡◌, ◌↔◌, ◌+◌, ◌-◌, ◌<◌, ◌≤◌, ℕ, [], ◌∷◌, map, false, Some, None, IfOk, IfErr, IfSome, IsSomeAnd, IsTrue, option_map};
 ghost use Rattle.std.specs.FinMap.{get};
 ghost use Rattle.fg_words.specs.Word.{zero_word};
 ghost use Rattle.fg_peel.specs.declared.row.Missing.TheVariants.{One};
 ghost use Rattle.fg_peel.specs.Equation.{Equation, IsComplete};
 ghost use Rattle.fg_peel.specs.Slots.{IsMissing};
 ghost use Rattle.fg_turn.specs.Standing.{owner_of, newcomer_of};
-ghost use Rattle.fg_core.specs.Board.{job_sum};
+ghost use Rattle.fg_core.specs.Board.{job_sum, look_of, TellsEquation, TellsReadable};
 ghost use Rattle.fg_core.specs.Codes.{told_from, opening_code};
 ghost use Rattle.fg_core.specs.Core.{take, publish, vouch, give_back, look, offer, attest};
-ghost use Rattle.fg_core.specs.Views.{IsWorked, IsChecked};
+ghost use Rattle.fg_core.specs.Views.{IsWorked, IsChecked, WasAnswered};
 ghost use Rattle.fg_board.specs.Actors.{TakenJob, IsLater, TakesTurn, TakesNoTurn};
 
 use crate::admitter::Admitter;
@@ -18,7 +18,7 @@ use crate::job::Job;
 use crate::pass::Pass;
 use crate::turns::{Deed, settle, skip};
 use fg_core::laws::{checked_come_out, codes_are_read_back, opening_is_owned, worked_words_follow};
-use fg_core::{Fate, Flow, Key, Look, Work};
+use fg_core::{Asked, Fate, Flow, Key, Look, Work};
 use fg_turn::{Seat, Turn};
 use fg_words::Shared;
 use fg_words::laws::xor_is_a_group;
@@ -133,7 +133,7 @@ fn look_inside(
 ) -> Look
     requires { (seat.old.turn ≡ turn.now.name) × (seat.old.inside ≡ false) }
     ensures outside { seat.new.inside ≡ false }
-    ensures turn { TakesTurn (look key slot result) seat.old seat.new }
+    ensures turn { TakesTurn (look key (Some slot) result) seat.old seat.new }
 {
     let flow = turn.enter(wait, seat);
     let answer = flow.look(key, slot);
@@ -143,6 +143,22 @@ fn look_inside(
         flow,
         Deed::Look(key, slot, Snapshot::of(&answer)),
     );
+    answer
+}
+
+// An equation is asked for, in one turn.
+fn ask_inside(wait: &impl Wait, turn: &Turn<Flow>, seat: &mut Seat<Flow>, key: Key) -> Asked
+    requires { (seat.old.turn ≡ turn.now.name) × (seat.old.inside ≡ false) }
+    ensures outside { seat.new.inside ≡ false }
+    ensures turn { TakesTurn (look key None (look_of result)) seat.old seat.new }
+    ensures equation { IsSomeAnd seat.new.entered (λ board. TellsEquation board key result) }
+    ensures told { WasAnswered (map told_from seat.new.told) key result }
+    ensures readable { TellsReadable result }
+{
+    codes_are_read_back();
+    let flow = turn.enter(wait, seat);
+    let answer = flow.ask(key);
+    settle(turn, seat, flow, Deed::Ask(key, Snapshot::of(&answer)));
     answer
 }
 
@@ -256,6 +272,7 @@ impl Board {
         requires { pass.old.turn ≡ self.now.name }
         ensures taken { IfOk result (λ job. TakesTurn (take (option_map (λ (j : TakenJob). j.job) job)) pass.old pass.new) }
         ensures standing { IfOk result (λ job. IfSome job (λ job. job.taken ≡ pass.new)) }
+        ensures later { IfOk result (λ job. IfSome job (λ job. IsLater job.taken pass.new)) }
         ensures none { IfErr result (λ _. TakesNoTurn pass.old pass.new) }
     {
         codes_are_read_back();
@@ -305,9 +322,20 @@ impl Board {
     /// The word known at a position, asked in one turn by the key of an equation.
     pub fn look(&self, wait: &impl Wait, pass: &mut Pass, key: Key, slot: u64) -> Look
         requires { pass.old.turn ≡ self.now.name }
-        ensures { TakesTurn (look key slot result) pass.old pass.new }
+        ensures { TakesTurn (look key (Some slot) result) pass.old pass.new }
     {
         look_inside(wait, &self.turn, &mut pass.seat, key, slot)
+    }
+
+    /// The equation of a key, asked in one turn. It is a look that gives no word.
+    pub fn ask(&self, wait: &impl Wait, pass: &mut Pass, key: Key) -> Asked
+        requires { pass.old.turn ≡ self.now.name }
+        ensures turn { TakesTurn (look key None (look_of result)) pass.old pass.new }
+        ensures equation { IsSomeAnd pass.new.entered (λ board. TellsEquation board key result) }
+        ensures told { WasAnswered (map told_from pass.new.told) key result }
+        ensures readable { TellsReadable result }
+    {
+        ask_inside(wait, &self.turn, &mut pass.seat, key)
     }
 
     /// Brings the word of a slot of the key's equation, in one turn. It has to follow from what the pass was told.

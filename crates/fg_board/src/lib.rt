@@ -8,6 +8,7 @@
 mod admitter;
 mod board;
 mod job;
+pub mod laws;
 mod pass;
 #[cfg(test)]
 mod tests;
@@ -15,6 +16,6 @@ mod turns;
 
 pub use admitter::Admitter;
 pub use board::Board;
-pub use fg_core::{Fate, Key, Look, laws};
+pub use fg_core::{Asked, Fate, Key, Look};
 pub use job::Job;
 pub use pass::Pass;

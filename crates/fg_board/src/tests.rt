@@ -1,6 +1,7 @@
 //! Boards on which three passes take their turns, in an order that is given, at random, or as threads.
 
 mod admit;
+mod ask;
 mod bare;
 mod fates;
 mod jobs;

@@ -11,7 +11,7 @@ use fg_core::laws::{
     answers_hold, calls_extend, calls_keep_told, codes_are_read_back, events_keep_owned,
     events_keep_told,
 };
-use fg_core::{Fate, Flow, Key, Look, Work};
+use fg_core::{Asked, Fate, Flow, Key, Look, Work};
 use fg_desk::{Played, Reply};
 use fg_shape::Shape;
 use fg_turn::{Named, Owner, Seat, Turn};
@@ -27,6 +27,7 @@ pub(crate) enum Deed {
     Vouch(Key, bool, Fate),
     GiveBack(Key, Fate),
     Look(Key, u64, Snapshot<Look>),
+    Ask(Key, Snapshot<Asked>),
     Offer(Key, u64, Snapshot<Shared>, Fate),
     Attest(Key, bool, Fate),
 }

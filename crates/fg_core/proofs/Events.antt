@@ -171,10 +171,14 @@ module _
   after_give_back key (Beaten other) new never = absurd never
   after_give_back key Done new done = given_back old key.serial new owned done.1
 
-  after_look : (key : Key) (slot : ℕ) (answer : Look) (new : BoardState) → Looks old key slot answer new → IsOwned window depth calls new
+  after_look :
+      (key : Key) (slot : Option ℕ) (answer : Look) (new : BoardState) → Looks old key slot answer new
+      → IsOwned window depth calls new
   after_look key slot (looked.Gone mark epoch) new gone = owned_same new gone.same
-  after_look key slot looked.Unknown new unknown = owned_same new unknown.2
-  after_look key slot (looked.Known word) new known = owned_same new known.2
+  after_look key None looked.Unknown new told = owned_same new told.1
+  after_look key (Some slot) looked.Unknown new unknown = owned_same new unknown.2
+  after_look key None (looked.Known word) new never = absurd never
+  after_look key (Some slot) (looked.Known word) new known = owned_same new known.2
 
   -- So each event keeps it.
   after_event : (event : Event) (new : BoardState) → CanDo told event → IsEvent old event new → IsOwned window depth calls new

@@ -13,7 +13,7 @@ use Rattle.fg_desk.specs.Contents.{Contents, known_in, filled}
 use Rattle.fg_core.specs.Board.{BoardState, JobState, IsLive, IsHeld, IsJobOf, Takes, Offers, Publishes, Attests, Vouches, GivesBack, Looks, mark_of, with_word, with_back}
 use Rattle.fg_core.specs.Views.{Told, saw, word_at, equation_is, IsBorneOut, seen_of, told_of_job}
 use Rattle.fg_core.specs.Core.{Event, take, publish, vouch, give_back, look, offer, attest, IsEvent, Tells, TellsOfLook, told_of_fate}
-use Rattle.fg_core.specs.Laws.{EventsKeepTold, AnswersHold, ToldWordsAreFound}
+use Rattle.fg_core.specs.Laws.{EventsKeepTold, AnswersHold, ToldWordsAreFound, WordsOfEquationsAreFound}
 use Rattle.fg_core.specs.declared.key.Key.{Key}
 use Rattle.fg_core.specs.declared.fate.Fate.{Fate}
 use Rattle.fg_core.specs.declared.fate.Fate.TheVariants.{Done, Beaten, Gone}
@@ -22,6 +22,7 @@ use Rattle.fg_core.specs.declared.fate.Look.TheVariants as looked
 use Rattle.fg_core.proofs.Options.{has_value}
 use Rattle.fg_core.proofs.Entries.{get_of_entry}
 use Rattle.fg_core.proofs.Filled.{filled_is_known, filled_keeps}
+use Rattle.fg_core.proofs.Told.{told_in_equation}
 
 -- A word came for a position where none was known.
 record IsFilled (old new : Contents) : Type 0 where
@@ -80,10 +81,12 @@ module _ (old : BoardState) where
   give_back_leaves key (Beaten other) new never = absurd never
   give_back_leaves key Done new done = inl (ap (λ (b : BoardState). b.desk) done.1)
 
-  look_leaves : (key : Key) (slot : ℕ) (answer : Look) (new : BoardState) → Looks old key slot answer new → Leaves old new
+  look_leaves : (key : Key) (slot : Option ℕ) (answer : Look) (new : BoardState) → Looks old key slot answer new → Leaves old new
   look_leaves key slot (looked.Gone mark epoch) new gone = same_leaves new gone.same
-  look_leaves key slot looked.Unknown new unknown = same_leaves new unknown.2
-  look_leaves key slot (looked.Known word) new known = same_leaves new known.2
+  look_leaves key None looked.Unknown new told = same_leaves new told.1
+  look_leaves key (Some slot) looked.Unknown new unknown = same_leaves new unknown.2
+  look_leaves key None (looked.Known word) new never = absurd never
+  look_leaves key (Some slot) (looked.Known word) new known = same_leaves new known.2
 
   -- So it is of all.
   event_leaves : (event : Event) (new : BoardState) → IsEvent old event new → Leaves old new
@@ -203,15 +206,24 @@ module _ (old : BoardState) (facts : Holds old.desk.state) (told : List Told) wh
   publish_tells key slot word Done new p tells =
       word_tells key slot word new p.1.0 p.1.1 (ap (λ (b : BoardState). b.desk) p.2 ∙ ap (λ (b : BoardState). b.desk) p.1.2) tells
 
+  -- The key's equation alone.
+  equation_tells :
+      (key : Key) (new : BoardState) → new ≡ old
+      → (live : Live) × IsLive new key.serial live × (told ≡ equation_is key.serial live.equation ∷ [])
+      → All (IsBorneOut new) told
+  equation_tells key new same tells =
+      one_told new (equation_is key.serial tells.0.equation) told
+      (live_holds new (subst (λ (b : BoardState). Holds b.desk.state) (sym same) facts) key.serial tells.0 tells.1)
+      tells.2
+
   look_tells :
-      (key : Key) (slot : ℕ) (answer : Look) (new : BoardState) → Looks old key slot answer new
+      (key : Key) (slot : Option ℕ) (answer : Look) (new : BoardState) → Looks old key slot answer new
       → TellsOfLook new key slot answer told → All (IsBorneOut new) told
   look_tells key slot (looked.Gone mark epoch) new gone tells = nothing_told new told tells
-  look_tells key slot looked.Unknown new unknown tells =
-      one_told new (equation_is key.serial tells.0.equation) told
-      (live_holds new (subst (λ (b : BoardState). Holds b.desk.state) (sym unknown.2) facts) key.serial tells.0 tells.1)
-      tells.2
-  look_tells key slot (looked.Known word) new known tells =
+  look_tells key None looked.Unknown new same tells = equation_tells key new same.1 tells
+  look_tells key (Some slot) looked.Unknown new unknown tells = equation_tells key new unknown.2 tells
+  look_tells key None (looked.Known word) new never tells = absurd never
+  look_tells key (Some slot) (looked.Known word) new known tells =
       two_told new (equation_is key.serial tells.0.equation) (word_at key.epoch slot word) told
       (live_holds new (subst (λ (b : BoardState). Holds b.desk.state) (sym known.2) facts) key.serial tells.0 tells.1)
       (subst (λ (b : BoardState). IsBorneOut b (word_at key.epoch slot word)) (sym known.2)
@@ -235,7 +247,8 @@ answers_hold window depth calls event old new told owned does tells =
 -- Who was told a word of a slot near the mark finds it there.
 found_there :
     (board : BoardState) (key : Key) (slot : ℕ) (word : Word) (answer : Look) (new : BoardState)
-    → known_in board.desk slot ≡ Some word → IsHeld board key → Looks board key slot answer new → answer ≡ looked.Known word
+    → known_in board.desk slot ≡ Some word → IsHeld board key → Looks board key (Some slot) answer new
+    → answer ≡ looked.Known word
 found_there board key slot word (looked.Gone mark epoch) new is held gone = absurd (gone.gone held.0 held.1)
 found_there board key slot word looked.Unknown new is held unknown = absurd (none-some word (sym unknown.1 ∙ is))
 found_there board key slot word (looked.Known other) new is held known =
@@ -245,3 +258,8 @@ pub told_words_are_found : ToldWordsAreFound
 told_words_are_found window depth calls board new told key slot word answer owned grows c near looks held =
     found_there board key slot word answer new
     ((All-contains (IsBorneOut board) told (word_at key.epoch slot word) grows c).1 held.1.epoch_is near) held looks
+
+pub words_of_equations_are_found : WordsOfEquationsAreFound
+words_of_equations_are_found window depth calls board new told key equation slot word answer owned grows listed at c looks held =
+    found_there board key slot word answer new
+    (told_in_equation board owned.facts told grows key held.0 held.1 equation listed slot at word c) held looks

@@ -53,7 +53,7 @@ module _
       (All-contains (IsBorneOut board) told (word_at key.epoch slot word) grows c).1 current.epoch_is near
 
   -- So is one that was told at a slot of the key's equation.
-  told_in_equation :
+  pub told_in_equation :
       (equation : Equation) → Contains told (equation_is key.serial equation) → (slot : ℕ) → Contains (slots equation) slot
       → (word : Word) → Contains told (word_at key.epoch slot word) → known_in board.desk slot ≡ Some word
   told_in_equation equation listed slot c word t =

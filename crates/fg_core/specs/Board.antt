@@ -1,11 +1,13 @@
 -- The state of a board, and what each event does to it and answers. This project's own.
-use Rattle.std.specs.Prelude.{◌≡◌, ◌⊎◌, ◌≤◌, ◌↔◌, ℕ, Bool, true, false, Option, Some, None, IsSome, IfSome, IsTrue, ⊤, if◌then◌else◌}
+use Rattle.std.specs.Prelude.{◌≡◌, ◌⊎◌, ◌≤◌, ◌^◌, ◌↔◌, ℕ, Bool, true, false, Option, Some, None, IsSome, IfSome, IsTrue, ⊤, if◌then◌else◌}
 use Rattle.std.specs.List.{Contains}
 use Rattle.std.specs.Ordering.{nat_cmp}
 use Rattle.std.specs.FinMap.{get}
 use Rattle.std.specs.FinSet.{FinSet, contains, insert, remove, empty}
 use Rattle.fg_words.specs.declared.Word.{Word}
 use Rattle.fg_words.specs.Word.{word_xor}
+use Rattle.fg_shape.specs.declared.Shape.{Shape}
+use Rattle.fg_shape.specs.Shape.{IsShape}
 use Rattle.fg_peel.specs.declared.row.Missing.TheVariants.{One}
 use Rattle.fg_peel.specs.Equation.{Equation, slots, sum_at, IsComplete}
 use Rattle.fg_peel.specs.Slots.{IsMissing}
@@ -20,6 +22,8 @@ use Rattle.fg_core.specs.declared.fate.Fate.{Fate}
 use Rattle.fg_core.specs.declared.fate.Fate.TheVariants.{Done, Beaten, Gone}
 use Rattle.fg_core.specs.declared.fate.Look.{Look}
 use Rattle.fg_core.specs.declared.fate.Look.TheVariants as looked
+use Rattle.fg_core.specs.declared.fate.Asked.{Asked}
+use Rattle.fg_core.specs.declared.fate.Asked.TheVariants as asked
 
 -- A board: its desk, and which live equations were found to come out, and which are handed out, by their serial numbers.
 pub record BoardState : Type 0 where
@@ -202,8 +206,36 @@ GivesBack old key (Gone mark epoch) new = TellsGone old key mark epoch new
 GivesBack old key (Beaten other) new = ⊥
 GivesBack old key Done new = IsHeld old key × (new ≡ with_back old key.serial)
 
--- A look at any position, by who has the key of a live equation.
-abbrev pub Looks : BoardState → Key → ℕ → Look → BoardState → Type 0
+-- A look at any position, by who has the key of a live equation. Without a position it is for the equation alone, and
+-- gives no word.
+abbrev pub Looks : BoardState → Key → Option ℕ → Look → BoardState → Type 0
 Looks old key slot (looked.Gone mark epoch) new = TellsGone old key mark epoch new
-Looks old key slot looked.Unknown new = IsHeld old key × (known_in old.desk slot ≡ None) × (new ≡ old)
-Looks old key slot (looked.Known word) new = IsHeld old key × (known_in old.desk slot ≡ Some word) × (new ≡ old)
+Looks old key None looked.Unknown new = IsHeld old key × (new ≡ old)
+Looks old key (Some slot) looked.Unknown new = IsHeld old key × (known_in old.desk slot ≡ None) × (new ≡ old)
+Looks old key None (looked.Known word) new = ⊥
+Looks old key (Some slot) (looked.Known word) new = IsHeld old key × (known_in old.desk slot ≡ Some word) × (new ≡ old)
+
+-- What is asked is answered by a look without a position: that the key's equation is gone, or no word.
+abbrev pub look_of : Asked → Look
+look_of (asked.Live base shape parity) = looked.Unknown
+look_of (asked.Gone mark epoch) = looked.Gone mark epoch
+
+-- An equation as an answer spells it.
+abbrev pub equation_with : ℕ → Shape → Word → Equation
+equation_with base shape parity = record { base = base; offset = shape.offset; count = shape.na; parity = parity }
+
+-- Where an equation is answered, it is the key's.
+abbrev pub TellsEquation : BoardState → Key → Asked → Type 0
+TellsEquation board key (asked.Live base shape parity) =
+    (live : Live) × IsCurrent board key live × (live.equation ≡ equation_with base shape parity)
+TellsEquation board key (asked.Gone mark epoch) = ⊤
+
+-- And its shape is one that is read, and its base at most 2^62.
+abbrev pub TellsReadable : Asked → Type 0
+TellsReadable (asked.Live base shape parity) = IsShape shape.offset shape.na × (base ≤ 2 ^ 62)
+TellsReadable (asked.Gone mark epoch) = ⊤
+
+-- The key's equation is asked for.
+pub record Asks (old : BoardState) (key : Key) (answer : Asked) (new : BoardState) : Type 0 where
+  pub looks : Looks old key None (look_of answer) new
+  pub equation : TellsEquation old key answer

@@ -107,7 +107,7 @@ pub data Event : Type 0 where
   publish : Key → ℕ → Word → Fate → Event
   vouch : Key → Bool → Fate → Event
   give_back : Key → Fate → Event
-  look : Key → ℕ → Look → Event
+  look : Key → Option ℕ → Look → Event
   offer : Key → ℕ → Word → Fate → Event
   attest : Key → Bool → Fate → Event
 
@@ -138,11 +138,12 @@ told_of_fate key slot word Done = word_at key.epoch slot word ∷ []
 told_of_fate key slot word (Beaten other) = []
 told_of_fate key slot word (Gone mark epoch) = []
 
-abbrev pub TellsOfLook : BoardState → Key → ℕ → Look → List Told → Type 0
+abbrev pub TellsOfLook : BoardState → Key → Option ℕ → Look → List Told → Type 0
 TellsOfLook board key slot (looked.Gone mark epoch) told = told ≡ []
 TellsOfLook board key slot looked.Unknown told =
     (live : Live) × IsLive board key.serial live × (told ≡ equation_is key.serial live.equation ∷ [])
-TellsOfLook board key slot (looked.Known word) told =
+TellsOfLook board key None (looked.Known word) told = ⊥
+TellsOfLook board key (Some slot) (looked.Known word) told =
     (live : Live) × IsLive board key.serial live
     × (told ≡ equation_is key.serial live.equation ∷ word_at key.epoch slot word ∷ [])
 

@@ -8,15 +8,17 @@ use Rattle.fg_words.specs.declared.Word.{Word}
 use Rattle.fg_shape.specs.Shape.{IsShape}
 use Rattle.fg_peel.specs.declared.Line.{Line}
 use Rattle.fg_peel.specs.declared.row.Missing.TheVariants.{One}
-use Rattle.fg_peel.specs.Equation.{slots, IsComplete}
+use Rattle.fg_peel.specs.Equation.{Equation, slots, IsComplete}
 use Rattle.fg_peel.specs.Slots.{equation_of, IsMissing}
 use Rattle.fg_desk.specs.State.{Live}
 use Rattle.fg_window.specs.Lines.{live_of}
 use Rattle.fg_window.specs.RowEntries.{positions_below}
 use Rattle.fg_desk.specs.Contents.{Contents, known_in, shared_at}
-use Rattle.fg_core.specs.Board.{BoardState, IsOpen, IsCurrent}
+use Rattle.fg_core.specs.Board.{BoardState, IsOpen, IsCurrent, equation_with}
 use Rattle.fg_core.specs.Work.{HaveRoom}
 use Rattle.fg_core.specs.declared.key.Key.{Key}
+use Rattle.fg_core.specs.declared.fate.Asked.{Asked}
+use Rattle.fg_core.specs.declared.fate.Asked.TheVariants as asked
 use Rattle.fg_core.specs.declared.marks.Mark.{Mark}
 
 abbrev pub no_mark : Mark
@@ -105,3 +107,14 @@ pub record AreSharesAt (desk : Contents) (line : Line) (count : ℕ) (shares : L
       (j : ℕ) → j < count
       → slice_index_or shares j None ≡ shared_at desk (slice_index_or (slots (equation_of line)) j 0)
   pub rooms : HaveRoom shares
+
+-- How an equation is asked for
+
+-- A key's equation stands at its place.
+abbrev pub IsStanding : Contents → Key → Live → Type 0
+IsStanding desk key live = (get desk.state.equations key.serial ≡ Some live) × (live.place ≡ key.place)
+
+-- An answer spells this equation.
+abbrev pub IsSpelled : Equation → Asked → Type 0
+IsSpelled equation (asked.Live base shape parity) = equation ≡ equation_with base shape parity
+IsSpelled equation (asked.Gone mark epoch) = ⊥

@@ -1,12 +1,12 @@
 -- The laws of the core: whatever passes do, the admitter's calls make of the board what they make of a desk of its own.
-use Rattle.std.specs.Prelude.{◌≡◌, ◌≤◌, ◌+◌, ℕ, Bool, List, [], ◌∷◌, ◌++◌, None, IsTrue}
+use Rattle.std.specs.Prelude.{◌≡◌, ◌≤◌, ◌+◌, ℕ, Bool, List, [], ◌∷◌, ◌++◌, Some, None, IsTrue}
 use Rattle.std.specs.List.{Contains}
 use Rattle.fg_words.specs.declared.Word.{Word}
-use Rattle.fg_peel.specs.Equation.{Equation, IsSettled}
+use Rattle.fg_peel.specs.Equation.{Equation, slots, IsSettled}
 use Rattle.fg_desk.specs.State.{State, Live, opening}
 use Rattle.fg_desk.specs.Contents.{CanFill, known_in}
 use Rattle.fg_core.specs.Board.{BoardState, IsCurrent, IsHeld, Looks, opened_board}
-use Rattle.fg_core.specs.Views.{Told, word_at, Grows, seen_of, IsWorked, IsChecked}
+use Rattle.fg_core.specs.Views.{Told, word_at, equation_is, Grows, seen_of, IsWorked, IsChecked}
 use Rattle.fg_core.specs.Core.{Call, Event, World, Turn, opened_world, IsOwned, CanCall, IsCall, CanDo, IsEvent, Tells, IsRun, AreCallsOn}
 use Rattle.fg_core.specs.declared.key.Key.{Key}
 use Rattle.fg_core.specs.declared.fate.Look.{Look}
@@ -80,7 +80,17 @@ ToldWordsAreFound =
     (window depth : ℕ) (calls : List Call) (board new : BoardState) (told : List Told) (key : Key) (slot : ℕ) (word : Word)
     (answer : Look)
     → IsOwned window depth calls board → Grows told board → Contains told (word_at key.epoch slot word)
-    → board.desk.state.mark ≤ slot + 100 → Looks board key slot answer new → IsHeld board key → answer ≡ looked.Known word
+    → board.desk.state.mark ≤ slot + 100 → Looks board key (Some slot) answer new → IsHeld board key
+    → answer ≡ looked.Known word
+
+-- So does who was told the key's equation and, in the epoch of the key, a word of one of its slots, wherever the mark is.
+abbrev pub WordsOfEquationsAreFound : Type 0
+WordsOfEquationsAreFound =
+    (window depth : ℕ) (calls : List Call) (board new : BoardState) (told : List Told) (key : Key) (equation : Equation)
+    (slot : ℕ) (word : Word) (answer : Look)
+    → IsOwned window depth calls board → Grows told board → Contains told (equation_is key.serial equation)
+    → Contains (slots equation) slot → Contains told (word_at key.epoch slot word)
+    → Looks board key (Some slot) answer new → IsHeld board key → answer ≡ looked.Known word
 
 -- What follows from what a pass was told follows from a board that has grown from it, as long as the key isn't gone: a
 -- word is one that the equation gives at the one slot where none is known,

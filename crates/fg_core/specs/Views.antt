@@ -1,5 +1,5 @@
 -- What a pass was told, and what of it holds of a board. This project's own.
-use Rattle.std.specs.Prelude.{◌≡◌, ◌≢◌, ◌≤◌, ◌<◌, ◌+◌, ℕ, Bool, List, ◌∷◌, map, Option, Some, IsTrue}
+use Rattle.std.specs.Prelude.{◌≡◌, ◌≢◌, ◌≤◌, ◌<◌, ◌+◌, ⊤, ℕ, Bool, List, ◌∷◌, map, Option, Some, IsTrue}
 use Rattle.std.specs.List.{All, Contains}
 use Rattle.std.specs.FinMap.{entries}
 use Rattle.fg_words.specs.declared.Word.{Word}
@@ -8,8 +8,10 @@ use Rattle.fg_peel.specs.Equation.{Equation, ComesOut, slots, others, sum_at}
 use Rattle.fg_desk.specs.State.{Live}
 use Rattle.fg_desk.specs.Admission.{kept_count}
 use Rattle.fg_desk.specs.Contents.{known_in}
-use Rattle.fg_core.specs.Board.{BoardState, JobState, IsLive, mark_of}
+use Rattle.fg_core.specs.Board.{BoardState, JobState, IsLive, mark_of, equation_with}
 use Rattle.fg_core.specs.declared.key.Key.{Key}
+use Rattle.fg_core.specs.declared.fate.Asked.{Asked}
+use Rattle.fg_core.specs.declared.fate.Asked.TheVariants as asked
 
 -- One thing that a pass was told: the mark, the epoch and the number of equations admitted; a word at a slot in an
 -- epoch; or the equation of a serial number.
@@ -62,3 +64,9 @@ abbrev pub told_of_job : JobState → List Told
 told_of_job job =
     equation_is job.key.serial job.equation
     ∷ map (λ entry. word_at job.key.epoch entry.0 entry.1) (entries job.inputs)
+
+-- Where an equation is answered, it was told.
+abbrev pub WasAnswered : List Told → Key → Asked → Type 0
+WasAnswered told key (asked.Live base shape parity) =
+    Contains told (equation_is key.serial (equation_with base shape parity))
+WasAnswered told key (asked.Gone mark epoch) = ⊤

@@ -1,5 +1,6 @@
 //! What becomes of what a pass brings, and what it is told.
 
+use fg_shape::Shape;
 use fg_words::Word;
 
 /// What became of a word or a check that a pass brought.
@@ -25,6 +26,27 @@ pub enum Look {
     Known(Word),
     /// None is known.
     Unknown,
+    /// The equation isn't live any more, or solved words were withdrawn since the key was given.
+    Gone {
+        /// The first position that isn't played yet.
+        mark: u64,
+        /// How often solved words were withdrawn.
+        epoch: u64,
+    },
+}
+
+/// What a pass is told that asks for the equation of a key.
+#[derive(Clone, Copy)]
+pub enum Asked {
+    /// The equation, which is live.
+    Live {
+        /// The position of its first slot.
+        base: u64,
+        /// How far its slots lie from each other, and how many they are.
+        shape: Shape,
+        /// The sum of the words at its slots.
+        parity: Word,
+    },
     /// The equation isn't live any more, or solved words were withdrawn since the key was given.
     Gone {
         /// The first position that isn't played yet.

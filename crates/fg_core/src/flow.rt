@@ -9,13 +9,13 @@ ghost use Rattle.fg_peel.specs.Equation.{IsSettled};
 ghost use Rattle.fg_desk.specs.State.{Live};
 ghost use Rattle.fg_desk.specs.Admission.{IsDue};
 ghost use Rattle.fg_desk.specs.Contents.{HasRoom, CanFill, known_in};
-ghost use Rattle.fg_core.specs.Board.{opened_board, IsCurrent, IsHeld, AdmitsMediaOn, AdmitsParityOn, PlaysOn, FlushesOn, Takes, Offers, Publishes, Attests, Vouches, GivesBack, Looks, with_back, with_vouched, VouchedAreComplete};
+ghost use Rattle.fg_core.specs.Board.{opened_board, IsCurrent, IsHeld, AdmitsMediaOn, AdmitsParityOn, PlaysOn, FlushesOn, Takes, Offers, Publishes, Attests, Vouches, GivesBack, Looks, Asks, TellsReadable, with_back, with_vouched, VouchedAreComplete};
 ghost use Rattle.fg_core.specs.Core.{play_of};
 
-use crate::fate::{Fate, Look};
+use crate::fate::{Asked, Fate, Look};
 use crate::key::Key;
 use crate::marks::Marks;
-use crate::open::{facts, mark_of, next_open, work_of};
+use crate::open::{equation_at, facts, mark_of, next_open, work_of};
 use crate::work::Work;
 use fg_desk::{Desk, Played, Reply, Tray};
 use fg_shape::Shape;
@@ -239,7 +239,7 @@ impl Flow {
 
     /// The word known at a position.
     pub fn look(&self, key: Key, slot: u64) -> Look
-        ensures { Looks self.now key slot result self.now }
+        ensures { Looks self.now key (Some slot) result self.now }
     {
         if !self.holds(key) {
             return Look::Gone {
@@ -251,6 +251,20 @@ impl Flow {
             Some(word) => Look::Known(*word),
             None => Look::Unknown,
         }
+    }
+
+    /// The equation of a key.
+    pub fn ask(&self, key: Key) -> Asked
+        ensures asks { Asks self.now key result self.now }
+        ensures readable { TellsReadable result }
+    {
+        if !self.holds(key) {
+            return Asked::Gone {
+                mark: self.desk.mark(),
+                epoch: self.desk.epoch(),
+            };
+        }
+        equation_at(&self.desk, key)
     }
 
     /// Whether a key's equation is live and no solved word was withdrawn since the key was given.

@@ -2,7 +2,7 @@
 
 ghost use Rattle.fg_core.specs.Codes.{CallsAreReadBack, ToldIsReadBack};
 ghost use Rattle.fg_core.specs.Laws.{OpeningIsOwned, CallsExtend, CallsKeepTold, EventsKeepOwned, EventsKeepTold, EventsLeaveTheState, AnswersHold};
-ghost use Rattle.fg_core.specs.Laws.{CoreHolds, LaterTurnsKeepCalls, ToldWordsAreFound, WorkedWordsFollow, CheckedComeOut, CallsMakeOneDesk};
+ghost use Rattle.fg_core.specs.Laws.{CoreHolds, LaterTurnsKeepCalls, ToldWordsAreFound, WordsOfEquationsAreFound, WorkedWordsFollow, CheckedComeOut, CallsMakeOneDesk};
 
 use fg_desk::laws::{
     admissions_add, facts_are_kept, live_equations, mark_makes_no_difference, one_outcome,
@@ -98,6 +98,11 @@ pub fn calls_make_one_desk()
 /// Who was told a word finds it there as long as its key isn't gone.
 pub fn told_words_are_found()
     ensures { ToldWordsAreFound }
+{}
+
+/// Who was told an equation and a word of one of its slots finds it there as long as the equation's key isn't gone.
+pub fn words_of_equations_are_found()
+    ensures { WordsOfEquationsAreFound }
 {}
 
 /// A word that follows from what was told is one that the live equation gives.

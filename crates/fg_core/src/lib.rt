@@ -13,7 +13,7 @@ mod marks;
 mod open;
 mod work;
 
-pub use fate::{Fate, Look};
+pub use fate::{Asked, Fate, Look};
 pub use flow::Flow;
 pub use key::Key;
 pub use work::Work;

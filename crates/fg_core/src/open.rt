@@ -10,9 +10,10 @@ ghost use Rattle.fg_peel.specs.Slots.{equation_of, lines_of, IsMissing};
 ghost use Rattle.fg_desk.specs.State.{Live};
 ghost use Rattle.fg_desk.specs.Facts.{Holds};
 ghost use Rattle.fg_desk.specs.Contents.{known_in, shared_at};
-ghost use Rattle.fg_core.specs.Board.{IsOpen, IsJobOf, VouchedAreComplete};
-ghost use Rattle.fg_core.specs.Flow.{mark_at, says, is_vouched, is_handed_out, board_of, BareAreKept, IsWithin, AreShared, IsOpenLine, IsKeyOfOpen, IsAtMost, AreSharesAt, IsReady};
+ghost use Rattle.fg_core.specs.Board.{IsOpen, IsJobOf, TellsReadable, VouchedAreComplete};
+ghost use Rattle.fg_core.specs.Flow.{mark_at, says, is_vouched, is_handed_out, board_of, BareAreKept, IsWithin, AreShared, IsOpenLine, IsKeyOfOpen, IsAtMost, AreSharesAt, IsReady, IsStanding, IsSpelled};
 
+use crate::fate::Asked;
 use crate::key::Key;
 use crate::marks::{Mark, Marks};
 use crate::work::Work;
@@ -171,6 +172,21 @@ pub(crate) fn next_open(desk: &Desk, marks: &Marks) -> Option<Key>
     let (open, settled) = desk.live_lines();
     let best = least_open(desk, marks, open, None);
     least_open(desk, marks, settled, best)
+}
+
+/// The live equation of a key.
+pub(crate) fn equation_at(desk: &Desk, key: Key) -> Asked
+    requires { (live : Live) × IsStanding desk.now key live }
+    ensures equation { (live : Live) → IsStanding desk.now key live → IsSpelled live.equation result }
+    ensures readable { TellsReadable result }
+{
+    facts(desk);
+    let line = desk.line(key.place).unwrap();
+    Asked::Live {
+        base: line.base,
+        shape: line.shape,
+        parity: *line.parity.word(),
+    }
 }
 
 /// Another share of a word.

@@ -15,4 +15,4 @@ returns-clause-turn g c =
     turn_taken (attest c.args.key c.args.zero c.attest-fate.result) (attest c.args.key c.args.zero c.attest-fate.result) c.args.seat.now
     c.enter-flow.new.seat c.settle.new.seat c.enter-flow.result c.attest-fate.new.self
     refl c.enter-flow.ensures.seat c.settle.ensures.seat
-    c.enter-flow.ensures.calls c.enter-flow.ensures.owner c.enter-flow.ensures.grows c.attest-fate.ensures
+    c.enter-flow.ensures.calls c.enter-flow.ensures.owner c.enter-flow.ensures.grows c.requires.checked c.attest-fate.ensures

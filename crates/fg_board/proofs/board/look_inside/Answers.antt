@@ -1,11 +1,11 @@
-use Rattle.std.proofs.Common.{ap}
+use Rattle.std.proofs.Common.{Some, ap}
 use Rattle.fg_core.specs.Core.{look}
 use Rattle.fg_board.proofs.OneTurn.{turn_taken}
 use Rattle.fg_board.proofs.board.look_inside.Goals as goal
 
 pub returns-clause-turn : goal.returns-clause-turn
 returns-clause-turn g c =
-    turn_taken (look c.args.key c.args.slot c.look-answer.result) (look c.args.key c.args.slot c.of.result.value)
+    turn_taken (look c.args.key (Some c.args.slot) c.look-answer.result) (look c.args.key (Some c.args.slot) c.of.result.value)
     c.args.seat.now c.enter-flow.new.seat c.settle.new.seat c.enter-flow.result c.enter-flow.result
-    (ap (look c.args.key c.args.slot) c.of.ensures) c.enter-flow.ensures.seat c.settle.ensures.seat
-    c.enter-flow.ensures.calls c.enter-flow.ensures.owner c.enter-flow.ensures.grows c.look-answer.ensures
+    (ap (look c.args.key (Some c.args.slot)) c.of.ensures) c.enter-flow.ensures.seat c.settle.ensures.seat
+    c.enter-flow.ensures.calls c.enter-flow.ensures.owner c.enter-flow.ensures.grows tt c.look-answer.ensures

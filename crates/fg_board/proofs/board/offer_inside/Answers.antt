@@ -16,4 +16,4 @@ returns-clause-turn g c =
     turn_taken (offer c.args.key c.args.slot c.args.share c.offer-fate.result) (offer c.args.key c.args.slot c.of-word.result.value c.offer-fate.result) c.args.seat.now
     c.enter-flow.new.seat c.settle.new.seat c.enter-flow.result c.offer-fate.new.self
     (ap (λ (w : Word). offer c.args.key c.args.slot w c.offer-fate.result) c.of-word.ensures) c.enter-flow.ensures.seat c.settle.ensures.seat
-    c.enter-flow.ensures.calls c.enter-flow.ensures.owner c.enter-flow.ensures.grows c.offer-fate.ensures
+    c.enter-flow.ensures.calls c.enter-flow.ensures.owner c.enter-flow.ensures.grows c.requires.worked c.offer-fate.ensures

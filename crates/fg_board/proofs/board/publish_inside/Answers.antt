@@ -16,4 +16,4 @@ returns-clause-turn g c =
     turn_taken (publish c.args.key c.args.slot c.args.share c.publish-fate.result) (publish c.args.key c.args.slot c.of-word.result.value c.publish-fate.result) c.args.seat.now
     c.enter-flow.new.seat c.settle.new.seat c.enter-flow.result c.publish-fate.new.self
     (ap (λ (w : Word). publish c.args.key c.args.slot w c.publish-fate.result) c.of-word.ensures) c.enter-flow.ensures.seat c.settle.ensures.seat
-    c.enter-flow.ensures.calls c.enter-flow.ensures.owner c.enter-flow.ensures.grows c.publish-fate.ensures
+    c.enter-flow.ensures.calls c.enter-flow.ensures.owner c.enter-flow.ensures.grows c.requires.worked c.publish-fate.ensures

@@ -3,7 +3,7 @@ use Rattle.fg_peel.specs.Equation.{IsComplete}
 use Rattle.fg_desk.specs.State.{Live}
 use Rattle.fg_desk.specs.Contents.{known_in}
 use Rattle.fg_core.specs.Core.{take}
-use Rattle.fg_board.proofs.OneTurn.{owning, turn_taken}
+use Rattle.fg_board.proofs.OneTurn.{owning, turn_taken, no_turn_taken}
 use Rattle.fg_board.proofs.board.take_inside.Goals as goal
 
 -- What was vouched for is complete on the board that is entered, since the admitter's calls made it.
@@ -21,4 +21,10 @@ returns-in-Ok-clause-taken g c =
     turn_taken (take c.in-Ok.work) (take c.of.result.value) c.args.seat.now
     c.enter-flow.new.seat c.settle.new.seat c.enter-flow.result c.take.new.self
     (ap take c.of.ensures) c.enter-flow.ensures.seat c.settle.ensures.seat
-    c.enter-flow.ensures.calls c.enter-flow.ensures.owner c.enter-flow.ensures.grows c.in-Ok.ensures.taken
+    c.enter-flow.ensures.calls c.enter-flow.ensures.owner c.enter-flow.ensures.grows tt c.in-Ok.ensures.taken
+
+pub returns-in-Err-clause-none : goal.returns-in-Err-clause-none
+returns-in-Err-clause-none g c =
+    no_turn_taken c.args.seat.now c.enter-flow.new.seat c.skip.new.seat c.enter-flow.result c.take.new.self
+    c.in-Err.ensures.none c.enter-flow.ensures.seat c.skip.ensures c.enter-flow.ensures.calls c.enter-flow.ensures.owner
+    c.enter-flow.ensures.grows

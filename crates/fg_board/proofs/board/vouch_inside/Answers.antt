@@ -15,4 +15,4 @@ returns-clause-turn g c =
     turn_taken (vouch c.args.key c.args.zero c.vouch-fate.result) (vouch c.args.key c.args.zero c.vouch-fate.result) c.args.seat.now
     c.enter-flow.new.seat c.settle.new.seat c.enter-flow.result c.vouch-fate.new.self
     refl c.enter-flow.ensures.seat c.settle.ensures.seat
-    c.enter-flow.ensures.calls c.enter-flow.ensures.owner c.enter-flow.ensures.grows c.vouch-fate.ensures
+    c.enter-flow.ensures.calls c.enter-flow.ensures.owner c.enter-flow.ensures.grows c.requires.checked c.vouch-fate.ensures
