@@ -160,7 +160,7 @@ fn each_kind_and_a_cut_tail(rt: HostRuntime) -> Result<(), Fail> {
     Ok(())
 }
 
-/// Media datagrams with each fault, and the largest record.
+/// Media datagrams with each fault, the largest record, and one that is refused for its flags alone.
 fn media_faults(alloc: Global) -> Result<Vec<u8>, AllocError> {
     let mut trace = magic(alloc)?;
     add(&mut trace, 0, 5000, &media(0x90, 0x21, 0), 11)?;
@@ -172,6 +172,7 @@ fn media_faults(alloc: Global) -> Result<Vec<u8>, AllocError> {
     unsynced[200] = 0x46;
     add(&mut trace, 0, 5000, &unsynced, 1328)?;
     add(&mut trace, 0, 5000, &[0x80; 65_535], 65_535)?;
+    add(&mut trace, 0, 5000, &media(0x90, 0x21, 0), 1328)?;
     Ok(trace)
 }
 
@@ -182,6 +183,7 @@ const MEDIA_FAULTS: &str = "0 0 5000 11 media bad 1
 4 0 5000 1327 media bad 5
 5 0 5000 1328 media bad 6
 6 0 5000 65535 media bad 4
+7 0 5000 1328 media bad 3
 ";
 
 #[test]

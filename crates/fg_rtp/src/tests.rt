@@ -79,6 +79,7 @@ fn the_first_broken_rule_is_named(rt: HostRuntime) {
     assert_eq!(rt; fault(&datagram(0x90, 0x21), 11), Some(MediaFault::Short));
     assert_eq!(rt; fault(&datagram(0x50, 0x22), 12), Some(MediaFault::Version));
     assert_eq!(rt; fault(&datagram(0x90, 0x22), 12), Some(MediaFault::Flags));
+    assert_eq!(rt; fault(&datagram(0x90, 0x21), 1328), Some(MediaFault::Flags));
     assert_eq!(rt; fault(&datagram(0xa0, 0x21), 1328), Some(MediaFault::Flags));
     assert_eq!(rt; fault(&datagram(0x81, 0x21), 1328), Some(MediaFault::Flags));
     assert_eq!(rt;
