@@ -1,6 +1,7 @@
 pub mod Admitting
 pub mod Answering
 pub mod Arriving
+pub mod Breaking
 pub mod Counting
 pub mod Filling
 pub mod Finishing
@@ -13,6 +14,7 @@ pub mod Reading
 pub mod Results
 pub mod Showing
 pub mod Standing
+pub mod Stopping
 pub mod Taking
 pub mod Underway
 pub mod Walking

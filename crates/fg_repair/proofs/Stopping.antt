@@ -1,0 +1,2 @@
+-- Where a fault stops a repair.
+use Rattle.std.proofs.Common.{◌≡◌}
