@@ -1,5 +1,5 @@
 -- How far a repair has come, over all flows. No public contract cites what stands here.
-use Rattle.std.specs.Prelude.{◌≡◌, ◌≢◌, ◌≤◌, ◌<◌, ◌^◌, ◌⊎◌, ℕ, ⊤, Bool, true, false, Option, Some, IfSome, IsSome, Result, Ok, Err, List, [], ◌++◌, length, map, nat_lt, slice_index, take}
+use Rattle.std.specs.Prelude.{◌≡◌, ◌≢◌, ◌≤◌, ◌<◌, ◌^◌, ◌⊎◌, ℕ, ⊤, Bool, true, false, Option, None, Some, IfSome, IsSome, Result, Ok, Err, List, [], ◌++◌, length, map, nat_lt, slice_index, take}
 use Rattle.std.specs.List.{AllZip, Contains, slice_index_or}
 use Rattle.fg_io.specs.Faults.{CountsFault}
 use Rattle.fg_io.specs.Outlet.{Lanes, lane_of, lane_bytes, WhereTold}
