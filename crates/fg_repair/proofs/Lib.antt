@@ -5,6 +5,7 @@ pub mod Breaking
 pub mod Counting
 pub mod Filling
 pub mod Finishing
+pub mod Firsts
 pub mod Flushing
 pub mod Fronts
 pub mod Growing
