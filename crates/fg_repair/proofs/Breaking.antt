@@ -1,7 +1,6 @@
 -- What a flow has shown where a fault stops it: a part of what it shows next.
-use Rattle.std.proofs.Common.{◌≡◌, ◌++◌, ℕ, List, [], ◌∷◌, Option, Some, None, refl, sym, ap, subst, ◌∙◌, append-nil, append_assoc}
-use Rattle.std.specs.List.{All, AllZip}
-use Rattle.fg_io.specs.Prefix.{IsPrefix}
+use Rattle.std.proofs.Common.{◌≡◌, ◌++◌, ℕ, List, [], ◌∷◌, Option, Some, None, refl, sym, ap, subst, ◌∙◌, append_assoc}
+use Rattle.std.specs.List.{All}
 use Rattle.fg_desk.specs.declared.reply.Reply.{Reply}
 use Rattle.fg_desk.specs.Arrivals.{StaysWithin}
 use Rattle.fg_desk.specs.Facts.{Holds}
