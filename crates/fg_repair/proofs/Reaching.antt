@@ -1,17 +1,15 @@
 -- How far the input is read.
-use Rattle.std.proofs.Common.{◌≡◌, ◌⊎◌, inl, inr, ℕ, ◌+◌, ◌<◌, ◌≤◌, Option, IfSome, IfOk, Result, Ok, Err, IfErr, List, ◌∷◌, ◌++◌, [], length, sym, ap, ◌∙◌, subst, refl, arith}
+use Rattle.std.proofs.Common.{◌≡◌, ◌⊎◌, inl, inr, ℕ, ◌+◌, ◌<◌, ◌≤◌, Option, IfSome, IfOk, Result, Ok, Err, IfErr, List, length, sym, ap, subst, refl, arith}
 use Rattle.std.specs.Io.KnownBytes.{IsAtEnd}
 use Rattle.std.specs.Result.{IsErr, IsErrAnd}
 use Rattle.fg_trace.specs.declared.step.Finish.{Finish}
 use Rattle.fg_trace.specs.declared.step.Finish.TheVariants as finish
-use Rattle.fg_trace.specs.declared.step.Step.TheVariants.{Datagram, End}
 use Rattle.fg_trace.specs.declared.step.TraceFault.{TraceFault}
 use Rattle.fg_trace.specs.declared.step.TraceFault.TheVariants as fault
 use Rattle.fg_trace.specs.Finish.{IsFault}
 use Rattle.fg_trace.specs.Laws.{BeforeIsReadFor, AfterIsReadFor}
-use Rattle.fg_trace.specs.Reader.{Answer, ReaderState, StandsBefore, StandsAfter, Walks, Opens}
+use Rattle.fg_trace.specs.Reader.{ReaderState, Opens}
 use Rattle.fg_trace.specs.Reading.{most_held, HasReached, IsReadFor}
-use Rattle.fg_trace.specs.Trace.{Record}
 use Rattle.fg_repair.specs.declared.fault.Fault.{Fault}
 use Rattle.fg_repair.specs.declared.fault.Fault.TheVariants.{Read, Write, Memory}
 use Rattle.fg_repair.specs.Engine.{HasRead, told_place, fault_finish, answer_of}

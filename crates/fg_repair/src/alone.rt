@@ -29,8 +29,9 @@ use std::alloc::{AllocError, Global};
 ///
 /// The trace is read to its end, to the first byte that differs from the magic, or past the limit. Each flow's lane gains the payloads of all
 /// words that the flow's plays show, and `out` the report, whole before `Done`, `Cut` and `TooLong`. `NotTrace` makes no
-/// lane and no report. After a fault each lane has gained a prefix of its bytes, and the report is begun only once all
-/// lanes are whole. The plan's workers are ignored.
+/// lane and no report. The first fault ends the call: each lane has gained what its flow had shown by then, but for the one
+/// whose put failed, which has gained a part of what comes next. The report is begun only once all lanes are whole. The
+/// plan's workers are ignored.
 pub fn repair_alone<S: Source, K: Sink, O: Outlet>(
     alloc: Global,
     plan: &Plan,
