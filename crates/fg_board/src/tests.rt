@@ -2,6 +2,7 @@
 
 mod admit;
 mod bare;
+mod crossing;
 mod fates;
 mod jobs;
 mod random;
