@@ -3,6 +3,7 @@
 mod admit;
 mod ask;
 mod bare;
+mod crossing;
 mod fates;
 mod jobs;
 mod random;

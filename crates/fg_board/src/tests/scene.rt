@@ -5,14 +5,13 @@ ghost use Rattle.std.specs.FinMap.{get};
 ghost use Rattle.fg_words.specs.Word.{zero_word};
 ghost use Rattle.fg_peel.specs.Equation.{IsComplete};
 ghost use Rattle.fg_core.specs.Board.{job_sum};
-ghost use Rattle.fg_board.specs.Actors.{IsLater};
+ghost use Rattle.fg_board.specs.Actors.{IsLater, IsCheckedBy};
 
 use super::admit;
 use crate::{Admitter, Board, Fate, Job, Key, Look, Pass};
 use fg_desk::{Played, Reply, Tray};
 use fg_shape::Shape;
 use fg_words::Word;
-use fg_words::laws::xor_is_a_group;
 use std::alloc::{AllocError, Global};
 use std::marker::Model;
 use std::sync::Wait;
@@ -27,7 +26,7 @@ pub(super) struct Hand {
 impl Model for Hand {
     ghost use Rattle.std.specs.Prelude.{IfSome};
     ghost use Rattle.fg_turn.specs.Standing.{Standing, standing_coded};
-    ghost use Rattle.fg_board.specs.Actors.{IsLater};
+    ghost use Rattle.fg_board.specs.Actors.{IsLater, IsCheckedBy};
     ghost use Rattle.fg_core.specs.Board.{BoardState};
     ghost use Rattle.fg_core.specs.Codings.{board_code};
 
@@ -82,6 +81,7 @@ fn publish(
 fn check(job: &Job) -> Option<bool>
     ensures complete { IfSome result (λ _. IsComplete (get job.now.job.inputs) job.now.job.equation) }
     ensures zero { IfSome result (λ zero. IsTrue zero ↔ (job_sum job.now.job ≡ zero_word)) }
+    ensures checked { IfSome result (IsCheckedBy job.now) }
 {
     match job.missing() {
         Some(_) => None,
@@ -116,7 +116,7 @@ fn offer(
         return Ok(None);
     };
     let share = job.solve(alloc)?;
-    let key = job.work.key();
+    let key = job.key();
     Ok(Some(board.offer(wait, &mut hand.pass, key, slot, share)))
 }
 
@@ -129,9 +129,7 @@ fn attest(wait: &impl Wait, board: &Board, hand: &mut Hand) -> Option<(bool, Fat
         return None;
     };
     let zero = check(job)?;
-    xor_is_a_group();
-    job.work.room();
-    let key = job.work.key();
+    let key = job.key();
     Some((zero, board.attest(wait, &mut hand.pass, key, zero)))
 }
 
@@ -171,7 +169,7 @@ fn back_and_offer(
         return Ok(None);
     };
     let share = job.solve(alloc)?;
-    let key = job.work.key();
+    let key = job.key();
     let back = give_back_job(wait, board, &mut hand.pass, job);
     Ok(Some((back, board.offer(wait, &mut hand.pass, key, slot, share))))
 }
@@ -183,9 +181,7 @@ fn back_and_attest(wait: &impl Wait, board: &Board, hand: &mut Hand) -> Option<(
 {
     let job = hand.job.take()?;
     let zero = check(&job)?;
-    xor_is_a_group();
-    job.work.room();
-    let key = job.work.key();
+    let key = job.key();
     let back = give_back_job(wait, board, &mut hand.pass, job);
     Some((zero, back, board.attest(wait, &mut hand.pass, key, zero)))
 }
