@@ -2,7 +2,7 @@
 use Rattle.std.proofs.Common.{◌≡◌, ◌==◌, ◌↔◌, not, ℕ, Bool, List, [], ◌∷◌, ◌++◌, map, filter_map, Option, Some, None, IsSome, IsTrue, refl, sym, ap, subst, ◌∙◌, ⊎_elim, eq-eqb, ne_eqb}
 use Rattle.std.proofs.lemmas.Bool.{cases_eq, cond-true, cond-false}
 use Rattle.std.proofs.lemmas.List.{length-replicate, map-append}
-use Rattle.std.proofs.lemmas.List.Elements.{All-contains, All-weaker, All-contains_itself, Contains-append_left, Contains-append_right}
+use Rattle.std.proofs.lemmas.List.Elements.{All-contains, All-weaker, All-contains_itself, Contains-append_right}
 use Rattle.std.proofs.lemmas.Simd.{length-zip2}
 use Rattle.std.specs.Prelude.{bit_xor, Result, Ok, Err, IfOk}
 use Rattle.std.specs.List.{All, Contains, cons_option}

@@ -1,5 +1,5 @@
 -- Later standings of a pass, and what it finds there of what it was told.
-use Rattle.std.proofs.Common.{◌≡◌, ◌==◌, ◌⊎◌, ◌++◌, ◌∷◌, [], ℕ, List, map, Some, refl, sym, ap, subst, ◌∙◌, append-nil, append_assoc, ⊎_elim, eq-eqb}
+use Rattle.std.proofs.Common.{◌≡◌, ◌==◌, ◌++◌, ◌∷◌, [], ℕ, List, map, Some, refl, sym, ap, subst, ◌∙◌, append-nil, append_assoc, ⊎_elim, eq-eqb}
 use Rattle.std.proofs.lemmas.Bool.{cond-true}
 use Rattle.std.proofs.lemmas.List.{map-append}
 use Rattle.std.proofs.lemmas.List.Elements.{Contains-append_left}
@@ -9,14 +9,14 @@ use Rattle.fg_peel.specs.Equation.{Equation, slots}
 use Rattle.fg_turn.specs.Standing.{Standing}
 use Rattle.fg_core.specs.Board.{BoardState, IsHeld, Looks}
 use Rattle.fg_core.specs.Codes.{Entry, told_code, told_from, ToldIsReadBack}
-use Rattle.fg_core.specs.Core.{Event, publish, look, offer, World, with_told, CanDo, IsEvent}
+use Rattle.fg_core.specs.Core.{Event, publish, look, offer, with_told, CanDo, IsEvent}
 use Rattle.fg_core.specs.Laws.{WordsOfEquationsAreFound}
 use Rattle.fg_core.specs.Views.{Told, word_at, equation_is, seen_of, IsWorked}
 use Rattle.fg_core.specs.declared.key.Key.{Key}
 use Rattle.fg_core.specs.declared.fate.Fate.TheVariants.{Done}
 use Rattle.fg_core.specs.declared.fate.Look.{Look}
 use Rattle.fg_core.specs.declared.fate.Look.TheVariants as looked
-use Rattle.fg_board.specs.Actors.{IsLater, TakesTurn, TakesNoTurn}
+use Rattle.fg_board.specs.Actors.{IsLater, TakesTurn}
 use Rattle.fg_board.specs.Laws.{EachIsLater, TurnsGoOn, NoTurnsGoOn, TurnsAreOfTheCore, FindsOrIsGone, BroughtWordsAreFound}
 use Rattle.fg_board.proofs.Lists.{Contains-here, Contains-there}
 use Rattle.fg_board.proofs.OneTurn.{owning, told_after, is_told}
