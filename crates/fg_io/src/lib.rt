@@ -7,6 +7,7 @@
 
 mod calls;
 mod folder;
+mod held;
 mod lane_name;
 pub mod laws;
 mod mem_outlet;
@@ -21,6 +22,7 @@ mod source;
 mod standard;
 
 pub use folder::FolderOutlet;
+pub use held::{HeldStreams, hold_standard_streams};
 pub use mem_outlet::MemOutlet;
 pub use mem_sink::MemSink;
 pub use mem_source::MemSource;

@@ -11,52 +11,69 @@ use crate::Failed;
 use crate::sink::Sink;
 use crate::source::Source;
 use std::io::{ErrorKind, Read, Write};
-use std::rt::{Stderr, Stdin, Stdout};
+use std::rt::{Clock, Stderr, Stdin, Stdout};
+use std::thread;
+use std::time::Duration;
 
-/// Standard input, as `StdinSource::new(rt.stdin())`.
-pub type StdinSource = ReaderSource<Stdin>;
+/// How many milliseconds pass before a call that would have to wait is made again.
+const PAUSE: u64 = 1;
 
-/// Standard output, as `StdoutSink::new(rt.stdout())`.
-pub type StdoutSink = WriterSink<Stdout>;
+/// Standard input, as `StdinSource::new(rt.stdin(), rt)`.
+pub type StdinSource<C> = ReaderSource<Stdin, C>;
 
-/// Standard error, as `StderrSink::new(rt.stderr())`.
-pub type StderrSink = WriterSink<Stderr>;
+/// Standard output, as `StdoutSink::new(rt.stdout(), rt)`.
+pub type StdoutSink<C> = WriterSink<Stdout, C>;
 
-/// Gives what a reader gives, and counts its faults. The count stands still at its last value.
+/// Standard error, as `StderrSink::new(rt.stderr(), rt)`.
+pub type StderrSink<C> = WriterSink<Stderr, C>;
+
+/// Gives what a reader gives, and counts its faults. The count stands still at its last value. A reader that would have
+/// to wait is asked again after a pause.
 #[derive(Drop)]
-pub struct ReaderSource<R> {
+pub struct ReaderSource<R, C> {
     reader: R,
+    clock: C,
     faults: u64,
 }
 
-/// Hands what it takes to a writer, and counts its faults. The count stands still at its last value.
+/// Hands what it takes to a writer, and counts its faults. The count stands still at its last value. A writer that would
+/// have to wait is asked again after a pause.
 #[derive(Drop)]
-pub struct WriterSink<W> {
+pub struct WriterSink<W, C> {
     writer: W,
+    clock: C,
     faults: u64,
 }
 
-impl<R: Read> ReaderSource<R> {
-    /// The reader, before any fault.
-    pub fn new(reader: R) -> ReaderSource<R>
+impl<R: Read, C: Clock> ReaderSource<R, C> {
+    /// The reader, before any fault, and the clock for its pauses.
+    pub fn new(reader: R, clock: C) -> ReaderSource<R, C>
         ensures reader { source_reader result ≡ reader }
         ensures faults { source_faults result ≡ 0 }
     {
-        ReaderSource { reader, faults: 0 }
+        ReaderSource {
+            reader,
+            clock,
+            faults: 0,
+        }
     }
 }
 
-impl<W: Write> WriterSink<W> {
-    /// The writer, before any fault.
-    pub fn new(writer: W) -> WriterSink<W>
+impl<W: Write, C: Clock> WriterSink<W, C> {
+    /// The writer, before any fault, and the clock for its pauses.
+    pub fn new(writer: W, clock: C) -> WriterSink<W, C>
         ensures writer { sink_writer result ≡ writer }
         ensures faults { sink_faults result ≡ 0 }
     {
-        WriterSink { writer, faults: 0 }
+        WriterSink {
+            writer,
+            clock,
+            faults: 0,
+        }
     }
 }
 
-impl<R: Read> Source for ReaderSource<R> {
+impl<R: Read, C: Clock> Source for ReaderSource<R, C> {
     ghost left = { λ _. None };
 
     ghost faults = { source_faults };
@@ -80,7 +97,7 @@ impl<R: Read> Source for ReaderSource<R> {
             (R.remaining (source_reader self.new)) result into.new }
         ensures err { OnErr result (source_faults self.new ≡ next_count (source_faults self.old)) }
     {
-        let outcome = read_some(&mut self.reader, into);
+        let outcome = read_some(&mut self.reader, &self.clock, into);
         if outcome.is_err() {
             self.faults = self.faults.saturating_add(1);
         }
@@ -88,7 +105,7 @@ impl<R: Read> Source for ReaderSource<R> {
     }
 }
 
-impl<W: Write> Sink for WriterSink<W> {
+impl<W: Write, C: Clock> Sink for WriterSink<W, C> {
     ghost written = { λ _. None };
 
     ghost faults = { sink_faults };
@@ -112,7 +129,7 @@ impl<W: Write> Sink for WriterSink<W> {
         ensures ok { OnOk result (sink_faults self.new ≡ sink_faults self.old) }
         ensures err { OnErr result (sink_faults self.new ≡ next_count (sink_faults self.old)) }
     {
-        let outcome = write_some(&mut self.writer, piece);
+        let outcome = write_some(&mut self.writer, &self.clock, piece);
         if outcome.is_err() {
             self.faults = self.faults.saturating_add(1);
         }
@@ -120,23 +137,23 @@ impl<W: Write> Sink for WriterSink<W> {
     }
 }
 
-/// One read, again where a signal interrupts it.
-fn read_some<R: Read>(reader: &mut R, into: &mut [u8]) -> Result<usize, Failed>
+/// One read, again where it is worth it.
+fn read_some<R: Read, C: Clock>(reader: &mut R, clock: &C, into: &mut [u8]) -> Result<usize, Failed>
     ensures bound { IfOk result (λ count. count ≤ length into.new) }
     ensures bytes { ReadConsumes (R.remaining reader.old) (R.remaining reader.new) result into.new }
 {
     for _ in 0..u64::MAX {
         match reader.read(into) {
             Ok(count) => return Ok(count),
-            Err(fault) if fault.kind() == ErrorKind::Interrupted => {}
+            Err(fault) if is_passing(clock, fault.kind()) => {}
             Err(_) => return Err(Failed),
         }
     }
     Err(Failed)
 }
 
-/// One write, again where a signal interrupts it. A writer that takes none of a nonempty piece counts as failed.
-fn write_some<W: Write>(writer: &mut W, piece: &[u8]) -> Result<usize, Failed>
+/// One write, again where it is worth it. A writer that takes none of a nonempty piece counts as failed.
+fn write_some<W: Write, C: Clock>(writer: &mut W, clock: &C, piece: &[u8]) -> Result<usize, Failed>
     ensures bound { IfOk result (λ count. count ≤ length piece.now) }
     ensures some { IfOk result (λ count. 0 < length piece.now → 0 < count) }
     ensures bytes { WriteAppends (W.contents writer.old) (W.contents writer.new) result piece.now }
@@ -144,11 +161,24 @@ fn write_some<W: Write>(writer: &mut W, piece: &[u8]) -> Result<usize, Failed>
     for _ in 0..u64::MAX {
         match writer.write(piece) {
             Ok(count) if count > 0 || piece.is_empty() => return Ok(count),
-            Err(fault) if fault.kind() == ErrorKind::Interrupted => {}
+            Err(fault) if is_passing(clock, fault.kind()) => {}
             _ => return Err(Failed),
         }
     }
     Err(Failed)
+}
+
+/// Whether a call that failed so is worth making again: a signal interrupted it, or it would have had to wait, which is
+/// done here.
+fn is_passing<C: Clock>(clock: &C, fault: ErrorKind) -> bool {
+    match fault {
+        ErrorKind::Interrupted => true,
+        ErrorKind::WouldBlock => {
+            thread::sleep(clock, Duration::from_millis(PAUSE));
+            true
+        }
+        _ => false,
+    }
 }
 
 #[cfg(test)]
@@ -157,7 +187,7 @@ mod tests {
     use std::io;
     use std::test::Fail;
 
-    // Is interrupted, has a byte, fails, and is at its end.
+    // Is interrupted, would have to wait, has a byte, fails, and is at its end.
     #[derive(Drop)]
     struct Flaky(u8);
 
@@ -166,8 +196,9 @@ mod tests {
             self.0 = self.0.saturating_add(1);
             match self.0 {
                 1 => Err(io::Error::from(ErrorKind::Interrupted)),
-                2 => Ok(1),
-                3 => Err(io::Error::from(ErrorKind::BrokenPipe)),
+                2 => Err(io::Error::from(ErrorKind::WouldBlock)),
+                3 => Ok(1),
+                4 => Err(io::Error::from(ErrorKind::BrokenPipe)),
                 _ => Ok(0),
             }
         }
@@ -190,8 +221,8 @@ mod tests {
     }
 
     #[test]
-    fn reads_again_after_an_interruption(rt: HostRuntime) -> Result<(), Fail> {
-        let mut source = ReaderSource::new(Flaky(0));
+    fn reads_again_after_what_passes(rt: HostRuntime) -> Result<(), Fail> {
+        let mut source = ReaderSource::new(Flaky(0), &rt);
         let mut into = [0; 2];
         assert_eq!(rt; source.read(&mut into), Ok(1));
         assert_eq!(rt; source.read(&mut into), Err(Failed));
@@ -201,8 +232,8 @@ mod tests {
     }
 
     #[test]
-    fn writes_again_after_an_interruption(rt: HostRuntime) -> Result<(), Fail> {
-        let mut sink = WriterSink::new(Flaky(0));
+    fn writes_again_after_what_passes(rt: HostRuntime) -> Result<(), Fail> {
+        let mut sink = WriterSink::new(Flaky(0), &rt);
         assert_eq!(rt; sink.write(b"ab"), Ok(1));
         assert_eq!(rt; sink.write(b"b"), Err(Failed));
         assert_eq!(rt; sink.write(b"b"), Err(Failed));

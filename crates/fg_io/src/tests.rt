@@ -10,9 +10,9 @@ fn needs_send<T: Send>(_value: &T) {}
 // Main hands these to threads.
 #[test]
 fn crosses_threads(rt: HostRuntime) -> Result<(), Fail> {
-    needs_send(&StdinSource::new(rt.stdin()));
-    needs_send(&StdoutSink::new(rt.stdout()));
-    needs_send(&StderrSink::new(rt.stderr()));
+    needs_send(&StdinSource::new(rt.stdin(), &rt));
+    needs_send(&StdoutSink::new(rt.stdout(), &rt));
+    needs_send(&StderrSink::new(rt.stderr(), &rt));
     needs_send(&FolderOutlet::new(rt));
     needs_send(&MemSource::new(rt.alloc(), b"", 1, &[])?);
     needs_send(&MemSink::new(rt.alloc(), 0, &[])?);
@@ -102,7 +102,7 @@ fn outlet_keeps_lanes(rt: HostRuntime) -> Result<(), Fail> {
 // The tests run without input.
 #[test]
 fn standard_input_ends(rt: HostRuntime) -> Result<(), Fail> {
-    let mut source = StdinSource::new(rt.stdin());
+    let mut source = StdinSource::new(rt.stdin(), &rt);
     let mut into = [0; 4];
     assert_eq!(rt; source.read(&mut into), Ok(0));
     Ok(())
@@ -111,7 +111,7 @@ fn standard_input_ends(rt: HostRuntime) -> Result<(), Fail> {
 #[test]
 fn standard_output_takes_all(rt: HostRuntime) -> Result<(), Fail> {
     assert_eq!(rt;
-        write_all(&mut StdoutSink::new(rt.stdout()), b"out\n"),
+        write_all(&mut StdoutSink::new(rt.stdout(), &rt), b"out\n"),
         Ok(())
     );
     Ok(())
@@ -120,7 +120,7 @@ fn standard_output_takes_all(rt: HostRuntime) -> Result<(), Fail> {
 #[test]
 fn standard_error_takes_all(rt: HostRuntime) -> Result<(), Fail> {
     assert_eq!(rt;
-        write_all(&mut StderrSink::new(rt.stderr()), b"err\n"),
+        write_all(&mut StderrSink::new(rt.stderr(), &rt), b"err\n"),
         Ok(())
     );
     Ok(())
