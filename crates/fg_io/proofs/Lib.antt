@@ -1,5 +1,4 @@
 -- Lemmas on the definitions of this crate, which proofs of other crates cite too.
-pub mod FaultLemmas
 mod OpenFilesLemmas
 pub mod OutletLemmas
 pub mod PieceLemmas

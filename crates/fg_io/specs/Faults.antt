@@ -5,11 +5,11 @@ use Rattle.std.specs.Prelude.{◌≡◌, ◌≢◌, ℕ, ◌+◌, ◌-◌, ◌^�
 abbrev pub last_count : ℕ
 last_count = 2 ^ 64 - 1
 
--- a fault was counted between these two counts: it rose, or it stands at its last value
+-- one fault was counted between these two counts, and no more: it rose by one, or it stands at its last value
 abbrev pub CountsFault : ℕ → ℕ → Type 0
-CountsFault before after = min (before + 1) last_count ≤ after
+CountsFault before after = after ≡ min (before + 1) last_count
 
--- a count of faults over a call: it has counted one where the call answers this cause, and else it stands still
+-- a count of faults over a call: it has counted one, and no more, where the call answers this cause, and else it stands still
 pub record CountsFor {A F : Type 0} (cause : F) (result : Result A F) (before after : ℕ) : Type 0 where
   pub counted : result ≡ Err cause → CountsFault before after
   pub still : result ≢ Err cause → after ≡ before
