@@ -12,8 +12,7 @@ use Rattle.fg_desk.specs.State.{State, Live, Words, last_slot}
 use Rattle.fg_desk.specs.Admission.{kept_count, counted}
 use Rattle.fg_desk.specs.Play.{Play, Shown, Decides, Survives, IsPlay, HasMore, IsFlushStep, shown_at, nothing_shown}
 use Rattle.fg_desk.specs.Existence.{SolutionsAreDecided, PlayHasOutcome, FlushHasOutcome}
-use Rattle.fg_desk.proofs.Decided.{IsDecided, decided_both, decided_if, decided_as, decided_all}
-use Rattle.fg_desk.proofs.DecidedWords.{decided_less, decided_most}
+use Rattle.fg_desk.proofs.Decided.{IsDecided, decided_both, decided_if, decided_as, decided_all, decided_less, decided_most}
 use Rattle.fg_desk.proofs.DecidedSolutions.{PeelingLaws, decided_some, highest_or_none, solution_or_none}
 use Rattle.fg_desk.proofs.MadeMaps.{made_where, left_from, filtered}
 use Rattle.fg_desk.proofs.Orderly.{IsOrderly, orderly_from_holds}

@@ -16,8 +16,7 @@ use Rattle.fg_desk.specs.Existence.{MediaHasOutcome, ParityHasOutcome}
 use Rattle.fg_window.proofs.Options.{none_or_some, some_and_from, none_has_no_value, has_value}
 use Rattle.fg_window.proofs.Entries.{get_of_entry, entry_of_get}
 use Rattle.fg_window.proofs.Places.{free_place}
-use Rattle.fg_desk.proofs.Decided.{IsDecided, decided_both, decided_either, decided_as, decided_all, decided_any, least_of}
-use Rattle.fg_desk.proofs.DecidedWords.{decided_words, decided_less, decided_most}
+use Rattle.fg_desk.proofs.Decided.{IsDecided, decided_both, decided_either, decided_as, decided_all, decided_any, least_of, decided_words, decided_less, decided_most}
 use Rattle.fg_desk.proofs.Opened.{position_at_first, position_after}
 
 -- Media datagrams

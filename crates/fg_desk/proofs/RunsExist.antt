@@ -14,8 +14,7 @@ use Rattle.fg_desk.specs.Laws.{IsRead}
 use Rattle.fg_desk.specs.Facts.{Holds}
 use Rattle.fg_desk.specs.Existence.{PlaysDueExist, FlushExists, TakingsExist, RunsExist}
 use Rattle.fg_window.proofs.Options.{none_or_some, some_and}
-use Rattle.fg_desk.proofs.Decided.{IsDecided}
-use Rattle.fg_desk.proofs.DecidedWords.{decided_most}
+use Rattle.fg_desk.proofs.Decided.{IsDecided, decided_most}
 use Rattle.fg_desk.proofs.DecidedSolutions.{PeelingLaws, closure_limit}
 use Rattle.fg_desk.proofs.Orderly.{IsOrderly, orderly_from_holds, orderly_opening}
 use Rattle.fg_desk.proofs.OrderlyAdmissions.{orderly_after_media, orderly_after_parity}
