@@ -1,10 +1,10 @@
 -- Bytes are a media datagram, or they are none.
-use Rattle.std.proofs.Common.{◌≡◌, ◌⊎◌, ◌+◌, ◌-◌, ◌*◌, ◌^◌, ◌<◌, ◌≤◌, ℕ, List, [], ◌∷◌, ◌++◌, length, replicate, take, drop, get_or, inl, inr, refl, sym, ap, ◌∙◌, ⊎_elim, arith}
+use Rattle.std.proofs.Common.{◌≡◌, ◌+◌, ◌-◌, ◌*◌, ◌^◌, ◌<◌, ℕ, List, ◌∷◌, ◌++◌, length, replicate, drop, inl, inr, refl, sym, ap, ◌∙◌, ⊎_elim, arith}
 use Rattle.std.specs.Int.{to_be_bytes, w16, w32}
 use Rattle.std.proofs.lemmas.List.{get_or-drop, length-drop, take_at}
 use Rattle.fg_words.specs.declared.Word.{Word}
 use Rattle.fg_words.specs.Word.{IsMedia, transport_word}
-use Rattle.fg_words.proofs.DecisionLemmas.{IsDecided, decided_both, decided_as, decided_somewhere, decided_numbers, decided_media}
+use Rattle.fg_words.proofs.DecisionLemmas.{IsDecided, decided_both, decided_somewhere, decided_numbers, decided_media}
 use Rattle.fg_rtp.specs.MediaDatagram.{IsMediaDatagram, payload_of}
 use Rattle.fg_rtp.specs.Laws.{MediaIsDecided}
 use Rattle.fg_rtp.proofs.DatagramLemmas.{datagram_payload, datagram_is_synced, transport_word-is_media}
