@@ -1,5 +1,5 @@
 -- A desk's closure has a test and a limit, and the desk has a solution or it has none.
-use Rattle.std.proofs.Common.{◌≡◌, ◌⊎◌, ◌+◌, ◌<◌, ◌≤◌, ℕ, List, [], ◌∷◌, Option, Some, None, IsSome, inl, inr, sym, subst, ◌∙◌, ⊎_elim, arith}
+use Rattle.std.proofs.Common.{◌≡◌, ◌⊎◌, ◌+◌, ◌<◌, ℕ, List, [], ◌∷◌, Option, Some, None, IsSome, inl, inr, sym, subst, ◌∙◌, ⊎_elim, arith}
 use Rattle.std.proofs.lemmas.Bool.{cases_lt}
 use Rattle.std.proofs.lemmas.Option.{none-some, same_Some}
 use Rattle.std.specs.List.{Contains}
@@ -15,8 +15,7 @@ use Rattle.fg_desk.specs.Solution.{InClosure, IsSolution, given, derived}
 use Rattle.fg_desk.specs.Play.{IsHighest}
 use Rattle.fg_window.proofs.Lists.{Contains-cases, Contains-nil}
 use Rattle.fg_window.proofs.Options.{none_or_some, none_has_no_value, value_of, has_value}
-use Rattle.fg_desk.proofs.Decided.{IsDecided, decided_both, decided_if, decided_as, decided_all, decided_below, greatest_or_none}
-use Rattle.fg_desk.proofs.DecidedWords.{decided_words, decided_media}
+use Rattle.fg_desk.proofs.Decided.{IsDecided, decided_both, decided_if, decided_as, decided_all, decided_below, greatest_or_none, decided_words, decided_media}
 use Rattle.fg_desk.proofs.MadeMaps.{limit_of, keys_limit}
 use Rattle.fg_desk.proofs.Orderly.{IsOrderly, known_ahead, admissible}
 use Rattle.fg_desk.proofs.Peeled.{closure_to_peel, closure_from_peel, solution_to_peel, solution_from_peel}

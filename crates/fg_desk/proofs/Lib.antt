@@ -6,7 +6,6 @@ pub mod Bounds
 pub mod Counts
 pub mod Decided
 pub mod DecidedSolutions
-pub mod DecidedWords
 pub mod DeskAdds
 pub mod DeskCounts
 pub mod DeskFills

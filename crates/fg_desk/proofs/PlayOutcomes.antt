@@ -1,22 +1,18 @@
 -- Each play has an outcome, and so has each call of a flush step.
-use Rattle.std.proofs.Common.{◌≡◌, ◌⊎◌, ◌+◌, ◌-◌, ◌<◌, ◌≤◌, ◌&&◌, ◌↔◌, ℕ, Bool, cond, ltb, leb, min, List, map, length, get_or, Option, Some, None, IsSome, inl, inr, refl, sym, ap, subst, ◌∙◌, ⊎_elim, arith}
+use Rattle.std.proofs.Common.{◌≡◌, ◌⊎◌, ◌+◌, ◌-◌, ◌<◌, ◌≤◌, ℕ, cond, ltb, leb, min, List, map, Option, Some, None, IsSome, inl, inr, refl, ⊎_elim, arith}
 use Rattle.std.proofs.lemmas.Bool.{cases_lt}
 use Rattle.std.proofs.lemmas.List.FromFn.{length-map-range_with_len, get_or-map-range_with_len}
 use Rattle.std.specs.List.{Contains, range_with_len}
-use Rattle.std.specs.FinMap.{FinMap, get}
-use Rattle.std.specs.Ordering.{nat_cmp}
+use Rattle.std.specs.FinMap.{get}
 use Rattle.fg_words.specs.declared.Word.{Word}
 use Rattle.fg_peel.specs.Equation.{Equation, slots}
 use Rattle.fg_desk.specs.declared.reply.Outcome.{Outcome}
 use Rattle.fg_desk.specs.declared.reply.Outcome.TheVariants.{Repaired, Inconsistent}
 use Rattle.fg_desk.specs.State.{State, Live, Words, last_slot}
 use Rattle.fg_desk.specs.Admission.{kept_count, counted}
-use Rattle.fg_desk.specs.Solution.{InClosure}
-use Rattle.fg_desk.specs.Play.{Play, Shown, Decides, Survives, IsPlay, IsHighest, HasMore, IsFlushStep, Flushes, shown_at, nothing_shown}
-use Rattle.fg_desk.specs.Facts.{Holds}
+use Rattle.fg_desk.specs.Play.{Play, Shown, Decides, Survives, IsPlay, HasMore, IsFlushStep, shown_at, nothing_shown}
 use Rattle.fg_desk.specs.Existence.{SolutionsAreDecided, PlayHasOutcome, FlushHasOutcome}
-use Rattle.fg_desk.proofs.Decided.{IsDecided, decided_both, decided_if, decided_as, decided_all}
-use Rattle.fg_desk.proofs.DecidedWords.{decided_less, decided_most}
+use Rattle.fg_desk.proofs.Decided.{IsDecided, decided_both, decided_if, decided_as, decided_all, decided_less, decided_most}
 use Rattle.fg_desk.proofs.DecidedSolutions.{PeelingLaws, decided_some, highest_or_none, solution_or_none}
 use Rattle.fg_desk.proofs.MadeMaps.{made_where, left_from, filtered}
 use Rattle.fg_desk.proofs.Orderly.{IsOrderly, orderly_from_holds}

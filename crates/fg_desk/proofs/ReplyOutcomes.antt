@@ -1,5 +1,5 @@
 -- Each datagram gets a reply, and a desk is left.
-use Rattle.std.proofs.Common.{◌≡◌, ◌≢◌, ◌⊎◌, ◌+◌, ◌<◌, ◌≤◌, ℕ, Option, Some, None, IsSomeAnd, MatchOption, inl, inr, refl, sym, ap, subst, ◌∙◌, ⊎_elim}
+use Rattle.std.proofs.Common.{◌≡◌, ◌≢◌, ◌+◌, ◌<◌, ℕ, Option, Some, None, MatchOption, inl, inr, refl, ap, ◌∙◌, ⊎_elim}
 use Rattle.std.specs.Bool.{⊤}
 use Rattle.std.proofs.lemmas.Bool.{cases_lt, cases_eq}
 use Rattle.std.proofs.lemmas.Option.{MatchOption-at_none, MatchOption-at_some}
@@ -11,13 +11,12 @@ use Rattle.fg_peel.specs.Equation.{Equation, slots}
 use Rattle.fg_desk.specs.declared.reply.Reply.{Reply}
 use Rattle.fg_desk.specs.declared.reply.Reply.TheVariants.{Admitted, Duplicate, Conflict, Late, NotStarted, BeforeStart, Ahead, Crowded}
 use Rattle.fg_desk.specs.State.{State, Top, Live, last_slot}
-use Rattle.fg_desk.specs.Admission.{Parity, IsReplyAt, IsMediaReply, IsAfterMedia, AdmitsMedia, IsLate, IsAhead, IsFree, IsLeastFree, HaveSameSlots, HasTwin, IsEquationReply, IsParityReply, IsAfterParity, AdmitsParity, counted, position_on, with_media, with_equation, equation_at, live_limit, kept_count}
+use Rattle.fg_desk.specs.Admission.{Parity, IsReplyAt, IsMediaReply, AdmitsMedia, IsLate, IsFree, IsLeastFree, HaveSameSlots, HasTwin, IsEquationReply, IsParityReply, AdmitsParity, counted, position_on, with_media, with_equation, equation_at, live_limit, kept_count}
 use Rattle.fg_desk.specs.Existence.{MediaHasOutcome, ParityHasOutcome}
 use Rattle.fg_window.proofs.Options.{none_or_some, some_and_from, none_has_no_value, has_value}
 use Rattle.fg_window.proofs.Entries.{get_of_entry, entry_of_get}
 use Rattle.fg_window.proofs.Places.{free_place}
-use Rattle.fg_desk.proofs.Decided.{IsDecided, decided_both, decided_either, decided_as, decided_all, decided_any, least_of}
-use Rattle.fg_desk.proofs.DecidedWords.{decided_words, decided_less, decided_most}
+use Rattle.fg_desk.proofs.Decided.{IsDecided, decided_both, decided_either, decided_as, decided_all, decided_any, least_of, decided_words, decided_less, decided_most}
 use Rattle.fg_desk.proofs.Opened.{position_at_first, position_after}
 
 -- Media datagrams

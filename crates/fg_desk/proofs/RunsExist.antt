@@ -1,22 +1,20 @@
 -- A flow has a run.
-use Rattle.std.proofs.Common.{◌≡◌, ◌⊎◌, ◌+◌, ◌-◌, ◌<◌, ◌≤◌, ◌++◌, ℕ, zero, suc, min, List, [], ◌∷◌, Option, Some, None, IsSomeAnd, inl, inr, refl, sym, ap, subst, ◌∙◌, ⊎_elim, arith}
+use Rattle.std.proofs.Common.{◌≡◌, ◌+◌, ◌-◌, ◌<◌, ◌≤◌, ◌++◌, ℕ, zero, suc, min, List, [], ◌∷◌, Option, Some, None, IsSomeAnd, inr, refl, sym, ap, ◌∙◌, ⊎_elim, arith}
 use Rattle.std.proofs.lemmas.Option.{none-some, same_Some}
 use Rattle.std.proofs.lemmas.List.Elements.{All-head, All-tail}
 use Rattle.std.specs.List.{All}
-use Rattle.fg_words.specs.Word.{IsMedia}
 use Rattle.fg_unwrap.specs.Position.{position_of}
 use Rattle.fg_desk.specs.declared.reply.Reply.{Reply}
 use Rattle.fg_desk.specs.State.{State, Top, opening}
 use Rattle.fg_desk.specs.Admission.{IsDue}
 use Rattle.fg_desk.specs.Solution.{InClosure}
-use Rattle.fg_desk.specs.Play.{Play, IsPlay, IsFlushStep, HasMore}
-use Rattle.fg_desk.specs.Run.{Arrival, carries, protects, refused, ArePlaysDue, Takes, TakesAll, IsFlush, IsRun}
+use Rattle.fg_desk.specs.Play.{Play, IsPlay}
+use Rattle.fg_desk.specs.Run.{Arrival, carries, protects, refused, ArePlaysDue, Takes, TakesAll, IsFlush}
 use Rattle.fg_desk.specs.Laws.{IsRead}
 use Rattle.fg_desk.specs.Facts.{Holds}
 use Rattle.fg_desk.specs.Existence.{PlaysDueExist, FlushExists, TakingsExist, RunsExist}
 use Rattle.fg_window.proofs.Options.{none_or_some, some_and}
-use Rattle.fg_desk.proofs.Decided.{IsDecided, decided_as}
-use Rattle.fg_desk.proofs.DecidedWords.{decided_most}
+use Rattle.fg_desk.proofs.Decided.{IsDecided, decided_most}
 use Rattle.fg_desk.proofs.DecidedSolutions.{PeelingLaws, closure_limit}
 use Rattle.fg_desk.proofs.Orderly.{IsOrderly, orderly_from_holds, orderly_opening}
 use Rattle.fg_desk.proofs.OrderlyAdmissions.{orderly_after_media, orderly_after_parity}

@@ -13,8 +13,9 @@ ghost use Rattle.fg_desk.specs.Laws.{EachGetsAReply, CountsAreOfReplies, CountsA
 ghost use Rattle.fg_desk.specs.Existence.{SolutionsAreDecided, MediaHasOutcome, ParityHasOutcome, PlayHasOutcome, FlushHasOutcome};
 ghost use Rattle.fg_desk.specs.Existence.{PlaysDueExist, FlushExists, TakingsExist, RunsExist};
 
-use fg_peel::laws::{confluence, maximal_peelings_are_tested, peelings_fill_the_closure};
-use fg_peel::laws::{peelings_stay, uniqueness};
+use fg_peel::laws::{
+    confluence, maximal_peelings_are_tested, peelings_fill_the_closure, peelings_stay, uniqueness,
+};
 
 /// The live equations are those that stand under some serial number.
 pub fn live_equations()

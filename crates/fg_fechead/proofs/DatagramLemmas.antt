@@ -124,7 +124,7 @@ datagram_keeps_rules bytes p d =
     )
 
 -- The parity of a parity datagram is the one that its header and its payload say.
-datagram_says_parity : (bytes : List ℕ) (p : Parity) → IsParityDatagram bytes p → parity_of (header_in bytes) (drop 28 bytes) ≡ p
+pub datagram_says_parity : (bytes : List ℕ) (p : Parity) → IsParityDatagram bytes p → parity_of (header_in bytes) (drop 28 bytes) ≡ p
 datagram_says_parity bytes p d =
     let parts = datagram_parts bytes p d in
     let payload : List ℕ = take d.size p.word.bytes in

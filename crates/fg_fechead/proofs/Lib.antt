@@ -1,2 +1,3 @@
 pub mod DatagramLemmas
+pub mod DecidedDatagrams
 pub mod PieceLemmas

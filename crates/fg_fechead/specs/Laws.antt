@@ -1,5 +1,5 @@
 -- What makes the parity datagram a good definition.
-use Rattle.std.specs.Prelude.{◌≡◌, ◌<◌, ◌^◌, ℕ, List}
+use Rattle.std.specs.Prelude.{◌≡◌, ◌⊎◌, ◌<◌, ◌^◌, ℕ, List}
 use Rattle.fg_words.specs.Word.{HasRoom}
 use Rattle.fg_fechead.specs.declared.Parity.{Parity}
 use Rattle.fg_fechead.specs.ParityDatagram.{IsParityDatagram, CanBeWritten, parity_bytes}
@@ -8,6 +8,11 @@ use Rattle.fg_fechead.specs.ParityDatagram.{IsParityDatagram, CanBeWritten, pari
 abbrev pub ReadsOneWay : Type 0
 ReadsOneWay = (bytes : List ℕ) (parity parity' : Parity) →
     IsParityDatagram bytes parity → IsParityDatagram bytes parity' → parity ≡ parity'
+
+-- Bytes are a parity datagram, or they are none.
+abbrev pub ParityIsDecided : Type 0
+ParityIsDecided = (bytes : List ℕ) →
+    ((parity : Parity) × IsParityDatagram bytes parity) ⊎ ((parity : Parity) → ¬ IsParityDatagram bytes parity)
 
 -- What is written for a parity is a parity datagram of it, and is read as no other.
 abbrev pub WrittenIsRead : Type 0

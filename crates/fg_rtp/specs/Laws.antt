@@ -1,5 +1,5 @@
 -- What makes the media datagram a good definition.
-use Rattle.std.specs.Prelude.{◌≡◌, ◌<◌, ◌^◌, ℕ, List}
+use Rattle.std.specs.Prelude.{◌≡◌, ◌⊎◌, ◌<◌, ◌^◌, ℕ, List}
 use Rattle.fg_words.specs.declared.Word.{Word}
 use Rattle.fg_words.specs.Word.{IsMedia}
 use Rattle.fg_rtp.specs.MediaDatagram.{IsMediaDatagram, media_bytes}
@@ -13,6 +13,12 @@ ReadsOneWay = (bytes : List ℕ) (seq ssrc seq' ssrc' : ℕ) (word word' : Word)
 -- The word of a media datagram is a media word.
 abbrev pub ReadsMediaWords : Type 0
 ReadsMediaWords = (bytes : List ℕ) (seq ssrc : ℕ) (word : Word) → IsMediaDatagram bytes seq ssrc word → IsMedia word
+
+-- Bytes are a media datagram, or they are none.
+abbrev pub MediaIsDecided : Type 0
+MediaIsDecided = (bytes : List ℕ) →
+    ((seq : ℕ) × (ssrc : ℕ) × (word : Word) × IsMediaDatagram bytes seq ssrc word)
+    ⊎ ((seq ssrc : ℕ) (word : Word) → ¬ IsMediaDatagram bytes seq ssrc word)
 
 -- What is written for a media word is a media datagram of it, and is read as nothing else.
 abbrev pub WrittenIsRead : Type 0
