@@ -2,6 +2,7 @@ pub mod Admitting
 pub mod Answering
 pub mod Arriving
 pub mod Counting
+pub mod Existing
 pub mod Filling
 pub mod Finishing
 pub mod Flushing
