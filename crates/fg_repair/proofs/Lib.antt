@@ -3,6 +3,7 @@ pub mod Answering
 pub mod Arriving
 pub mod Breaking
 pub mod Counting
+pub mod Existing
 pub mod Filling
 pub mod Finishing
 pub mod Firsts

@@ -1,11 +1,12 @@
 //! The laws that show the definition of a repair to be right. Each is the contract of a function that does nothing, or only
 //! calls laws of the crates below.
 ghost use Rattle.fg_repair.specs.Engine.{OneFlowResult, TakenIsFront, NoRecordsHaveResults};
+ghost use Rattle.fg_repair.specs.Existence.{FlowResultExists, ResultsExist};
 ghost use Rattle.fg_repair.specs.Laws.{OneResult, OneGained};
 
-use fg_desk::laws::{live_equations, one_run, one_taking, taken_plays_come_first};
-use fg_fechead::laws::parity_datagrams_read_one_way;
-use fg_rtp::laws::media_datagrams_read_one_way;
+use fg_desk::laws::{live_equations, one_run, one_taking, runs_exist, taken_plays_come_first};
+use fg_fechead::laws::{parity_datagrams_are_decided, parity_datagrams_read_one_way};
+use fg_rtp::laws::{media_datagrams_are_decided, media_datagrams_read_one_way};
 use fg_trace::laws::one_trace;
 
 /// The bytes of a trace give each flow at most one result.
@@ -14,6 +15,16 @@ pub fn one_result()
 {
     one_trace();
     one_flow_result();
+}
+
+/// Any records give each flow a result.
+pub fn results_exist()
+    ensures flow { FlowResultExists }
+    ensures plan { ResultsExist }
+{
+    media_datagrams_are_decided();
+    parity_datagrams_are_decided();
+    runs_exist();
 }
 
 /// Where a repair stops, what a lane has gained exactly is one list of bytes at most.
