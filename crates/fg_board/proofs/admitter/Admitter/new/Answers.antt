@@ -1,4 +1,4 @@
-use Rattle.std.proofs.Common.{◌≡◌, ◌<◌, ◌^◌, [], Option, Some, None, refl, sym, ap, subst, arith}
+use Rattle.std.proofs.Common.{◌≡◌, [], Option, Some, None, refl, sym, ap, subst, arith}
 use Rattle.fg_core.specs.Board.{BoardState, opened_board}
 use Rattle.fg_core.specs.Core.{IsOwned}
 use Rattle.fg_board.specs.Actors.{board_of}
