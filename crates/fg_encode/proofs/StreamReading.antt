@@ -1,13 +1,12 @@
 -- How far a stream was read where a reader stands in it.
-use Rattle.std.proofs.Common.{◌≡◌, ℕ, ◌+◌, ◌-◌, ◌*◌, ◌/◌, ◌<◌, ◌≤◌, true, min, Bool, Option, None, Some, IfSome, Ok, Err, List, [], ◌++◌, length, take, drop, refl, sym, ap, ◌∙◌, arith, length-append, append_assoc}
+use Rattle.std.proofs.Common.{◌≡◌, ℕ, ◌+◌, ◌-◌, ◌*◌, ◌≤◌, true, Bool, Option, None, Some, IfSome, Ok, Err, List, [], ◌++◌, length, take, drop, refl, sym, ap, ◌∙◌, arith, length-append, append_assoc}
 use Rattle.std.proofs.Math.Nat.{mul_assoc}
 use Rattle.std.proofs.lemmas.List.{length-take, length-drop, take-append-drop}
 use Rattle.fg_ts.specs.declared.TsFault.TheVariants.{Ragged as RaggedPayload, NoSync as UnsyncedPayload}
 use Rattle.fg_encode.specs.declared.stream.StreamStep.TheVariants.{Payload, End}
 use Rattle.fg_encode.specs.declared.stream.StreamFault.TheVariants.{ReadFault, NotTransport, TooLong as PastLimit}
-use Rattle.fg_encode.specs.Reading.{IsStreamReadFor, ReachesForStream, ReadsAsFar, ReadsLittle, ending_told, most_held}
-use Rattle.fg_encode.specs.Stream.{StreamEnding}
-use Rattle.fg_encode.specs.StreamReader.{Answer, EndsHere, StreamState, StandsAfter}
+use Rattle.fg_encode.specs.Reading.{ReachesForStream, ReadsAsFar, ending_told, most_held}
+use Rattle.fg_encode.specs.StreamReader.{Answer, EndsHere}
 use Rattle.fg_encode.proofs.StreamWalks.{placed_here}
 
 -- How many bytes were read: those before the place, and those held. Where some are held, all before the place were there.
