@@ -192,13 +192,20 @@ fn take_each(rt: &HostRuntime, ports: Range<u16>, bytes: &[u8]) -> io::Result<bo
     Ok(same)
 }
 
-// Each file is closed before its lane's next put.
+/// Puts twice to each of the lanes. Whether all was taken, and each file holds both pieces.
+fn puts_twice(rt: &HostRuntime, ports: Range<u16>) -> io::Result<bool> {
+    let mut outlet = FolderOutlet::new(rt);
+    let first = put_to_each(&mut outlet, ports.start..ports.end, b"ab");
+    let second = put_to_each(&mut outlet, ports.start..ports.end, b"c");
+    Ok(take_each(rt, ports, b"abc")? && first && second)
+}
+
+// Each file is closed before its lane's next put. These are the lowest ports, usual ones, and the highest that a flow has.
 #[test]
 fn folder_keeps_more_lanes_than_files(rt: HostRuntime) -> Result<(), Fail> {
-    let mut outlet = FolderOutlet::new(&rt);
-    assert!(rt; put_to_each(&mut outlet, 64000..64070, b"ab"));
-    assert!(rt; put_to_each(&mut outlet, 64000..64070, b"c"));
-    assert!(rt; take_each(&rt, 64000..64070, b"abc")?);
+    assert!(rt; puts_twice(&rt, 1..71)?);
+    assert!(rt; puts_twice(&rt, 4970..5040)?);
+    assert!(rt; puts_twice(&rt, 65462..65532)?);
     Ok(())
 }
 
