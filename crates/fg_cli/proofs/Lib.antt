@@ -4,6 +4,7 @@ pub mod Keys
 pub mod Lines
 pub mod Lists
 pub mod Numbers
+pub mod Questions
 pub mod Ranges
 pub mod Readings
 pub mod SameOrders

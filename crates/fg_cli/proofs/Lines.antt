@@ -25,7 +25,7 @@ tail_of P x xs all k d below = all (suc k) d (omega (arith, below))
 head_of : {X : Type 0} (P : X → Type 0) (x : X) (xs : List X) → All P (x ∷ xs) → P x
 head_of P x xs all = all 0 x (omega arith)
 
-cons_parts : {X : Type 0} (a b : X) (xs ys : List X) → a ∷ xs ≡ b ∷ ys → (a ≡ b) × (xs ≡ ys)
+pub cons_parts : {X : Type 0} (a b : X) (xs ys : List X) → a ∷ xs ≡ b ∷ ys → (a ≡ b) × (xs ≡ ys)
 cons_parts a b xs ys e = (cc, cc)
 
 abbrev Fits : Setting → Type 0

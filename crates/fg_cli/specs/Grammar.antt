@@ -66,6 +66,13 @@ row key.Seed = needed (codes "seed") (Number 0 9999999999999) (Needed name.Seed)
 row key.Datagrams = optional (codes "datagrams") (Number 1 20000) 1000
 row key.Loss = optional (codes "loss") (Number 0 20) 3
 
+-- A name's row as the help tells it: the table takes any number of columns and rows, and leaves it to the layout, which
+-- takes these at most.
+abbrev pub told_row : Key → TableRow
+told_row key.Columns = needed (codes "columns") (Number 1 20) (Needed name.Columns)
+told_row key.Rows = needed (codes "rows") (Number 4 20) (Needed name.Rows)
+told_row key = row key
+
 -- The word of a command.
 abbrev pub command_text : Command → List ℕ
 command_text command.Repair = codes "repair"
@@ -83,18 +90,18 @@ command_about command.Inspect = codes "writes a line for each record of a trace"
 command_about command.Sample = codes "makes a stream, drops records, and repairs it"
 
 abbrev pub about : Key → List ℕ
-about key.Flow = codes "a flow's media port, up to 64 times"
+about key.Flow = codes "media port P, with P+2 and P+4, up to 64 times"
 about key.Window = codes "positions that are played at once"
 about key.Depth = codes "a datagram so far ahead plays them"
-about key.Workers = codes "threads beside the one that reads"
+about key.Workers = codes "read, and so far without effect"
 about key.Max = codes "most bytes of the input"
-about key.Columns = codes "columns of a matrix"
-about key.Rows = codes "rows of a matrix"
+about key.Columns = codes "columns of a matrix, with fec=both at least 4"
+about key.Rows = codes "rows of a matrix, of at most 100 datagrams"
 about key.Fec = codes "parity of columns, or of rows too"
 about key.Layout = codes "where the columns begin"
 about key.Packets = codes "transport packets in a datagram"
 about key.Rate = codes "transport bits a second"
-about key.Port = codes "the media port"
+about key.Port = codes "the media port P, with P+2 and P+4"
 about key.Seq = codes "the first RTP sequence number"
 about key.Ssrc = codes "the RTP synchronization source"
 about key.Stamp = codes "the first RTP timestamp"

@@ -9,7 +9,7 @@ use Rattle.fg_cli.specs.declared.grammar.Command.TheVariants.{Repair, Encode, Dr
 use Rattle.fg_cli.specs.declared.grammar.Key.{Key}
 use Rattle.fg_cli.specs.declared.grammar.Absent.{Absent}
 use Rattle.fg_cli.specs.declared.grammar.Absent.TheVariants.{Needed, Default, Nothing}
-use Rattle.fg_cli.specs.Grammar.{Range, Number, Either, TableRow, about, command_about, command_text, keys_of, row, value_text}
+use Rattle.fg_cli.specs.Grammar.{Range, Number, Either, TableRow, about, command_about, command_text, keys_of, told_row, value_text}
 
 -- Lines of text.
 abbrev pub lines_text : List (List ℕ) → List ℕ
@@ -50,16 +50,20 @@ row_line row meaning =
 
 -- The line of a name.
 abbrev pub key_line : Key → List ℕ
-key_line key = row_line (row key) (about key)
+key_line key = row_line (told_row key) (about key)
 
 -- The line of a command.
 unfoldable pub command_line : Command → List ℕ
 command_line command =
-    codes "\nfgate " ++ command_text command ++ codes ": " ++ command_about command ++ codes "\n"
+    codes "fgate " ++ command_text command ++ codes ": " ++ command_about command ++ codes "\n"
 
 -- A command with its names, in the order of the table.
 unfoldable pub command_help : Command → List ℕ
 command_help command = command_line command ++ flat_map key_line (keys_of command)
+
+-- Its part of the help, behind a blank line.
+unfoldable pub command_part : Command → List ℕ
+command_part command = codes "\n" ++ command_help command
 
 unfoldable pub intro : List ℕ
 intro =
@@ -67,11 +71,32 @@ intro =
     (codes "fgate: repairs MPEG transport streams in RTP by SMPTE ST 2022-1 parity"
     ∷ codes ""
     ∷ codes "usage: fgate COMMAND NAME=VALUE .."
+    ∷ codes "       fgate COMMAND --help"
     ∷ codes "       fgate --help"
     ∷ codes "       fgate --version"
     ∷ codes ""
     ∷ codes "Standard input is a trace, for encode and drill a stream. Standard output is the"
     ∷ codes "report, for encode a trace. Each flow goes to the file PORT.ts of this folder."
+    ∷ [])
+
+-- The lines that name the first rule that the words break.
+unfoldable pub rules : List ℕ
+rules =
+    lines_text
+    (codes ""
+    ∷ codes "standard error, with words counted from 0, which is the command:"
+    ∷ codes "  words: no command       there is no word"
+    ∷ codes "  words: bad word I       word I is none that may stand there"
+    ∷ codes "  words: missing NAME     NAME must be there"
+    ∷ codes "  words: depth below window at word I"
+    ∷ codes "  words: layout 1         columns are not 1..20"
+    ∷ codes "  words: layout 2         rows are not 4..20"
+    ∷ codes "  words: layout 3         columns times rows is more than 100"
+    ∷ codes "  words: layout 4         fec=both, and fewer than 4 columns"
+    ∷ codes "  words: flows 1          there is no flow"
+    ∷ codes "  words: flows 2          there are more than 64 flows"
+    ∷ codes "  words: flows 3 at I     flow I, counted from 0, is not 1..65531"
+    ∷ codes "  words: flows 4 at I     flow I shares P, P+2 or P+4 with an earlier flow"
     ∷ [])
 
 unfoldable pub outro : List ℕ
@@ -93,20 +118,22 @@ outro =
 
 -- The whole help: each command of the table, between what holds of all.
 abbrev pub help : List ℕ
-help = intro ++ flat_map command_help (Repair ∷ Encode ∷ Drill ∷ Inspect ∷ Sample ∷ []) ++ outro
+help = intro ++ flat_map command_part (Repair ∷ Encode ∷ Drill ∷ Inspect ∷ Sample ∷ []) ++ rules ++ outro
 
 abbrev pub version : List ℕ
 version = codes "fgate 0.1.0\n"
 
--- The word of a question, and its answer.
-abbrev pub question_text : Question → List ℕ
-question_text question.Help = codes "--help"
-question_text question.Version = codes "--version"
+-- The words of a question, and its answer.
+abbrev pub question_words : Question → List (List ℕ)
+question_words question.Help = codes "--help" ∷ []
+question_words (question.HelpOn command) = command_text command ∷ codes "--help" ∷ []
+question_words question.Version = codes "--version" ∷ []
 
 abbrev pub answer_text : Question → List ℕ
 answer_text question.Help = help
+answer_text (question.HelpOn command) = command_help command
 answer_text question.Version = version
 
--- The words are this question, which stands alone.
+-- The words are this question, with no further word.
 abbrev pub IsQuestion : List (List ℕ) → Question → Type 0
-IsQuestion words question = words ≡ question_text question ∷ []
+IsQuestion words question = words ≡ question_words question

@@ -1,12 +1,12 @@
 //! The commands, and the names that may stand after them: one row for each name.
 ghost use Rattle.std.specs.Prelude.{◌≡◌, ◌<◌, ◌^◌, ◌≤◌, ◌↔◌, IfNone, IfSome, IsTrue};
-ghost use Rattle.fg_cli.specs.Grammar.{Knows, Number, Either, about, command_about, command_text, keys_of, needed, optional, row};
+ghost use Rattle.fg_cli.specs.Grammar.{Knows, Number, Either, about, command_about, command_text, keys_of, needed, optional, row, told_row};
 ghost use Rattle.fg_cli.specs.Reading.{BeginsPlain, Reads, range_seen, row_seen};
 
 use crate::Name;
 
 /// What the first word says is to be done.
-#[derive(Clone, Copy)]
+#[derive(Clone, Copy, Debug, PartialEq, Eq)]
 pub enum Command {
     Repair,
     Encode,
@@ -225,23 +225,34 @@ impl Key {
         }
     }
 
+    /// The name's row as the help tells it. No layout takes all columns and rows that the table takes.
+    pub fn told(self) -> Row
+        ensures { row_seen result ≡ told_row self }
+    {
+        match self {
+            Key::Columns => needed_row("columns", Values::Number(1, 20), Name::Columns),
+            Key::Rows => needed_row("rows", Values::Number(4, 20), Name::Rows),
+            _ => self.row(),
+        }
+    }
+
     /// What the help says of the name.
     pub fn about(self) -> &'static str
         ensures { result.now ≡ about self }
     {
         match self {
-            Key::Flow => "a flow's media port, up to 64 times",
+            Key::Flow => "media port P, with P+2 and P+4, up to 64 times",
             Key::Window => "positions that are played at once",
             Key::Depth => "a datagram so far ahead plays them",
-            Key::Workers => "threads beside the one that reads",
+            Key::Workers => "read, and so far without effect",
             Key::Max => "most bytes of the input",
-            Key::Columns => "columns of a matrix",
-            Key::Rows => "rows of a matrix",
+            Key::Columns => "columns of a matrix, with fec=both at least 4",
+            Key::Rows => "rows of a matrix, of at most 100 datagrams",
             Key::Fec => "parity of columns, or of rows too",
             Key::Layout => "where the columns begin",
             Key::Packets => "transport packets in a datagram",
             Key::Rate => "transport bits a second",
-            Key::Port => "the media port",
+            Key::Port => "the media port P, with P+2 and P+4",
             Key::Seq => "the first RTP sequence number",
             Key::Ssrc => "the RTP synchronization source",
             Key::Stamp => "the first RTP timestamp",

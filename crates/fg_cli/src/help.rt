@@ -1,8 +1,8 @@
 //! The help of the program, written from the table of the words, and its version.
-ghost use Rattle.std.specs.Prelude.{◌≡◌, ◌++◌, ◌-◌, ◌≤◌, IfNone, IfOk, IfSome, OnOk, drop, length, map, string_bytes};
+ghost use Rattle.std.specs.Prelude.{◌≡◌, ◌++◌, ◌∷◌, [], ◌-◌, ◌≤◌, IfNone, IfOk, IfSome, OnOk, drop, length, map, string_bytes};
 ghost use Rattle.std.specs.Fmt.{decimal};
 ghost use Rattle.fg_cli.specs.Grammar.{value_text};
-ghost use Rattle.fg_cli.specs.Help.{IsQuestion, absent_text, answer_text, blanks, command_help, command_line, help, intro, key_line, lines_text, outro, question_text, range_text, row_line, spelling, times_text, version};
+ghost use Rattle.fg_cli.specs.Help.{IsQuestion, absent_text, answer_text, blanks, command_help, command_line, command_part, help, intro, key_line, lines_text, outro, range_text, row_line, rules, spelling, times_text, version};
 ghost use Rattle.fg_cli.specs.Reading.{range_seen, row_seen};
 
 use crate::grammar::{Absent, Command, Key, Row, Values};
@@ -17,28 +17,30 @@ const BLANKS: &str = "                          ";
 pub enum Question {
     /// How it is called.
     Help,
+    /// How this command is called.
+    HelpOn(Command),
     /// Which version it is.
     Version,
 }
 
 impl Question {
-    /// The question that the words are: `--help` or `--version`, alone.
+    /// The question that the words are, with no further word: `--help`, a command and `--help`, or `--version`.
     pub fn asked(words: &[String]) -> Option<Question>
         ensures found { IfSome result (IsQuestion (map string_bytes words.now)) }
         ensures none { IfNone result
             ((question : Question) → IsQuestion (map string_bytes words.now) question → ⊥) }
     {
-        let [word] = words else {
-            return None;
-        };
-        Question::named(word.as_str())
+        match words {
+            [word] => Question::of_word(word.as_str()),
+            [command, word] => Question::of_words(command.as_str(), word.as_str()),
+            _ => None,
+        }
     }
 
     /// The question that the word is.
-    fn named(word: &str) -> Option<Question>
-        ensures found { IfSome result (λ question. word.now ≡ question_text question) }
-        ensures none { IfNone result
-            ((question : Question) → word.now ≡ question_text question → ⊥) }
+    fn of_word(word: &str) -> Option<Question>
+        ensures found { IfSome result (IsQuestion (word.now ∷ [])) }
+        ensures none { IfNone result ((question : Question) → IsQuestion (word.now ∷ []) question → ⊥) }
     {
         if word == "--help" {
             return Some(Question::Help);
@@ -49,30 +51,54 @@ impl Question {
         None
     }
 
+    /// The question that the two words are.
+    fn of_words(command: &str, word: &str) -> Option<Question>
+        ensures found { IfSome result (IsQuestion (command.now ∷ word.now ∷ [])) }
+        ensures none { IfNone result
+            ((question : Question) → IsQuestion (command.now ∷ word.now ∷ []) question → ⊥) }
+    {
+        if word != "--help" {
+            return None;
+        }
+        let command = Command::named(command)?;
+        Some(Question::HelpOn(command))
+    }
+
     /// The answer, as lines of text.
     pub fn answer(self, alloc: Global) -> Result<Vec<u8>, AllocError>
         ensures { IfOk result (λ text. text.items ≡ answer_text self) }
     {
         match self {
             Question::Help => help_text(alloc),
+            Question::HelpOn(command) => command_text(alloc, command),
             Question::Version => Vec::from_slice(alloc, version_text().as_bytes()),
         }
     }
 }
 
-/// The help: each command with its names, their values and defaults; the statuses; and an example. It has lines of at
-/// most 80 columns.
+/// The help: each command with its names, their values and defaults; the lines that tell faulty words; the statuses; and
+/// an example. It has lines of at most 80 columns.
 pub fn help_text(alloc: Global) -> Result<Vec<u8>, AllocError>
     ensures { IfOk result (λ text. text.items ≡ help) }
 {
     let mut text = Vec::new(alloc);
     push_intro(&mut text)?;
-    push_command(&mut text, Command::Repair)?;
-    push_command(&mut text, Command::Encode)?;
-    push_command(&mut text, Command::Drill)?;
-    push_command(&mut text, Command::Inspect)?;
-    push_command(&mut text, Command::Sample)?;
+    push_part(&mut text, Command::Repair)?;
+    push_part(&mut text, Command::Encode)?;
+    push_part(&mut text, Command::Drill)?;
+    push_part(&mut text, Command::Inspect)?;
+    push_part(&mut text, Command::Sample)?;
+    push_rules(&mut text)?;
     push_outro(&mut text)?;
+    Ok(text)
+}
+
+/// The command's part of the help.
+fn command_text(alloc: Global, command: Command) -> Result<Vec<u8>, AllocError>
+    ensures { IfOk result (λ text. text.items ≡ command_help command) }
+{
+    let mut text = Vec::new(alloc);
+    push_command(&mut text, command)?;
     Ok(text)
 }
 
@@ -94,11 +120,38 @@ fn push_intro(text: &mut Vec<u8>) -> Result<(), AllocError>
             "fgate: repairs MPEG transport streams in RTP by SMPTE ST 2022-1 parity",
             "",
             "usage: fgate COMMAND NAME=VALUE ..",
+            "       fgate COMMAND --help",
             "       fgate --help",
             "       fgate --version",
             "",
             "Standard input is a trace, for encode and drill a stream. Standard output is the",
             "report, for encode a trace. Each flow goes to the file PORT.ts of this folder.",
+        ],
+    )
+}
+
+/// Pushes the lines that name the first rule that the words break.
+#[tactic(auto, unfolding(crate::specs::Help::rules))]
+fn push_rules(text: &mut Vec<u8>) -> Result<(), AllocError>
+    ensures { OnOk result (text.new.items ≡ text.old.items ++ rules) }
+{
+    push_lines(
+        text,
+        &[
+            "",
+            "standard error, with words counted from 0, which is the command:",
+            "  words: no command       there is no word",
+            "  words: bad word I       word I is none that may stand there",
+            "  words: missing NAME     NAME must be there",
+            "  words: depth below window at word I",
+            "  words: layout 1         columns are not 1..20",
+            "  words: layout 2         rows are not 4..20",
+            "  words: layout 3         columns times rows is more than 100",
+            "  words: layout 4         fec=both, and fewer than 4 columns",
+            "  words: flows 1          there is no flow",
+            "  words: flows 2          there are more than 64 flows",
+            "  words: flows 3 at I     flow I, counted from 0, is not 1..65531",
+            "  words: flows 4 at I     flow I shares P, P+2 or P+4 with an earlier flow",
         ],
     )
 }
@@ -139,6 +192,15 @@ fn push_lines(text: &mut Vec<u8>, lines: &[&str]) -> Result<(), AllocError>
     Ok(())
 }
 
+/// Pushes a blank line and a command with its names.
+#[tactic(auto, unfolding(crate::specs::Help::command_part))]
+fn push_part(text: &mut Vec<u8>, command: Command) -> Result<(), AllocError>
+    ensures { OnOk result (text.new.items ≡ text.old.items ++ command_part command) }
+{
+    text.push(b'\n')?;
+    push_command(text, command)
+}
+
 /// Pushes a command with its names.
 #[tactic(auto, unfolding(crate::specs::Help::command_help))]
 fn push_command(text: &mut Vec<u8>, command: Command) -> Result<(), AllocError>
@@ -157,7 +219,7 @@ fn push_command(text: &mut Vec<u8>, command: Command) -> Result<(), AllocError>
 fn push_command_line(text: &mut Vec<u8>, command: Command) -> Result<(), AllocError>
     ensures { OnOk result (text.new.items ≡ text.old.items ++ command_line command) }
 {
-    text.extend_from_slice(b"\nfgate ")?;
+    text.extend_from_slice(b"fgate ")?;
     text.extend_from_slice(command.word().as_bytes())?;
     text.extend_from_slice(b": ")?;
     text.extend_from_slice(command.about().as_bytes())?;
@@ -169,7 +231,7 @@ fn push_command_line(text: &mut Vec<u8>, command: Command) -> Result<(), AllocEr
 fn push_key_line(text: &mut Vec<u8>, key: Key) -> Result<(), AllocError>
     ensures { OnOk result (text.new.items ≡ text.old.items ++ key_line key) }
 {
-    push_row_line(text, key.row(), key.about())
+    push_row_line(text, key.told(), key.about())
 }
 
 /// Pushes a line of the table.

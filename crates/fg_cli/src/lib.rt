@@ -6,7 +6,6 @@ ghost use Rattle.fg_cli.specs.Orders.{IsFault, IsReading, OrderFits};
 
 use fg_flows::{FlowFault, Plan, Table, TableFault};
 use fg_shape::{LayoutFault, Losses, Settings};
-use grammar::Command;
 use std::alloc::{AllocError, AllocFailed, Global};
 use thiserror::Error;
 
@@ -18,6 +17,7 @@ mod settings;
 #[cfg(test)]
 mod tests;
 
+pub use grammar::Command;
 pub use help::{Question, help_text, version_text};
 
 /// What the words order.

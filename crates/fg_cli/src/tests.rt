@@ -2,7 +2,9 @@
 
 ghost use Rattle.std.specs.Prelude.{◌≤◌};
 
-use crate::{Name, Order, Question, ReadWords, WordFault, help_text, read_words, version_text};
+use crate::{
+    Command, Name, Order, Question, ReadWords, WordFault, help_text, read_words, version_text,
+};
 use fg_flows::FlowFault;
 use fg_shape::LayoutFault;
 use std::alloc::{AllocError, Global};
@@ -438,18 +440,20 @@ fn has(text: &[u8], piece: &str) -> bool {
 }
 
 /// Parts of the help, as they are to look.
-const HELP_PARTS: [&str; 3] = [
+const HELP_PARTS: [&str; 4] = [
     "
 fgate repair: writes each flow of a trace, repaired, to PORT.ts
-  flow=1..65531           a flow's media port, up to 64 times; needed
+  flow=1..65531           media port P, with P+2 and P+4, up to 64 times; needed
   window=1..100           positions that are played at once; default 100
   depth=1..1000           a datagram so far ahead plays them; default 400
-  workers=0..16           threads beside the one that reads; default 4
+  workers=0..16           read, and so far without effect; default 4
   max=8..1099511627776    most bytes of the input; default 1099511627776
 
 fgate encode: encodes a transport stream with parity
 ",
     "
+  columns=1..20           columns of a matrix, with fec=both at least 4; needed
+  rows=4..20              rows of a matrix, of at most 100 datagrams; needed
   fec=column|both         parity of columns, or of rows too; default both
   layout=block|staggered  where the columns begin; default block
 ",
@@ -458,7 +462,16 @@ fgate encode: encodes a transport stream with parity
   every=2..9999999999999  its multiples are left out; default none
 
 ",
+    "
+  words: layout 4         fec=both, and fewer than 4 columns
+",
 ];
+
+/// The help of a command, as it is to look.
+const INSPECT_HELP: &str = "fgate inspect: writes a line for each record of a trace
+  flow=1..65531           media port P, with P+2 and P+4, up to 64 times; needed
+  max=8..1099511627776    most bytes of the input; default 1099511627776
+";
 
 #[test]
 fn help_looks_so(rt: HostRuntime) -> Result<(), Fail> {
@@ -485,7 +498,13 @@ fn questions(rt: HostRuntime) -> Result<(), Fail> {
     for (line, question) in [
         ("--help", Some(Question::Help)),
         ("--version", Some(Question::Version)),
+        ("repair --help", Some(Question::HelpOn(Command::Repair))),
+        ("sample --help", Some(Question::HelpOn(Command::Sample))),
+        ("repair --version", None),
+        ("repair flow=5000 --help", None),
+        ("repairs --help", None),
         ("--help repair", None),
+        ("--help --help", None),
         ("--version --help", None),
         ("help", None),
     ] {
@@ -495,5 +514,7 @@ fn questions(rt: HostRuntime) -> Result<(), Fail> {
     assert_eq!(rt; Question::asked(&[]), None);
     let answer = Question::Version.answer(rt.alloc())?;
     assert_eq!(rt; answer.as_slice(), b"fgate 0.1.0\n".as_slice());
+    let answer = Question::HelpOn(Command::Inspect).answer(rt.alloc())?;
+    assert_eq!(rt; answer.as_slice(), INSPECT_HELP.as_bytes());
     Ok(())
 }

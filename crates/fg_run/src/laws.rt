@@ -2,7 +2,7 @@
 ghost use Rattle.fg_run.specs.DrillLaws.{DrillsAreExact, DrillsComeBack, RepairsAreDrills, SamplesAreCounted, SamplesAreTraces};
 ghost use Rattle.fg_run.specs.Laws.{OneAnswer, OneRequest, WholeStreamsAreDone};
 
-use fg_cli::laws::one_reading;
+use fg_cli::laws::{one_question, one_reading};
 use fg_drill::laws::few::{
     losses_are_few, made_streams_are_cut, made_streams_are_packets, records_are_counted,
 };
@@ -16,6 +16,7 @@ use fg_trace::laws::one_trace;
 pub fn one_request()
     ensures { OneRequest }
 {
+    one_question();
     one_reading();
 }
 

@@ -3,5 +3,6 @@ use Rattle.fg_run.proofs.laws.one_request.Goals as goal
 
 pub returns : goal.returns
 returns c =
+    let questions = c.one_question.ensures in
     let laws = c.one_reading.ensures in
-    one_request laws.reading laws.no_fault laws.fault
+    one_request questions.question questions.no_reading laws.reading laws.no_fault laws.fault
