@@ -72,4 +72,4 @@ comes_back_not (Ordered (Repair plan)) input lanes = tt
 comes_back_not (Ordered (Encode settings max)) input lanes = tt
 comes_back_not (Ordered (Drill settings plan losses max)) input lanes = no_memory input _
 comes_back_not (Ordered (Inspect table max)) input lanes = tt
-comes_back_not (Ordered (Sample seed datagrams loss plan)) input lanes = tt
+comes_back_not (Ordered (Sample seed datagrams loss plan)) input lanes = inl tt

@@ -18,7 +18,7 @@ use Rattle.fg_run.specs.Drill.{Drills, StreamComesBack}
 use Rattle.fg_run.specs.DrillSteps.{DrillsTrace}
 use Rattle.fg_run.specs.Encode.{IsStreamAnswer}
 use Rattle.fg_run.specs.Ended.{IsFault}
-use Rattle.fg_run.specs.Sample.{records_made, sample_sent}
+use Rattle.fg_run.specs.Sample.{SampleComesBack, Samples, losses_made, records_made, sample_sent}
 
 -- The trace of what is sent of a drill's input.
 abbrev pub trace_sent : Settings → Losses → ℕ → Option (List ℕ) → Option (List ℕ)
@@ -62,3 +62,11 @@ SamplesAreTraces =
     → losses.drops ≡ drawn_drops seed loss (media_number sample_layout datagrams) → losses.every ≡ 0
     → IsTrace (thinned_trace sample_settings losses (2 ^ 40) (made_stream seed datagrams)) (2 ^ 42)
     (sample_sent seed datagrams loss) Ended
+
+-- What a sample comes to brings the made stream back.
+abbrev pub SamplesComeBack : Type 0
+SamplesComeBack =
+    (seed datagrams loss : ℕ) (plan : Plan) (answer : Why) (lanes lanes' : Option Lanes) (written written' : Option (List ℕ))
+    → datagrams ≤ 20000 → PlanFits plan → plan.table ≡ sample_settings.port ∷ []
+    → MayLose (losses_made seed datagrams loss) → Samples seed datagrams loss plan answer lanes lanes' written written'
+    → SampleComesBack seed datagrams loss plan lanes lanes'

@@ -2,7 +2,7 @@
 use Rattle.std.specs.Prelude.{◌≡◌, ℕ, List, Option, None, Some, IfSome}
 use Rattle.fg_io.specs.Outlet.{Lanes}
 use Rattle.fg_ts.specs.declared.TsFault.TheVariants as packets
-use Rattle.fg_trace.specs.Trace.{Ending, Ended}
+use Rattle.fg_trace.specs.Trace.{Ending, Ended, NotTrace, Cut, TooLong as PastMost}
 use Rattle.fg_flows.specs.declared.Plan.{Plan}
 use Rattle.fg_encode.specs.Stream.{StreamEnding, Whole, TooLong, Ragged, NoSync, IsCut}
 use Rattle.fg_repair.specs.Repair.{Outputs}
@@ -10,7 +10,8 @@ use Rattle.fg_drill.specs.declared.thinned.StreamFault.{StreamFault}
 use Rattle.fg_drill.specs.declared.thinned.StreamFault.TheVariants.{NotTransport, TooLong as PastLimit}
 use Rattle.fg_drill.specs.Payloads.{payloads_of}
 use Rattle.fg_run.specs.declared.ended.Why.{Why}
-use Rattle.fg_run.specs.Endings.{why_of_ending, why_of_stream}
+use Rattle.fg_run.specs.declared.ended.Why.TheVariants as why
+use Rattle.fg_run.specs.Endings.{why_of_stream}
 
 -- The ending of a stream of which this fault is told.
 abbrev pub ending_of : Option StreamFault → StreamEnding
@@ -28,7 +29,9 @@ IsEndingsAnswer packets max stream answer =
 -- After a whole trace it is that answer, else that to the trace's ending.
 abbrev pub FollowsTrace : Ending → ℕ → ℕ → Option (List ℕ) → Why → Type 0
 FollowsTrace Ended packets max stream answer = IsEndingsAnswer packets max stream answer
-FollowsTrace end packets max stream answer = answer ≡ why_of_ending end
+FollowsTrace (NotTrace n) packets max stream answer = answer ≡ why.NotTrace n
+FollowsTrace (Cut n) packets max stream answer = answer ≡ why.Cut n
+FollowsTrace (PastMost n) packets max stream answer = answer ≡ why.TooLong n
 
 -- The outputs have gained what a repair gives for the trace, and the answer follows it.
 abbrev pub DrillsTrace :

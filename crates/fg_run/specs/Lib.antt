@@ -6,6 +6,7 @@ pub mod EncodeSteps
 pub mod Ended
 pub mod Endings
 pub mod Laws
+pub mod Repair
 pub mod Request
 pub mod Run
 pub mod Sample

@@ -14,7 +14,7 @@ use Rattle.fg_run.specs.Drill.{Drills, DrillsPart, StreamComesBack}
 use Rattle.fg_run.specs.Encode.{Encodes, EncodesPart, EndsStream, IsStreamAnswer}
 use Rattle.fg_run.specs.Ended.{IsFault}
 use Rattle.fg_run.specs.Endings.{why_of_ending, why_of_finish}
-use Rattle.fg_run.specs.Sample.{Samples, SamplesPart}
+use Rattle.fg_run.specs.Sample.{SampleComesBack, Samples, SamplesPart}
 use Rattle.fg_run.specs.declared.request.Request.{Request}
 use Rattle.fg_run.specs.declared.request.Request.TheVariants.{Asked, Ordered, Refused}
 
@@ -83,43 +83,72 @@ AnswersPart (Refused fault) input lanes lanes' written out out' = (lanes' ≡ la
 
 -- What the request leaves alone, whatever its answer: the input, the sink, the lanes.
 abbrev pub ReadsNothing : Request → Type 0
+ReadsNothing (Asked question) = ⊤
+ReadsNothing (Refused fault) = ⊤
 ReadsNothing (Ordered (Repair plan)) = ⊥
 ReadsNothing (Ordered (Encode settings max)) = ⊥
 ReadsNothing (Ordered (Drill settings plan losses max)) = ⊥
 ReadsNothing (Ordered (Inspect table max)) = ⊥
-ReadsNothing request = ⊤
+ReadsNothing (Ordered (Sample seed datagrams loss plan)) = ⊤
 
 abbrev pub WritesNothing : Request → Type 0
+WritesNothing (Asked question) = ⊥
 WritesNothing (Refused fault) = ⊤
-WritesNothing request = ⊥
+WritesNothing (Ordered (Repair plan)) = ⊥
+WritesNothing (Ordered (Encode settings max)) = ⊥
+WritesNothing (Ordered (Drill settings plan losses max)) = ⊥
+WritesNothing (Ordered (Inspect table max)) = ⊥
+WritesNothing (Ordered (Sample seed datagrams loss plan)) = ⊥
 
 abbrev pub MakesNoLane : Request → Type 0
+MakesNoLane (Asked question) = ⊤
+MakesNoLane (Refused fault) = ⊤
 MakesNoLane (Ordered (Repair plan)) = ⊥
+MakesNoLane (Ordered (Encode settings max)) = ⊤
 MakesNoLane (Ordered (Drill settings plan losses max)) = ⊥
+MakesNoLane (Ordered (Inspect table max)) = ⊤
 MakesNoLane (Ordered (Sample seed datagrams loss plan)) = ⊥
-MakesNoLane request = ⊤
 
--- The request writes only once all of its input was read: where reading fails, nothing was written.
+-- The request writes only once all of its input was read: where reading fails, nothing was written. What reads no input
+-- has no such fault.
 abbrev pub WritesLast : Request → Type 0
+WritesLast (Asked question) = ⊥
+WritesLast (Refused fault) = ⊥
 WritesLast (Ordered (Repair plan)) = ⊤
-WritesLast request = ⊥
+WritesLast (Ordered (Encode settings max)) = ⊥
+WritesLast (Ordered (Drill settings plan losses max)) = ⊥
+WritesLast (Ordered (Inspect table max)) = ⊥
+WritesLast (Ordered (Sample seed datagrams loss plan)) = ⊥
 
 -- The input isn't what the request reads: it is no trace.
 abbrev pub IsNoInput : Request → List ℕ → Type 0
+IsNoInput (Asked question) bytes = ⊥
+IsNoInput (Refused fault) bytes = ⊥
 IsNoInput (Ordered (Repair plan)) bytes = IsNoTrace plan.max bytes
+IsNoInput (Ordered (Encode settings max)) bytes = ⊥
+IsNoInput (Ordered (Drill settings plan losses max)) bytes = ⊥
 IsNoInput (Ordered (Inspect table max)) bytes = IsNoTrace max bytes
-IsNoInput request bytes = ⊥
+IsNoInput (Ordered (Sample seed datagrams loss plan)) bytes = ⊥
 
 -- After this answer to the request nothing of the input is left.
 abbrev pub ReadsAll : Request → Why → Type 0
+ReadsAll (Asked question) answer = ⊥
+ReadsAll (Refused fault) answer = ⊥
 ReadsAll (Ordered (Repair plan)) answer = EndsTrace answer
 ReadsAll (Ordered (Encode settings max)) answer = EndsStream answer
 ReadsAll (Ordered (Drill settings plan losses max)) answer = EndsStream answer
 ReadsAll (Ordered (Inspect table max)) answer = EndsTrace answer
-ReadsAll request answer = ⊥
+ReadsAll (Ordered (Sample seed datagrams loss plan)) answer = ⊥
 
--- What comes back of a stream that the request drills, where the input tells its bytes and the answer is no fault.
+-- What comes back of a stream that the request drills, where the input tells its bytes, or of the stream that it makes, where
+-- the answer is no fault.
 abbrev pub ComesBack : Request → Why → Option (List ℕ) → Option Lanes → Option Lanes → Type 0
+ComesBack (Asked question) answer input lanes lanes' = ⊤
+ComesBack (Refused fault) answer input lanes lanes' = ⊤
+ComesBack (Ordered (Repair plan)) answer input lanes lanes' = ⊤
+ComesBack (Ordered (Encode settings max)) answer input lanes lanes' = ⊤
 ComesBack (Ordered (Drill settings plan losses max)) answer input lanes lanes' =
     IfSome input (λ bytes. IsFault answer ⊎ StreamComesBack settings plan losses max answer bytes lanes lanes')
-ComesBack request answer input lanes lanes' = ⊤
+ComesBack (Ordered (Inspect table max)) answer input lanes lanes' = ⊤
+ComesBack (Ordered (Sample seed datagrams loss plan)) answer input lanes lanes' =
+    IsFault answer ⊎ SampleComesBack seed datagrams loss plan lanes lanes'

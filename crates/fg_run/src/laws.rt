@@ -1,5 +1,5 @@
 //! Laws of the definitions, each the contract of a function that does nothing, or only calls laws of the crates below.
-ghost use Rattle.fg_run.specs.DrillLaws.{DrillsAreExact, DrillsComeBack, RepairsAreDrills, SamplesAreCounted, SamplesAreTraces};
+ghost use Rattle.fg_run.specs.DrillLaws.{DrillsAreExact, DrillsComeBack, RepairsAreDrills, SamplesAreCounted, SamplesAreTraces, SamplesComeBack};
 ghost use Rattle.fg_run.specs.Laws.{OneAnswer, OneRequest, WholeStreamsAreDone};
 
 use fg_cli::laws::one_reading;
@@ -64,4 +64,16 @@ pub fn samples_are_traces()
     records_are_counted();
     payloads_are_the_cut();
     thinned_traces_are_traces();
+}
+
+/// What a sample comes to brings the made stream back, as a drill does.
+pub fn samples_come_back()
+    ensures { SamplesComeBack }
+{
+    losses_are_few();
+    cuts_are_payloads();
+    whole_cut_is_all();
+    thinned_comes_back();
+    made_streams_are_cut();
+    made_streams_are_packets();
 }

@@ -7,7 +7,8 @@ use Rattle.fg_drill.specs.Made.{made_stream}
 use Rattle.fg_drill.specs.ThinnedSource.{thinned_trace, trace_left}
 use Rattle.fg_run.specs.Sample.{sample_line, sample_sent}
 use Rattle.fg_run.proofs.Drills.{part_as_told}
-use Rattle.fg_run.proofs.Samples.{line_is, samples_part, whole_sample}
+use Rattle.fg_run.proofs.ComingBack.{sample_back}
+use Rattle.fg_run.proofs.Samples.{line_is, may_be_made, samples_part, whole_sample}
 use Rattle.fg_run.proofs.Untouched.{no_sample}
 use Rattle.fg_run.proofs.sampling.sample.Goals as goal
 
@@ -40,12 +41,20 @@ returns-in-Ok-write_all-clause-whole g c =
     c.in-Ok.ensures.records c.in-Ok.ensures.drops c.count-lost.ensures c.in-Ok-sample_line.ensures)
     c.in-Ok-write_all.ensures.whole c.repair_made.ensures.whole
 
+pub returns-in-Ok-write_all-clause-comes_back : goal.returns-in-Ok-write_all-clause-comes_back
+returns-in-Ok-write_all-clause-comes_back g c =
+    sample_back c.samples_come_back.ensures c.args.seed c.args.datagrams c.args.loss c.args.plan.now c.repair_made.result _ _ _ _
+    c.requires.datagrams.1 c.requires.plan c.requires.flow
+    (may_be_made c.samples_are_traces.ensures.counted c.args.seed c.args.datagrams c.args.loss c.in-Ok.records c.in-Ok.losses
+    c.in-Ok.ensures.records c.in-Ok.ensures.drops c.in-Ok.ensures.every c.in-Ok.ensures.few)
+    (returns-in-Ok-write_all-clause-whole g c)
+
 pub returns-in-Ok-write_all-clause-part : goal.returns-in-Ok-write_all-clause-part
 returns-in-Ok-write_all-clause-part g c = λ fault.
     let losses = c.in-Ok.losses in
     let bytes = thinned_trace sample_settings losses (2 ^ 40) (made_stream c.args.seed c.args.datagrams) in
     let sent = sample_sent c.args.seed c.args.datagrams c.args.loss in
-    samples_part c.parts_of_writes.ensures.all c.parts_of_writes.ensures.of_second c.args.seed c.args.datagrams c.args.loss c.args.plan.now bytes c.deref.result.now
+    samples_part c.writes_join.ensures c.args.seed c.args.datagrams c.args.loss c.args.plan.now bytes c.deref.result.now
     _ _ _ g.K.Sink.written c.write_all.new.sink _
     (subst (λ n. IsTrace bytes n sent Ended) (sym c.requires.inner)
     (c.samples_are_traces.ensures.trace c.args.seed c.args.datagrams c.args.loss losses c.requires.datagrams.1
