@@ -4,6 +4,9 @@ pub mod Advancing
 pub mod Beginnings
 pub mod Bounds
 pub mod Counts
+pub mod Decided
+pub mod DecidedSolutions
+pub mod DecidedWords
 pub mod DeskAdds
 pub mod DeskCounts
 pub mod DeskFills
@@ -23,6 +26,7 @@ pub mod Following
 pub mod Joining
 pub mod LiveLines
 pub mod Lost
+pub mod MadeMaps
 pub mod OneOutcome
 pub mod OnePlay
 pub mod OneRun
@@ -34,10 +38,13 @@ pub mod Peeled
 pub mod Peelings
 pub mod PlainRuns
 pub mod PlayKeeps
+pub mod PlayOutcomes
 pub mod Plays
 pub mod Reaching
 pub mod Replies
+pub mod ReplyOutcomes
 pub mod RunFacts
+pub mod RunsExist
 pub mod SettledEquations
 pub mod SettledWords
 pub mod StaysPeeled

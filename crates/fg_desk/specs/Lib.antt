@@ -1,6 +1,7 @@
 pub mod Admission
 pub mod Arrivals
 pub mod Contents
+pub mod Existence
 pub mod Facts
 pub mod Inside
 pub mod Laws

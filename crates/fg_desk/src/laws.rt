@@ -9,8 +9,11 @@ ghost use Rattle.fg_desk.specs.Laws.{MediaIsOne, ParityIsOne, PlayIsOne, FlushIs
 ghost use Rattle.fg_desk.specs.Laws.{OneTaking, TakenPlaysComeFirst, DuePlaysComeNext, FlushStepsComeNext};
 ghost use Rattle.fg_desk.specs.Laws.{PlaysReachTheMark, DuePlaysReachTheMark, FlushStepsReachTheMark};
 ghost use Rattle.fg_desk.specs.Laws.{EachGetsAReply, CountsAreOfReplies, CountsAdd, CountsStayWithin};
+ghost use Rattle.fg_desk.specs.Existence.{SolutionsAreDecided, MediaHasOutcome, ParityHasOutcome, PlayHasOutcome, FlushHasOutcome};
+ghost use Rattle.fg_desk.specs.Existence.{PlaysDueExist, FlushExists, TakingsExist, RunsExist};
 
-use fg_peel::laws::{confluence, peelings_fill_the_closure, peelings_stay, uniqueness};
+use fg_peel::laws::{confluence, maximal_peelings_are_tested, peelings_fill_the_closure};
+use fg_peel::laws::{peelings_stay, uniqueness};
 
 /// The live equations are those that stand under some serial number.
 pub fn live_equations()
@@ -95,6 +98,55 @@ pub fn one_outcome()
     ensures flush { FlushIsOne }
 {
     uniqueness();
+}
+
+/// Whether a desk has a solution can be told.
+pub fn solutions_are_decided()
+    ensures { SolutionsAreDecided }
+{
+    peelings_fill_the_closure();
+    maximal_peelings_are_tested();
+    confluence();
+}
+
+/// A call has an outcome: a reply or a play, and a desk after it.
+pub fn outcomes_exist()
+    ensures media { MediaHasOutcome }
+    ensures parity { ParityHasOutcome }
+    ensures play { PlayHasOutcome }
+    ensures flush { FlushHasOutcome }
+{
+    peelings_fill_the_closure();
+    maximal_peelings_are_tested();
+    confluence();
+}
+
+/// The plays that are due before a datagram come to an end, and so does a flush.
+pub fn plays_come_to_an_end()
+    ensures due { PlaysDueExist }
+    ensures flush { FlushExists }
+{
+    peelings_fill_the_closure();
+    maximal_peelings_are_tested();
+    confluence();
+}
+
+/// A new desk takes all datagrams that are read.
+pub fn takings_exist()
+    ensures { TakingsExist }
+{
+    peelings_fill_the_closure();
+    maximal_peelings_are_tested();
+    confluence();
+}
+
+/// A flow has a run, whatever its datagrams.
+pub fn runs_exist()
+    ensures { RunsExist }
+{
+    peelings_fill_the_closure();
+    maximal_peelings_are_tested();
+    confluence();
 }
 
 /// A flow has one run: two of the same datagrams are the same.

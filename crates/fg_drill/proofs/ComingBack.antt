@@ -121,7 +121,7 @@ all_is_shown payloads plays all =
 module _
     (window depth : ℕ) (settings : Settings) (payloads : List (List ℕ)) (lost : ℕ → Bool) (can : CanComeBack window depth settings payloads lost)
     (media : SentWordsAreMedia) (records : SentRecordsAreTrue) (few : FewArrive) where
-  sent_true :
+  pub sent_true :
       (arrivals : List Arrival) → AllZip (Arrives settings.port) (records_of settings.port (thinned settings lost payloads)) arrivals
       → AreSentTrue window depth settings.seq (words_sent settings payloads) arrivals
   sent_true arrivals arrive =

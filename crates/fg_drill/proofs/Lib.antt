@@ -1,7 +1,9 @@
+pub mod AllSent
 pub mod Amounts
 pub mod ComingBack
 mod DrawnLemmas
 mod FewLemmas
+pub mod InFull
 mod MadeLemmas
 pub mod OneWay
 pub mod PayloadLemmas
@@ -17,5 +19,6 @@ pub mod TrueShown
 pub mod TrueTakings
 pub mod Truth
 pub mod Turns
+pub mod WholeTraces
 pub mod WithoutLemmas
 pub mod Written

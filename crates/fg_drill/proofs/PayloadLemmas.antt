@@ -1,5 +1,5 @@
 -- Which payloads of a stream are acceptable, as a test; and so the longest front of them.
-use Rattle.std.proofs.Common.{◌≡◌, ◌⊎◌, inl, inr, ⊎_elim, ℕ, zero, suc, ◌+◌, ◌-◌, ◌*◌, ◌/◌, ◌%◌, ◌<◌, ◌≤◌, ◌==◌, ◌&&◌, Bool, true, false, cond, not, nat_lt, List, [], ◌∷◌, ◌++◌, length, map, take, get_or, slice_index, refl, sym, ap, subst, ◌∙◌, arith, add-zero, append-nil, zero-add}
+use Rattle.std.proofs.Common.{◌≡◌, ◌⊎◌, inl, inr, ⊎_elim, ℕ, zero, suc, ◌+◌, ◌-◌, ◌*◌, ◌/◌, ◌%◌, ◌<◌, ◌≤◌, ◌==◌, ◌&&◌, Bool, true, false, cond, not, nat_lt, List, [], ◌∷◌, ◌++◌, length, map, slice_index, refl, sym, ap, subst, ◌∙◌, arith, add-zero, append-nil, zero-add}
 use Rattle.std.specs.List.{list_all, range_with_len, take_while}
 use Rattle.std.proofs.Math.Nat.{mul-le-mul_right}
 use Rattle.std.proofs.lemmas.Bool.{cases_lt}
@@ -7,7 +7,7 @@ use Rattle.std.proofs.lemmas.Bool.Decides.{nat_tests}
 use Rattle.std.proofs.lemmas.List.{map-append}
 use Rattle.std.proofs.lemmas.List.FromFn.{length-map-range_with_len}
 use Rattle.std.proofs.lemmas.List.Sums.{take_while-cons}
-use Rattle.fg_ts.specs.Packets.{ArePackets, HasLength, IsSynced, IsFirstUnsynced}
+use Rattle.fg_ts.specs.Packets.{ArePackets, HasLength, IsFirstUnsynced}
 use Rattle.fg_encode.specs.Stream.{payload_of, HasPayload, IsPastLimit, IsAcceptable, AreFirst, IsCut, StreamEnding, EndsAt, Whole, TooLong, Ragged, NoSync}
 use Rattle.fg_drill.specs.Payloads.{are_packets, is_past_limit, is_acceptable, payloads_of}
 

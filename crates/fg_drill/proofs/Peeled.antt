@@ -30,7 +30,7 @@ due_keep_window old seq [] new are = ap (λ (s : State). s.window) are.1
 due_keep_window old seq (play ∷ plays) new are =
     due_keep_window are.1.0 seq plays new are.1.2 ∙ play_keeps_window old.window old play are.1.0 are.1.1
 
-played_keep_window :
+pub played_keep_window :
     (old : State) (seq : ℕ) (plays : List Play) (new : State) → HavePlayed old seq plays new → new.window ≡ old.window
 played_keep_window old seq [] new played = ap (λ (s : State). s.window) played
 played_keep_window old seq (play ∷ plays) new played =
@@ -62,7 +62,7 @@ taking_keeps_window old (protects stream parity) plays (Some reply) new takes =
 taking_keeps_window old (refused stream) plays None new takes = ap (λ (s : State). s.window) takes.1
 taking_keeps_window old (refused stream) plays (Some reply) new takes = absurd takes
 
-takings_keep_window :
+pub takings_keep_window :
     (old : State) (arrivals : List Arrival) (plays : List Play) (replies : List (Option Reply)) (new : State)
     → TakesAll old arrivals plays replies new → new.window ≡ old.window
 takings_keep_window old [] plays replies new takes = ap (λ (s : State). s.window) takes.2

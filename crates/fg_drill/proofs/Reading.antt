@@ -1,5 +1,5 @@
 -- The records of an encoding are read as what they were written for, and as nothing else.
-use Rattle.std.proofs.Common.{◌≡◌, ℕ, ◌+◌, ◌<◌, ◌≤◌, ◌%◌, ◌^◌, true, false, List, ◌∷◌, ◌++◌, length, sym, ap, subst, ◌∙◌, arith, lit<}
+use Rattle.std.proofs.Common.{◌≡◌, ℕ, ◌+◌, ◌<◌, ◌≤◌, ◌%◌, ◌^◌, Bool, true, false, List, ◌∷◌, ◌++◌, length, refl, sym, ap, subst, ◌∙◌, arith, lit<}
 use Rattle.std.specs.Int.{to_be_bytes, w16, w32}
 use Rattle.std.proofs.lemmas.Nat.{mod_below}
 use Rattle.fg_words.specs.declared.Word.{Word}
@@ -9,7 +9,7 @@ use Rattle.fg_shape.specs.Shape.{slots_of, IsShape}
 use Rattle.fg_rtp.specs.MediaDatagram.{IsMediaDatagram, media_bytes, payload_of}
 use Rattle.fg_rtp.specs.Laws.{WrittenIsRead as MediaWrittenIsRead}
 use Rattle.fg_fechead.specs.declared.Parity.{Parity as ParityRead}
-use Rattle.fg_fechead.specs.ParityDatagram.{IsParityDatagram}
+use Rattle.fg_fechead.specs.ParityDatagram.{IsParityDatagram, parity_bytes}
 use Rattle.fg_fechead.specs.Laws.{WrittenIsRead as ParityWrittenIsRead}
 use Rattle.fg_flows.specs.declared.Kind.{Kind}
 use Rattle.fg_flows.specs.declared.Kind.TheVariants as kind
@@ -73,47 +73,96 @@ module _ (settings : Settings) (payloads : List (List ℕ)) (most : settings.pac
   number_is_small : (slot : ℕ) → sequence_of settings slot < 2 ^ 16
   number_is_small slot = mod_below (settings.seq + slot) (2 ^ 16) (lit< tt)
 
-  -- A media record is read as its slot's number and word. Of the source's number the lowest four bytes are written.
+  -- A media record is a media datagram of its slot's number and word. Of the source's number the lowest four bytes are
+  -- written.
+  media_is_written :
+      MediaWrittenIsRead → (slot : ℕ) → slot < length payloads
+      → let seq : ℕ = sequence_of settings slot in let word : Word = word_at settings payloads slot in
+      IsMediaDatagram (media_bytes seq settings.ssrc word) seq (settings.ssrc % 2 ^ 32) word
+      × ((seq' ssrc' : ℕ) (word' : Word) → IsMediaDatagram (media_bytes seq settings.ssrc word) seq' ssrc' word'
+      → (seq ≡ seq') × (settings.ssrc % 2 ^ 32 ≡ ssrc') × (word ≡ word'))
+  media_is_written law slot below =
+      let seq : ℕ = sequence_of settings slot in
+      let word : Word = word_at settings payloads slot in
+      let ssrc : ℕ = settings.ssrc % 2 ^ 32 in
+      let same : media_bytes seq ssrc word ≡ media_bytes seq settings.ssrc word =
+      ap (λ (source : List ℕ). 0x80 ∷ 33 ∷ (to_be_bytes w16 seq ++ to_be_bytes w32 word.ts ++ source) ++ payload_of word) (low_bytes settings.ssrc) in
+      subst (λ (bytes : List ℕ). IsMediaDatagram bytes seq ssrc word
+      × ((seq' ssrc' : ℕ) (word' : Word) → IsMediaDatagram bytes seq' ssrc' word' → (seq ≡ seq') × (ssrc ≡ ssrc') × (word ≡ word')))
+      same
+      (law seq ssrc word (number_is_small slot) (time_is_small settings payloads slot) (mod_below settings.ssrc (2 ^ 32) (lit< tt))
+      (word_is_media settings payloads most are slot below))
+
+  -- So it is read, and as nothing else.
+  pub media_can_arrive :
+      MediaWrittenIsRead → (slot : ℕ) → slot < length payloads
+      → Arrives settings.port (media_record settings payloads slot) (carries (sequence_of settings slot) (word_at settings payloads slot))
+  media_can_arrive law slot below =
+      (kind.Media, refl, (settings.ssrc % 2 ^ 32, (media_is_written law slot below).0))
+
   pub media_arrives :
       MediaWrittenIsRead → (slot : ℕ) → slot < length payloads → (a : Arrival)
       → Arrives settings.port (media_record settings payloads slot) a → a ≡ carries (sequence_of settings slot) (word_at settings payloads slot)
   media_arrives law slot below a arrives =
       let seq : ℕ = sequence_of settings slot in
       let word : Word = word_at settings payloads slot in
-      let ssrc : ℕ = settings.ssrc % 2 ^ 32 in
-      let written = law seq ssrc word (number_is_small slot) (time_is_small settings payloads slot) (mod_below settings.ssrc (2 ^ 32) (lit< tt))
-      (word_is_media settings payloads most are slot below) in
-      let same : media_bytes seq ssrc word ≡ media_bytes seq settings.ssrc word =
-      ap (λ (source : List ℕ). 0x80 ∷ 33 ∷ (to_be_bytes w16 seq ++ to_be_bytes w32 word.ts ++ source) ++ payload_of word) (low_bytes settings.ssrc) in
-      let read = on_media settings.port arrives.0 (media_bytes seq settings.ssrc word) a arrives.1 arrives.2 in
-      read_as_media (media_bytes seq ssrc word) seq ssrc word written.0 written.1 a
-      (subst (λ (bytes : List ℕ). IsReadAs kind.Media bytes a) (sym same) read)
+      let bytes : List ℕ = media_bytes seq settings.ssrc word in
+      let written = media_is_written law slot below in
+      read_as_media bytes seq (settings.ssrc % 2 ^ 32) word written.0 written.1 a
+      (on_media settings.port arrives.0 bytes a arrives.1 arrives.2)
 
-  -- A record of parity as the parity of its equation.
+  -- A record of parity is a parity datagram of the parity of its equation.
+  parity_is_written :
+      ParityWrittenIsRead → (slot base number : ℕ) (shape : Shape) (row : Bool) → IsShape shape.offset shape.na → base < length payloads
+      → let parity : ParityRead = parity_at settings payloads base shape row in
+      let bytes : List ℕ = parity_bytes (number % 2 ^ 16) (timestamp_of settings (bits_before payloads slot)) parity
+      (longest payloads (slots_of base shape.offset shape.na)) in
+      IsParityDatagram bytes parity × ((other : ParityRead) → IsParityDatagram bytes other → parity ≡ other)
+  parity_is_written law slot base number shape row read below =
+      let slots : List ℕ = slots_of base shape.offset shape.na in
+      law (number % 2 ^ 16) (timestamp_of settings (bits_before payloads slot)) (parity_at settings payloads base shape row) (longest payloads slots)
+      (parity_can_be_written settings payloads most are base shape row read below) (number_is_small base)
+      (sum_len settings payloads most are slots) (sum_ts settings payloads most are slots) (sum_room settings payloads most are slots)
+
+  -- What a column and a row arrive as.
+  abbrev pub column_arrival : ℕ → Arrival
+  column_arrival base = protects stream.Column (parity_of (parity_at settings payloads base (column_shape settings.layout) false))
+
+  abbrev pub row_arrival : ℕ → Arrival
+  row_arrival base = protects stream.Row (parity_of (parity_at settings payloads base (row_shape settings.layout) true))
+
+  pub column_can_arrive :
+      ParityWrittenIsRead → (slot base : ℕ) → IsShape settings.layout.l settings.layout.d → base < length payloads
+      → Arrives settings.port (column_record settings payloads slot base) (column_arrival base)
+  column_can_arrive law slot base read below =
+      let shape : Shape = column_shape settings.layout in
+      let written = parity_is_written law slot base (columns_before settings.layout slot) shape false read below in
+      (kind.Column, refl, (refl, (parity_at settings payloads base shape false, written.0, refl)))
+
+  pub row_can_arrive :
+      ParityWrittenIsRead → (slot base : ℕ) → IsShape 1 settings.layout.l → base < length payloads
+      → Arrives settings.port (row_record settings payloads slot base) (row_arrival base)
+  row_can_arrive law slot base read below =
+      let shape : Shape = row_shape settings.layout in
+      let written = parity_is_written law slot base (rows_before settings.layout slot) shape true read below in
+      (kind.Row, refl, (refl, (parity_at settings payloads base shape true, written.0, refl)))
+
   pub column_arrives :
       ParityWrittenIsRead → (slot base : ℕ) → IsShape settings.layout.l settings.layout.d → base < length payloads → (a : Arrival)
-      → Arrives settings.port (column_record settings payloads slot base) a
-      → a ≡ protects stream.Column (parity_of (parity_at settings payloads base (column_shape settings.layout) false))
+      → Arrives settings.port (column_record settings payloads slot base) a → a ≡ column_arrival base
   column_arrives law slot base read below a arrives =
       let shape : Shape = column_shape settings.layout in
-      let slots : List ℕ = slots_of base shape.offset shape.na in
-      let parity : ParityRead = parity_at settings payloads base shape false in
-      let written = law (columns_before settings.layout slot % 2 ^ 16) (timestamp_of settings (bits_before payloads slot)) parity (longest payloads slots)
-      (parity_can_be_written settings payloads most are base shape false read below) (number_is_small base)
-      (sum_len settings payloads most are slots) (sum_ts settings payloads most are slots) (sum_room settings payloads most are slots) in
+      let written = parity_is_written law slot base (columns_before settings.layout slot) shape false read below in
       let bytes : List ℕ = (column_record settings payloads slot base).datagram in
-      read_as_column bytes parity written.0 written.1 a (on_column settings.port arrives.0 bytes a arrives.1 arrives.2)
+      read_as_column bytes (parity_at settings payloads base shape false) written.0 written.1 a
+      (on_column settings.port arrives.0 bytes a arrives.1 arrives.2)
 
   pub row_arrives :
       ParityWrittenIsRead → (slot base : ℕ) → IsShape 1 settings.layout.l → base < length payloads → (a : Arrival)
-      → Arrives settings.port (row_record settings payloads slot base) a
-      → a ≡ protects stream.Row (parity_of (parity_at settings payloads base (row_shape settings.layout) true))
+      → Arrives settings.port (row_record settings payloads slot base) a → a ≡ row_arrival base
   row_arrives law slot base read below a arrives =
       let shape : Shape = row_shape settings.layout in
-      let slots : List ℕ = slots_of base shape.offset shape.na in
-      let parity : ParityRead = parity_at settings payloads base shape true in
-      let written = law (rows_before settings.layout slot % 2 ^ 16) (timestamp_of settings (bits_before payloads slot)) parity (longest payloads slots)
-      (parity_can_be_written settings payloads most are base shape true read below) (number_is_small base)
-      (sum_len settings payloads most are slots) (sum_ts settings payloads most are slots) (sum_room settings payloads most are slots) in
+      let written = parity_is_written law slot base (rows_before settings.layout slot) shape true read below in
       let bytes : List ℕ = (row_record settings payloads slot base).datagram in
-      read_as_row bytes parity written.0 written.1 a (on_row settings.port arrives.0 bytes a arrives.1 arrives.2)
+      read_as_row bytes (parity_at settings payloads base shape true) written.0 written.1 a
+      (on_row settings.port arrives.0 bytes a arrives.1 arrives.2)

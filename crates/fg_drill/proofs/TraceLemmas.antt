@@ -1,5 +1,5 @@
 -- A trace of some of the records of another.
-use Rattle.std.proofs.Common.{◌≡◌, ℕ, ◌+◌, ◌≤◌, ◌^◌, Bool, true, false, if◌then◌else◌, List, [], ◌∷◌, ◌++◌, length, subst, sym, arith, length-append}
+use Rattle.std.proofs.Common.{ℕ, ◌+◌, ◌≤◌, ◌^◌, Bool, true, false, if◌then◌else◌, List, [], ◌∷◌, length, arith, length-append}
 use Rattle.std.specs.List.{AllByRecursion, flat_map}
 use Rattle.fg_trace.specs.Laws.{SpelledIsRead}
 use Rattle.fg_trace.specs.Trace.{Record, Fits, magic, spelling, trace_of, IsTrace, Ended}
@@ -18,7 +18,7 @@ fits_kept : (lost : Bool) (r : Record) (rs : List Record) → Fits r → AllByRe
 fits_kept true r rs one all = all
 fits_kept false r rs one all = (one, all)
 
-fits_without : (lost : ℕ → Bool) (n : ℕ) (rs : List Record) → AllByRecursion Fits rs → AllByRecursion Fits (without lost n rs)
+pub fits_without : (lost : ℕ → Bool) (n : ℕ) (rs : List Record) → AllByRecursion Fits rs → AllByRecursion Fits (without lost n rs)
 fits_without lost n [] h = tt
 fits_without lost n (r ∷ rs) h = fits_kept (lost n) r (without lost (n + 1) rs) h.0 (fits_without lost (n + 1) rs h.1)
 

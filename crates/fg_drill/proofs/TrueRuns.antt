@@ -20,7 +20,7 @@ use Rattle.fg_drill.proofs.TrueDesks.{IsTrueWindow, IsTruePlay, known_ahead, pla
 use Rattle.fg_drill.proofs.TrueTakings.{LeavesTruth, is_taken_truly}
 
 -- A true datagram is read.
-is_read :
+pub is_read :
     (seq : ℕ) (truth : ℕ → Option Word) (slot : ℕ) (arrival : Arrival) → AreMedia truth
     → IsTrueArrival seq truth slot arrival → IsRead arrival
 is_read seq truth slot (carries number word) media is =
@@ -40,7 +40,7 @@ all_are_read seq truth last (arrival ∷ arrivals) media are =
     (all_are_read seq truth (last_after last are.0 arrival) arrivals media are.3)
 
 -- Nothing is there at first.
-opening_is_true :
+pub opening_is_true :
     (window depth seq : ℕ) (truth : ℕ → Option Word) → LiveStandUnderSerials
     → LeavesTruth truth seq None (opening window depth)
 opening_is_true window depth seq truth stand =

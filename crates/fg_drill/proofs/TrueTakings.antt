@@ -45,16 +45,16 @@ some_and None P h = absurd h
 some_and (Some x) P h = (x, refl, h)
 
 -- A slot whose number is read as the slot.
-abbrev InReach : Option ℕ → ℕ → Type 0
+abbrev pub InReach : Option ℕ → ℕ → Type 0
 InReach None slot = slot ≡ 0
 InReach (Some before) slot = (before ≤ slot + 32768) × (slot ≤ before + 32767)
 
-media_reaches :
+pub media_reaches :
     (last : Option ℕ) (slot number : ℕ) (word : Word) → ComesInTurn last slot (carries number word) → InReach last slot
 media_reaches None slot number word turn = turn
 media_reaches (Some before) slot number word turn = (omega (arith, turn.0), omega (arith, turn.1))
 
-media_is_next :
+pub media_is_next :
     (last : Option ℕ) (slot number : ℕ) (word : Word) → ComesInTurn last slot (carries number word) → next_slot last ≤ slot
 media_is_next None slot number word turn = omega arith
 media_is_next (Some before) slot number word turn = omega (arith, turn.0)
@@ -108,7 +108,7 @@ topped_farther seq slot (Some before) next =
     cond-true (ltb before slot) (Some (top_at seq slot)) (Some (top_at seq before)) (lt-ltb before slot (omega (arith, next)))
 
 module _ (seq slot : ℕ) (last : Option ℕ) (limit : ℕ) (desk : State) (is : IsTrueTop seq last limit desk) where
-  position_is_slot : InReach last slot → position_on desk (number_of seq slot) ≡ Some slot
+  pub position_is_slot : InReach last slot → position_on desk (number_of seq slot) ≡ Some slot
   position_is_slot reach =
       ap (λ (t : Option Top). position_on (record desk { top = t }) (number_of seq slot)) is.top
       ∙ topped_position desk seq slot last reach
@@ -118,7 +118,7 @@ module _ (seq slot : ℕ) (last : Option ℕ) (limit : ℕ) (desk : State) (is :
       topped_due desk seq slot last reach
       (subst (λ (t : Option Top). IsDue (record desk { top = t }) (number_of seq slot)) is.top due)
 
-  media_is_admitted :
+  pub media_is_admitted :
       (word : Word) (reply : Reply) → InReach last slot → desk.mark ≤ slot → next_slot last ≤ slot
       → IsMediaReply desk (number_of seq slot) word reply → reply ≡ Admitted
   media_is_admitted word reply reach ahead next reply_is =
@@ -238,11 +238,11 @@ abbrev pub HoldsWhilePlayed : State → ℕ → Type 0
 HoldsWhilePlayed old number = (due : List Play) (now : State) → HavePlayed old number due now → Holds now
 
 -- What is true after the plays that are due before the media datagram of a slot.
-record ArePlayedTrue (seq : ℕ) (truth : ℕ → Option Word) (last : Option ℕ) (slot : ℕ) (plays : List Play) (desk : State) : Type 0 where
-  made : All (IsTruePlay truth) plays
-  holds : Holds desk
-  window : IsTrueWindow truth desk
-  top : IsTrueTop seq last slot desk
+pub record ArePlayedTrue (seq : ℕ) (truth : ℕ → Option Word) (last : Option ℕ) (slot : ℕ) (plays : List Play) (desk : State) : Type 0 where
+  pub made : All (IsTruePlay truth) plays
+  pub holds : Holds desk
+  pub window : IsTrueWindow truth desk
+  pub top : IsTrueTop seq last slot desk
 
 module _
     (stand : LiveStandUnderSerials) (peelings : SolutionsArePeelings) (solvable : TruthIsSolvable) (found : SolutionsAreTrue)
@@ -264,7 +264,7 @@ module _
             ∙ received_before stand peelings solvable found truth media old.window old play new holds is plays p w beyond is_known));
       }
 
-  due_plays_are_true :
+  pub due_plays_are_true :
       (last : Option ℕ) (slot : ℕ) (old : State) (plays : List Play) (new : State)
       → HoldsWhilePlayed old (number_of seq slot) → IsTrueWindow truth old → IsTrueTop seq last slot old → InReach last slot
       → ArePlaysDue old (number_of seq slot) plays new → ArePlayedTrue seq truth last slot plays new

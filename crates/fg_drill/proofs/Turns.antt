@@ -39,13 +39,13 @@ or_first : (a b : Bool) → a ≡ true → (a || b) ≡ true
 or_first true b is = refl
 or_first false b is = absurd (cc)
 
-on_media_port : (flow : ℕ) (r : Record) → r.port ≡ flow → is_of flow r ≡ true
+pub on_media_port : (flow : ℕ) (r : Record) → r.port ≡ flow → is_of flow r ≡ true
 on_media_port flow r on = or_first (flow == r.port || flow + 2 == r.port) (flow + 4 == r.port) (or_first (flow == r.port) (flow + 2 == r.port) (test_true flow r.port (sym on)))
 
-on_column_port : (flow : ℕ) (r : Record) → r.port ≡ flow + 2 → is_of flow r ≡ true
+pub on_column_port : (flow : ℕ) (r : Record) → r.port ≡ flow + 2 → is_of flow r ≡ true
 on_column_port flow r on = or_first (flow == r.port || flow + 2 == r.port) (flow + 4 == r.port) (or_true (flow == r.port) (flow + 2 == r.port) (test_true (flow + 2) r.port (sym on)))
 
-on_row_port : (flow : ℕ) (r : Record) → r.port ≡ flow + 4 → is_of flow r ≡ true
+pub on_row_port : (flow : ℕ) (r : Record) → r.port ≡ flow + 4 → is_of flow r ≡ true
 on_row_port flow r on = or_true (flow == r.port || flow + 2 == r.port) (flow + 4 == r.port) (test_true (flow + 4) r.port (sym on))
 
 -- Numbers of records

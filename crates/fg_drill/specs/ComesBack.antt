@@ -106,3 +106,10 @@ abbrev pub NothingLostIsAll : Type 0
 NothingLostIsAll =
     (settings : Settings) (payloads : List (List ℕ)) (lost : ℕ → Bool)
     → ((number : ℕ) → lost number ≡ false) → thinned settings lost payloads ≡ encoding settings payloads
+
+-- So a repair of a whole encoding gives the whole stream.
+abbrev pub EncodingComesBack : Type 0
+EncodingComesBack =
+    (window depth : ℕ) (settings : Settings) (payloads : List (List ℕ)) (result : FlowResult)
+    → CanComeBack window depth settings payloads (λ _. false)
+    → IsFlowResult window depth (encoding settings payloads) settings.port result → result.lane ≡ stream_of payloads

@@ -1,5 +1,5 @@
 -- What contracts see of the parts of a source of thinned encodings, and what they keep. No public contract cites it.
-use Rattle.std.specs.Prelude.{◌≡◌, ◌+◌, ◌-◌, ◌*◌, ◌≤◌, ◌⊎◌, ◌^◌, ℕ, Bool, true, false, Option, None, Some, Ok, Err, List, [], ◌++◌, length}
+use Rattle.std.specs.Prelude.{◌≡◌, ◌-◌, ◌*◌, ◌≤◌, ◌⊎◌, ◌^◌, ℕ, Bool, true, false, Option, None, Some, Ok, Err, List, [], ◌++◌, length}
 use Rattle.std.specs.Io.KnownBytes.{IsAtEnd}
 use Rattle.fg_shape.specs.declared.encoding.Losses.{Losses}
 use Rattle.fg_trace.specs.Trace.{trace_of}

@@ -7,11 +7,11 @@ use Rattle.fg_trace.specs.Trace.{Record}
 use Rattle.fg_peel.specs.Equation.{AreMedia}
 use Rattle.fg_desk.specs.Run.{Arrival}
 use Rattle.fg_encode.specs.Encoder.{CanEncode}
-use Rattle.fg_encode.specs.Encoding.{word_at}
+use Rattle.fg_encode.specs.Encoding.{encoding, word_at}
 use Rattle.fg_encode.specs.Payloads.{total_length, ArePayloads}
 use Rattle.fg_repair.specs.Flow.{Arrives, records_of}
 use Rattle.fg_drill.specs.Thinned.{AreFew, thinned}
-use Rattle.fg_drill.specs.True.{AreTrueArrivals}
+use Rattle.fg_drill.specs.True.{AreInFull, AreTrueArrivals}
 
 -- The true words of an encoding: each payload's, at its slot.
 abbrev pub words_sent : Settings → List (List ℕ) → ℕ → Option Word
@@ -47,3 +47,11 @@ ArriveOneWay =
     (flow : ℕ) (records : List Record) (one other : List Arrival)
     → AllZip (Arrives flow) (records_of flow records) one → AllZip (Arrives flow) (records_of flow records) other
     → one ≡ other
+
+-- All records of an encoding arrive, and so none of its media datagrams is missing.
+abbrev pub AllRecordsArrive : Type 0
+AllRecordsArrive =
+    (settings : Settings) (payloads : List (List ℕ)) → CanEncode settings → ArePayloads settings.packets payloads
+    → (arrivals : List Arrival)
+    × AllZip (Arrives settings.port) (records_of settings.port (encoding settings payloads)) arrivals
+    × AreInFull settings.seq (length payloads) 0 arrivals

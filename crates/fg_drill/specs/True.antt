@@ -49,6 +49,14 @@ AreTrueArrivals seq truth last (arrival ∷ arrivals) =
     (slot : ℕ) × IsTrueArrival seq truth slot arrival × ComesInTurn last slot arrival
     × AreTrueArrivals seq truth (last_after last slot arrival) arrivals
 
+-- No media datagram is missing: they are those of the slots from `next` on, each once and in order, up to `count`.
+abbrev pub AreInFull : ℕ → ℕ → ℕ → List Arrival → Type 0
+AreInFull seq count next [] = next ≡ count
+AreInFull seq count next (carries number word ∷ arrivals) =
+    (number ≡ number_of seq next) × AreInFull seq count (next + 1) arrivals
+AreInFull seq count next (protects stream parity ∷ arrivals) = AreInFull seq count next arrivals
+AreInFull seq count next (refused stream ∷ arrivals) = AreInFull seq count next arrivals
+
 -- True datagrams of one flow, and a window and depth for them. The true words are media words.
 pub record AreSentTrue (window depth seq : ℕ) (truth : ℕ → Option Word) (arrivals : List Arrival) : Type 0 where
   pub some_window : 1 ≤ window

@@ -8,7 +8,7 @@ use Rattle.fg_desk.specs.Play.{Play, nothing_shown}
 use Rattle.fg_desk.specs.Run.{Arrival, IsRun}
 use Rattle.fg_repair.specs.Flow.{all_shown}
 use Rattle.fg_drill.specs.Repaired.{ArrivalsPeel, is_shown}
-use Rattle.fg_drill.specs.True.{AreSentTrue}
+use Rattle.fg_drill.specs.True.{AreInFull, AreSentTrue}
 
 -- Every play is repaired.
 abbrev pub TrueRunsAreRepaired : Type 0
@@ -43,3 +43,10 @@ PeeledSlotsAreShown =
     → AreSentTrue window depth seq truth arrivals → IsRun window depth arrivals plays replies
     → ArrivalsPeel window depth arrivals count
     → (slot : ℕ) → slot < count → is_shown plays slot ≡ true
+
+-- True datagrams of so many slots peel where no media datagram is missing, at every window and depth.
+abbrev pub FullArrivalsPeel : Type 0
+FullArrivalsPeel =
+    (window depth seq count : ℕ) (truth : ℕ → Option Word) (arrivals : List Arrival)
+    → AreSentTrue window depth seq truth arrivals → AreInFull seq count 0 arrivals
+    → ArrivalsPeel window depth arrivals count

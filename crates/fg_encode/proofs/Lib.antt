@@ -11,5 +11,6 @@ pub mod StreamBuffer
 pub mod StreamCuts
 pub mod StreamEndings
 pub mod StreamPayloads
+pub mod StreamReading
 pub mod StreamWalks
 pub mod TakingLemmas

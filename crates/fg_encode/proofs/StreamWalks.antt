@@ -43,7 +43,7 @@ after_taking old new first left rest payloads h k =
     }
 
 -- Where there is a next payload, it begins at its place.
-placed_here : (reader : StreamState) (count : ℕ) → IsPlaced reader count → 1 ≤ length reader.held → reader.place ≡ 188 * reader.packets * count
+pub placed_here : (reader : StreamState) (count : ℕ) → IsPlaced reader count → 1 ≤ length reader.held → reader.place ≡ 188 * reader.packets * count
 placed_here reader count (inl there) some = there
 placed_here reader count (inr past) some = absurd (omega (arith, some, ap length past.2))
 

@@ -4,6 +4,7 @@ use Rattle.std.specs.Io.KnownBytes.{IsAtEnd}
 use Rattle.fg_io.specs.Source.{Gives}
 use Rattle.fg_ts.specs.Packets.{ArePackets}
 use Rattle.fg_encode.specs.StreamReader.{Answer, StreamState, EndsHere}
+use Rattle.fg_encode.specs.Reading.{most_held}
 
 -- How many bytes a payload has; the payload answered last; the bytes that belong to no answered payload; how many bytes have
 -- room from the first of those on; and whether the source has come to its end.
@@ -23,7 +24,7 @@ pub record IsBuffer (bytes : List ℕ) (size payload from to : ℕ) (ended : Boo
   pub order : from ≤ to
   pub within : to ≤ length bytes
   pub room : size ≤ length bytes
-  pub limit : length bytes ≤ 262144
+  pub limit : length bytes ≤ most_held
   pub whole : (count : ℕ) × (length bytes ≡ size * count)
   pub aligned : ended ≡ false → (count : ℕ) × (from ≡ size * count)
 
@@ -41,6 +42,7 @@ pub record IsReader (packets max place : ℕ) (size : ℕ) (held payload : List 
   pub limit : max ≤ 2 ^ 40
   pub within : place ≤ max
   pub bounded : place + length held ≤ max + 1
+  pub few : length held ≤ most_held
   pub quiet : IsSome kept → payload ≡ []
   pub right : IfSome kept (λ answer. EndsHere answer packets max place held ended)
 

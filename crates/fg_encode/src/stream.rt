@@ -2,6 +2,7 @@
 ghost use Rattle.std.specs.Prelude.{◌≡◌, ◌+◌, ◌-◌, ◌*◌, ◌/◌, ◌<◌, ◌≤◌, ◌⊎◌, ◌^◌, ℕ, Option, List, [], ◌++◌, length, take, drop, min, true, false, IsSome, IsOk, IfOk, IfErr, IfSome, OnOk, OnErr, None, Some, MatchOption};
 ghost use Rattle.fg_io.specs.Faults.{CountsFault};
 ghost use Rattle.fg_ts.specs.Packets.{ArePackets};
+ghost use Rattle.fg_encode.specs.Reading.{ReadsAsFar, most_held};
 ghost use Rattle.fg_encode.specs.Stream.{OneCut};
 ghost use Rattle.fg_encode.specs.StreamReader.{StandsAfter, Walks, EndsHere, kept_answer, new_reader};
 ghost use Rattle.fg_encode.specs.StreamSteps.{TakesIn, HoldsEnough, Accepts, after_payload};
@@ -41,7 +42,7 @@ pub enum StreamFault {
 /// Cuts a transport stream into payloads of so many packets, the last one as it comes, in the memory that it was made with and
 /// whatever pieces the source gives.
 ///
-/// A reader is for one source, from its first byte on. It reads at most one byte past the limit.
+/// A reader is for one source, from its first byte on. It reads at most one byte past the limit, and holds at most 262,144 bytes.
 #[derive(Drop)]
 pub struct StreamReader {
     buffer: PayloadBuffer,
@@ -120,6 +121,7 @@ impl StreamReader {
             → (self.new.ended ≡ true) × (self.new.payload ++ self.new.held ≡ self.old.held) }
         ensures within { self.new.place ≤ self.new.max }
         ensures bounded { self.new.place + length self.new.held ≤ self.new.max + 1 }
+        ensures few { length self.new.held ≤ most_held }
         ensures packets { self.new.packets ≡ self.old.packets }
         ensures max { self.new.max ≡ self.old.max }
         ensures counted { result ≡ Err StreamFault.ReadFault
@@ -166,6 +168,7 @@ impl StreamReader {
         requires open { self.old.kept ≡ None }
         ensures takes { TakesIn self.old (S.left from.old) self.new (S.left from.new) }
         ensures bounded { self.new.place + length self.new.held ≤ self.new.max + 1 }
+        ensures few { length self.new.held ≤ PIECE }
         ensures filled { OnOk result (HoldsEnough self.new) }
         ensures fault { IfErr result (λ fault. fault ≡ StreamFault.ReadFault) }
         ensures counted { OnErr result (CountsFault (S.faults from.old) (S.faults from.new)) }
@@ -223,4 +226,10 @@ fn not_transport(fault: TsFault) -> Result<StreamStep, StreamFault>
 /// A stream is cut in one way: its payloads and its ending follow from its bytes.
 pub fn one_cut()
     ensures { OneCut }
+{}
+
+/// A reader's source was read as far as the answer that it keeps needs: to its end, past the limit, or into the packet without
+/// the sync byte and at most a buffer past its place. Never more than a byte past the limit was read.
+pub fn read_as_far_as_needed()
+    ensures { ReadsAsFar }
 {}

@@ -1,5 +1,5 @@
 //! What is sent of an encoding arrives as true datagrams.
-ghost use Rattle.fg_drill.specs.Sent.{ArriveOneWay, FewArrive, SentRecordsAreTrue, SentWordsAreMedia};
+ghost use Rattle.fg_drill.specs.Sent.{AllRecordsArrive, ArriveOneWay, FewArrive, SentRecordsAreTrue, SentWordsAreMedia};
 
 use fg_encode::laws::ends_are_the_layouts;
 use fg_fechead::laws::{
@@ -19,6 +19,15 @@ pub fn sent_words_are_media()
 /// turn.
 pub fn sent_records_are_true()
     ensures { SentRecordsAreTrue }
+{
+    media_written_is_read();
+    parity_written_is_read();
+    layouts_are_read();
+}
+
+/// Where nothing is left out, all records of an encoding are read, and no media datagram is missing.
+pub fn all_records_arrive()
+    ensures { AllRecordsArrive }
 {
     media_written_is_read();
     parity_written_is_read();

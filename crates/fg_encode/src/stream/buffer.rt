@@ -105,6 +105,7 @@ impl PayloadBuffer {
         ensures payload { self.new.payload ≡ [] }
         ensures size { self.new.size ≡ self.old.size }
         ensures bounded { length self.new.held ≤ max most (length self.old.held) }
+        ensures few { length self.new.held ≤ PIECE }
         ensures filled { OnOk result ((min self.new.size most ≤ length self.new.held) ⊎ (self.new.ended ≡ true)) }
         ensures stays { self.old.ended ≡ true → (self.new.ended ≡ true) × (self.new.held ≡ self.old.held)
             × (S.left from.new ≡ S.left from.old) }
@@ -152,6 +153,7 @@ impl PayloadBuffer {
         ensures takes { TakesMore self.old.held (S.left from.old) self.new.held (S.left from.new) }
         ensures same { self.new ≡ record self.old { held = self.new.held } }
         ensures bounded { length self.new.held ≤ most }
+        ensures few { length self.new.held ≤ PIECE }
         ensures count { IfOk result (λ count. length self.new.held ≡ length self.old.held + count) }
         ensures end { IfOk result (λ count. count ≡ 0 → IsAtEnd (S.left from.new)) }
         ensures counted { OnErr result (CountsFault (S.faults from.old) (S.faults from.new)) }

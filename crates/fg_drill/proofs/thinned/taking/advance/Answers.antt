@@ -1,4 +1,4 @@
-use Rattle.std.proofs.Common.{◌≡◌, ◌⊎◌, ⊎_elim, inl, inr, ℕ, ◌+◌, ◌*◌, ◌≤◌, true, false, Option, Some, Ok, Err, List, [], ◌∷◌, ◌++◌, length, refl, sym, ap, subst, ◌∙◌, arith}
+use Rattle.std.proofs.Common.{◌≡◌, ⊎_elim, inl, inr, ℕ, ◌+◌, ◌*◌, true, false, Option, Some, Ok, Err, List, [], ◌∷◌, ◌++◌, length, refl, sym, ap, subst, ◌∙◌, arith}
 use Rattle.fg_encode.specs.declared.stream.StreamStep.TheVariants.{Payload}
 use Rattle.fg_encode.specs.declared.stream.StreamFault.TheVariants.{ReadFault, NotTransport as NotPackets}
 use Rattle.fg_encode.specs.Encoder.{StandsAfter}

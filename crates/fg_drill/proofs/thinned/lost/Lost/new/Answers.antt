@@ -1,4 +1,4 @@
-use Rattle.std.proofs.Common.{◌≡◌, ℕ, ◌==◌, ◌%◌, ◌&&◌, ◌||◌, List, nat_lt, sym, ap, ◌∙◌}
+use Rattle.std.proofs.Common.{ℕ, ◌==◌, ◌%◌, ◌&&◌, ◌||◌, nat_lt, sym, ap, ◌∙◌}
 use Rattle.std.specs.List.{list_any}
 use Rattle.std.proofs.lemmas.List.Sorted.{IsNonDecreasingBy-from_sort, list_any-IsPermutation}
 use Rattle.fg_drill.proofs.thinned.lost.Lost.new.Goals as goal

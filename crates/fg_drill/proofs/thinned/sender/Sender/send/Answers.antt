@@ -1,4 +1,4 @@
-use Rattle.std.proofs.Common.{◌≡◌, ℕ, ◌+◌, List, [], ◌∷◌, ◌++◌, length, ap, subst, ◌∙◌}
+use Rattle.std.proofs.Common.{◌≡◌, ◌+◌, List, [], ◌∷◌, ◌++◌, length, ap, subst, ◌∙◌}
 use Rattle.std.specs.List.{flat_map}
 use Rattle.fg_trace.specs.Trace.{Record, spelling}
 use Rattle.fg_encode.specs.Encoder.{StandsAfter}

@@ -1,0 +1,268 @@
+-- True datagrams of which none is missing peel: each slot is received before the play that closes it, and the flush closes
+-- what no other play does.
+use Rattle.std.proofs.Common.{◌≡◌, ◌+◌, ◌-◌, ◌<◌, ◌≤◌, ◌==◌, ◌^◌, ◌++◌, ℕ, ltb, List, [], ◌∷◌, length, min, Option, Some, None, IsSome, IsSomeAnd, refl, sym, ap, subst, ◌∙◌, ⊎_elim, arith, append_assoc, le-ltb, eq-eqb, ne_eqb}
+use Rattle.std.proofs.lemmas.Bool.{cases_lt, cases_eq, cond-true, cond-false}
+use Rattle.std.proofs.lemmas.Option.{same_Some}
+use Rattle.std.proofs.lemmas.List.{append-nil, length_push}
+use Rattle.std.proofs.lemmas.List.Elements.{All-nil, All-push}
+use Rattle.std.specs.List.{All}
+use Rattle.std.specs.FinMap.{get}
+use Rattle.fg_words.specs.declared.Word.{Word}
+use Rattle.fg_peel.specs.Laws.{TruthIsSolvable, SolutionsAreTrue}
+use Rattle.fg_desk.specs.declared.reply.Reply.{Reply}
+use Rattle.fg_desk.specs.declared.reply.Reply.TheVariants.{Admitted}
+use Rattle.fg_desk.specs.State.{State, known, opening}
+use Rattle.fg_desk.specs.Admission.{Parity, AdmitsMedia, AdmitsParity, IsLeastFree, equation_at, position_on, with_equation, with_media}
+use Rattle.fg_desk.specs.Solution.{InClosure, given}
+use Rattle.fg_desk.specs.Play.{Play, IsPlay}
+use Rattle.fg_desk.specs.Run.{Arrival, carries, protects, refused, ArePlaysDue, Takes, TakesAll, IsFlush, IsRun}
+use Rattle.fg_desk.specs.Existence.{RunsExist}
+use Rattle.fg_desk.specs.Facts.{Holds}
+use Rattle.fg_desk.specs.Laws.{IsRead, LiveStandUnderSerials, SolutionsArePeelings, MediaAdds, ParityAdds, RunsStayWithin, TakingsJoin, HavePlayed, PlaysDueJoin, AreFlushSteps, FlushStepsJoin}
+use Rattle.fg_drill.specs.Repaired.{MakesPlay, due, flushed, Closes, ArrivalsPeel}
+use Rattle.fg_drill.specs.True.{number_of, AreInFull, IsTrueArrival, ComesInTurn, AreTrueArrivals, last_after, AreSentTrue}
+use Rattle.fg_drill.specs.TrueLaws.{FullArrivalsPeel}
+use Rattle.fg_drill.proofs.Peeled.{played_keep_window, takings_keep_window}
+use Rattle.fg_drill.proofs.TrueDesks.{known_ahead}
+use Rattle.fg_drill.proofs.TrueRuns.{all_are_read, is_read, opening_is_true}
+use Rattle.fg_drill.proofs.TrueTakings.{LeavesTruth, due_plays_are_true, is_taken_truly, media_is_admitted, media_reaches, next_slot, position_is_slot, some_and}
+
+-- Each slot from the mark on and before this one is known.
+abbrev AllReceived : ℕ → State → Type 0
+AllReceived next desk = (slot : ℕ) → desk.mark ≤ slot → slot < next → IsSome (known desk slot)
+
+same_received :
+    (next : ℕ) (old new : State) → new.mark ≡ old.mark → known new ≡ known old → AllReceived next old → AllReceived next new
+same_received next old new same_mark same_known all = λ slot ahead below.
+    subst (λ (f : ℕ → Option Word). IsSome (f slot)) (sym same_known) (all slot (omega (arith, same_mark, ahead)) below)
+
+-- A play takes none of them away.
+play_keeps_received :
+    (count next : ℕ) (old : State) (play : Play) (new : State) → IsPlay count old play new → AllReceived next old
+    → AllReceived next new
+play_keeps_received count next old play new is all = λ slot ahead below.
+    let mark = is.mark in
+    let same : known new slot ≡ known old slot =
+    known_ahead new slot ahead ∙ is.media slot
+    ∙ cond-false (ltb slot new.mark) None (get old.media slot) (le-ltb slot new.mark ahead)
+    ∙ sym (known_ahead old slot (omega (arith, mark, ahead))) in
+    subst (λ (o : Option Word). IsSome o) (sym same) (all slot (omega (arith, mark, ahead)) below)
+
+-- A media datagram that is admitted adds its slot.
+media_adds_received :
+    (slot : ℕ) (old new : State) (number : ℕ) (word : Word) → MediaAdds → Holds old → position_on old number ≡ Some slot
+    → AdmitsMedia old number word Admitted new → (new.mark ≡ old.mark) × (AllReceived slot old → AllReceived (slot + 1) new)
+media_adds_received slot old new number word adds holds at admits =
+    let m = adds old new number word holds admits in
+    let same : m.0 ≡ slot = same_Some m.0 slot (sym m.1 ∙ at) in
+    let after : new ≡ with_media old number slot word =
+    subst (λ (o : Option ℕ). IsSomeAnd o (λ p. new ≡ with_media old number p word)) at admits.after in
+    let mark : new.mark ≡ old.mark = ap (λ (s : State). s.mark) after in (
+      mark,
+      λ all position ahead below. ⊎_elim
+          (λ here. subst (λ (o : Option Word). IsSome o)
+          (sym (m.4 position ∙ cond-true (position == m.0) (Some word) (known old position) (eq-eqb position m.0 here))) refl)
+          (λ beside. subst (λ (o : Option Word). IsSome o)
+          (sym (m.4 position ∙ cond-false (position == m.0) (Some word) (known old position) (ne_eqb position m.0 beside)))
+          (all position (omega (arith, mark, ahead)) (omega (arith, same, below, beside))))
+          (cases_eq position m.0),
+    )
+
+-- A parity datagram changes nothing of them.
+parity_leaves_received :
+    (old new : State) (parity : Parity) (reply : Reply) → ParityAdds → Holds old → AdmitsParity old parity reply new
+    → (new.mark ≡ old.mark) × (known new ≡ known old)
+parity_leaves_received old new parity Admitted adds holds admits =
+    let after = some_and (position_on old parity.base)
+    (λ position. (place : ℕ) × IsLeastFree old.equations place × (new ≡ with_equation old place (equation_at position parity)))
+    admits.after in
+    (ap (λ (s : State). s.mark) after.2.2, (adds old new parity holds admits).3)
+parity_leaves_received old new parity reply adds holds admits =
+    (ap (λ (s : State). s.mark) admits.after, ap (λ (s : State). known s) admits.after)
+
+-- The media datagram that comes next is that of the next slot.
+slot_is_next :
+    (seq slot number : ℕ) (last : Option ℕ) (word : Word) → number ≡ number_of seq slot
+    → ComesInTurn last slot (carries number word) → number ≡ number_of seq (next_slot last) → slot ≡ next_slot last
+slot_is_next seq slot number None word is turn next = turn
+slot_is_next seq slot number (Some before) word is turn next = omega (arith, is, turn.0, turn.1, next)
+
+module _ (window depth : ℕ) (arrivals : List Arrival) where
+  -- A play of the run closes the slot, on a desk where it is in the closure.
+  abbrev IsPeeled : ℕ → Type 0
+  IsPeeled slot =
+      (desk : State) × (play : Play) × MakesPlay window depth arrivals desk play × Closes play slot × InClosure desk slot
+
+  abbrev ArePeeled : ℕ → ℕ → Type 0
+  ArePeeled next mark = (slot : ℕ) → slot < next → slot < mark → IsPeeled slot
+
+  play_peels :
+      (count next : ℕ) (old : State) (play : Play) (new : State) → IsPlay count old play new
+      → MakesPlay window depth arrivals old play → AllReceived next old → ArePeeled next old.mark → ArePeeled next new.mark
+  play_peels count next old play new is makes all peeled = λ slot below played. ⊎_elim
+      (λ (before : slot < old.mark). peeled slot below before)
+      (λ (ahead : old.mark ≤ slot).
+      let first = is.first in
+      let long = is.length_is in
+      let mark = is.mark in (
+        old,
+        play,
+        makes,
+        (omega (arith, first, ahead), omega (arith, first, long, mark, played)),
+        given (all slot ahead below),
+      ))
+      (cases_lt slot old.mark)
+
+  -- What is received and what is peeled, of the slots before this one.
+  record IsUpTo (next : ℕ) (desk : State) : Type 0 where
+    received : AllReceived next desk
+    peeled : ArePeeled next desk.mark
+
+  module _ (due_join : PlaysDueJoin) (steps_join : FlushStepsJoin) where
+    due_peel :
+        (earlier later : List Arrival) (number : ℕ) (word : Word) (taken : List Play) (first : List (Option Reply))
+        (filled : State) (next : ℕ) (before : List Play) (now : State) (plays : List Play) (new : State)
+        → arrivals ≡ earlier ++ carries number word ∷ later → TakesAll (opening window depth) earlier taken first filled
+        → HavePlayed filled number before now → ArePlaysDue now number plays new → IsUpTo next now → IsUpTo next new
+    due_peel earlier later number word taken first filled next before now [] new arrivals_are takes played are up =
+        subst (IsUpTo next) (sym are.1) up
+    due_peel earlier later number word taken first filled next before now (play ∷ plays) new arrivals_are takes played are up =
+        let then = are.1.0 in
+        let same : now.window ≡ window =
+        played_keep_window filled number before now played
+        ∙ takings_keep_window (opening window depth) earlier taken first filled takes in
+        let makes : MakesPlay window depth arrivals now play =
+        due earlier later number word taken before first filled then arrivals_are takes played are.0
+        (subst (λ (n : ℕ). IsPlay n now play then) same are.1.1) in
+        due_peel earlier later number word taken first filled next (before ++ play ∷ []) then plays new arrivals_are takes
+        (due_join filled now then number before (play ∷ []) played (are.0, (then, are.1.1, refl)))
+        are.1.2
+        (record {
+          received = play_keeps_received now.window next now play then are.1.1 up.received;
+          peeled = play_peels now.window next now play then are.1.1 makes up.received up.peeled;
+        })
+
+    flush_peels :
+        (count : ℕ) (taken : List Play) (replies : List (Option Reply)) (filled : State) (before : List Play) (now : State)
+        (plays : List Play) (new : State)
+        → TakesAll (opening window depth) arrivals taken replies filled → AreFlushSteps filled before now
+        → IsFlush now plays new → IsUpTo count now → (slot : ℕ) → slot < count → IsPeeled slot
+    flush_peels count taken replies filled before now [] new takes steps flush up slot below = ⊎_elim
+        (λ (played : slot < now.mark). up.peeled slot below played)
+        (λ (ahead : now.mark ≤ slot). absurd (flush.0 (slot, given (up.received slot ahead below), ahead)))
+        (cases_lt slot now.mark)
+    flush_peels count taken replies filled before now (play ∷ plays) new takes steps flush up slot below =
+        let then = flush.0 in
+        let step = flush.1 in
+        let shown = min now.window (step.highest + 1 - now.mark) in
+        let makes : MakesPlay window depth arrivals now play = flushed taken before replies filled then takes steps step in
+        flush_peels count taken replies filled (before ++ play ∷ []) then plays new takes
+        (steps_join filled now then before (play ∷ []) steps (then, step, refl)) flush.2
+        (record {
+          received = play_keeps_received shown count now play then step.plays up.received;
+          peeled = play_peels shown count now play then step.plays makes up.received up.peeled;
+        })
+        slot below
+
+    module _
+        (stand : LiveStandUnderSerials) (peelings : SolutionsArePeelings) (solvable : TruthIsSolvable) (found : SolutionsAreTrue)
+        (media_adds : MediaAdds) (parity_adds : ParityAdds) (within : RunsStayWithin) (join : TakingsJoin)
+        (seq count : ℕ) (truth : ℕ → Option Word) (sent : AreSentTrue window depth seq truth arrivals) where
+      -- One datagram more.
+      one_more :
+          (earlier later : List Arrival) (arrival : Arrival) (before plays : List Play) (first : List (Option Reply))
+          (reply : Option Reply) (taken new : State) (last : Option ℕ) (slot : ℕ)
+          → arrivals ≡ earlier ++ arrival ∷ later
+          → ((number : ℕ) (due : List Play) (now : State) → HavePlayed taken number due now → Holds now)
+          → TakesAll (opening window depth) earlier before first taken → LeavesTruth truth seq last taken
+          → IsTrueArrival seq truth slot arrival → ComesInTurn last slot arrival
+          → AreInFull seq count (next_slot last) (arrival ∷ later) → IsUpTo (next_slot last) taken
+          → Takes taken arrival plays reply new
+          → IsUpTo (next_slot (last_after last slot arrival)) new
+          × AreInFull seq count (next_slot (last_after last slot arrival)) later
+      one_more earlier later (carries number word) before plays first None taken new last slot arrivals_are holds takes is is_true turn full up took = absurd took
+      one_more earlier later (carries number word) before plays first (Some reply) taken new last slot arrivals_are holds takes is is_true turn full up took =
+          let now = took.0 in
+          let same : number ≡ number_of seq slot = is_true.0 in
+          let next : slot ≡ next_slot last = slot_is_next seq slot number last word same turn full.0 in
+          let reach = media_reaches last slot number word turn in
+          let mark = is.top.mark in
+          let played = due_plays_are_true stand peelings solvable found media_adds parity_adds truth sent.media seq last slot taken plays now
+          (λ due now played. holds (number_of seq slot) due now played) is.window
+          (record { top = is.top.top; mark = omega (arith, mark, next); unknown = is.top.unknown }) reach
+          (subst (λ (n : ℕ). ArePlaysDue taken n plays now) same took.1) in
+          let so : IsUpTo (next_slot last) now =
+          due_peel earlier later number word before first taken (next_slot last) [] taken plays now arrivals_are takes refl took.1 up in
+          let admits : AdmitsMedia now (number_of seq slot) word reply new =
+          subst (λ (n : ℕ). AdmitsMedia now n word reply new) same took.2 in
+          let is_admitted = media_is_admitted seq slot last slot now played.top word reply reach played.top.mark (omega (arith, next)) admits.reply_is in
+          let adds = media_adds_received slot now new (number_of seq slot) word media_adds played.holds
+          (position_is_slot seq slot last slot now played.top reach)
+          (subst (λ (r : Reply). AdmitsMedia now (number_of seq slot) word r new) is_admitted admits) in
+          let near = played.top.mark in (
+            record {
+              received = adds.1 (λ position ahead below. so.received position ahead (omega (arith, next, below)));
+              peeled = λ position below past.
+                  so.peeled position (omega (arith, adds.0, near, next, past)) (omega (arith, adds.0, past));
+            },
+            subst (λ (n : ℕ). AreInFull seq count (n + 1) later) (sym next) full.1,
+          )
+      one_more earlier later (protects stream parity) before plays first None taken new last slot arrivals_are holds takes is is_true turn full up took = absurd took
+      one_more earlier later (protects stream parity) before plays first (Some reply) taken new last slot arrivals_are holds takes is is_true turn full up took =
+          let same = parity_leaves_received taken new parity reply parity_adds (holds 0 [] taken refl) took.1 in (
+            record {
+              received = same_received (next_slot last) taken new same.0 same.1 up.received;
+              peeled = λ position below past. up.peeled position below (omega (arith, same.0, past));
+            },
+            full,
+          )
+      one_more earlier later (refused stream) before plays first reply taken new last slot arrivals_are holds takes is is_true turn full up took = absurd turn
+
+      all_taken :
+          (earlier later : List Arrival) (before plays : List Play) (first replies : List (Option Reply)) (taken new : State)
+          (last : Option ℕ)
+          → arrivals ≡ earlier ++ later → All IsRead earlier → length earlier + length later < 2 ^ 44
+          → TakesAll (opening window depth) earlier before first taken → LeavesTruth truth seq last taken
+          → AreTrueArrivals seq truth last later → AreInFull seq count (next_slot last) later
+          → IsUpTo (next_slot last) taken → TakesAll taken later plays replies new → IsUpTo count new
+      all_taken earlier [] before plays first replies taken new last arrivals_are read few so is are full up takes =
+          subst (λ (n : ℕ). IsUpTo n new) full (subst (IsUpTo (next_slot last)) (sym takes.2) up)
+      all_taken earlier (arrival ∷ later) before plays first [] taken new last arrivals_are read few so is are full up takes = absurd takes
+      all_taken earlier (arrival ∷ later) before plays first (reply ∷ replies) taken new last arrivals_are read few so is are full up takes =
+          let holds : (number : ℕ) (due : List Play) (now : State) → HavePlayed taken number due now → Holds now =
+          λ number due now played.
+          (within window depth number earlier before due first taken now
+          sent.some_window sent.window_limit sent.window_within read (omega (arith, few)) so played).0 in
+          let one = is_taken_truly stand peelings solvable found media_adds parity_adds truth sent.media seq
+          last are.0 taken arrival takes.0 reply takes.2 holds is are.1 are.2 takes.4 in
+          let more = one_more earlier later arrival before takes.0 first reply taken takes.2 last are.0 arrivals_are holds so is
+          are.1 are.2 full up takes.4 in
+          let long = length_push earlier arrival in
+          all_taken (earlier ++ arrival ∷ []) later (before ++ takes.0) takes.1 (first ++ reply ∷ []) replies
+          takes.2 new (last_after last are.0 arrival)
+          (arrivals_are ∙ sym (append_assoc earlier (arrival ∷ []) later))
+          (All-push IsRead earlier arrival read (is_read seq truth are.0 arrival sent.media are.1))
+          (omega (arith, few, long))
+          (join (opening window depth) taken takes.2 earlier (arrival ∷ []) before takes.0 first (reply ∷ []) so
+          (takes.0, [], takes.2, sym (append-nil takes.0), takes.4, (refl, refl, refl)))
+          one.leaves are.3 more.1 more.0 takes.5
+
+      all_peel :
+          AreInFull seq count 0 arrivals → (plays : List Play) (replies : List (Option Reply)) → IsRun window depth arrivals plays replies
+          → ArrivalsPeel window depth arrivals count
+      all_peel full plays replies run =
+          let few = sent.few in
+          let up = all_taken [] arrivals [] run.taken [] replies (opening window depth) run.filled None refl
+          (All-nil IsRead) (omega (arith, few)) (refl, refl, refl) (opening_is_true window depth seq truth stand)
+          sent.arrive full
+          (record { received = λ slot ahead below. absurd (omega (arith, below)); peeled = λ slot below past. absurd (omega (arith, below)) })
+          run.takes in
+          flush_peels count run.taken replies run.filled [] run.filled run.flushed run.empty run.takes refl run.flush up
+
+pub full_arrivals_peel :
+    RunsExist → PlaysDueJoin → FlushStepsJoin → LiveStandUnderSerials → SolutionsArePeelings → TruthIsSolvable → SolutionsAreTrue
+    → MediaAdds → ParityAdds → RunsStayWithin → TakingsJoin → FullArrivalsPeel
+full_arrivals_peel exist due_join steps_join stand peelings solvable found media_adds parity_adds within join window depth seq count truth arrivals sent full =
+    let run = exist window depth arrivals sent.some_window (all_are_read seq truth None arrivals sent.media sent.arrive) in
+    all_peel window depth arrivals due_join steps_join stand peelings solvable found media_adds parity_adds within join seq count truth sent
+    full run.0 run.1 run.2

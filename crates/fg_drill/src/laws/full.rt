@@ -1,0 +1,23 @@
+//! Where no media datagram is missing, each slot peels.
+ghost use Rattle.fg_drill.specs.TrueLaws.{FullArrivalsPeel};
+
+use fg_desk::laws::{
+    admissions_add, flushes_end, live_equations, mark_makes_no_difference, runs_exist, runs_join,
+    runs_stay_within,
+};
+use fg_peel::laws::true_words_solve;
+
+/// True datagrams of which no media datagram is missing peel, at every window and depth: each slot is
+/// received before the play that closes it, and the flush closes the rest.
+pub fn full_arrivals_peel()
+    ensures { FullArrivalsPeel }
+{
+    runs_exist();
+    live_equations();
+    mark_makes_no_difference();
+    true_words_solve();
+    admissions_add();
+    runs_stay_within();
+    runs_join();
+    flushes_end();
+}
