@@ -1,5 +1,6 @@
 -- Lemmas on the definitions of this crate.
 mod Opening
+mod Reaching
 mod Readings
 mod Telling
 mod Texts

@@ -9,8 +9,9 @@ use Rattle.fg_trace.specs.declared.step.TraceFault.TheVariants as trace_fault
 use Rattle.fg_trace.specs.Reader.{ReaderState, StandsAfter}
 use Rattle.fg_trace.specs.Trace.{Record, Ending, IsTrace}
 use Rattle.fg_trace.specs.Finish.{finish_of}
+use Rattle.fg_trace.specs.Reading.{IsReadFor}
 use Rattle.fg_inspect.specs.declared.fault.Fault.{Fault}
-use Rattle.fg_inspect.specs.declared.fault.Fault.TheVariants.{Read}
+use Rattle.fg_inspect.specs.declared.fault.Fault.TheVariants.{Read, Write, Memory}
 use Rattle.fg_inspect.specs.declared.lines.Lines.{Lines}
 use Rattle.fg_inspect.specs.Text.{IsText}
 
@@ -52,3 +53,18 @@ pub record HasToldAll
 abbrev pub answer_unopened : TraceFault → Result Finish Fault
 answer_unopened (trace_fault.NotTrace n) = Ok (finish.NotTrace n)
 answer_unopened why = Err Read
+
+-- The answer of an inspection that comes to this.
+abbrev pub answer_to : Result Finish Fault → Finish
+answer_to (Ok answer) = answer
+answer_to (Err Read) = finish.ReadFault
+answer_to (Err Write) = finish.WriteFault
+answer_to (Err Memory) = finish.Memory
+
+-- The input, which had `first`, was read as far as that answer needs.
+abbrev pub IsReadTo : ℕ → Result Finish Fault → Option (List ℕ) → Option (List ℕ) → Type 0
+IsReadTo max came first now = IfSome first (λ bytes. IsReadFor max (answer_to came) bytes now)
+
+-- The reader stands after some records.
+abbrev pub Stands : ReaderState → Option (List ℕ) → Option (List ℕ) → Type 0
+Stands reader first now = (records : List Record) × StandsAfter reader first now records

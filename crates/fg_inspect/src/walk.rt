@@ -1,13 +1,14 @@
 //! Walking a trace, and telling its records.
-ghost use Rattle.std.specs.Prelude.{◌≡◌, ◌≢◌, ◌⊎◌, ◌≤◌, ◌<◌, ◌^◌, ℕ, Option, List, [], None, IfOk, IfSome, IfNone, OnErr};
+ghost use Rattle.std.specs.Prelude.{◌≡◌, ◌≢◌, ◌⊎◌, ◌+◌, ◌≤◌, ◌<◌, ◌^◌, ℕ, Option, List, [], length, None, IfOk, IfSome, IfNone, OnErr};
 ghost use Rattle.std.specs.Io.KnownBytes.{IsAtEnd};
 ghost use Rattle.fg_io.specs.Faults.{CountsFault, CountsFor};
 ghost use Rattle.fg_flows.specs.Flows.{IsTable};
 ghost use Rattle.fg_trace.specs.Reader.{StandsAfter};
 ghost use Rattle.fg_trace.specs.Trace.{Record, Ending, NotTrace as NoMagic, IsTrace};
 ghost use Rattle.fg_trace.specs.Finish.{IsFault, ReadsAll, finish_of};
+ghost use Rattle.fg_trace.specs.Reading.{HasReached, IsReadFor};
 ghost use Rattle.fg_inspect.specs.Inspect.{Tells, TellsPart};
-ghost use Rattle.fg_inspect.specs.Steps.{HasToldAll, IsNew, IsUnderway, answer_unopened};
+ghost use Rattle.fg_inspect.specs.Steps.{HasToldAll, IsNew, IsUnderway, IsReadTo, Stands, answer_to, answer_unopened};
 
 use crate::fault::Fault;
 use crate::laws::one_text;
@@ -15,7 +16,7 @@ use crate::lines::Lines;
 use crate::reading::read_record;
 use fg_flows::Table;
 use fg_io::{Sink, Source};
-use fg_trace::laws::{one_trace, walks_the_front};
+use fg_trace::laws::{one_trace, read_as_far_as_needed, walks_on, walks_the_front};
 use fg_trace::{Finish, Reader, Step, TraceFault};
 use std::alloc::Global;
 
@@ -41,6 +42,9 @@ pub fn inspect<S: Source, K: Sink>(
     ensures exactly { IfSome (S.left input.old) (λ bytes. (records : List Record) (end : Ending)
         → IsTrace bytes max records end → IsFault result ⊎ (result ≡ finish_of end)) }
     ensures all_read { ReadsAll result → IsAtEnd (S.left input.new) }
+
+    // The input is read as far as the answer needs, and at most a byte past the limit.
+    ensures reads { IfSome (S.left input.old) (λ bytes. IsReadFor max result bytes (S.left input.new)) }
 
     // What is no trace has nothing told, whatever the answer.
     ensures refused { IfSome (S.left input.old) (λ bytes. (place : ℕ)
@@ -87,9 +91,11 @@ fn tell_trace<S: Source, K: Sink>(
     ensures refused { IfSome (S.left input.old) (λ bytes. (place : ℕ)
         → IsTrace bytes max [] (NoMagic place) → out.new ≡ out.old) }
     ensures all_read { IfOk result (λ finish. ReadsAll finish → IsAtEnd (S.left input.new)) }
+    ensures reached { IsReadTo max result (S.left input.old) (S.left input.new) }
     ensures reads { CountsFor Fault.Read result (S.faults input.old) (S.faults input.new) }
     ensures writes { CountsFor Fault.Write result (K.faults out.old) (K.faults out.new) }
 {
+    read_as_far_as_needed();
     let mut reader = Reader::new(alloc, max)?;
     let mut lines = Lines::new(alloc)?;
     match reader.start(input) {
@@ -127,11 +133,14 @@ fn tell_records<S: Source, K: Sink>(
         → StandsAfter reader.old first (S.left input.old) []
         → TellsPart table.now reader.old.max first (K.written out.old) (K.written out.new)) }
     ensures all_read { IfOk result (λ finish. ReadsAll finish → IsAtEnd (S.left input.new)) }
+    ensures reached { (first : Option (List ℕ)) → StandsAfter reader.old first (S.left input.old) []
+        → IsReadTo reader.old.max result first (S.left input.new) }
     ensures reads { CountsFor Fault.Read result (S.faults input.old) (S.faults input.new) }
     ensures writes { CountsFor Fault.Write result (K.faults out.old) (K.faults out.new) }
 {
     one_trace();
     one_text();
+    read_as_far_as_needed();
     // A table has no port twice.
     let _flows = table.count();
     let finish = tell_all(lines, table, reader, input, out)?;
@@ -159,6 +168,11 @@ fn tell_all<S: Source, K: Sink>(
         → IsUnderway table.now first (S.left input.old) reader.old lines.old before (K.written out.old)
         → TellsPart table.now reader.old.max first before (K.written out.new)) }
     ensures all_read { IfOk result (λ finish. ReadsAll finish → IsAtEnd (S.left input.new)) }
+    ensures stands { (first : Option (List ℕ))
+        → Stands reader.old first (S.left input.old) → Stands reader.new first (S.left input.new) }
+    ensures max { reader.new.max ≡ reader.old.max }
+    ensures bounded { reader.new.place + length reader.new.held ≤ reader.new.max + 1 }
+    ensures reached { HasReached (answer_to result) reader.new (S.left input.new) }
     ensures reads { CountsFor Fault.Read result (S.faults input.old) (S.faults input.new) }
     ensures writes { CountsFor Fault.Write result (K.faults out.old) (K.faults out.new) }
 {
@@ -192,6 +206,11 @@ fn tell_next<S: Source, K: Sink>(
         → IsUnderway table.now first (S.left input.old) reader.old lines.old before (K.written out.old)
         → TellsPart table.now reader.old.max first before (K.written out.new)) }
     ensures all_read { IfOk result (λ end. IfSome end (λ finish. ReadsAll finish → IsAtEnd (S.left input.new))) }
+    ensures stands { (first : Option (List ℕ))
+        → Stands reader.old first (S.left input.old) → Stands reader.new first (S.left input.new) }
+    ensures bounded { reader.new.place + length reader.new.held ≤ reader.new.max + 1 }
+    ensures reached { IfOk result (λ end. IfSome end (λ finish.
+        HasReached finish reader.new (S.left input.new))) }
     ensures open { IfOk result (λ end. IfNone end (reader.new.kept ≡ None)) }
     ensures max { reader.new.max ≡ reader.old.max }
     ensures place { IfOk result (λ end. IfNone end (reader.old.place < reader.new.place)) }
@@ -200,6 +219,7 @@ fn tell_next<S: Source, K: Sink>(
     ensures writes { CountsFor Fault.Write result (K.faults out.old) (K.faults out.new) }
 {
     walks_the_front();
+    walks_on();
     one_text();
     match reader.next(input) {
         Ok(Step::Datagram { time, port, size }) => {

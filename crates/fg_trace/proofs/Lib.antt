@@ -4,6 +4,7 @@ pub mod Fields
 pub mod Fronts
 pub mod Pieces
 pub mod Ranges
+pub mod Reaching
 pub mod Records
 pub mod Stopping
 pub mod Traces

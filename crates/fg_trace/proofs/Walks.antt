@@ -6,7 +6,7 @@ use Rattle.fg_io.proofs.SourceLemmas.{Gives-told}
 use Rattle.fg_trace.specs.declared.step.Step.TheVariants.{Datagram, End}
 use Rattle.fg_trace.specs.declared.step.TraceFault.TheVariants.{ReadFault, NotTrace as NoMagic, TooLong as PastLimit, Cut as CutShort}
 use Rattle.fg_trace.specs.Trace.{Record, Fits, trace_of, Begins, IsLongest, Ending, Ended, NotTrace, Cut, TooLong, IsTrace}
-use Rattle.fg_trace.specs.Reader.{Answer, ReaderState, StandsAfter, IsEnding}
+use Rattle.fg_trace.specs.Reader.{Answer, ReaderState, StandsAfter, IsEnding, Walks}
 use Rattle.fg_trace.proofs.Fronts.{traces}
 use Rattle.fg_trace.proofs.Endings.{apart, one_trace, spelled_is_read}
 
@@ -64,6 +64,14 @@ ends_once bytes max records all one other h k =
     let second = told_ending other bytes max all k in
     let same = one_trace bytes max records all first.0 second.0 first.2 second.2 in
     (same.0, first.1 ∙ ap answer_of same.1 ∙ sym second.1)
+
+pub walks_on : (answer : Answer) (reader : ReaderState) (first now : Option (List ℕ)) (records : List Record) → Walks answer reader first now records → (all : List Record) × StandsAfter reader first now all
+walks_on (Ok (Datagram time port size)) reader first now records h = (records ++ (record { time = time; port = port; datagram = reader.payload }) ∷ [], h)
+walks_on (Ok End) reader first now records h = (records, h.0)
+walks_on (Err ReadFault) reader first now records h = (records, h)
+walks_on (Err (NoMagic n)) reader first now records h = (records, h.0)
+walks_on (Err (CutShort n)) reader first now records h = (records, h.0)
+walks_on (Err (PastLimit n)) reader first now records h = (records, h.0)
 
 pub spelled_is_walked : (reader : ReaderState) (now : Option (List ℕ)) (records all : List Record) → AllByRecursion Fits all → length (trace_of all) ≤ reader.max → StandsAfter reader (Some (trace_of all)) now records
     → (records ≡ take (length records) all) × ((answer : Answer) → IsEnding answer (trace_of all) reader.max records → (records ≡ all) × (answer ≡ Ok End))

@@ -1,9 +1,12 @@
 -- Laws that show the definition of the trace, and of where a reader stands, to be right.
-use Rattle.std.specs.Prelude.{◌≡◌, ◌≤◌, ℕ, Option, Some, Ok, List, length, take}
+use Rattle.std.specs.Prelude.{◌≡◌, ◌+◌, ◌≤◌, ℕ, Option, Some, IfSome, Ok, List, length, take}
 use Rattle.std.specs.List.{AllByRecursion}
+use Rattle.fg_trace.specs.declared.step.Finish.{Finish}
 use Rattle.fg_trace.specs.declared.step.Step.TheVariants.{End}
 use Rattle.fg_trace.specs.Trace.{Record, Fits, Ending, Ended, IsTrace, trace_of}
-use Rattle.fg_trace.specs.Reader.{Answer, ReaderState, StandsAfter, IsEnding}
+use Rattle.fg_trace.specs.Finish.{IsFault}
+use Rattle.fg_trace.specs.Reader.{Answer, ReaderState, StandsBefore, StandsAfter, IsEnding, Walks}
+use Rattle.fg_trace.specs.Reading.{HasReached, IsReadFor}
 
 -- Bytes have at most one list of records, and one ending.
 abbrev pub OneTrace : Type 0
@@ -33,3 +36,25 @@ SpelledIsWalked = (reader : ReaderState) (now : Option (List ℕ)) (records all 
     → StandsAfter reader (Some (trace_of all)) now records
     → (records ≡ take (length records) all)
     × ((answer : Answer) → IsEnding answer (trace_of all) reader.max records → (records ≡ all) × (answer ≡ Ok End))
+
+-- Whatever `next` answers, the reader stands after some records.
+abbrev pub WalksOn : Type 0
+WalksOn = (answer : Answer) (reader : ReaderState) (first now : Option (List ℕ)) (records : List Record)
+    → Walks answer reader first now records → (all : List Record) × StandsAfter reader first now all
+
+-- Where nothing was read, a fault needs no more.
+abbrev pub UnreadIsReadFor : Type 0
+UnreadIsReadFor = (max : ℕ) (answer : Finish) (first : Option (List ℕ))
+    → IsFault answer → IfSome first (λ bytes. IsReadFor max answer bytes first)
+
+-- A reader that looks for the magic has read of its source what it holds.
+abbrev pub BeforeIsReadFor : Type 0
+BeforeIsReadFor = (answer : Finish) (reader : ReaderState) (first now : Option (List ℕ))
+    → StandsBefore reader first now → reader.place + length reader.held ≤ reader.max + 1
+    → HasReached answer reader now → IfSome first (λ bytes. IsReadFor reader.max answer bytes now)
+
+-- A reader that stands after some records has read their trace, and what it holds.
+abbrev pub AfterIsReadFor : Type 0
+AfterIsReadFor = (answer : Finish) (reader : ReaderState) (first now : Option (List ℕ)) (records : List Record)
+    → StandsAfter reader first now records → reader.place + length reader.held ≤ reader.max + 1
+    → HasReached answer reader now → IfSome first (λ bytes. IsReadFor reader.max answer bytes now)

@@ -3,6 +3,7 @@ pub mod Finish
 pub mod Header
 pub mod Laws
 pub mod Reader
+pub mod Reading
 pub mod Trace
 pub mod Walk
 pub mod Window

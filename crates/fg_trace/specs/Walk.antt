@@ -4,6 +4,7 @@ use Rattle.std.specs.Io.KnownBytes.{IsAtEnd}
 use Rattle.fg_trace.specs.declared.step.TraceFault.TheVariants.{NotTrace}
 use Rattle.fg_trace.specs.Header.{IsHeader}
 use Rattle.fg_trace.specs.Reader.{Answer, ReaderState, ending_at}
+use Rattle.fg_trace.specs.Reading.{most_held}
 use Rattle.fg_trace.specs.Trace.{Record, StandsFirst, spelling}
 use Rattle.fg_trace.specs.Window.{TakesMore}
 
@@ -18,6 +19,8 @@ pub record IsReader (max : ℕ) (started : Bool) (place : ℕ) (held payload : L
   pub least : 8 ≤ max
   pub within : place ≤ max
   pub bounded : place + length held ≤ max + 1
+  pub front : started ≡ false → place ≡ 0
+  pub few : length held ≤ most_held
   pub quiet : IsSome kept → payload ≡ []
   pub right : IfSome kept (λ answer. IsKept started answer max place (length held))
 

@@ -1,5 +1,5 @@
 //! Laws of the definition of the trace and of where a reader stands, each the contract of a function with an empty body.
-ghost use Rattle.fg_trace.specs.Laws.{OneTrace, SpelledIsRead, WalksTheFront, EndsOnce, SpelledIsWalked};
+ghost use Rattle.fg_trace.specs.Laws.{OneTrace, SpelledIsRead, WalksTheFront, EndsOnce, SpelledIsWalked, WalksOn, UnreadIsReadFor, BeforeIsReadFor, AfterIsReadFor};
 
 /// Bytes have at most one list of records, and one ending.
 pub fn one_trace()
@@ -24,4 +24,16 @@ pub fn ends_once()
 /// A trace that was written is read back, in whatever pieces.
 pub fn spelled_is_walked()
     ensures { SpelledIsWalked }
+{}
+
+/// Whatever a reader answers to `next`, it stands after some records.
+pub fn walks_on()
+    ensures { WalksOn }
+{}
+
+/// Wherever a reader stands, it has read as far as its answer needs, and at most a byte past the limit.
+pub fn read_as_far_as_needed()
+    ensures unread { UnreadIsReadFor }
+    ensures before { BeforeIsReadFor }
+    ensures after { AfterIsReadFor }
 {}

@@ -6,6 +6,7 @@ ghost use Rattle.fg_trace.specs.Header.{BeginsMagic};
 ghost use Rattle.fg_trace.specs.Trace.{Record};
 ghost use Rattle.fg_trace.specs.Window.{TakesMore};
 ghost use Rattle.fg_trace.specs.Reader.{StandsBefore, StandsAfter, Opens, Walks, payload_size, record_size, kept_answer, ending_at, ReadsToEnd, start_answer, IsDecided, new_reader};
+ghost use Rattle.fg_trace.specs.Reading.{most_held};
 ghost use Rattle.fg_trace.specs.Walk.{TakesIn, HoldsEnough, HoldsRecord, HoldsNone, after_record, after_magic};
 
 use crate::header::{HEADER, Header, LARGEST, MAGIC, differs_from_magic, read_header};
@@ -81,6 +82,12 @@ impl Reader {
         ensures payload { self.old.payload ≡ [] → self.new.payload ≡ [] }
         ensures max { self.new.max ≡ self.old.max }
         ensures bounded { self.new.place + length self.new.held ≤ self.new.max + 1 }
+        ensures few { length self.new.held ≤ most_held }
+
+        // The byte that differs was read, or there is none.
+        ensures differs { IsNone self.old.kept → (place : ℕ) → result ≡ Err (TraceFault.NotTrace place)
+            → (place < length self.new.held) ⊎ IsAtEnd (S.left from.new) }
+
         ensures counted { result ≡ Err TraceFault.ReadFault
             → CountsFault (S.faults from.old) (S.faults from.new) }
         ensures no_fault { result ≢ Err TraceFault.ReadFault → S.faults from.new ≡ S.faults from.old }
@@ -125,10 +132,15 @@ impl Reader {
         // An ending that was found at the input's end leaves nothing of it.
         ensures at_end { IsNone self.old.kept → ReadsToEnd result → IsAtEnd (S.left from.new) }
 
+        // An input that is too long was read past the limit.
+        ensures past { (place : ℕ) → result ≡ Err (TraceFault.TooLong place)
+            → self.new.max < self.new.place + length self.new.held }
+
         ensures payload { length self.new.payload ≡ payload_size result }
         ensures place { self.new.place ≡ self.old.place + record_size result }
         ensures within { self.new.place ≤ self.new.max }
         ensures bounded { self.new.place + length self.new.held ≤ self.new.max + 1 }
+        ensures few { length self.new.held ≤ most_held }
         ensures max { self.new.max ≡ self.old.max }
         ensures started { self.new.started ≡ true }
         ensures counted { result ≡ Err TraceFault.ReadFault
@@ -168,6 +180,7 @@ impl Reader {
         requires open { self.old.kept ≡ None }
         ensures takes { TakesIn self.old (S.left from.old) self.new (S.left from.new) }
         ensures bounded { self.new.place + length self.new.held ≤ self.new.max + 1 }
+        ensures few { length self.new.held ≤ most_held }
         ensures filled { OnOk result (HoldsEnough self.new (S.left from.new) want) }
         ensures fault { IfErr result (λ fault. fault ≡ TraceFault.ReadFault) }
         ensures no_fault { OnOk result (S.faults from.new ≡ S.faults from.old) }
@@ -198,6 +211,7 @@ impl Reader {
         requires open { self.old.kept ≡ None }
         ensures takes { TakesIn self.old (S.left from.old) self.new (S.left from.new) }
         ensures bounded { self.new.place + length self.new.held ≤ self.new.max + 1 }
+        ensures few { length self.new.held ≤ most_held }
         ensures found { IfOk result (λ found. IfSome found (λ header.
             HoldsRecord self.new header.time header.port header.size)) }
         ensures none { IfOk result (λ found. IfNone found (HoldsNone self.new (S.left from.new))) }
@@ -222,6 +236,7 @@ impl Reader {
     /// Answers the record at the front of what is held.
     fn take_record(&mut self, header: Header) -> Step
         requires whole { HoldsRecord self.old header.time header.port header.size }
+        requires started { self.old.started ≡ true }
         requires open { self.old.kept ≡ None }
         ensures step { result ≡ Step.Datagram header.time header.port header.size }
         ensures taken { self.new ≡ after_record self.old header.size }

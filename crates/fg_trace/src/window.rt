@@ -99,6 +99,7 @@ impl Window {
         ensures takes { TakesMore self.old.held (S.left from.old) self.new.held (S.left from.new) }
         ensures payload { self.new.payload ≡ [] }
         ensures bounded { length self.new.held ≤ max most (length self.old.held) }
+        ensures few { length self.new.held ≤ BUFFER }
         ensures filled { OnOk result ((want ≤ length self.new.held) ⊎ IsAtEnd (S.left from.new)) }
         ensures no_fault { OnOk result (S.faults from.new ≡ S.faults from.old) }
         ensures counted { OnErr result (CountsFault (S.faults from.old) (S.faults from.new)) }
@@ -151,6 +152,7 @@ impl Window {
         ensures takes { TakesMore self.old.held (S.left from.old) self.new.held (S.left from.new) }
         ensures same { self.new ≡ record self.old { held = self.new.held } }
         ensures bounded { length self.new.held ≤ most }
+        ensures few { length self.new.held ≤ BUFFER }
         ensures count { IfOk result (λ count. length self.new.held ≡ length self.old.held + count) }
         ensures end { IfOk result (λ count. count ≡ 0 → IsAtEnd (S.left from.new)) }
         ensures no_fault { OnOk result (S.faults from.new ≡ S.faults from.old) }

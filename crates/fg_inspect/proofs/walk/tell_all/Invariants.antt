@@ -1,5 +1,5 @@
 use Rattle.std.proofs.Common.{◌≡◌, ℕ, ◌-◌, Option, None, List}
-use Rattle.fg_inspect.specs.Steps.{IsUnderway}
+use Rattle.fg_inspect.specs.Steps.{IsUnderway, Stands}
 use Rattle.fg_inspect.proofs.walk.tell_all.Given as goal
 
 abbrev pub invariant-loop-finish : goal.invariant-loop-finish
@@ -7,6 +7,7 @@ invariant-loop-finish g l = record {
   told : (first : Option (List ℕ)) (before : Option (List ℕ))
       → IsUnderway l.table first (g.S.Source.left l.fn.input) l.fn.reader l.fn.lines before (g.K.Sink.written l.fn.out)
       → IsUnderway l.table first (g.S.Source.left l.input) l.reader l.lines before (g.K.Sink.written l.out);
+  stands : (first : Option (List ℕ)) → Stands l.fn.reader first (g.S.Source.left l.fn.input) → Stands l.reader first (g.S.Source.left l.input);
   unkept : l.reader.kept ≡ None;
   max : l.reader.max ≡ l.fn.reader.max;
   reads : g.S.Source.faults l.input ≡ g.S.Source.faults l.fn.input;

@@ -1,6 +1,7 @@
-use Rattle.std.proofs.Common.{ℕ, List, [], Option}
+use Rattle.std.proofs.Common.{ℕ, List, [], Option, Ok}
 use Rattle.fg_trace.specs.Reader.{StandsAfter}
 use Rattle.fg_inspect.specs.Inspect.{TellsPart}
+use Rattle.fg_inspect.proofs.Reaching.{failed_reached, read_to}
 use Rattle.fg_inspect.proofs.Telling.{on_err}
 use Rattle.fg_inspect.proofs.Walking.{underway, tells, tells_part}
 use Rattle.fg_inspect.proofs.walk.tell_records.Goals as goal
@@ -24,3 +25,18 @@ returns-clause-whole g c = λ first stands.
     let written = g.K.Sink.written c.args.out.now in
     tells c.args.table.now c.args.reader.now.max first c.in_ok-finish.finish c.tell_all.new.lines written _ _
     (c.in_ok-finish.ensures.whole first written (underway c.args.table.now first _ c.args.reader.now c.args.lines.now written c.requires.new stands)) c.in_ok-write.ensures.whole
+
+pub returns-in_err-finish-clause-reached : goal.returns-in_err-finish-clause-reached
+returns-in_err-finish-clause-reached g c = λ first stands.
+    read_to c.read_as_far_as_needed.ensures.after c.from_residual.result c.args.reader.now.max c.tell_all.new.reader first _ c.tell_all.ensures.max (c.tell_all.ensures.stands first ([], stands)) c.tell_all.ensures.bounded
+    (failed_reached c.from_residual.result _ _ c.from_residual.ensures.0)
+
+pub returns-in_err-write-clause-reached : goal.returns-in_err-write-clause-reached
+returns-in_err-write-clause-reached g c = λ first stands.
+    read_to c.read_as_far_as_needed.ensures.after c.from_residual-in_err-write.result c.args.reader.now.max c.tell_all.new.reader first _ c.tell_all.ensures.max (c.tell_all.ensures.stands first ([], stands)) c.tell_all.ensures.bounded
+    (failed_reached c.from_residual-in_err-write.result _ _ c.from_residual-in_err-write.ensures.0)
+
+pub returns-clause-reached : goal.returns-clause-reached
+returns-clause-reached g c = λ first stands.
+    read_to c.read_as_far_as_needed.ensures.after (Ok c.in_ok-finish.finish) c.args.reader.now.max c.tell_all.new.reader first _ c.tell_all.ensures.max (c.tell_all.ensures.stands first ([], stands)) c.tell_all.ensures.bounded
+    c.in_ok-finish.ensures.reached
