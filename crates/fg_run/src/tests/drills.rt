@@ -189,15 +189,37 @@ fn without_two(alloc: Global, stream: &[u8]) -> Result<Vec<u8>, AllocError> {
     Ok(left)
 }
 
-// Ten slots in a row are in ten columns, or in two matrices. Of eleven from slot 45 on, column 5 loses slots 45 and 55. No two
-// of the packets are alike.
-#[test]
-fn ten_lost_come_back_and_eleven_do_not(rt: HostRuntime) -> Result<(), Fail> {
-    let mut stream = stream_without(rt.alloc(), 29, &[])?;
+/// The stream of 200 packets, no two of which are alike.
+fn packets(alloc: Global) -> Result<Vec<u8>, AllocError> {
+    let mut stream = stream_without(alloc, 29, &[])?;
     stream.truncate(37_600);
-    for first in 1..100 {
+    Ok(stream)
+}
+
+// Ten slots in a row are in ten columns.
+#[test]
+fn ten_lost_of_a_matrix_come_back(rt: HostRuntime) -> Result<(), Fail> {
+    let stream = packets(rt.alloc())?;
+    for first in 1..50 {
         comes_back_as(&rt, rt.alloc(), &stream, first, 10, &stream)?;
     }
+    Ok(())
+}
+
+// Or in two matrices.
+#[test]
+fn ten_lost_of_two_matrices_come_back(rt: HostRuntime) -> Result<(), Fail> {
+    let stream = packets(rt.alloc())?;
+    for first in 50..100 {
+        comes_back_as(&rt, rt.alloc(), &stream, first, 10, &stream)?;
+    }
+    Ok(())
+}
+
+// Of eleven from slot 45 on, column 5 loses slots 45 and 55.
+#[test]
+fn eleven_lost_leave_two_out(rt: HostRuntime) -> Result<(), Fail> {
+    let stream = packets(rt.alloc())?;
     let left = without_two(rt.alloc(), &stream)?;
     comes_back_as(&rt, rt.alloc(), &stream, 45, 11, &left)?;
     Ok(())
