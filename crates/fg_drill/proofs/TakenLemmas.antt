@@ -15,7 +15,8 @@ use Rattle.fg_trace.specs.Trace.{Record, magic, spelling, trace_of}
 use Rattle.fg_encode.specs.Encoder.{CanEncode, EncoderState, StandsAfter}
 use Rattle.fg_encode.specs.Encoding.{encoding, records_at}
 use Rattle.fg_encode.specs.Laws.{OneMoreAdds}
-use Rattle.fg_encode.specs.Stream.{payload_of, AreFirst, IsCut, Whole, Ragged, NoSync, TooLong as PastLimit}
+use Rattle.fg_encode.specs.Reading.{IsStreamReadFor, ReadsAsFar, ReadsLittle, ending_told as kept_ending_told}
+use Rattle.fg_encode.specs.Stream.{StreamEnding, payload_of, AreFirst, IsCut, Whole, Ragged, NoSync, TooLong as PastLimit}
 use Rattle.fg_encode.specs.StreamReader.{Answer, StreamState, IsEnding, IsPlaced, KeepsEnding, StandsAfter as ReaderStands}
 use Rattle.fg_shape.specs.declared.encoding.Settings.{Settings}
 use Rattle.fg_shape.specs.declared.encoding.Losses.{Losses}
@@ -26,7 +27,7 @@ use Rattle.fg_drill.specs.PayloadLaws.{CutPayloads, FirstPayloads}
 use Rattle.fg_drill.specs.Payloads.{payloads_of}
 use Rattle.fg_drill.specs.Sending.{SenderState, CanGoOn, IsUnderWay, answer_of, given_of, trace_so_far}
 use Rattle.fg_drill.specs.Thinned.{is_lost, thinned, without}
-use Rattle.fg_drill.specs.ThinnedSource.{EndsFor, whole_stream, thinned_trace}
+use Rattle.fg_drill.specs.ThinnedSource.{EndsFor, ending_told, whole_stream, thinned_trace}
 use Rattle.fg_drill.proofs.WithoutLemmas.{without-append, without_same}
 
 -- The first payloads, one after another, are the first bytes.
@@ -137,15 +138,15 @@ pub no_payload :
     → new.payload ≡ [] → new.packets ≡ old.packets → new.max ≡ old.max → new.place ≡ old.place + length new.payload
     → (old.ended ≡ true → (new.ended ≡ true) × (new.payload ++ new.held ≡ old.held))
     → (now_told ≡ true → new.kept ≡ Some (answer_of now_fault)) → (now_told ≡ false → (new.kept ≡ None) × (now_fault ≡ None))
-    → IsUnderWay new sender payloads now_told now_fault rest
-no_payload old new sender payloads told now_told fault now_fault left rest h unended empty stands none packets max place ended says quiet =
+    → ReadsLittle new → IsUnderWay new sender payloads now_told now_fault rest
+no_payload old new sender payloads told now_told fault now_fault left rest h unended empty stands none packets max place ended says quiet little =
     let still : new.place ≡ old.place = omega (arith, place, ap length none) in
     record {
       stands = stands_there new (whole_stream payloads old.held left) rest payloads stands;
       fits = h.fits;
       packets = packets ∙ h.packets;
       limit = omega (arith, max, h.limit);
-      within = omega (arith, max, still, h.within);
+      little = little;
       number = h.number;
       counted = omega (arith, still, h.counted);
       goes_on = ⊎_elim
@@ -178,7 +179,7 @@ pub payload_sent :
     (old new : StreamState) (sender after : SenderState) (payloads : List (List ℕ)) (told : Bool) (fault : Option StreamFault) (left rest : Option (List ℕ)) (count : ℕ)
     → IsUnderWay old sender payloads told fault left → told ≡ false
     → ReaderStands new (whole_stream payloads old.held left) rest (payloads ++ new.payload ∷ [])
-    → new.packets ≡ old.packets → new.max ≡ old.max → new.place ≡ old.place + length new.payload → new.place ≤ new.max → new.kept ≡ None
+    → new.packets ≡ old.packets → new.max ≡ old.max → new.place ≡ old.place + length new.payload → ReadsLittle new → new.kept ≡ None
     → (length new.payload ≡ 188 * new.packets) ⊎ ((new.ended ≡ true) × (new.held ≡ []))
     → old.place ≡ 188 * old.packets * length payloads → 1 ≤ count → ArePackets new.payload count
     → after.held ≡ flat_map spelling (without (is_lost sender.losses) sender.number (records_at sender.encoder.settings (payloads ++ new.payload ∷ []) (length payloads)))
@@ -187,7 +188,7 @@ pub payload_sent :
     → (length new.payload ≡ 188 * sender.encoder.settings.packets → StandsAfter after.encoder (payloads ++ new.payload ∷ []))
     → after.encoder.settings ≡ sender.encoder.settings → after.losses ≡ sender.losses → OneMoreAdds
     → IsUnderWay new after (payloads ++ new.payload ∷ []) told fault rest
-payload_sent old new sender after payloads told fault left rest count h unended stands packets max place within kept last there some whole held number few goes settings losses adds =
+payload_sent old new sender after payloads told fault left rest count h unended stands packets max place little kept last there some whole held number few goes settings losses adds =
     let all = payloads ++ new.payload ∷ [] in
     let s = sender.encoder.settings in
     let sent : List Record = encoding s payloads in
@@ -197,7 +198,7 @@ payload_sent old new sender after payloads told fault left rest count h unended 
       fits = subst CanEncode (sym settings) h.fits;
       packets = packets ∙ h.packets ∙ ap (λ (t : Settings). t.packets) (sym settings);
       limit = omega (arith, max, h.limit);
-      within = within;
+      little = little;
       number =
           number ∙ ap (λ n. n + length more) h.number ∙ sym (length-append sent more)
           ∙ ap (λ (l : List Record). length l) (sym (adds s payloads new.payload)) ∙ ap (λ t. length (encoding t all)) (sym settings);
@@ -229,7 +230,7 @@ after_give reader sender payloads told fault rest count h = record {
   fits = h.fits;
   packets = h.packets;
   limit = h.limit;
-  within = h.within;
+  little = h.little;
   number = h.number;
   counted = h.counted;
   goes_on = h.goes_on;
@@ -376,3 +377,32 @@ same_left settings settings' losses losses' max max' given given' stream stream'
     ∙ ap (λ n. option_map (λ bytes. drop given' (thinned_trace settings losses n bytes)) stream') c
     ∙ ap (λ n. option_map (λ bytes. drop n (thinned_trace settings losses max bytes)) stream') d
     ∙ ap (λ t. option_map (λ bytes. drop given (thinned_trace settings losses max bytes)) t) e)
+
+-- How far the stream was read: as far as the ending needs that was told.
+fault_told : (fault : Option StreamFault) → kept_ending_told (Some (answer_of fault)) ≡ ending_told true fault
+fault_told None = refl
+fault_told (Some (TooLong n)) = refl
+fault_told (Some (NotTransport (RaggedPayload n))) = refl
+fault_told (Some (NotTransport (UnsyncedPayload k))) = refl
+
+same_told :
+    (told : Bool) (fault : Option StreamFault) (kept : Option Answer) → (told ≡ true → kept ≡ Some (answer_of fault))
+    → (told ≡ false → kept ≡ None) → kept_ending_told kept ≡ ending_told told fault
+same_told true fault kept says quiet = ap kept_ending_told (says refl) ∙ fault_told fault
+same_told false fault kept says quiet = ap kept_ending_told (quiet refl)
+
+read_first :
+    (reader : StreamState) (first rest : Option (List ℕ)) (payloads : List (List ℕ)) → ReadsAsFar → ReaderStands reader first rest payloads
+    → ReadsLittle reader → IfSome first (λ bytes. IsStreamReadFor reader.max (kept_ending_told reader.kept) bytes rest)
+read_first reader None rest payloads reads stands little = tt
+read_first reader (Some bytes) rest payloads reads stands little = reads reader bytes rest payloads stands little
+
+pub read_for :
+    (reader : StreamState) (sender : SenderState) (payloads : List (List ℕ)) (told : Bool) (fault : Option StreamFault) (rest : Option (List ℕ))
+    → ReadsAsFar → IsUnderWay reader sender payloads told fault rest
+    → IfSome (whole_stream payloads reader.held rest) (λ bytes. IsStreamReadFor reader.max (ending_told told fault) bytes rest)
+read_for reader sender payloads told fault rest reads h =
+    let first = whole_stream payloads reader.held rest in
+    subst (λ (ending : Option StreamEnding). IfSome first (λ bytes. IsStreamReadFor reader.max ending bytes rest))
+    (same_told told fault reader.kept (λ is. (h.told_all is).1) (λ is. (h.untold is).0))
+    (read_first reader first rest payloads reads h.stands h.little)

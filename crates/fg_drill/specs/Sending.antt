@@ -7,6 +7,7 @@ use Rattle.fg_encode.specs.declared.stream.StreamStep.TheVariants.{End}
 use Rattle.fg_encode.specs.declared.stream.StreamFault.TheVariants.{NotTransport as NotPackets, TooLong as PastLimit}
 use Rattle.fg_encode.specs.Encoder.{CanEncode, EncoderState, StandsAfter}
 use Rattle.fg_encode.specs.Encoding.{encoding}
+use Rattle.fg_encode.specs.Reading.{ReadsLittle}
 use Rattle.fg_encode.specs.StreamReader.{Answer, StreamState, StandsAfter as ReaderStands}
 use Rattle.fg_drill.specs.declared.thinned.StreamFault.{StreamFault}
 use Rattle.fg_drill.specs.declared.thinned.StreamFault.TheVariants.{NotTransport, TooLong}
@@ -49,7 +50,7 @@ pub record IsUnderWay
   pub fits : CanEncode sender.encoder.settings
   pub packets : reader.packets ≡ sender.encoder.settings.packets
   pub limit : reader.max ≤ 2 ^ 40
-  pub within : reader.place ≤ reader.max
+  pub little : ReadsLittle reader
   pub number : sender.number ≡ length (encoding sender.encoder.settings payloads)
   pub counted : sender.number ≤ reader.place
   pub goes_on : CanGoOn reader sender.encoder payloads

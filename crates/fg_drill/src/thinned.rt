@@ -5,7 +5,8 @@ ghost use Rattle.std.specs.Io.KnownBytes.{IsAtEnd};
 ghost use Rattle.fg_io.specs.Faults.{CountsFault};
 ghost use Rattle.fg_io.specs.Source.{Gives};
 ghost use Rattle.fg_encode.specs.Encoder.{CanEncode};
-ghost use Rattle.fg_drill.specs.ThinnedSource.{EndsFor, GoesOn, LeavesNothing, ThinnedFixed, fixed_of, thinned_trace, trace_left};
+ghost use Rattle.fg_encode.specs.Reading.{IsStreamReadFor};
+ghost use Rattle.fg_drill.specs.ThinnedSource.{EndsFor, GoesOn, LeavesNothing, ThinnedFixed, ending_told, fixed_of, thinned_trace, trace_left};
 
 mod history;
 mod lost;
@@ -15,6 +16,7 @@ mod taking;
 
 use crate::laws::payloads::{first_payloads_are_taken_first, payloads_are_the_cut};
 use fg_encode::laws::a_payload_more_adds_its_records;
+use fg_encode::stream::read_as_far_as_needed;
 use fg_io::{Failed, Source};
 use fg_shape::{Losses, Settings};
 use fg_ts::TsFault;
@@ -164,10 +166,13 @@ impl<S: Source> Thinned<S> {
         self.taking.fault
     }
 
-    /// The source of the stream.
+    /// The source of the stream. It was read as far as the ending needs that was told, and never more than a byte past the limit.
     pub fn into_inner(self) -> S
-        ensures { result ≡ self.inner }
+        ensures inner { result ≡ self.inner }
+        ensures reads { IfSome self.stream (λ bytes.
+            IsStreamReadFor self.max (ending_told self.told self.fault) bytes (S.left result)) }
     {
+        read_as_far_as_needed();
         let Thinned { inner, .. } = self;
         inner
     }

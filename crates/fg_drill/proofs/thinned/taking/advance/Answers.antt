@@ -8,6 +8,7 @@ use Rattle.fg_ts.specs.declared.TsFault.{TsFault}
 use Rattle.fg_ts.specs.declared.TsFault.TheVariants.{Ragged, NoSync}
 use Rattle.fg_trace.specs.Trace.{spelling}
 use Rattle.fg_encode.specs.Encoding.{records_at}
+use Rattle.fg_encode.specs.Reading.{ReadsLittle}
 use Rattle.fg_encode.specs.StreamReader.{Answer, StreamState, Walks, kept_answer, StandsAfter as ReaderStands}
 use Rattle.fg_drill.specs.declared.thinned.StreamFault.TheVariants.{NotTransport}
 use Rattle.fg_drill.specs.Sending.{IsUnderWay, given_of}
@@ -62,7 +63,8 @@ returns-in-Err-ReadFault-clause-keeps g c =
       way = no_payload old.reader c.next.new.self old.sender payloads old.told old.told old.fault old.fault (g.S.Source.left c.args.from.now) rest way c.requires.open c.requires.empty stands none
           c.next.ensures.packets c.next.ensures.max c.next.ensures.place c.next.ensures.ended
           (λ is. absurd (let a : true ≡ false = sym is ∙ c.requires.open in cc))
-          (λ is. (c.next.ensures.kept ∙ ap kept_answer answer, (way.untold c.requires.open).1));
+          (λ is. (c.next.ensures.kept ∙ ap kept_answer answer, (way.untold c.requires.open).1))
+          (record { within = c.next.ensures.within; bounded = c.next.ensures.bounded; few = c.next.ensures.few; ending = c.next.ensures.ending });
       read_out = λ is. absurd (let a : true ≡ false = sym is ∙ c.requires.open in cc);
       stream = stream_stays c.next.new.self first rest payloads stands;
       given = refl;
@@ -88,7 +90,8 @@ returns-in-Err-NotTransport-clause-keeps g c =
       way = no_payload old.reader c.next.new.self old.sender payloads old.told true old.fault (Some (NotTransport fault)) (g.S.Source.left c.args.from.now) rest way c.requires.open c.requires.empty stands none
           c.next.ensures.packets c.next.ensures.max c.next.ensures.place c.next.ensures.ended
           (λ is. kept)
-          (λ is. absurd (let a : true ≡ false = is in cc));
+          (λ is. absurd (let a : true ≡ false = is in cc))
+          (record { within = c.next.ensures.within; bounded = c.next.ensures.bounded; few = c.next.ensures.few; ending = c.next.ensures.ending });
       read_out = λ is. ragged_at_end fault c.next.new.self first rest payloads walks;
       stream = stream_stays c.next.new.self first rest payloads stands;
       given = refl;
@@ -117,8 +120,9 @@ returns-in-Ok-Payload-clause-keeps g c =
     let number = c.send.ensures.number payloads can.0 ∙ ap (λ (t : List ℕ). old.sender.number + length (records_at old.sender.encoder.settings (payloads ++ t ∷ []) (length payloads))) payload in
     let goes = subst (λ (t : List ℕ). length t ≡ 188 * old.sender.encoder.settings.packets → StandsAfter after.encoder (payloads ++ t ∷ [])) payload (c.send.ensures.stands payloads can.0) in
     let last = ⊎_elim (λ (whole : length new.payload ≡ 188 * new.packets). inl whole) (λ (over : (new.ended ≡ true) × (new.held ≡ [])). inr over) (c.next.ensures.last answer) in
+    let little : ReadsLittle new = record { within = c.next.ensures.within; bounded = c.next.ensures.bounded; few = c.next.ensures.few; ending = c.next.ensures.ending } in
     let way' = payload_sent old.reader new old.sender after payloads old.told old.fault (g.S.Source.left c.args.from.now) rest few.0 way c.requires.open stands
-    c.next.ensures.packets c.next.ensures.max c.next.ensures.place c.next.ensures.within (c.next.ensures.kept ∙ ap kept_answer answer)
+    c.next.ensures.packets c.next.ensures.max c.next.ensures.place little (c.next.ensures.kept ∙ ap kept_answer answer)
     last can.1 few.1 few.3 held number c.send.ensures.few goes c.send.ensures.settings c.send.ensures.losses c.a_payload_more_adds_its_records.ensures.adds in
     record {
       way = subst (λ (t : List (List ℕ)). IsUnderWay new after t old.told old.fault rest) (sym told) way';
