@@ -1,7 +1,7 @@
 -- How a repair ends: what it answers, and what lanes and sink have gained then.
-use Rattle.std.proofs.Common.{◌≡◌, ◌⊎◌, inl, inr, ℕ, nat_lt, cond, Bool, true, false, is_some, Option, Some, None, IfSome, List, [], ◌∷◌, map, refl, sym, ap, ◌∙◌, subst}
+use Rattle.std.proofs.Common.{◌≡◌, ◌⊎◌, inl, inr, ℕ, nat_lt, cond, Bool, true, false, is_some, Option, Some, None, IfSome, List, [], ◌∷◌, length, map, suc, take, arith, refl, sym, ap, ◌∙◌, subst}
 use Rattle.std.specs.FinMap.{get, empty, get-empty}
-use Rattle.std.specs.List.{AllZip}
+use Rattle.std.specs.List.{AllZip, Contains}
 use Rattle.std.specs.Ordering.{nat_cmp}
 use Rattle.fg_flows.specs.declared.Plan.{Plan}
 use Rattle.fg_desk.specs.Laws.{LiveStandUnderSerials}
@@ -11,18 +11,23 @@ use Rattle.fg_repair.specs.Flow.{FlowResult, IsFlowResult, sum_of}
 use Rattle.fg_report.specs.declared.flow_sum.FlowSum.{FlowSum}
 use Rattle.fg_report.specs.declared.tail.Tail.{Tail}
 use Rattle.fg_report.specs.Text.{report_of}
+use Rattle.fg_trace.specs.declared.step.Finish.{Finish}
 use Rattle.fg_trace.specs.declared.step.Finish.TheVariants as finish
 use Rattle.fg_trace.specs.Laws.{OneTrace}
 use Rattle.fg_trace.specs.Trace.{Record, Ending, Ended, NotTrace, Cut, TooLong, IsTrace}
 use Rattle.fg_io.specs.Outlet.{Lanes, WhereTold}
 use Rattle.fg_io.specs.Sink.{GainsPart}
 use Rattle.fg_repair.specs.declared.engine.Engine.{Engine}
-use Rattle.fg_repair.specs.Engine.{OneFlowResult, NoRecordsHaveResults, LanesPart, LanesWhole, TellsTail, sums_of}
+use Rattle.fg_repair.specs.Engine.{OneFlowResult, NoRecordsHaveResults, LanesPart, LanesWhole, StopsAt, StopsIn, TellsTail, sums_of, fault_finish}
 use Rattle.fg_repair.specs.Lanes.{OthersStay, LanesGain, PutsAll, PutsAllPart}
 use Rattle.fg_repair.specs.Repair.{AreResults, OutputsPart, Finishes, lanes_of, others_of, tail_of, report_text}
 use Rattle.fg_repair.proofs.Fronts.{one_of_each}
-use Rattle.fg_repair.proofs.Lanes.{told_map, grow_none}
-use Rattle.fg_repair.proofs.Writing.{nothing_part}
+use Rattle.fg_repair.specs.Stops.{Stops, Flushing, HasGained, HasGainedPart}
+use Rattle.fg_repair.specs.declared.fault.Fault.{Fault}
+use Rattle.fg_repair.specs.declared.fault.Fault.TheVariants.{Read, Write, Memory}
+use Rattle.fg_repair.proofs.Firsts.{first_all}
+use Rattle.fg_repair.proofs.Lanes.{told_map}
+use Rattle.fg_repair.proofs.Writing.{none_part}
 
 -- No records
 
@@ -70,14 +75,14 @@ part_front : {K : Type 0} (plan : Plan) (first : Option (List ℕ)) (before afte
 part_front plan None before after written out h = tt
 part_front plan (Some bytes) before after written out h = λ records results end trace are. inl (h records results end trace are, refl)
 
-pub lanes_outputs : {K : Type 0} (plan : Plan) (first : Option (List ℕ)) (before after : Option Lanes) (written : K → Option (List ℕ)) (out : K) → LanesPart plan first before after → OutputsPart plan first before after written out out
-lanes_outputs plan first before after written out h = record {
+pub lanes_outputs : {K : Type 0} (plan : Plan) (Quiet : Type 0) (first : Option (List ℕ)) (before after : Option Lanes) (written : K → Option (List ℕ)) (out : K) → LanesPart plan Quiet first before after → OutputsPart plan first before after written out out
+lanes_outputs plan Quiet first before after written out h = record {
   others = h.others;
   front = part_front plan first before after written out h.front;
 }
 
 pub no_outputs : {K : Type 0} (plan : Plan) (first : Option (List ℕ)) (lanes : Option Lanes) (written : K → Option (List ℕ)) (out : K) → OutputsPart plan first lanes lanes written out out
-no_outputs plan first lanes written out = lanes_outputs plan first lanes lanes written out (nothing_part plan first lanes lanes (grow_none lanes plan.table))
+no_outputs plan first lanes written out = lanes_outputs plan ⊥ first lanes lanes written out (none_part plan ⊥ first lanes)
 
 told_is : (end : Ending) (told : Tail) → TellsTail end told → told ≡ tail_of end
 told_is Ended told h = h
@@ -110,6 +115,50 @@ report_outputs law one plan first engine told before after written out out' h pa
   others = puts_others plan.table (lanes_of h.ended.results) before after h.ended.puts;
   front = report_front law one plan first engine told before after written out out' h part;
 }
+
+-- Where it stopped
+
+each_whole : (plan : Plan) (records : List Record) (broken : Option ℕ) (n : ℕ) (ports : List ℕ) (results : List FlowResult) → AllZip (IsFlowResult plan.window plan.depth records) ports results → ((port : ℕ) → Contains ports port → Contains (take n plan.table) port) → AllZip (λ flow piece. HasGained plan records (Flushing n) flow piece ⊎ ((broken ≡ Some flow) × HasGainedPart plan records (Flushing n) flow piece)) ports (lanes_of results)
+each_whole plan records broken n [] [] h f = tt
+each_whole plan records broken n [] (r ∷ results) h f = absurd h
+each_whole plan records broken n (p ∷ ports) [] h f = absurd h
+each_whole plan records broken n (p ∷ ports) (r ∷ results) h f = (
+  inl (inl (f p (0, omega arith, refl), record { result = r; is_result = h.0; bytes_are = refl })),
+  each_whole plan records broken n ports results h.1 (λ port c. f port (suc c.0, omega (arith, c.1), c.2)),
+)
+
+-- the lanes are whole
+pub whole_stops : OneTrace → (plan : Plan) (Quiet : Type 0) (first : Option (List ℕ)) (engine : Engine) (told : Tail) (before after : Option Lanes) → LanesWhole plan first engine told before after → StopsIn plan Quiet first before after
+whole_stops law plan Quiet None engine told before after h = tt
+whole_stops law plan Quiet (Some bytes) engine told before after h = λ all end trace.
+    subst (λ (rs : List Record). StopsAt plan Quiet rs before after) (sym (law bytes plan.max all h.records end h.end trace h.of_input).0)
+    (record {
+      stage = Flushing (length plan.table);
+      broken = None;
+      unbroken = λ quiet. refl;
+      pieces = lanes_of h.ended.results;
+      gained = each_whole plan h.records None (length plan.table) plan.table h.ended.results h.ended.are_results (first_all plan.table);
+      puts = h.ended.puts;
+    })
+
+read_only : (fault : Fault) → fault_finish fault ≡ finish.ReadFault → fault ≡ Read
+read_only Read e = refl
+read_only Write e = absurd cc
+read_only Memory e = absurd cc
+
+-- the answer to a fault
+pub answer_stops : (plan : Plan) (Quiet : Type 0) (fault : Fault) (answer : Finish) (first : Option (List ℕ)) (before after : Option Lanes) → (fault ≡ Read → Quiet) → answer ≡ fault_finish fault → StopsIn plan Quiet first before after → IfSome first (λ bytes. (records : List Record) (end : Ending) → IsTrace bytes plan.max records end → Stops plan answer records before after)
+answer_stops plan Quiet fault answer None before after quiet is h = tt
+answer_stops plan Quiet fault answer (Some bytes) before after quiet is h = λ records end trace.
+    let at = h records end trace in
+    record {
+      stage = at.stage;
+      broken = at.broken;
+      unbroken = λ e. at.unbroken (quiet (read_only fault (sym is ∙ e)));
+      pieces = at.pieces;
+      gained = at.gained;
+      puts = at.puts;
+    }
 
 -- No trace
 

@@ -4,6 +4,7 @@ use Rattle.std.specs.List.{AllZip, Contains, slice_index_or}
 use Rattle.std.proofs.lemmas.Bool.{cases_eq}
 use Rattle.std.proofs.lemmas.Bool.Decides.{nat_tests}
 use Rattle.std.proofs.lemmas.List.{get_or-set_same, get_or-set_other, get_or_default, length-set}
+use Rattle.fg_io.specs.Prefix.{IsPrefix}
 use Rattle.fg_io.specs.Outlet.{Lanes, lane_of, lane_bytes}
 use Rattle.fg_flows.specs.declared.Plan.{Plan}
 use Rattle.fg_flows.specs.Flows.{IsTable}
@@ -17,6 +18,9 @@ use Rattle.fg_repair.specs.Flow.{FlowResult, IsFlowResult}
 use Rattle.fg_repair.specs.Lanes.{PutsAll}
 use Rattle.fg_repair.specs.Repair.{lanes_of}
 use Rattle.fg_repair.specs.Steps.{HasTaken, IsUnderway, BeginsLane, EndsFlow, BreaksAtEnd}
+use Rattle.fg_repair.specs.Stops.{Flushing, HasGained, HasGainedPart}
+use Rattle.fg_repair.proofs.Breaking.{shown_of}
+use Rattle.fg_repair.proofs.Firsts.{first_has, first_at}
 use Rattle.fg_repair.proofs.Lanes.{more, more_same, more_other, grow_more, there_more, contains_at}
 use Rattle.fg_repair.proofs.Standing.{moved, flow_taken, ports_differ}
 
@@ -138,17 +142,71 @@ begins_at one front plan records i items before now h any flow part begins port 
     (subst (λ p. BeginsLane plan.window plan.depth records p (h.gained p)) same
     (begins_of one front (nat_lt c.0 i) plan records (slice_index plan.table c.0) (slice_index_or items c.0 any) (h.gained (slice_index plan.table c.0)) (h.ends c.0 any c.1)))
 
+-- What a flow's lane has gained, where the first are flushed.
+gained_at :
+    OneFlowHasAPort → (plan : Plan) → IsTable plan.table → (records : List Record) (i k : ℕ) (flow : Flow) (lane : List ℕ) → k < length plan.table → (ended : Bool) → nat_lt k i ≡ ended
+    → FlowEnds ended plan records (slice_index plan.table k) flow lane → HasGained plan records (Flushing i) (slice_index plan.table k) lane
+gained_at law plan good records i k flow lane inside true e h =
+    inl (first_has plan.table i k (grind (arith, nat_tests, e)) inside, record { result = record { lane = lane; sum = flow.sum }; is_result = h; bytes_are = refl })
+gained_at law plan good records i k flow lane inside false e h =
+    inr (
+      λ c.
+          let f = first_at plan.table i (slice_index plan.table k) c in
+          let below : f.at < i = f.below in
+          let past : i ≤ k = grind (arith, nat_tests, e) in
+          ports_differ law plan.table good k f.at inside f.inside (λ same. absurd (omega (arith, same))) f.is,
+      shown_of plan.window plan.depth (slice_index plan.table k) records _ _ lane h.taken,
+    )
+
+-- The lane that the fault broke lies between what the flow has shown and its whole lane.
+broken_lies : (plan : Plan) (records : List Record) (i : ℕ) (gained : ℕ → List ℕ) (part : List ℕ) → i < length plan.table → HasGained plan records (Flushing i) (slice_index plan.table i) (gained (slice_index plan.table i)) → BeginsLane plan.window plan.depth records (slice_index plan.table i) (gained (slice_index plan.table i) ++ part) → HasGainedPart plan records (Flushing i) (slice_index plan.table i) (more gained (slice_index plan.table i) part (slice_index plan.table i))
+broken_lies plan records i gained part inside shown begins =
+    let flow = slice_index plan.table i in
+    let whole : (bytes : List ℕ) → HasGained plan records (Flushing (i + 1)) flow bytes → IsPrefix (gained flow ++ part) bytes = λ bytes h. lies_in plan records i (gained flow ++ part) inside begins bytes h in
+    record {
+      first = gained flow;
+      are = shown;
+      begins = (part, more_same gained flow part);
+      next = λ bytes h. subst (λ (lane : List ℕ). IsPrefix lane bytes) (sym (more_same gained flow part)) (whole bytes h);
+    }
+  where
+    lies_in : (plan : Plan) (records : List Record) (i : ℕ) (front : List ℕ) → i < length plan.table → BeginsLane plan.window plan.depth records (slice_index plan.table i) front → (bytes : List ℕ) → HasGained plan records (Flushing (i + 1)) (slice_index plan.table i) bytes → IsPrefix front bytes
+    lies_in plan records i front inside begins bytes (inl whole) = subst (IsPrefix front) (sym whole.1.bytes_are) (begins whole.1.result whole.1.is_result)
+    lies_in plan records i front inside begins bytes (inr other) = absurd (other.0 (first_has plan.table (i + 1) i (omega arith) inside))
+
+exact_at :
+    OneFlowHasAPort → (plan : Plan) → IsTable plan.table → (records : List Record) (i : ℕ) (items : List Flow) (before now : Option Lanes) (h : IsFlushing plan records i items before now) → Flow → (part : List ℕ) → i < length plan.table
+    → BeginsLane plan.window plan.depth records (slice_index plan.table i) (h.gained (slice_index plan.table i) ++ part)
+    → (port : ℕ) → Contains plan.table port → (port ≡ slice_index plan.table i) ⊎ (port ≡ slice_index plan.table i → ⊥)
+    → HasGained plan records (Flushing i) port (more h.gained (slice_index plan.table i) part port)
+    ⊎ ((Some (slice_index plan.table i) ≡ Some port) × HasGainedPart plan records (Flushing i) port (more h.gained (slice_index plan.table i) part port))
+exact_at law plan good records i items before now h any part inside begins port c (inl e) =
+    let flow = slice_index plan.table i in
+    subst (λ p. HasGained plan records (Flushing i) p (more h.gained flow part p) ⊎ ((Some flow ≡ Some p) × HasGainedPart plan records (Flushing i) p (more h.gained flow part p))) (sym e)
+    (inr (refl, broken_lies plan records i h.gained part inside
+    (gained_at law plan good records i i (slice_index_or items i any) (h.gained flow) inside (nat_lt i i) refl (h.ends i any inside)) begins))
+exact_at law plan good records i items before now h any part inside begins port c (inr ne) =
+    let flow = slice_index plan.table i in
+    let same : slice_index plan.table c.0 ≡ port = get_or_default plan.table c.0 0 port c.1 ∙ c.2 in
+    inl (subst (λ (lane : List ℕ). HasGained plan records (Flushing i) port lane) (sym (more_other h.gained flow part port ne))
+    (subst (λ p. HasGained plan records (Flushing i) p (h.gained p)) same
+    (gained_at law plan good records i c.0 (slice_index_or items c.0 any) (h.gained (slice_index plan.table c.0)) c.1 (nat_lt c.0 i) refl (h.ends c.0 any c.1))))
+
 pub flushing_stops :
-    OneFlowResult → TakenIsFront → (plan : Plan) (records : List Record) (i : ℕ) (items : List Flow) (before now after : Option Lanes) (old : Flow)
+    OneFlowResult → TakenIsFront → OneFlowHasAPort → (plan : Plan) → IsTable plan.table → (records : List Record) (i : ℕ) (items : List Flow) (before now after : Option Lanes) (old : Flow)
     → i < length items → old ≡ slice_index_or items i old → Stops old now after
     → IsFlushing plan records i items before now → BreaksAtFlush plan records before after
-flushing_stops one front plan records i items before now after old short at stops h =
+flushing_stops one front law plan good records i items before now after old short at stops h =
     let flow = slice_index plan.table i in
     let inside : i < length plan.table = subst (λ n. i < n) h.long short in
     let step : BreaksAtEnd plan.window plan.depth flow records (h.gained flow) now after = flow_stops plan records flow old (h.gained flow) now after stops (next_stands plan records i items before now old h short at) in
     record {
+      count = i;
+      broken = Some flow;
       gained = more h.gained flow step.part;
       grow = grow_more before now after plan.table h.gained flow step.part (contains_at plan.table i inside) h.grow step.grows;
+      there = there_more now after plan.table flow step.part h.there step.grows;
+      exact = λ port c. exact_at law plan good records i items before now h old step.part inside step.begins port c (cases_eq port flow);
       begin = λ port c. begins_at one front plan records i items before now h old flow step.part step.begins port c (cases_eq port flow);
     }
 
@@ -171,7 +229,7 @@ each_sum gained [] (flow ∷ flows) long = absurd (omega arith)
 each_sum gained (p ∷ ports) [] long = absurd (omega arith)
 each_sum gained (p ∷ ports) (flow ∷ flows) long = ap (λ t. flow.sum ∷ t) (each_sum gained ports flows (omega arith))
 
-some_is : (lane : Option (List ℕ)) (bytes : List ℕ) → IsSome lane → unwrap_or lane [] ≡ bytes → lane ≡ Some bytes
+pub some_is : (lane : Option (List ℕ)) (bytes : List ℕ) → IsSome lane → unwrap_or lane [] ≡ bytes → lane ≡ Some bytes
 some_is None bytes s e = absurd cc
 some_is (Some x) bytes s e = ap Some e
 

@@ -71,7 +71,7 @@ grow_more before now after ports gained port piece c g h =
     (λ old new. LanesGrow old ports (more gained port piece) new)
     (lanes_more ports gained port piece c) before now after g h
 
-there_at : (now after : Lanes) (port : ℕ) (piece : List ℕ) → LaneGrows now port piece after → (q : ℕ) → IsSome (lane_of now q) → (q ≡ port) ⊎ (q ≡ port → ⊥) → IsSome (lane_of after q)
+pub there_at : (now after : Lanes) (port : ℕ) (piece : List ℕ) → LaneGrows now port piece after → (q : ℕ) → IsSome (lane_of now q) → (q ≡ port) ⊎ (q ≡ port → ⊥) → IsSome (lane_of after q)
 there_at now after port piece h q s (inl e) = subst (λ p. IsSome (lane_of after p)) (sym e) (h.kept (subst (λ p. IsSome (lane_of now p)) e s))
 there_at now after port piece h q s (inr ne) = subst IsSome (sym (h.others q ne)) s
 

@@ -1,9 +1,11 @@
 pub mod Admitting
 pub mod Answering
 pub mod Arriving
+pub mod Breaking
 pub mod Counting
 pub mod Filling
 pub mod Finishing
+pub mod Firsts
 pub mod Flushing
 pub mod Fronts
 pub mod Growing
@@ -13,6 +15,7 @@ pub mod Reading
 pub mod Results
 pub mod Showing
 pub mod Standing
+pub mod Stopping
 pub mod Taking
 pub mod Underway
 pub mod Walking

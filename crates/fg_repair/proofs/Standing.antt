@@ -1,5 +1,5 @@
 -- How the flows of a repair stand, record after record.
-use Rattle.std.proofs.Common.{◌≡◌, ◌⊎◌, inl, inr, ℕ, ◌+◌, ◌<◌, Bool, true, false, not, cond, Option, List, [], ◌∷◌, ◌++◌, length, set, slice_index, refl, sym, ap, ◌∙◌, subst, arith, append_assoc, append-nil, zero-add, add-zero, ◌≤◌}
+use Rattle.std.proofs.Common.{◌≡◌, ◌⊎◌, inl, inr, ℕ, ◌+◌, ◌<◌, Bool, true, false, not, cond, Option, Some, List, [], ◌∷◌, ◌++◌, length, set, slice_index, refl, sym, ap, ◌∙◌, subst, arith, append_assoc, append-nil, zero-add, add-zero, ◌≤◌}
 use Rattle.std.specs.List.{AllZip, Contains, list_any, slice_index_or}
 use Rattle.std.specs.Vec.{with_item}
 use Rattle.std.proofs.lemmas.Bool.{cases_eq}
@@ -8,6 +8,7 @@ use Rattle.std.proofs.lemmas.List.{get_or-set_same, get_or-set_other, get_or_def
 use Rattle.std.proofs.lemmas.List.Elements.{filter-append, All-from_get_or}
 use Rattle.std.proofs.lemmas.List.Folds.{list_any_at, list_any_none}
 use Rattle.std.proofs.lemmas.List.Sums.{sum_by-append, count_by-le-length}
+use Rattle.fg_io.specs.Prefix.{IsPrefix}
 use Rattle.fg_io.specs.Outlet.{Lanes}
 use Rattle.fg_trace.specs.Trace.{Record}
 use Rattle.fg_flows.specs.declared.Kind.{Kind}
@@ -27,6 +28,8 @@ use Rattle.fg_repair.specs.Engine.{TakenIsFront, FlowStands, EngineStands, HasCo
 use Rattle.fg_repair.specs.Flow.{Arrives, records_of, is_of, IsFlowResult}
 use Rattle.fg_repair.specs.Repair.{others_of}
 use Rattle.fg_repair.specs.Steps.{HasTaken, IsFrontOfLane, TakesRecord, BreaksAtRecord}
+use Rattle.fg_repair.specs.Stops.{HasShown, LiesBetween}
+use Rattle.fg_repair.proofs.Breaking.{shown_of}
 use Rattle.fg_repair.proofs.Lanes.{more, more_same, more_other, grow_more, there_more, contains_at}
 
 -- Before the first record
@@ -262,19 +265,46 @@ broken_at law plan records r engine gained h flow part f port c (inr ne) =
     subst (λ (lane : List ℕ). IsFrontOfLane plan.window plan.depth (records ++ r ∷ []) port lane) (sym (more_other gained flow part port ne))
     (front_more plan.window plan.depth records r port (gained port) (front_at law plan records engine gained h port c))
 
+-- what a flow of the table has shown
+pub shown_at : (plan : Plan) (records : List Record) (engine : Engine) (gained : ℕ → List ℕ) → EngineStands plan records engine gained → (port : ℕ) → Contains plan.table port → HasShown plan.window plan.depth port records (gained port)
+shown_at plan records engine gained h port c =
+    let any = some_flow engine.flows.items (omega (arith, h.count, c.1)) in
+    let same : slice_index plan.table c.0 ≡ port = get_or_default plan.table c.0 0 port c.1 ∙ c.2 in
+    let stands : FlowStands plan records (slice_index plan.table c.0) (slice_index_or engine.flows.items c.0 any) (gained (slice_index plan.table c.0)) = h.flows c.0 any c.1 in
+    subst (λ p. HasShown plan.window plan.depth p records (gained p)) same
+    (shown_of plan.window plan.depth (slice_index plan.table c.0) records _ _ (gained (slice_index plan.table c.0)) stands.taken)
+
+-- and a part of what it shows next, where a fault broke it
+between : (plan : Plan) (records : List Record) (r : Record) (gained : ℕ → List ℕ) (flow : ℕ) (part : List ℕ) → HasShown plan.window plan.depth flow records (gained flow) → ((next : List ℕ) → HasShown plan.window plan.depth flow (records ++ r ∷ []) next → IsPrefix (gained flow ++ part) next) → LiesBetween (HasShown plan.window plan.depth flow records) (HasShown plan.window plan.depth flow (records ++ r ∷ [])) (more gained flow part flow)
+between plan records r gained flow part shown next = record {
+  first = gained flow;
+  are = shown;
+  begins = (part, more_same gained flow part);
+  next = λ (bytes : List ℕ) (h : HasShown plan.window plan.depth flow (records ++ r ∷ []) bytes). subst (λ (lane : List ℕ). IsPrefix lane bytes) (sym (more_same gained flow part)) (next bytes h);
+}
+
+exact_at : (plan : Plan) (records : List Record) (r : Record) (engine : Engine) (gained : ℕ → List ℕ) → EngineStands plan records engine gained → (flow : ℕ) (part : List ℕ) → Contains plan.table flow → ((next : List ℕ) → HasShown plan.window plan.depth flow (records ++ r ∷ []) next → IsPrefix (gained flow ++ part) next) → (port : ℕ) → Contains plan.table port → (port ≡ flow) ⊎ (port ≡ flow → ⊥) → HasShown plan.window plan.depth port records (more gained flow part port) ⊎ ((Some flow ≡ Some port) × LiesBetween (HasShown plan.window plan.depth port records) (HasShown plan.window plan.depth port (records ++ r ∷ [])) (more gained flow part port))
+exact_at plan records r engine gained h flow part here next port c (inl e) =
+    subst (λ p. HasShown plan.window plan.depth p records (more gained flow part p) ⊎ ((Some flow ≡ Some p) × LiesBetween (HasShown plan.window plan.depth p records) (HasShown plan.window plan.depth p (records ++ r ∷ [])) (more gained flow part p))) (sym e)
+    (inr (refl, between plan records r gained flow part (shown_at plan records engine gained h flow here) next))
+exact_at plan records r engine gained h flow part here next port c (inr ne) =
+    inl (subst (λ (lane : List ℕ). HasShown plan.window plan.depth port records lane) (sym (more_other gained flow part port ne)) (shown_at plan records engine gained h port c))
+
 pub breaks_some :
     TakenIsFront → (plan : Plan) (engine : Engine) (port i : ℕ) (kind : Kind) → IsPortOf plan.table port i kind
     → (old : Flow) → old ≡ slice_index_or engine.flows.items i old
     → (datagram : List ℕ) (now after : Option Lanes) → Breaks old kind datagram now after
     → (before : Option Lanes) (records : List Record) (r : Record) → HasCome plan records engine before now → r.port ≡ port → r.datagram ≡ datagram
-    → BreaksAfter plan (records ++ r ∷ []) before after
+    → (broken : Option ℕ) × BreaksAfter plan records (records ++ r ∷ []) broken before after
 breaks_some law plan engine port i kind of old at datagram now after breaks before records r h e same =
     let here : IsPortOf plan.table r.port i kind = subst (λ p. IsPortOf plan.table p i kind) (sym e) of in
     let flow = slice_index plan.table i in
     let stood : FlowStands plan records flow old (h.gained flow) = subst (λ (f : Flow). FlowStands plan records flow f (h.gained flow)) (sym at) (h.stands.flows i old of.0) in
     let step : BreaksAtRecord plan.window plan.depth flow records r (h.gained flow) now after = flow_break plan records r flow old (h.gained flow) kind datagram now after breaks stood same here.1 in
-    record {
+    (Some flow, record {
       gained = more h.gained flow step.part;
       grow = grow_more before now after plan.table h.gained flow step.part (contains_at plan.table i of.0) h.grow step.grows;
+      there = there_more now after plan.table flow step.part h.there step.grows;
+      exact = λ q c. exact_at plan records r engine h.gained h.stands flow step.part (contains_at plan.table i of.0) step.next q c (cases_eq q flow);
       fronts = λ q c. broken_at law plan records r engine h.gained h.stands flow step.part step.front q c (cases_eq q flow);
-    }
+    })

@@ -14,10 +14,13 @@ use Rattle.fg_desk.specs.declared.run.Stream.TheVariants as stream
 use Rattle.fg_desk.specs.State.{State, opening}
 use Rattle.fg_desk.specs.Play.{Play}
 use Rattle.fg_desk.specs.Run.{Arrival, carries, protects, refused, TakesAll, IsFlush, IsRun}
-use Rattle.fg_desk.specs.Laws.{IsRead, AreFlushSteps, TakingsJoin, TakenPlaysComeFirst, DuePlaysComeNext, FlushStepsComeNext, PlaysReachTheMark, EachGetsAReply, CountsAdd}
+use Rattle.fg_desk.specs.Arrivals.{StaysWithin}
+use Rattle.fg_desk.specs.Laws.{IsRead, LaterChangesNothing, OneTaking, PlayIsOne, AreFlushSteps, TakingsJoin, TakenPlaysComeFirst, DuePlaysComeNext, FlushStepsComeNext, PlaysReachTheMark, EachGetsAReply, CountsAdd}
 use Rattle.fg_report.specs.declared.flow_sum.FlowSum.{FlowSum}
 use Rattle.fg_repair.specs.Flow.{FlowResult, IsFlowResult, IsReadAs, Arrives, records_of, all_shown, marks_of, lane_of, sum_of}
 use Rattle.fg_repair.specs.Steps.{HasTaken, HaveShown, BreakOff, AdmitsDatagram, PlaysBefore, BreaksAtDatagram, TakesRecord, BreaksAtRecord, EndsFlow, BreaksAtEnd, with_plays, with_answer}
+use Rattle.fg_repair.specs.Stops.{HasShown}
+use Rattle.fg_repair.proofs.Breaking.{plays_go_on}
 use Rattle.fg_repair.proofs.Arriving.{one_more_record, and_later_records, arrivals_are_read, one_list_arrives, arrivals_begin}
 use Rattle.fg_repair.proofs.Answering.{answer_added}
 use Rattle.fg_repair.proofs.Counting.{plays_more, lane_more}
@@ -206,12 +209,12 @@ module _ (media : MediaReadsOneWay) (parity : ParityReadsOneWay) where
       (begin.0, begin.1 ∙ ap (λ (ps : List Play). before ++ (ps ++ begin.0)) (sym played))
 
   pub record_breaks :
-      DuePlaysComeNext → TakenPlaysComeFirst
+      DuePlaysComeNext → TakenPlaysComeFirst → LaterChangesNothing → OneTaking → PlayIsOne
       → (window depth flow : ℕ) (kind : Kind) (bytes : List ℕ) (state : State) (sum : FlowSum) (before after : Option Lanes)
-      → BreaksAtDatagram kind bytes state flow before after
+      → StaysWithin state → BreaksAtDatagram kind bytes state flow before after
       → (records : List Record) (r : Record) (lane : List ℕ) → HasTaken window depth flow records state sum lane
       → r.datagram ≡ bytes → port_of flow kind ≡ r.port → BreaksAtRecord window depth flow records r lane before after
-  record_breaks next come window depth flow kind bytes state sum before after breaks records r lane taken is on =
+  record_breaks next come further once one window depth flow kind bytes state sum before after within breaks records r lane taken is on =
       let off = breaks.off in
       record {
         part = off.part.0;
@@ -222,4 +225,11 @@ module _ (media : MediaReadsOneWay) (parity : ParityReadsOneWay) where
             taken.replies flows.replies (arrivals_are_read flow records taken.arrivals taken.arrive) taken.takes off.are
             (subst (λ (arrivals : List Arrival). IsRun window depth arrivals flows.plays flows.replies) goes.1 flows.run) in
             front_of_lane lane off.part.0 result.lane taken.plays off.plays begin.0 flows.plays taken.lane_is off.part.1 begin.1 flows.lane;
+        next = λ (more : List ℕ) (shown : HasShown window depth flow (records ++ r ∷ []) more).
+            let arrive = subst (λ (rs : List Record). AllZip (Arrives flow) (records_of flow rs) shown.arrivals) (sym (append-nil (records ++ r ∷ []))) shown.arrive in
+            let goes = goes_on window depth flow kind bytes state sum breaks.arrival breaks.read records r lane taken is on [] shown.arrivals arrive in
+            let begin = plays_go_on further once one window depth taken.arrivals goes.0 breaks.arrival taken.plays off.plays shown.plays
+            taken.replies shown.replies state off.now shown.state (arrivals_are_read flow records taken.arrivals taken.arrive) taken.takes within off.are
+            (subst (λ (arrivals : List Arrival). TakesAll (opening window depth) arrivals shown.plays shown.replies shown.state) goes.1 shown.takes) in
+            front_of_lane lane off.part.0 more taken.plays off.plays begin.0 shown.plays taken.lane_is off.part.1 begin.1 shown.bytes_are;
       }

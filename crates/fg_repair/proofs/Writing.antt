@@ -1,5 +1,5 @@
 -- How the lanes of a trace are written, from its magic on.
-use Rattle.std.proofs.Common.{◌≡◌, ℕ, Option, Some, None, IfSome, List, [], refl, sym, ◌∙◌, subst}
+use Rattle.std.proofs.Common.{◌≡◌, ℕ, Option, Some, None, IfSome, List, [], refl, sym, ◌∙◌, subst, arith}
 use Rattle.std.specs.List.{Contains}
 use Rattle.fg_io.specs.Outlet.{Lanes}
 use Rattle.fg_flows.specs.declared.Plan.{Plan}
@@ -10,13 +10,15 @@ use Rattle.fg_trace.specs.Reader.{ReaderState, StandsAfter}
 use Rattle.fg_trace.specs.Trace.{Record, Ending, IsTrace}
 use Rattle.fg_repair.specs.declared.engine.Engine.{Engine}
 use Rattle.fg_repair.specs.declared.flow.Flow.{Flow}
-use Rattle.fg_repair.specs.Engine.{LanesGrow, GrowAll, AreThere, EngineStands, LanesPart, HasWalked, TookAll, AreReady, IsFlushing, BreaksAtFlush, HasEnded, LanesWhole}
+use Rattle.fg_repair.specs.Engine.{LanesGrow, GrowAll, AreThere, MakesFirst, StopsAt, StopsIn, EngineStands, LanesPart, HasWalked, TookAll, AreReady, IsFlushing, BreaksAtFlush, HasEnded, LanesWhole}
 use Rattle.fg_repair.specs.Flow.{FlowResult}
 use Rattle.fg_repair.specs.Lanes.{LanesGainPart, PutsAllPart}
 use Rattle.fg_repair.specs.Repair.{AreResults, lanes_of}
 use Rattle.fg_repair.specs.Steps.{BeginsLane}
 use Rattle.fg_repair.proofs.Flushing.{flushing_none}
-use Rattle.fg_repair.proofs.Lanes.{told_map}
+use Rattle.fg_repair.proofs.Lanes.{told_map, grow_none}
+use Rattle.fg_repair.specs.Stops.{Flushing}
+use Rattle.fg_repair.proofs.Stopping.{making_stops, stops_at}
 use Rattle.fg_repair.proofs.Walking.{each_part, others_told}
 
 -- Before any record
@@ -37,11 +39,25 @@ nothing_front plan before after None g = tt
 nothing_front plan before after (Some bytes) g = λ records results end trace are.
     told_map (λ old new. LanesGrow old plan.table (λ _. []) new) (λ old new. LanesGainPart old plan.table (lanes_of results) new) (nothing_in plan records results are) before after g
 
-pub nothing_part : (plan : Plan) (first : Option (List ℕ)) (before after : Option Lanes) → GrowAll before plan.table (λ _. []) after → LanesPart plan first before after
-nothing_part plan first before after g = record {
+nothing_stops : (plan : Plan) (Quiet : Type 0) (first : Option (List ℕ)) (before after : Option Lanes) → MakesFirst plan.table before after → StopsIn plan Quiet first before after
+nothing_stops plan Quiet None before after h = tt
+nothing_stops plan Quiet (Some bytes) before after h = λ records end trace. making_stops plan Quiet records before after h
+
+pub nothing_part : (plan : Plan) (Quiet : Type 0) (first : Option (List ℕ)) (before after : Option Lanes) → GrowAll before plan.table (λ _. []) after → MakesFirst plan.table before after → LanesPart plan Quiet first before after
+nothing_part plan Quiet first before after g h = record {
   others = others_told plan.table (λ _. []) before after g;
   front = nothing_front plan before after first g;
+  stops = nothing_stops plan Quiet first before after h;
 }
+
+-- where no lane is made yet
+none_there : (lanes : Option Lanes) → AreThere [] lanes
+none_there None = tt
+none_there (Some told) = λ port c. absurd (omega (arith, c.1))
+
+pub none_part : (plan : Plan) (Quiet : Type 0) (first : Option (List ℕ)) (lanes : Option Lanes) → LanesPart plan Quiet first lanes lanes
+none_part plan Quiet first lanes =
+    nothing_part plan Quiet first lanes lanes (grow_none lanes plan.table) (record { count = 0; grow = grow_none lanes []; there = none_there lanes })
 
 pub begun : (plan : Plan) (first left : Option (List ℕ)) (reader : ReaderState) (engine : Engine) (before now : Option Lanes) → EngineStands plan [] engine (λ _. []) → GrowAll before plan.table (λ _. []) now → AreThere plan.table now → StandsAfter reader first left [] → HasWalked plan first left reader engine before now
 begun plan first left reader engine before now new grow there stands = record {
@@ -82,10 +98,17 @@ flush_front law plan (Some bytes) records end before after trace h = λ all resu
     told_map (λ old new. LanesGrow old plan.table h.gained new) (λ old new. LanesGainPart old plan.table (lanes_of results) new)
     (begun_in plan records all h.gained h.begin (law bytes plan.max all records other end k trace).0 results are) before after h.grow
 
-pub flush_part : OneTrace → (plan : Plan) (first : Option (List ℕ)) (engine : Engine) (tail : Tail) (before now after : Option Lanes) (t : TookAll plan first engine tail before now) → BreaksAtFlush plan t.records before after → LanesPart plan first before after
-flush_part law plan first engine tail before now after t h = record {
+flush_stop : OneTrace → (plan : Plan) (Quiet : Type 0) → (Quiet → ⊥) → (first : Option (List ℕ)) (records : List Record) (end : Ending) (before after : Option Lanes) → IfSome first (λ bytes. IsTrace bytes plan.max records end) → BreaksAtFlush plan records before after → StopsIn plan Quiet first before after
+flush_stop law plan Quiet loud None records end before after trace h = tt
+flush_stop law plan Quiet loud (Some bytes) records end before after trace h = λ all other k.
+    subst (λ (rs : List Record). StopsAt plan Quiet rs before after) (sym (law bytes plan.max all records other end k trace).0)
+    (stops_at plan Quiet records (Flushing h.count) h.broken h.gained before after (λ quiet. absurd (loud quiet)) h.exact h.grow h.there)
+
+pub flush_part : OneTrace → (plan : Plan) (Quiet : Type 0) → (Quiet → ⊥) → (first : Option (List ℕ)) (engine : Engine) (tail : Tail) (before now after : Option Lanes) (t : TookAll plan first engine tail before now) → BreaksAtFlush plan t.records before after → LanesPart plan Quiet first before after
+flush_part law plan Quiet loud first engine tail before now after t h = record {
   others = others_told plan.table h.gained before after h.grow;
   front = flush_front law plan first t.records t.end before after t.of_input h;
+  stops = flush_stop law plan Quiet loud first t.records t.end before after t.of_input h;
 }
 
 pub all_whole : (plan : Plan) (first : Option (List ℕ)) (engine ended : Engine) (tail : Tail) (before now after : Option Lanes) (flows : List Flow) (t : TookAll plan first engine tail before now) → ended.flows.items ≡ flows → ended.other ≡ engine.other → HasEnded plan t.records flows before after → LanesWhole plan first ended tail before after

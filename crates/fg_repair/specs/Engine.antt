@@ -1,6 +1,6 @@
 -- How far a repair has come, over all flows. No public contract cites what stands here.
-use Rattle.std.specs.Prelude.{◌≡◌, ◌≢◌, ◌≤◌, ◌<◌, ◌^◌, ◌⊎◌, ℕ, ⊤, Bool, true, false, Option, Some, IfSome, IsSome, Result, Ok, Err, List, [], ◌++◌, length, map, nat_lt, slice_index}
-use Rattle.std.specs.List.{Contains, slice_index_or}
+use Rattle.std.specs.Prelude.{◌≡◌, ◌≢◌, ◌≤◌, ◌<◌, ◌^◌, ◌⊎◌, ℕ, ⊤, Bool, true, false, Option, None, Some, IfSome, IsSome, Result, Ok, Err, List, [], ◌++◌, length, map, nat_lt, slice_index, take}
+use Rattle.std.specs.List.{AllZip, Contains, slice_index_or}
 use Rattle.fg_io.specs.Faults.{CountsFault}
 use Rattle.fg_io.specs.Outlet.{Lanes, lane_of, lane_bytes, WhereTold}
 use Rattle.fg_trace.specs.declared.step.TraceFault.{TraceFault}
@@ -25,6 +25,7 @@ use Rattle.fg_repair.specs.Flow.{FlowResult, IsFlowResult}
 use Rattle.fg_repair.specs.Lanes.{OthersStay, PutsAll, PutsAllPart}
 use Rattle.fg_repair.specs.Repair.{AreResults, lanes_of, others_of, tail_of}
 use Rattle.fg_repair.specs.Steps.{HasTaken, IsFrontOfLane, BeginsLane}
+use Rattle.fg_repair.specs.Stops.{HasShown, LiesBetween, Stage, Flushing, made_at, HasGained, HasGainedPart}
 
 -- Laws of one flow
 
@@ -89,18 +90,52 @@ pub record HasCome (plan : Plan) (records : List Record) (engine : Engine) (befo
   pub grow : GrowAll before plan.table gained after
   pub there : AreThere plan.table after
 
--- A fault came: what each lane has gained is its front, in every trace that begins with these records.
-pub record BreaksAfter (plan : Plan) (records : List Record) (before after : Option Lanes) : Type 0 where
+-- A fault came after these records, before the next was taken: each flow's lane has gained what the flow has shown, but for
+-- one that it broke, whose lane has gained a part of what is shown next. So each lane has gained its front, in every trace
+-- that begins with these records and the next.
+pub record BreaksAfter
+    (plan : Plan) (taken next : List Record) (broken : Option ℕ) (before after : Option Lanes) : Type 0 where
   pub gained : ℕ → List ℕ
   pub grow : GrowAll before plan.table gained after
-  pub fronts : (port : ℕ) → Contains plan.table port → IsFrontOfLane plan.window plan.depth records port (gained port)
+  pub there : AreThere plan.table after
+  pub exact : (flow : ℕ) → Contains plan.table flow
+      → HasShown plan.window plan.depth flow taken (gained flow)
+      ⊎ ((broken ≡ Some flow)
+      × LiesBetween (HasShown plan.window plan.depth flow taken) (HasShown plan.window plan.depth flow next) (gained flow))
+  pub fronts : (port : ℕ) → Contains plan.table port → IsFrontOfLane plan.window plan.depth next port (gained port)
+
+-- The lanes of the first ports are there. Nothing else has changed.
+pub record MakesFirst (ports : List ℕ) (before after : Option Lanes) : Type 0 where
+  pub count : ℕ
+  pub grow : GrowAll before (take count ports) (λ _. []) after
+  pub there : AreThere (take count ports) after
+
+-- A repair of these records stopped at a stage. After a quiet fault no lane is broken.
+pub record StopsAt (plan : Plan) (Quiet : Type 0) (records : List Record) (before after : Option Lanes) : Type 0 where
+  pub stage : Stage
+  pub broken : Option ℕ
+  pub unbroken : Quiet → broken ≡ None
+  pub pieces : List (List ℕ)
+  pub gained : AllZip
+      (λ flow piece. HasGained plan records stage flow piece
+      ⊎ ((broken ≡ Some flow) × HasGainedPart plan records stage flow piece))
+      (made_at plan stage) pieces
+  pub puts : PutsAll before (made_at plan stage) pieces after
+
+-- So does the repair of the input's trace.
+abbrev pub StopsIn : Plan → Type 0 → Option (List ℕ) → Option Lanes → Option Lanes → Type 0
+StopsIn plan Quiet first before after =
+    IfSome first (λ bytes. (records : List Record) (end : Ending)
+    → IsTrace bytes plan.max records end → StopsAt plan Quiet records before after)
 
 -- What a fault leaves of the lanes of the input's trace.
-pub record LanesPart (plan : Plan) (first : Option (List ℕ)) (before after : Option Lanes) : Type 0 where
+pub record LanesPart
+    (plan : Plan) (Quiet : Type 0) (first : Option (List ℕ)) (before after : Option Lanes) : Type 0 where
   pub others : WhereTold (OthersStay plan.table) before after
   pub front : IfSome first (λ bytes. (records : List Record) (results : List FlowResult) (end : Ending)
       → IsTrace bytes plan.max records end → AreResults plan records results
       → PutsAllPart before plan.table (lanes_of results) after)
+  pub stops : StopsIn plan Quiet first before after
 
 -- The reader stands after the records that the engine has taken.
 pub record HasWalked
@@ -157,10 +192,17 @@ pub record AreReady (flows : List Flow) (lanes : Option Lanes) : Type 0 where
   pub few : length records < 2 ^ 43
   pub flushing : IsFlushing plan records 0 flows before lanes
 
--- A fault came meanwhile: what each lane has gained is its front in the trace of these records.
+-- A fault came meanwhile: the lanes of the first flows are whole, and each other has gained what its flow has shown, but for
+-- one that the fault broke. So each lane has gained its front in the trace of these records.
 pub record BreaksAtFlush (plan : Plan) (records : List Record) (before after : Option Lanes) : Type 0 where
+  pub count : ℕ
+  pub broken : Option ℕ
   pub gained : ℕ → List ℕ
   pub grow : GrowAll before plan.table gained after
+  pub there : AreThere plan.table after
+  pub exact : (flow : ℕ) → Contains plan.table flow
+      → HasGained plan records (Flushing count) flow (gained flow)
+      ⊎ ((broken ≡ Some flow) × HasGainedPart plan records (Flushing count) flow (gained flow))
   pub begin : (port : ℕ) → Contains plan.table port → BeginsLane plan.window plan.depth records port (gained port)
 
 -- The flows' counts.

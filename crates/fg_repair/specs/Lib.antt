@@ -5,3 +5,4 @@ pub mod Lanes
 pub mod Laws
 pub mod Repair
 pub mod Steps
+pub mod Stops

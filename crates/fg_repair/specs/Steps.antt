@@ -18,6 +18,7 @@ use Rattle.fg_report.specs.declared.marks.Marks.{Marks}
 use Rattle.fg_report.specs.declared.flow_sum.FlowSum.{FlowSum}
 use Rattle.fg_report.specs.Gaps.{gaps_end}
 use Rattle.fg_repair.specs.Flow.{FlowResult, IsFlowResult, IsReadAs, Arrives, records_of, all_shown, shows_word, is_inconsistent, lane_of, gaps_from, sum_of}
+use Rattle.fg_repair.specs.Stops.{HasShown}
 
 -- The port's lane has gained the piece, and is still there if it was. All others are as they were.
 pub record LaneGrows (before : Lanes) (port : ℕ) (piece : List ℕ) (after : Lanes) : Type 0 where
@@ -74,6 +75,7 @@ pub record BreaksAtRecord
   pub part : List ℕ
   pub grows : Grows before flow part after
   pub front : IsFrontOfLane window depth (records ++ r ∷ []) flow (lane ++ part)
+  pub next : (more : List ℕ) → HasShown window depth flow (records ++ r ∷ []) more → IsPrefix (lane ++ part) more
 
 -- The flow is flushed whole.
 pub record EndsFlow

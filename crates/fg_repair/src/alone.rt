@@ -8,8 +8,9 @@ ghost use Rattle.fg_trace.specs.Trace.{Record, Ending as TraceEnding, NotTrace a
 ghost use Rattle.fg_trace.specs.Finish.{IsFault, ReadsAll, finish_of};
 ghost use Rattle.fg_flows.specs.Plan.{PlanFits};
 ghost use Rattle.fg_report.specs.Text.{report_of};
-ghost use Rattle.fg_repair.specs.Engine.{CountsWrites, sums_of, told_place, told_finish, fault_finish};
+ghost use Rattle.fg_repair.specs.Engine.{CountsWrites, StopsIn, sums_of, told_place, told_finish, fault_finish};
 ghost use Rattle.fg_repair.specs.Repair.{Finishes, OutputsPart};
+ghost use Rattle.fg_repair.specs.Stops.{Stops};
 
 use crate::engine::Engine;
 use crate::fault::Fault;
@@ -54,6 +55,11 @@ pub fn repair_alone<S: Source, K: Sink, O: Outlet>(
     ensures part { IsFault result → OutputsPart plan.now (S.left input.old) (O.lanes lanes.old)
         (O.lanes lanes.new) K.written out.old out.new }
 
+    // The first fault ends the call: each lane has gained exactly what was shown up to there, but for the one that it broke.
+    ensures stops { IsFault result → IfSome (S.left input.old) (λ bytes. (records : List Record) (end : TraceEnding)
+        → IsTrace bytes plan.now.max records end
+        → Stops plan.now result records (O.lanes lanes.old) (O.lanes lanes.new)) }
+
     // After a read fault no report was begun.
     ensures no_report { result ≡ Finish.ReadFault → out.new ≡ out.old }
 
@@ -95,6 +101,8 @@ fn repair<S: Source, K: Sink, O: Outlet>(
         → (lanes.new ≡ lanes.old) × (out.new ≡ out.old)) }
     ensures part { OnErr result (OutputsPart plan.now (S.left input.old) (O.lanes lanes.old)
         (O.lanes lanes.new) K.written out.old out.new) }
+    ensures stops { OnErr result (StopsIn plan.now (result ≡ Err Fault.Read) (S.left input.old)
+        (O.lanes lanes.old) (O.lanes lanes.new)) }
     ensures no_report { result ≡ Err Fault.Read → out.new ≡ out.old }
     ensures reads { CountsFor Fault.Read result (S.faults input.old) (S.faults input.new) }
     ensures fixed { S.fixed input.new ≡ S.fixed input.old }
@@ -158,6 +166,8 @@ fn repair_records<S: Source, K: Sink, O: Outlet>(
     ensures all_read { IfOk result (λ finish. ReadsAll finish → IsAtEnd (S.left input.new)) }
     ensures part { OnErr result ((first : Option (List ℕ)) → StandsAfter reader.old first (S.left input.old) []
         → OutputsPart plan.now first (O.lanes lanes.old) (O.lanes lanes.new) K.written out.old out.new) }
+    ensures stops { OnErr result ((first : Option (List ℕ)) → StandsAfter reader.old first (S.left input.old) []
+        → StopsIn plan.now (result ≡ Err Fault.Read) first (O.lanes lanes.old) (O.lanes lanes.new)) }
     ensures no_report { result ≡ Err Fault.Read → out.new ≡ out.old }
     ensures reads { CountsFor Fault.Read result (S.faults input.old) (S.faults input.new) }
     ensures fixed { S.fixed input.new ≡ S.fixed input.old }

@@ -7,7 +7,7 @@ ghost use Rattle.fg_trace.specs.Reader.{StandsAfter};
 ghost use Rattle.fg_trace.specs.Trace.{Record};
 ghost use Rattle.fg_flows.specs.declared.Plan.{Plan};
 ghost use Rattle.fg_flows.specs.Plan.{PlanFits};
-ghost use Rattle.fg_repair.specs.Engine.{EngineStands, IsRunning, HasCome, BreaksAfter, LanesPart, HasWalked, TookAll, IsReadToEnd, IsFlushing, AreReady, HasEnded, BreaksAtFlush, LanesWhole, GrowAll, AreThere};
+ghost use Rattle.fg_repair.specs.Engine.{EngineStands, IsRunning, HasCome, BreaksAfter, LanesPart, HasWalked, TookAll, IsReadToEnd, IsFlushing, AreReady, HasEnded, BreaksAtFlush, LanesWhole, GrowAll, AreThere, MakesFirst};
 
 use crate::fault::Fault;
 use crate::flow::Flow;
@@ -67,7 +67,8 @@ impl Engine {
         ensures breaks { OnErr result ((before : Option Lanes) (records : List Record) (r : Record)
             → HasCome plan.now records self.old before (O.lanes lanes.old)
             → r.port ≡ port → r.datagram ≡ datagram.now
-            → BreaksAfter plan.now (records ++ r ∷ []) before (O.lanes lanes.new)) }
+            → (broken : Option ℕ)
+            × BreaksAfter plan.now records (records ++ r ∷ []) broken before (O.lanes lanes.new)) }
         ensures not_read { result ≢ Err Fault.Read }
         ensures writes { CountsFor Fault.Write result (O.faults lanes.old) (O.faults lanes.new) }
     {
@@ -104,7 +105,7 @@ impl Engine {
             → TookAll plan.now first self.new tail before (O.lanes lanes.new))) }
         ensures part { OnErr result ((first : Option (List ℕ)) (before : Option Lanes)
             → HasWalked plan.now first (S.left input.old) reader.old self.old before (O.lanes lanes.old)
-            → LanesPart plan.now first before (O.lanes lanes.new)) }
+            → LanesPart plan.now (result ≡ Err Fault.Read) first before (O.lanes lanes.new)) }
         ensures all_read { IfOk result (λ end. IfSome end (λ tail. IsReadToEnd tail → IsAtEnd (S.left input.new))) }
         ensures open { IfOk result (λ end. IfNone end (reader.new.kept ≡ None)) }
         ensures max { reader.new.max ≡ reader.old.max }
@@ -147,7 +148,7 @@ impl Engine {
             → TookAll plan.now first self.new tail before (O.lanes lanes.new)) }
         ensures part { OnErr result ((first : Option (List ℕ)) (before : Option Lanes)
             → HasWalked plan.now first (S.left input.old) reader.old self.old before (O.lanes lanes.old)
-            → LanesPart plan.now first before (O.lanes lanes.new)) }
+            → LanesPart plan.now (result ≡ Err Fault.Read) first before (O.lanes lanes.new)) }
         ensures all_read { IfOk result (λ tail. IsReadToEnd tail → IsAtEnd (S.left input.new)) }
         ensures reads { CountsFor Fault.Read result (S.faults input.old) (S.faults input.new) }
         ensures fixed { S.fixed input.new ≡ S.fixed input.old }
@@ -178,7 +179,7 @@ impl Engine {
             → StandsAfter reader.old first (S.left input.old) []
             → LanesWhole plan.now first self.new tail (O.lanes lanes.old) (O.lanes lanes.new)) }
         ensures part { OnErr result ((first : Option (List ℕ)) → StandsAfter reader.old first (S.left input.old) []
-            → LanesPart plan.now first (O.lanes lanes.old) (O.lanes lanes.new)) }
+            → LanesPart plan.now (result ≡ Err Fault.Read) first (O.lanes lanes.old) (O.lanes lanes.new)) }
         ensures all_read { IfOk result (λ tail. IsReadToEnd tail → IsAtEnd (S.left input.new)) }
         ensures reads { CountsFor Fault.Read result (S.faults input.old) (S.faults input.new) }
         ensures fixed { S.fixed input.new ≡ S.fixed input.old }
@@ -197,6 +198,7 @@ fn make_lanes<O: Outlet>(table: &Table, lanes: &mut O) -> Result<(), Failed>
     ensures made { OnOk result (GrowAll (O.lanes lanes.old) table.now (λ _. []) (O.lanes lanes.new)) }
     ensures there { OnOk result (AreThere table.now (O.lanes lanes.new)) }
     ensures part { OnErr result (GrowAll (O.lanes lanes.old) table.now (λ _. []) (O.lanes lanes.new)) }
+    ensures first { OnErr result (MakesFirst table.now (O.lanes lanes.old) (O.lanes lanes.new)) }
     ensures no_fault { OnOk result (O.faults lanes.new ≡ O.faults lanes.old) }
     ensures counted { OnErr result (CountsFault (O.faults lanes.old) (O.faults lanes.new)) }
     ensures never_falls { O.faults lanes.old ≤ O.faults lanes.new }

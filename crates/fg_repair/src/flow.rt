@@ -21,7 +21,8 @@ use crate::fault::Fault;
 use crate::player::Player;
 use fg_desk::laws::{
     counts_add, counts_stay_within, due_plays_come_next, each_gets_a_reply, flush_steps_come_next,
-    flushes_end, plays_reach_the_mark, runs_join, runs_stay_within, taken_plays_come_first,
+    flushes_end, one_outcome, one_taking, plays_reach_the_mark, runs_join, runs_only_add,
+    runs_stay_within, taken_plays_come_first,
 };
 use fg_desk::{Desk, Played, Reply};
 use fg_fechead::laws::parity_datagrams_read_one_way;
@@ -105,6 +106,9 @@ impl Flow {
         each_gets_a_reply();
         taken_plays_come_first();
         due_plays_come_next();
+        runs_only_add();
+        one_taking();
+        one_outcome();
         media_datagrams_read_one_way();
         parity_datagrams_read_one_way();
         let reply = self.admit(alloc, player, kind, datagram, lanes)?;

@@ -1,6 +1,7 @@
 use Rattle.std.proofs.Common.{◌≡◌, ◌∙◌, ap}
 use Rattle.fg_trace.specs.Reader.{ReaderState}
 use Rattle.fg_repair.proofs.Results.{on_err}
+use Rattle.fg_repair.proofs.Writing.{none_part}
 use Rattle.fg_repair.proofs.Finishing.{no_outputs, not_trace}
 use Rattle.fg_repair.proofs.alone.repair.Goals as goal
 
@@ -9,6 +10,12 @@ returns-in_err-reader-clause-part g c = on_err _ _ (no_outputs c.args.plan.now _
 
 pub returns-in_err-place-clause-part : goal.returns-in_err-place-clause-part
 returns-in_err-place-clause-part g c = on_err _ _ (no_outputs c.args.plan.now _ _ g.K.Sink.written c.args.out.now)
+
+pub returns-in_err-reader-clause-stops : goal.returns-in_err-reader-clause-stops
+returns-in_err-reader-clause-stops g c = on_err _ _ (none_part c.args.plan.now _ _ _).stops
+
+pub returns-in_err-place-clause-stops : goal.returns-in_err-place-clause-stops
+returns-in_err-place-clause-stops g c = on_err _ _ (none_part c.args.plan.now _ _ _).stops
 
 pub returns-in-Some-clause-whole : goal.returns-in-Some-clause-whole
 returns-in-Some-clause-whole g c =

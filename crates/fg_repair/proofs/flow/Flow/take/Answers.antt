@@ -25,9 +25,10 @@ pub returns-in_err-reply-clause-breaks : goal.returns-in_err-reply-clause-breaks
 returns-in_err-reply-clause-breaks g c =
     let old = c.args.self.now in
     on_err _ (record_breaks c.media_datagrams_read_one_way.ensures.one_way c.parity_datagrams_read_one_way.ensures
-    c.due_plays_come_next.ensures c.taken_plays_come_first.ensures
+    c.due_plays_come_next.ensures c.taken_plays_come_first.ensures c.runs_only_add.ensures.later c.one_taking.ensures c.one_outcome.ensures.play
     old.desk.state.window old.desk.state.depth old.sum.port c.args.kind c.args.datagram.now old.desk.state old.sum
-    (g.O.Outlet.lanes c.args.lanes.now) (g.O.Outlet.lanes c.admit.new.lanes) c.in_err-reply.ensures.breaks)
+    (g.O.Outlet.lanes c.args.lanes.now) (g.O.Outlet.lanes c.admit.new.lanes)
+    (stays_within c.runs_stay_within.ensures.taking old.desk.state.window old.desk.state.depth old.sum.port old.desk.state old.sum c.requires.underway) c.in_err-reply.ensures.breaks)
 
 pub returns-clause-takes : goal.returns-clause-takes
 returns-clause-takes g c =
