@@ -1,13 +1,14 @@
 -- Laws of drills and samples.
-use Rattle.std.specs.Prelude.{◌≡◌, ◌⊎◌, ◌∷◌, ◌≤◌, ◌^◌, [], ℕ, List, Option, IfSome}
+use Rattle.std.specs.Prelude.{◌≡◌, ◌⊎◌, ◌∷◌, ◌≤◌, ◌^◌, [], ℕ, List, Option, Some, IfSome}
 use Rattle.std.specs.Option.{option_map}
 use Rattle.fg_io.specs.Outlet.{Lanes}
 use Rattle.fg_shape.specs.declared.encoding.Losses.{Losses}
 use Rattle.fg_shape.specs.declared.encoding.Settings.{Settings}
-use Rattle.fg_trace.specs.Trace.{Ended, IsTrace}
+use Rattle.fg_trace.specs.Trace.{Ending, Ended, IsTrace}
 use Rattle.fg_flows.specs.declared.Plan.{Plan}
 use Rattle.fg_flows.specs.Plan.{PlanFits}
 use Rattle.fg_encode.specs.Encoder.{CanEncode}
+use Rattle.fg_repair.specs.Repair.{Outputs}
 use Rattle.fg_drill.specs.Drawn.{drawn_drops, sample_layout, sample_settings}
 use Rattle.fg_drill.specs.Few.{MayLose}
 use Rattle.fg_drill.specs.Made.{made_stream}
@@ -18,6 +19,7 @@ use Rattle.fg_run.specs.Drill.{Drills, StreamComesBack}
 use Rattle.fg_run.specs.DrillSteps.{DrillsTrace}
 use Rattle.fg_run.specs.Encode.{IsStreamAnswer}
 use Rattle.fg_run.specs.Ended.{IsFault}
+use Rattle.fg_run.specs.Repair.{EncodingsComeBack}
 use Rattle.fg_run.specs.Sample.{SampleComesBack, Samples, losses_made, records_made, sample_sent}
 
 -- The trace of what is sent of a drill's input.
@@ -70,3 +72,9 @@ SamplesComeBack =
     → datagrams ≤ 20000 → PlanFits plan → plan.table ≡ sample_settings.port ∷ []
     → MayLose (losses_made seed datagrams loss) → Samples seed datagrams loss plan answer lanes lanes' written written'
     → SampleComesBack seed datagrams loss plan lanes lanes'
+
+-- What a repair comes to brings back each thinned encoding that the trace is.
+abbrev pub RepairsComeBack : Type 0
+RepairsComeBack =
+    (plan : Plan) (bytes : List ℕ) (end : Ending) (lanes lanes' : Option Lanes) (written written' : Option (List ℕ))
+    → Outputs plan end (Some bytes) lanes lanes' written written' → EncodingsComeBack plan bytes lanes lanes'

@@ -7,9 +7,11 @@ ghost use Rattle.fg_trace.specs.declared.step.Finish.{Finish as AnyFinish};
 ghost use Rattle.fg_trace.specs.Finish.{IsFault as IsFinishFault};
 ghost use Rattle.fg_repair.specs.Repair.{Finishes, OutputsPart};
 ghost use Rattle.fg_drill.specs.ThinnedSource.{trace_left};
+ghost use Rattle.fg_run.specs.DrillSteps.{StopsTrace};
 ghost use Rattle.fg_run.specs.Ended.{IsFault};
 ghost use Rattle.fg_run.specs.Endings.{why_of_finish};
-ghost use Rattle.fg_run.specs.Sample.{SampleComesBack, Samples, SamplesPart};
+ghost use Rattle.fg_run.specs.Sample.{SampleComesBack, Samples, SamplesPart, sample_sent};
+ghost use Rattle.fg_run.specs.Stopping.{StopsLanes};
 
 use crate::ended::Why;
 use crate::laws::{samples_are_traces, samples_come_back};
@@ -51,6 +53,10 @@ pub(crate) fn sample<K: Sink, O: Outlet>(
         (O.lanes lanes.old) (O.lanes lanes.new) (K.written out.old) (K.written out.new) }
     ensures part { IsFault result → SamplesPart seed datagrams loss plan.now
         (O.lanes lanes.old) (O.lanes lanes.new) (K.written out.old) (K.written out.new) }
+
+    // After a fault the lanes stand at a stage of the repair.
+    ensures stops { IsFault result → StopsLanes plan.now result (sample_sent seed datagrams loss)
+        (O.lanes lanes.old) (O.lanes lanes.new) }
 
     // With no fault the made stream comes back.
     ensures comes_back { IsFault result
@@ -103,6 +109,8 @@ fn repair_made<K: Sink, O: Outlet>(
         (O.lanes lanes.old) (O.lanes lanes.new) (K.written out.old) (K.written out.new)) }
     ensures part { IsFault result → OutputsPart plan.now (trace_left source.old)
         (O.lanes lanes.old) (O.lanes lanes.new) K.written out.old out.new }
+    ensures stops { IsFault result → StopsTrace plan.now (trace_left source.old) result
+        (O.lanes lanes.old) (O.lanes lanes.new) }
     ensures no_read { result ≢ Why.ReadFault }
     ensures write_fault { result ≡ Why.WriteFault
         → CountsFault (K.faults out.old) (K.faults out.new)
