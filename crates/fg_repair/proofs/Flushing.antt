@@ -183,8 +183,11 @@ exact_at :
 exact_at law plan good records i items before now h any part inside begins port c (inl e) =
     let flow = slice_index plan.table i in
     subst (λ p. HasGained plan records (Flushing i) p (more h.gained flow part p) ⊎ ((Some flow ≡ Some p) × HasGainedPart plan records (Flushing i) p (more h.gained flow part p))) (sym e)
-    (inr (refl, broken_lies plan records i h.gained part inside
-    (gained_at law plan good records i i (slice_index_or items i any) (h.gained flow) inside (nat_lt i i) refl (h.ends i any inside)) begins))
+    (inr (
+      refl,
+      broken_lies plan records i h.gained part inside
+          (gained_at law plan good records i i (slice_index_or items i any) (h.gained flow) inside (nat_lt i i) refl (h.ends i any inside)) begins,
+    ))
 exact_at law plan good records i items before now h any part inside begins port c (inr ne) =
     let flow = slice_index plan.table i in
     let same : slice_index plan.table c.0 ≡ port = get_or_default plan.table c.0 0 port c.1 ∙ c.2 in

@@ -11,6 +11,7 @@ pub mod Fronts
 pub mod Growing
 pub mod Lanes
 pub mod Opening
+pub mod Reaching
 pub mod Reading
 pub mod Results
 pub mod Showing

@@ -300,11 +300,13 @@ breaks_some law plan engine port i kind of old at datagram now after breaks befo
     let here : IsPortOf plan.table r.port i kind = subst (λ p. IsPortOf plan.table p i kind) (sym e) of in
     let flow = slice_index plan.table i in
     let stood : FlowStands plan records flow old (h.gained flow) = subst (λ (f : Flow). FlowStands plan records flow f (h.gained flow)) (sym at) (h.stands.flows i old of.0) in
-    let step : BreaksAtRecord plan.window plan.depth flow records r (h.gained flow) now after = flow_break plan records r flow old (h.gained flow) kind datagram now after breaks stood same here.1 in
-    (Some flow, record {
-      gained = more h.gained flow step.part;
-      grow = grow_more before now after plan.table h.gained flow step.part (contains_at plan.table i of.0) h.grow step.grows;
-      there = there_more now after plan.table flow step.part h.there step.grows;
-      exact = λ q c. exact_at plan records r engine h.gained h.stands flow step.part (contains_at plan.table i of.0) step.next q c (cases_eq q flow);
-      fronts = λ q c. broken_at law plan records r engine h.gained h.stands flow step.part step.front q c (cases_eq q flow);
-    })
+    let step : BreaksAtRecord plan.window plan.depth flow records r (h.gained flow) now after = flow_break plan records r flow old (h.gained flow) kind datagram now after breaks stood same here.1 in (
+      Some flow,
+      record {
+        gained = more h.gained flow step.part;
+        grow = grow_more before now after plan.table h.gained flow step.part (contains_at plan.table i of.0) h.grow step.grows;
+        there = there_more now after plan.table flow step.part h.there step.grows;
+        exact = λ q c. exact_at plan records r engine h.gained h.stands flow step.part (contains_at plan.table i of.0) step.next q c (cases_eq q flow);
+        fronts = λ q c. broken_at law plan records r engine h.gained h.stands flow step.part step.front q c (cases_eq q flow);
+      },
+    )

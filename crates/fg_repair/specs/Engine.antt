@@ -1,5 +1,5 @@
 -- How far a repair has come, over all flows. No public contract cites what stands here.
-use Rattle.std.specs.Prelude.{◌≡◌, ◌≢◌, ◌≤◌, ◌<◌, ◌^◌, ◌⊎◌, ℕ, ⊤, Bool, true, false, Option, None, Some, IfSome, IsSome, Result, Ok, Err, List, [], ◌++◌, length, map, nat_lt, slice_index, take}
+use Rattle.std.specs.Prelude.{◌≡◌, ◌≢◌, ◌+◌, ◌≤◌, ◌<◌, ◌^◌, ◌⊎◌, ℕ, ⊤, Bool, true, false, Option, None, Some, IfSome, IsSome, Result, Ok, Err, List, [], ◌++◌, length, map, nat_lt, slice_index, take}
 use Rattle.std.specs.List.{AllZip, Contains, slice_index_or}
 use Rattle.fg_io.specs.Faults.{CountsFault}
 use Rattle.fg_io.specs.Outlet.{Lanes, lane_of, lane_bytes, WhereTold}
@@ -144,6 +144,13 @@ pub record HasWalked
   pub stands : StandsAfter reader first now records
   pub come : HasCome plan records engine before after
 
+-- The reader stands after some records of a trace under this limit, and holds at most a byte past it.
+pub record HasRead (max : ℕ) (reader : ReaderState) (first now : Option (List ℕ)) : Type 0 where
+  pub records : List Record
+  pub stands : StandsAfter reader first now records
+  pub bounded : reader.place + length reader.held ≤ reader.max + 1
+  pub limit : reader.max ≡ max
+
 -- The trace is one, and ends so.
 abbrev pub TellsTail : Ending → Tail → Type 0
 TellsTail (NotTrace n) told = ⊥
@@ -245,6 +252,11 @@ abbrev pub fault_finish : Fault → Finish
 fault_finish Read = finish.ReadFault
 fault_finish Write = finish.WriteFault
 fault_finish Memory = finish.Memory
+
+-- After either.
+abbrev pub answer_of : Result Finish Fault → Finish
+answer_of (Ok finish) = finish
+answer_of (Err fault) = fault_finish fault
 
 -- A fault of the report.
 abbrev pub report_fault : ReportFault → Fault

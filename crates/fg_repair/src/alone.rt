@@ -1,14 +1,15 @@
 //! The repair on one thread.
-ghost use Rattle.std.specs.Prelude.{◌≡◌, ◌≢◌, ◌⊎◌, ◌≤◌, ◌++◌, ℕ, Option, None, Err, List, [], IfOk, IfSome, IfNone, OnOk, OnErr};
+ghost use Rattle.std.specs.Prelude.{◌≡◌, ◌≢◌, ◌⊎◌, ◌+◌, ◌≤◌, ◌++◌, ℕ, Option, None, Err, List, [], length, IfOk, IfErr, IfSome, IfNone, OnOk, OnErr};
 ghost use Rattle.std.specs.Io.KnownBytes.{IsAtEnd};
 ghost use Rattle.fg_io.specs.Faults.{CountsFault, CountsFor};
 ghost use Rattle.fg_io.specs.Sink.{Gains, GainsPart};
 ghost use Rattle.fg_trace.specs.Reader.{StandsBefore, StandsAfter};
 ghost use Rattle.fg_trace.specs.Trace.{Record, Ending as TraceEnding, NotTrace as NoMagic, IsTrace};
+ghost use Rattle.fg_trace.specs.Reading.{IsReadFor};
 ghost use Rattle.fg_trace.specs.Finish.{IsFault, ReadsAll, finish_of};
 ghost use Rattle.fg_flows.specs.Plan.{PlanFits};
 ghost use Rattle.fg_report.specs.Text.{report_of};
-ghost use Rattle.fg_repair.specs.Engine.{CountsWrites, StopsIn, sums_of, told_place, told_finish, fault_finish};
+ghost use Rattle.fg_repair.specs.Engine.{CountsWrites, HasRead, StopsIn, sums_of, told_place, told_finish, fault_finish, answer_of};
 ghost use Rattle.fg_repair.specs.Repair.{Finishes, OutputsPart};
 ghost use Rattle.fg_repair.specs.Stops.{Stops};
 
@@ -20,7 +21,7 @@ use fg_flows::Plan;
 use fg_io::laws::parts_of_writes;
 use fg_io::{Outlet, Sink, Source};
 use fg_report::{FlowSum, Tail, write_report};
-use fg_trace::laws::one_trace;
+use fg_trace::laws::{one_trace, read_as_far_as_needed};
 use fg_trace::{Finish, Reader, TraceFault};
 use std::alloc::{AllocError, Global};
 
@@ -28,8 +29,9 @@ use std::alloc::{AllocError, Global};
 ///
 /// The trace is read to its end, to the first byte that differs from the magic, or past the limit. Each flow's lane gains the payloads of all
 /// words that the flow's plays show, and `out` the report, whole before `Done`, `Cut` and `TooLong`. `NotTrace` makes no
-/// lane and no report. After a fault each lane has gained a prefix of its bytes, and the report is begun only once all
-/// lanes are whole. The plan's workers are ignored.
+/// lane and no report. The first fault ends the call: each lane has gained what its flow had shown by then, but for the one
+/// whose put failed, which has gained a part of what comes next. The report is begun only once all lanes are whole. The
+/// plan's workers are ignored.
 pub fn repair_alone<S: Source, K: Sink, O: Outlet>(
     alloc: Global,
     plan: &Plan,
@@ -45,6 +47,9 @@ pub fn repair_alone<S: Source, K: Sink, O: Outlet>(
     ensures exactly { IfSome (S.left input.old) (λ bytes. (records : List Record) (end : TraceEnding)
         → IsTrace bytes plan.now.max records end → IsFault result ⊎ (result ≡ finish_of end)) }
     ensures all_read { ReadsAll result → IsAtEnd (S.left input.new) }
+
+    // Whatever the answer, the input is read as far as it needs, and at most a byte past the limit.
+    ensures reads { IfSome (S.left input.old) (λ bytes. IsReadFor plan.now.max result bytes (S.left input.new)) }
 
     // What is no trace makes nothing, whatever the answer.
     ensures refused { IfSome (S.left input.old) (λ bytes. (place : ℕ)
@@ -96,6 +101,8 @@ fn repair<S: Source, K: Sink, O: Outlet>(
     ensures whole { IfOk result (λ finish. Finishes plan.now finish (S.left input.old) (O.lanes lanes.old)
         (O.lanes lanes.new) (K.written out.old) (K.written out.new)) }
     ensures all_read { IfOk result (λ finish. ReadsAll finish → IsAtEnd (S.left input.new)) }
+    ensures far { IfSome (S.left input.old) (λ bytes.
+        IsReadFor plan.now.max (answer_of result) bytes (S.left input.new)) }
     ensures refused { IfSome (S.left input.old) (λ bytes. (place : ℕ)
         → IsTrace bytes plan.now.max [] (NoMagic place)
         → (lanes.new ≡ lanes.old) × (out.new ≡ out.old)) }
@@ -110,6 +117,7 @@ fn repair<S: Source, K: Sink, O: Outlet>(
         (O.faults lanes.old) (O.faults lanes.new) }
 {
     no_records_have_results();
+    read_as_far_as_needed();
     let mut reader = Reader::new(alloc, plan.max)?;
     if let Some(place) = find_magic(&mut reader, input)? {
         return Ok(Finish::NotTrace(place));
@@ -125,12 +133,18 @@ fn find_magic<S: Source>(reader: &mut Reader, input: &mut S) -> Result<Option<u6
         (StandsAfter reader.new (S.left input.old) (S.left input.new) [])) }
     ensures differs { IfOk result (λ place. IfSome place (λ n.
         IfSome (S.left input.old) (λ bytes. IsTrace bytes reader.new.max [] (NoMagic n)))) }
+    ensures bounded { reader.new.place + length reader.new.held ≤ reader.new.max + 1 }
+    ensures none_far { IfOk result (λ place. IfSome place (λ n. IfSome (S.left input.old) (λ bytes.
+        IsReadFor reader.new.max (Finish.NotTrace n) bytes (S.left input.new)))) }
+    ensures fault_far { IfErr result (λ fault. IfSome (S.left input.old) (λ bytes.
+        IsReadFor reader.new.max (fault_finish fault) bytes (S.left input.new))) }
     ensures open { IfOk result (λ place. IfNone place (reader.new.kept ≡ None)) }
     ensures max { reader.new.max ≡ reader.old.max }
     ensures not_write { result ≢ Err Fault.Write }
     ensures reads { CountsFor Fault.Read result (S.faults input.old) (S.faults input.new) }
     ensures fixed { S.fixed input.new ≡ S.fixed input.old }
 {
+    read_as_far_as_needed();
     match reader.start(input) {
         Ok(()) => Ok(None),
         Err(fault) => place_of(fault),
@@ -164,6 +178,8 @@ fn repair_records<S: Source, K: Sink, O: Outlet>(
         → StandsAfter reader.old first (S.left input.old) []
         → Finishes plan.now finish first (O.lanes lanes.old) (O.lanes lanes.new) (K.written out.old) (K.written out.new)) }
     ensures all_read { IfOk result (λ finish. ReadsAll finish → IsAtEnd (S.left input.new)) }
+    ensures far { (first : Option (List ℕ)) → HasRead plan.now.max reader.old first (S.left input.old)
+        → IfSome first (λ bytes. IsReadFor plan.now.max (answer_of result) bytes (S.left input.new)) }
     ensures part { OnErr result ((first : Option (List ℕ)) → StandsAfter reader.old first (S.left input.old) []
         → OutputsPart plan.now first (O.lanes lanes.old) (O.lanes lanes.new) K.written out.old out.new) }
     ensures stops { OnErr result ((first : Option (List ℕ)) → StandsAfter reader.old first (S.left input.old) []
@@ -176,6 +192,7 @@ fn repair_records<S: Source, K: Sink, O: Outlet>(
 {
     one_trace();
     one_flow_result();
+    read_as_far_as_needed();
     let mut engine = Engine::new(alloc, plan)?;
     let sums = Vec::with_capacity(alloc, engine.flows.len())?;
     let tail = engine.write_lanes(alloc, plan, reader, input, lanes)?;

@@ -4,10 +4,11 @@ ghost use Rattle.std.specs.Io.KnownBytes.{IsAtEnd};
 ghost use Rattle.fg_io.specs.Faults.{CountsFault, CountsFor};
 ghost use Rattle.fg_io.specs.Outlet.{Lanes};
 ghost use Rattle.fg_trace.specs.Reader.{StandsAfter};
+ghost use Rattle.fg_trace.specs.Reading.{HasReached};
 ghost use Rattle.fg_trace.specs.Trace.{Record};
 ghost use Rattle.fg_flows.specs.declared.Plan.{Plan};
 ghost use Rattle.fg_flows.specs.Plan.{PlanFits};
-ghost use Rattle.fg_repair.specs.Engine.{EngineStands, IsRunning, HasCome, BreaksAfter, LanesPart, HasWalked, TookAll, IsReadToEnd, IsFlushing, AreReady, HasEnded, BreaksAtFlush, LanesWhole, GrowAll, AreThere, MakesFirst};
+ghost use Rattle.fg_repair.specs.Engine.{EngineStands, IsRunning, HasCome, BreaksAfter, LanesPart, HasWalked, HasRead, TookAll, IsReadToEnd, told_finish, IsFlushing, AreReady, HasEnded, BreaksAtFlush, LanesWhole, GrowAll, AreThere, MakesFirst};
 
 use crate::fault::Fault;
 use crate::flow::Flow;
@@ -107,6 +108,10 @@ impl Engine {
             → HasWalked plan.now first (S.left input.old) reader.old self.old before (O.lanes lanes.old)
             → LanesPart plan.now (result ≡ Err Fault.Read) first before (O.lanes lanes.new)) }
         ensures all_read { IfOk result (λ end. IfSome end (λ tail. IsReadToEnd tail → IsAtEnd (S.left input.new))) }
+        ensures far { (first : Option (List ℕ)) → HasRead plan.now.max reader.old first (S.left input.old)
+            → HasRead plan.now.max reader.new first (S.left input.new) }
+        ensures reaches { IfOk result (λ end. IfSome end (λ tail.
+            HasReached (told_finish tail) reader.new (S.left input.new))) }
         ensures open { IfOk result (λ end. IfNone end (reader.new.kept ≡ None)) }
         ensures max { reader.new.max ≡ reader.old.max }
         ensures place { IfOk result (λ end. IfNone end (reader.old.place < reader.new.place)) }
@@ -150,6 +155,9 @@ impl Engine {
             → HasWalked plan.now first (S.left input.old) reader.old self.old before (O.lanes lanes.old)
             → LanesPart plan.now (result ≡ Err Fault.Read) first before (O.lanes lanes.new)) }
         ensures all_read { IfOk result (λ tail. IsReadToEnd tail → IsAtEnd (S.left input.new)) }
+        ensures far { (first : Option (List ℕ)) → HasRead plan.now.max reader.old first (S.left input.old)
+            → HasRead plan.now.max reader.new first (S.left input.new) }
+        ensures reaches { IfOk result (λ tail. HasReached (told_finish tail) reader.new (S.left input.new)) }
         ensures reads { CountsFor Fault.Read result (S.faults input.old) (S.faults input.new) }
         ensures fixed { S.fixed input.new ≡ S.fixed input.old }
         ensures writes { CountsFor Fault.Write result (O.faults lanes.old) (O.faults lanes.new) }
@@ -181,6 +189,9 @@ impl Engine {
         ensures part { OnErr result ((first : Option (List ℕ)) → StandsAfter reader.old first (S.left input.old) []
             → LanesPart plan.now (result ≡ Err Fault.Read) first (O.lanes lanes.old) (O.lanes lanes.new)) }
         ensures all_read { IfOk result (λ tail. IsReadToEnd tail → IsAtEnd (S.left input.new)) }
+        ensures far { (first : Option (List ℕ)) → HasRead plan.now.max reader.old first (S.left input.old)
+            → HasRead plan.now.max reader.new first (S.left input.new) }
+        ensures reaches { IfOk result (λ tail. HasReached (told_finish tail) reader.new (S.left input.new)) }
         ensures reads { CountsFor Fault.Read result (S.faults input.old) (S.faults input.new) }
         ensures fixed { S.fixed input.new ≡ S.fixed input.old }
         ensures writes { CountsFor Fault.Write result (O.faults lanes.old) (O.faults lanes.new) }

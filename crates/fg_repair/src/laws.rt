@@ -1,9 +1,9 @@
 //! The laws that show the definition of a repair to be right. Each is the contract of a function that does nothing, or only
 //! calls laws of the crates below.
 ghost use Rattle.fg_repair.specs.Engine.{OneFlowResult, TakenIsFront, NoRecordsHaveResults};
-ghost use Rattle.fg_repair.specs.Laws.{OneResult};
+ghost use Rattle.fg_repair.specs.Laws.{OneResult, OneGained};
 
-use fg_desk::laws::{live_equations, one_run, taken_plays_come_first};
+use fg_desk::laws::{live_equations, one_run, one_taking, taken_plays_come_first};
 use fg_fechead::laws::parity_datagrams_read_one_way;
 use fg_rtp::laws::media_datagrams_read_one_way;
 use fg_trace::laws::one_trace;
@@ -13,6 +13,16 @@ pub fn one_result()
     ensures { OneResult }
 {
     one_trace();
+    one_flow_result();
+}
+
+/// Where a repair stops, what a lane has gained exactly is one list of bytes at most.
+pub fn one_gained()
+    ensures { OneGained }
+{
+    media_datagrams_read_one_way();
+    parity_datagrams_read_one_way();
+    one_taking();
     one_flow_result();
 }
 

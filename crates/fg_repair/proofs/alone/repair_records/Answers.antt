@@ -1,9 +1,10 @@
 use Rattle.std.proofs.Common.{◌≡◌, ℕ, Option, List, [], Err, ap}
 use Rattle.fg_trace.specs.Reader.{StandsAfter}
 use Rattle.fg_repair.specs.Repair.{OutputsPart}
-use Rattle.fg_repair.specs.Engine.{StopsIn}
+use Rattle.fg_repair.specs.Engine.{StopsIn, answer_of}
 use Rattle.fg_repair.specs.declared.fault.Fault.TheVariants.{Read}
 use Rattle.fg_repair.proofs.Results.{on_err, same_cause}
+use Rattle.fg_repair.proofs.Reaching.{read_for, fault_reached}
 use Rattle.fg_repair.proofs.Writing.{none_part}
 use Rattle.fg_repair.proofs.Walking.{same_stop}
 use Rattle.fg_repair.proofs.Finishing.{no_outputs, report_outputs, whole_stops}
@@ -50,3 +51,23 @@ returns-in_err-report-clause-stops g c =
     let stops : (first : Option (List ℕ)) → StandsAfter c.args.reader.now first (g.S.Source.left c.args.input.now) [] → StopsIn c.args.plan.now (c.from_residual-in_err-report.result ≡ Err Read) first (g.O.Outlet.lanes c.args.lanes.now) (g.O.Outlet.lanes c.write_lanes.new.lanes) = λ first h.
     whole_stops c.one_trace.ensures c.args.plan.now _ first c.write_lanes.new.self c.in_ok-tail.tail _ _ (c.in_ok-tail.ensures.whole first h) in
     on_err _ _ stops
+
+pub returns-in_err-engine-clause-far : goal.returns-in_err-engine-clause-far
+returns-in_err-engine-clause-far g c = λ first h.
+    read_for c.read_as_far_as_needed.ensures.after _ (answer_of c.from_residual.result) _ first _ h (fault_reached c.from_residual.result _ _ c.from_residual.ensures.0)
+
+pub returns-in_err-sums-clause-far : goal.returns-in_err-sums-clause-far
+returns-in_err-sums-clause-far g c = λ first h.
+    read_for c.read_as_far_as_needed.ensures.after _ (answer_of c.from_residual-in_err-sums.result) _ first _ h (fault_reached c.from_residual-in_err-sums.result _ _ c.from_residual-in_err-sums.ensures.0)
+
+pub returns-in_err-tail-clause-far : goal.returns-in_err-tail-clause-far
+returns-in_err-tail-clause-far g c = λ first h.
+    read_for c.read_as_far_as_needed.ensures.after _ (answer_of c.from_residual-in_err-tail.result) _ first _ (c.in_err-tail.ensures.far first h) (fault_reached c.from_residual-in_err-tail.result _ _ c.from_residual-in_err-tail.ensures.0)
+
+pub returns-in_err-report-clause-far : goal.returns-in_err-report-clause-far
+returns-in_err-report-clause-far g c = λ first h.
+    read_for c.read_as_far_as_needed.ensures.after _ (answer_of c.from_residual-in_err-report.result) _ first _ (c.in_ok-tail.ensures.far first h) (fault_reached c.from_residual-in_err-report.result _ _ c.from_residual-in_err-report.ensures.0)
+
+pub returns-clause-far : goal.returns-clause-far
+returns-clause-far g c = λ first h.
+    read_for c.read_as_far_as_needed.ensures.after _ c.finish_at.result _ first _ (c.in_ok-tail.ensures.far first h) (rw c.finish_at.ensures c.in_ok-tail.ensures.reaches)
