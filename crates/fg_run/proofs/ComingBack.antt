@@ -24,7 +24,7 @@ use Rattle.fg_run.specs.Drill.{DrillsStream, StreamComesBack, records_sent}
 use Rattle.fg_run.specs.DrillLaws.{DrillsComeBack, SamplesComeBack}
 use Rattle.fg_run.specs.Ended.{IsFault}
 use Rattle.fg_run.specs.Sample.{SampleComesBack, Samples, losses_made, payloads_made, sample_sent}
-use Rattle.fg_run.proofs.Samples.{can}
+use Rattle.fg_run.proofs.Samples.{can as sample_can}
 use Rattle.fg_run.specs.Endings.{why_of_stream}
 
 -- the losses that words name are few
@@ -145,7 +145,7 @@ samples_come_back few cuts all consistent shown peels made packets seed datagram
     let cut = (made seed datagrams (2 ^ 40) (omega (arith, size, small))).1 in
     let are = cuts 7 (2 ^ 40) (made_stream seed datagrams) payloads (lit≤ tt) cut.first in
     let back : CanComeBack plan.window plan.depth sample_settings payloads lost = record {
-      can = can;
+      can = sample_can;
       whole = are.0;
       few = few sample_layout (losses_made seed datagrams loss) (length payloads) may;
       limit = are.1;

@@ -12,7 +12,7 @@ use Rattle.fg_trace.specs.Laws.{OneTrace}
 use Rattle.fg_trace.specs.Trace.{Record, Ending, Ended, IsTrace}
 use Rattle.fg_flows.specs.declared.Plan.{Plan}
 use Rattle.fg_encode.specs.Encoder.{CanEncode}
-use Rattle.fg_encode.specs.Stream.{StreamEnding, IsCut}
+use Rattle.fg_encode.specs.Stream.{StreamEnding, Whole, TooLong, Ragged, NoSync, IsCut}
 use Rattle.fg_repair.specs.Flow.{FlowResult, IsFlowResult}
 use Rattle.fg_repair.specs.Lanes.{LanesGain, PutsAll}
 use Rattle.fg_repair.specs.Repair.{AreResults, Gain, Outputs, Finishes, lanes_of}
@@ -26,9 +26,9 @@ use Rattle.fg_run.specs.declared.ended.Why.{Why}
 use Rattle.fg_run.specs.declared.ended.Why.TheVariants as why
 use Rattle.fg_run.specs.Drill.{records_sent}
 use Rattle.fg_run.specs.DrillLaws.{RepairsComeBack, trace_sent}
-use Rattle.fg_run.specs.DrillSteps.{StopsTrace}
+use Rattle.fg_run.specs.DrillSteps.{IsEndingsAnswer, StopsTrace}
 use Rattle.fg_run.specs.Ended.{IsFault}
-use Rattle.fg_run.specs.Endings.{why_of_ending, why_of_finish}
+use Rattle.fg_run.specs.Endings.{why_of_finish, why_of_stream}
 use Rattle.fg_run.specs.Repair.{EncodingsComeBack, LaneGains}
 use Rattle.fg_run.specs.Stopping.{StopsLanes}
 use Rattle.fg_run.proofs.Drills.{sent_trace}
@@ -150,6 +150,18 @@ last_read_stops one plan None lanes lanes' written written' h = tt
 last_read_stops one plan (Some bytes) lanes lanes' written written' h = λ records end is.
     let same = one bytes plan.max h.records records Ended end h.of_input is in
     (finish.ReadFault, refl, stops_whole plan finish.ReadFault records h.results lanes lanes' (subst (λ rs. AreResults plan rs h.results) same.0 h.are_results) h.gain.0)
+
+ending_no_fault : (end : StreamEnding) → IsFault (why_of_stream end) → ⊥
+ending_no_fault Whole h = h
+ending_no_fault (TooLong n) h = h
+ending_no_fault (Ragged n) h = h
+ending_no_fault (NoSync k) h = h
+
+pub done_stops : OneTrace → (plan : Plan) (packets max : ℕ) (stream trace : Option (List ℕ)) (lanes lanes' : Option Lanes) (written written' : Option (List ℕ)) (answer : Why) → IsFault answer
+    → (answer ≡ why.ReadFault) ⊎ IsEndingsAnswer packets max stream answer → Outputs plan Ended trace lanes lanes' written written' → StopsTrace plan trace answer lanes lanes'
+done_stops one plan packets max stream trace lanes lanes' written written' answer fault (inl read) h =
+    subst (λ a. StopsTrace plan trace a lanes lanes') (sym read) (last_read_stops one plan trace lanes lanes' written written' h)
+done_stops one plan packets max stream trace lanes lanes' written written' answer fault (inr ends) h = absurd (ending_no_fault ends.0 (subst IsFault ends.1 fault))
 
 -- a drill stops where the repair of what is sent does
 pub drill_stops : StreamIsTrace → CutPayloads → (settings : Settings) (plan : Plan) (losses : Losses) (max : ℕ) (answer : Why) (input : Option (List ℕ)) (lanes lanes' : Option Lanes)

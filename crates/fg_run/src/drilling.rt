@@ -149,7 +149,8 @@ fn ending<S: Source>(source: &mut Thinned<S>) -> Why
     requires { IsAtEnd (trace_left source.old) }
     ensures answer { (result ≡ Why.ReadFault)
         ⊎ IsEndingsAnswer source.old.settings.packets source.old.max source.old.stream result }
-    ensures tells { (result ≡ Why.ReadFault) ⊎ TellsEnding result source.new.told source.new.fault }
+    ensures tells { (result ≡ Why.ReadFault)
+        ⊎ IfSome source.old.stream (λ bytes. TellsEnding result source.new.told source.new.fault) }
     ensures all_read { EndsStream result → IsAtEnd (S.left source.new.inner) }
     ensures same { fixed_of S.fixed source.new ≡ fixed_of S.fixed source.old }
     ensures read_fault { result ≡ Why.ReadFault
