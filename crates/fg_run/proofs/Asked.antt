@@ -1,5 +1,5 @@
 -- What holds of the request that was read holds of each that the words ask for, since there is one.
-use Rattle.std.proofs.Common.{◌≡◌, ◌⊎◌, inl, inr, ℕ, List, Option, None, Some, IfSome, refl, subst}
+use Rattle.std.proofs.Common.{◌≡◌, ◌⊎◌, inl, inr, ℕ, List, [], Option, None, Some, IfSome, refl, subst, arith}
 use Rattle.fg_run.specs.declared.ended.Why.{Why}
 use Rattle.fg_run.specs.declared.ended.Why.TheVariants.{Done, Words, ReadFault, WriteFault, NotTrace, Cut, TooLong, Memory, NotTransport}
 use Rattle.fg_run.specs.declared.request.Request.{Request}
@@ -9,7 +9,15 @@ use Rattle.fg_io.specs.Outlet.{Lanes}
 use Rattle.fg_run.specs.Ended.{IsFault}
 use Rattle.fg_run.specs.Laws.{OneRequest}
 use Rattle.fg_run.specs.Request.{Asks}
-use Rattle.fg_run.specs.Run.{ComesBack, IsAnswer, IsNoInput}
+use Rattle.fg_run.specs.Reading.{ReadsTrace}
+use Rattle.fg_run.specs.Run.{ComesBack, IsAnswer, IsNoInput, Reads, StopsAt}
+use Rattle.fg_run.specs.Sample.{sample_sent}
+use Rattle.fg_run.specs.Stopping.{StopsLanes}
+use Rattle.fg_trace.specs.declared.step.Finish.TheVariants as finish
+use Rattle.fg_trace.specs.Trace.{Record, Ending, IsTrace}
+use Rattle.fg_flows.specs.declared.Plan.{Plan}
+use Rattle.fg_run.proofs.Reading.{unread}
+use Rattle.fg_run.proofs.Repairs.{drill_stops_first, stops_first}
 
 pub of_each : OneRequest → (words : List (List ℕ)) (r : Request) (P : Request → Type 0) → Asks words r → P r → (request : Request) → Asks words request → P request
 of_each one words r P h x request k = subst P (one words r request h k) x
@@ -68,8 +76,39 @@ no_memory (Some bytes) P = inl tt
 pub comes_back_not : (request : Request) (input : Option (List ℕ)) (lanes : Option Lanes) → ComesBack request Memory input lanes lanes
 comes_back_not (Asked question) input lanes = tt
 comes_back_not (Refused fault) input lanes = tt
-comes_back_not (Ordered (Repair plan)) input lanes = tt
+comes_back_not (Ordered (Repair plan)) input lanes = no_memory input _
 comes_back_not (Ordered (Encode settings max)) input lanes = tt
 comes_back_not (Ordered (Drill settings plan losses max)) input lanes = no_memory input _
 comes_back_not (Ordered (Inspect table max)) input lanes = tt
-comes_back_not (Ordered (Sample seed datagrams loss plan)) input lanes = tt
+comes_back_not (Ordered (Sample seed datagrams loss plan)) input lanes = inl tt
+
+-- and nothing was made or read
+first_of_trace : (plan : Plan) (input : Option (List ℕ)) (lanes : Option Lanes)
+    → IfSome input (λ bytes. (records : List Record) (end : Ending) → IsTrace bytes plan.max records end → StopsLanes plan Memory records lanes lanes)
+first_of_trace plan None lanes = tt
+first_of_trace plan (Some bytes) lanes = λ records end is. stops_first plan finish.Memory records lanes
+
+pub stops_not : (request : Request) (input : Option (List ℕ)) (lanes : Option Lanes) → StopsAt request Memory input lanes lanes
+stops_not (Asked question) input lanes = refl
+stops_not (Refused fault) input lanes = refl
+stops_not (Ordered (Repair plan)) input lanes = first_of_trace plan input lanes
+stops_not (Ordered (Encode settings max)) input lanes = refl
+stops_not (Ordered (Drill settings plan losses max)) input lanes = drill_stops_first settings plan losses max finish.Memory input lanes
+stops_not (Ordered (Inspect table max)) input lanes = refl
+stops_not (Ordered (Sample seed datagrams loss plan)) input lanes = stops_first plan finish.Memory (sample_sent seed datagrams loss) lanes
+
+no_trace_read : (max : ℕ) (bytes : List ℕ) → ReadsTrace max Memory bytes (Some bytes)
+no_trace_read max bytes = (finish.Memory, refl, record { read = []; rest = bytes; now_is = refl; all = refl; reaches = tt; bounded = omega arith })
+
+reads_none : (request : Request) (bytes : List ℕ) → Reads request Memory bytes (Some bytes)
+reads_none (Asked question) bytes = refl
+reads_none (Refused fault) bytes = refl
+reads_none (Ordered (Repair plan)) bytes = no_trace_read plan.max bytes
+reads_none (Ordered (Encode settings max)) bytes = inl (tt, unread max bytes)
+reads_none (Ordered (Drill settings plan losses max)) bytes = inl (tt, unread max bytes)
+reads_none (Ordered (Inspect table max)) bytes = no_trace_read max bytes
+reads_none (Ordered (Sample seed datagrams loss plan)) bytes = refl
+
+pub reads_not : (words : List (List ℕ)) (input : Option (List ℕ)) → IfSome input (λ bytes. (request : Request) → Asks words request → Reads request Memory bytes input)
+reads_not words None = tt
+reads_not words (Some bytes) = λ request h. reads_none request bytes

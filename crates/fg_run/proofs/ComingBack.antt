@@ -1,5 +1,5 @@
--- What comes back of a stream that is drilled.
-use Rattle.std.proofs.Common.{◌≡◌, ◌≢◌, ◌⊎◌, inl, inr, ⊎_elim, ℕ, zero, suc, ◌<◌, ◌≤◌, ◌^◌, Option, None, Some, IfSome, List, [], ◌∷◌, ◌++◌, length, refl, sym, ap, ◌∙◌, subst, arith}
+-- What comes back of a stream that is drilled, and of a sample.
+use Rattle.std.proofs.Common.{◌≡◌, ◌≢◌, ◌⊎◌, inl, inr, ⊎_elim, ℕ, zero, suc, ◌<◌, ◌≤◌, ◌^◌, Option, None, Some, IfSome, List, [], ◌∷◌, ◌++◌, length, refl, sym, ap, ◌∙◌, subst, arith, lit≤}
 use Rattle.std.specs.List.{AllZip, Contains, concat, flat_map, slice_index_or}
 use Rattle.fg_io.specs.Outlet.{Lanes, Puts}
 use Rattle.fg_shape.specs.declared.encoding.Losses.{Losses}
@@ -14,12 +14,17 @@ use Rattle.fg_repair.specs.Flow.{FlowResult, IsFlowResult}
 use Rattle.fg_repair.specs.Lanes.{PutsAll}
 use Rattle.fg_repair.specs.Repair.{AreResults, lanes_of}
 use Rattle.fg_drill.specs.ComesBack.{CanComeBack, NothingIsInconsistent, WhatIsShownComesBack, PeelingBringsAllBack, stream_of}
+use Rattle.fg_drill.specs.Drawn.{sample_layout, sample_settings}
 use Rattle.fg_drill.specs.Few.{LossesAreFew, MayLose}
+use Rattle.fg_drill.specs.Made.{MadeIsCut, MadeIsPackets, made_stream}
 use Rattle.fg_drill.specs.Thinned.{is_lost}
 use Rattle.fg_run.specs.declared.ended.Why.{Why}
 use Rattle.fg_run.specs.declared.ended.Why.TheVariants as why
 use Rattle.fg_run.specs.Drill.{DrillsStream, StreamComesBack, records_sent}
-use Rattle.fg_run.specs.DrillLaws.{DrillsComeBack}
+use Rattle.fg_run.specs.DrillLaws.{DrillsComeBack, SamplesComeBack}
+use Rattle.fg_run.specs.Ended.{IsFault}
+use Rattle.fg_run.specs.Sample.{SampleComesBack, Samples, losses_made, payloads_made, sample_sent}
+use Rattle.fg_run.proofs.Samples.{can as sample_can}
 use Rattle.fg_run.specs.Endings.{why_of_stream}
 
 -- the losses that words name are few
@@ -126,3 +131,48 @@ comes_back laws settings plan losses max answer (Some bytes) lanes lanes' writte
 pub drills_come_back : LossesAreFew → CutsArePayloads → WholeCutIsAll → NothingIsInconsistent → WhatIsShownComesBack → PeelingBringsAllBack → DrillsComeBack
 drills_come_back few cuts all consistent shown peels =
     comes_back (record { few = few; cuts = cuts; all = all; consistent = consistent; shown = shown; peels = peels })
+
+-- A sample
+
+pub samples_come_back :
+    LossesAreFew → CutsArePayloads → WholeCutIsAll → NothingIsInconsistent → WhatIsShownComesBack → PeelingBringsAllBack → MadeIsCut → MadeIsPackets → SamplesComeBack
+samples_come_back few cuts all consistent shown peels made packets seed datagrams loss plan answer lanes lanes' written written' small fits flow may h =
+    let payloads = payloads_made seed datagrams in
+    let lost = is_lost (losses_made seed datagrams loss) in
+    let P : ℕ → FlowResult → Type 0 = IsFlowResult plan.window plan.depth (sample_sent seed datagrams loss) in
+    let one = single P sample_settings.port h.results (subst (λ ports. AllZip P ports h.results) flow h.are_results) in
+    let size = (packets seed datagrams).whole in
+    let cut = (made seed datagrams (2 ^ 40) (omega (arith, size, small))).1 in
+    let are = cuts 7 (2 ^ 40) (made_stream seed datagrams) payloads (lit≤ tt) cut.first in
+    let back : CanComeBack plan.window plan.depth sample_settings payloads lost = record {
+      can = sample_can;
+      whole = are.0;
+      few = few sample_layout (losses_made seed datagrams loss) (length payloads) may;
+      limit = are.1;
+      some_window = fits.window.0;
+      window_limit = fits.window.1;
+      window_within = fits.depth.0;
+      depth_limit = fits.depth.1;
+    } in
+    record {
+      result = one.result;
+      back = record {
+        is = one.is;
+        consistent = consistent plan.window plan.depth sample_settings payloads lost one.result back one.is;
+        shown = shown plan.window plan.depth sample_settings payloads lost one.result back one.is;
+        peels = peels plan.window plan.depth sample_settings payloads lost one.result back one.is;
+      };
+      whole = joined payloads ∙ all 7 (2 ^ 40) (made_stream seed datagrams) payloads cut;
+      gains = puts_one sample_settings.port one.result.lane lanes lanes'
+          (subst (λ ports. PutsAll lanes ports (one.result.lane ∷ []) lanes') flow
+          (subst (λ results. PutsAll lanes plan.table (lanes_of results) lanes') one.all h.puts));
+    }
+
+-- with no fault
+pub sample_back : SamplesComeBack → (seed datagrams loss : ℕ) (plan : Plan) (answer : Why) (lanes lanes' : Option Lanes) (written written' : Option (List ℕ))
+    → datagrams ≤ 20000 → PlanFits plan → plan.table ≡ sample_settings.port ∷ [] → MayLose (losses_made seed datagrams loss)
+    → IsFault answer ⊎ Samples seed datagrams loss plan answer lanes lanes' written written'
+    → IsFault answer ⊎ SampleComesBack seed datagrams loss plan lanes lanes'
+sample_back law seed datagrams loss plan answer lanes lanes' written written' small fits flow may (inl fault) = inl fault
+sample_back law seed datagrams loss plan answer lanes lanes' written written' small fits flow may (inr h) =
+    inr (law seed datagrams loss plan answer lanes lanes' written written' small fits flow may h)

@@ -18,13 +18,14 @@ use Rattle.fg_encode.specs.Encoder.{EncoderState, StandsAfter as HasTaken}
 use Rattle.fg_encode.specs.Encoding.{encoding, records_at}
 use Rattle.fg_encode.specs.Laws.{OneMoreAdds}
 use Rattle.fg_encode.specs.Stream.{payload_of, AreFirst, IsAcceptable, StreamEnding, Whole, TooLong, Ragged, NoSync, EndsAt, IsCut, OneCut}
-use Rattle.fg_encode.specs.StreamReader.{Answer, StreamState, StandsAfter, Walks, IsPlaced}
+use Rattle.fg_encode.specs.Reading.{ending_told}
+use Rattle.fg_encode.specs.StreamReader.{Answer, StreamState, StandsAfter, Walks, IsPlaced, kept_answer}
 use Rattle.fg_run.specs.declared.ended.Why.{Why}
 use Rattle.fg_run.specs.declared.ended.Why.TheVariants as why
 use Rattle.fg_run.specs.declared.encoding.Encoding.{Encoding}
 use Rattle.fg_run.specs.Encode.{Encodes, EncodesPart}
 use Rattle.fg_run.specs.Endings.{why_of_stream}
-use Rattle.fg_run.specs.EncodeSteps.{CanGoOn, IsUnderway, HasEncoded}
+use Rattle.fg_run.specs.EncodeSteps.{CanGoOn, IsReadTo, IsUnderway, HasEncoded}
 use Rattle.fg_run.proofs.Sending.{gains_nothing, sent_none, sent_more, sent_whole, sent_part, sent_front, part_of_front}
 
 -- The first payloads, and all
@@ -204,15 +205,17 @@ part_at_fault law work first left before at h =
     (sent_front before at (trace_of (encoding settings h.payloads)) work.trace [] (trace_of (encoding settings h.payloads)) (sym (append-nil (trace_of (encoding settings h.payloads)))) h.sent)
 
 -- the end of the stream
-pub encoded : (work next : Encoding) (first left before at : Option (List ℕ)) (why : Why) (end : StreamEnding) → why ≡ why_of_stream end
+pub encoded : (work next : Encoding) (first left now before at : Option (List ℕ)) (why : Why) (end : StreamEnding) → why ≡ why_of_stream end
     → next.encoder ≡ work.encoder → next.trace ≡ work.trace → next.reader.packets ≡ work.reader.packets
     → ((payloads : List (List ℕ)) → StandsAfter work.reader first left payloads → IfSome first (λ bytes. IsCut next.reader.packets next.reader.max bytes payloads end))
-    → IsUnderway first left work before at → HasEncoded first why next before at
-encoded work next first left before at why end is encoder trace packets cut h = record {
+    → ((payloads : List (List ℕ)) → StandsAfter work.reader first left payloads → IsReadTo next.reader.max (Some end) first now)
+    → IsUnderway first left work before at → HasEncoded first now why next before at
+encoded work next first left now before at why end is encoder trace packets cut read h = record {
   payloads = h.payloads;
   end = end;
   answer_is = is;
   of_input = subst (λ n. IfSome first (λ bytes. IsCut n next.reader.max bytes h.payloads end)) (packets ∙ sym h.packets ∙ ap (λ (e : EncoderState). e.settings.packets) (sym encoder)) (cut h.payloads h.stands);
+  read = read h.payloads h.stands;
   sent = subst (λ (e : EncoderState). Sent before (trace_of (encoding e.settings h.payloads)) next.trace at) (sym encoder)
       (subst (λ bytes. Sent before (trace_of (encoding work.encoder.settings h.payloads)) bytes at) (sym trace) h.sent);
 }
@@ -226,6 +229,15 @@ pub why_not : (f : TsFault) → why.NotTransport f ≡ why_of_stream (not_transp
 why_not (fault.Ragged n) = refl
 why_not (fault.NoSync k) = refl
 
+pub stands_not : (reader : StreamState) (first now : Option (List ℕ)) (payloads : List (List ℕ)) (f : TsFault)
+    → Walks (Err (NotTransport f)) reader first now payloads → StandsAfter reader first now payloads
+stands_not reader first now payloads (fault.Ragged n) h = h.0
+stands_not reader first now payloads (fault.NoSync k) h = h.0
+
+pub told_not : (f : TsFault) → ending_told (kept_answer (Err (NotTransport f))) ≡ Some (not_transport f)
+told_not (fault.Ragged n) = refl
+told_not (fault.NoSync k) = refl
+
 pub cut_not : (reader : StreamState) (first now : Option (List ℕ)) (payloads : List (List ℕ)) (f : TsFault)
     → Walks (Err (NotTransport f)) reader first now payloads → IfSome first (λ bytes. IsCut reader.packets reader.max bytes payloads (not_transport f))
 cut_not reader first now payloads (fault.Ragged n) h = h.1
@@ -233,9 +245,9 @@ cut_not reader first now payloads (fault.NoSync k) h = h.1
 
 -- All is encoded
 
-pub encodes : (settings : Settings) (max : ℕ) (work : Encoding) (why : Why) (first before at after : Option (List ℕ)) → work.encoder.settings ≡ settings → work.reader.max ≡ max
-    → HasEncoded first why work before at → Gains at work.trace after → Encodes settings max why first before after
-encodes settings max work why first before at after same limit h gained =
+pub encodes : (settings : Settings) (max : ℕ) (work : Encoding) (why : Why) (first now before at after : Option (List ℕ)) → work.encoder.settings ≡ settings → work.reader.max ≡ max
+    → HasEncoded first now why work before at → Gains at work.trace after → Encodes settings max why first before after
+encodes settings max work why first now before at after same limit h gained =
     subst (λ (s : Settings). Encodes s max why first before after) same (record {
       payloads = h.payloads;
       end = h.end;
@@ -252,9 +264,9 @@ part_at_end law settings max None payloads end before after cut part = tt
 part_at_end law settings max (Some bytes) payloads end before after cut part = λ all other k.
     subst (λ (ps : List (List ℕ)). GainsPart before (trace_of (encoding settings ps)) after) (law settings.packets max bytes payloads all end other cut k).0 part
 
-pub encodes_part : OneCut → (settings : Settings) (max : ℕ) (work : Encoding) (why : Why) (first before at after : Option (List ℕ)) → work.encoder.settings ≡ settings → work.reader.max ≡ max
-    → HasEncoded first why work before at → GainsPart at work.trace after → EncodesPart settings max first before after
-encodes_part law settings max work why first before at after same limit h part =
+pub encodes_part : OneCut → (settings : Settings) (max : ℕ) (work : Encoding) (why : Why) (first now before at after : Option (List ℕ)) → work.encoder.settings ≡ settings → work.reader.max ≡ max
+    → HasEncoded first now why work before at → GainsPart at work.trace after → EncodesPart settings max first before after
+encodes_part law settings max work why first now before at after same limit h part =
     let mine = work.encoder.settings in
     subst (λ (s : Settings). EncodesPart s max first before after) same
     (subst (λ n. EncodesPart mine n first before after) limit

@@ -3,6 +3,8 @@ pub mod ComingBack
 pub mod Drills
 pub mod Encodings
 pub mod Lines
+pub mod Reading
+pub mod Repairs
 pub mod Requests
 pub mod Samples
 pub mod Sending

@@ -4,7 +4,7 @@ use Rattle.std.specs.List.{range_with_len}
 use Rattle.std.specs.Option.{option_map}
 use Rattle.std.specs.Fmt.{decimal}
 use Rattle.std.proofs.lemmas.List.FromFn.{length-map-range_with_len}
-use Rattle.fg_io.specs.Laws.{AllIsPart, PartJoins, WritesJoin}
+use Rattle.fg_io.specs.Laws.{WritesJoin}
 use Rattle.fg_io.specs.Outlet.{Lanes}
 use Rattle.fg_io.specs.Sink.{Gains, GainsPart}
 use Rattle.fg_trace.specs.declared.step.Finish.{Finish}
@@ -21,7 +21,7 @@ use Rattle.fg_repair.specs.Lanes.{PutsAll, PutsAllPart}
 use Rattle.fg_repair.specs.Repair.{AreResults, OutputsPart, Finishes, lanes_of, report_text}
 use Rattle.fg_shape.specs.declared.encoding.Losses.{Losses}
 use Rattle.fg_drill.specs.Drawn.{drawn_drops, sample_layout, sample_settings}
-use Rattle.fg_drill.specs.Few.{RecordsAreCounted}
+use Rattle.fg_drill.specs.Few.{MayLose, RecordsAreCounted}
 use Rattle.fg_drill.specs.Made.{made_stream, MadeIsCut, MadeIsPackets}
 use Rattle.fg_drill.specs.PayloadLaws.{CutPayloads}
 use Rattle.fg_drill.specs.Payloads.{payloads_of}
@@ -32,7 +32,7 @@ use Rattle.fg_run.specs.declared.ended.Why.{Why}
 use Rattle.fg_run.specs.declared.ended.Why.TheVariants as why
 use Rattle.fg_run.specs.Ended.{IsFault}
 use Rattle.fg_run.specs.Endings.{why_of_finish}
-use Rattle.fg_run.specs.Sample.{Samples, SamplesPart, drops_made, payloads_made, records_made, sample_line, sample_sent}
+use Rattle.fg_run.specs.Sample.{Samples, SamplesPart, drops_made, losses_made, payloads_made, records_made, sample_line, sample_sent}
 use Rattle.fg_run.specs.DrillLaws.{SamplesAreCounted, SamplesAreTraces}
 use Rattle.fg_run.proofs.Drills.{gained}
 use Rattle.std.proofs.Common.{lit≤, codes}
@@ -64,6 +64,13 @@ losses_of drops every = record { drops = drops; every = every }
 
 abbrev pub sent_of : Losses → ℕ → ℕ → List Record
 sent_of losses seed datagrams = thinned sample_settings (is_lost losses) (payloads_made seed datagrams)
+
+-- those that were drawn may be asked for
+pub may_be_made : SamplesAreCounted → (seed datagrams loss records : ℕ) (losses : Losses) → records ≡ media_number sample_layout datagrams
+    → losses.drops ≡ drawn_drops seed loss records → losses.every ≡ 0 → MayLose losses → MayLose (losses_made seed datagrams loss)
+may_be_made counted seed datagrams loss records losses are drops every may =
+    subst (λ n. MayLose (losses_of (drops_made seed datagrams loss) n)) every
+    (subst (λ (d : List ℕ). MayLose (losses_of d losses.every)) (drops ∙ ap (λ n. drawn_drops seed loss n) (are ∙ sym (counted seed datagrams))) may)
 
 losses_are : RecordsAreCounted → (seed datagrams loss : ℕ) (losses : Losses) → losses.drops ≡ drawn_drops seed loss (media_number sample_layout datagrams) → losses.every ≡ 0
     → sent_of losses seed datagrams ≡ sample_sent seed datagrams loss
@@ -121,19 +128,19 @@ samples one join seed datagrams loss plan answer bytes line lanes lanes' first m
     }
 
 -- After the line, whatever the repair leaves.
-pub samples_part : {K : Type 0} → AllIsPart → PartJoins → (seed datagrams loss : ℕ) (plan : Plan) (bytes line : List ℕ) (lanes lanes' : Option Lanes) (first : Option (List ℕ)) (written : K → Option (List ℕ)) (out out' : K)
+pub samples_part : {K : Type 0} → WritesJoin → (seed datagrams loss : ℕ) (plan : Plan) (bytes line : List ℕ) (lanes lanes' : Option Lanes) (first : Option (List ℕ)) (written : K → Option (List ℕ)) (out out' : K)
     → IsTrace bytes plan.max (sample_sent seed datagrams loss) Ended → line ≡ sample_line seed datagrams loss → Gains first line (written out)
     → OutputsPart plan (Some bytes) lanes lanes' written out out' → SamplesPart seed datagrams loss plan lanes lanes' first (written out')
-samples_part all part seed datagrams loss plan bytes line lanes lanes' first written out out' is told wrote h =
+samples_part join seed datagrams loss plan bytes line lanes lanes' first written out out' is told wrote h =
     let begun = subst (λ t. Gains first t (written out)) told wrote in
     record {
       others = h.others;
-      front = λ results are. ⊎_elim
+      front = inr (λ results are. ⊎_elim
           (λ (k : PutsAllPart lanes plan.table (lanes_of results) lanes' × (out' ≡ out)).
-          inl (k.0, subst (λ o. GainsPart first (sample_line seed datagrams loss) (written o)) (sym k.1) (all first (written out) (sample_line seed datagrams loss) begun)))
+          inl (k.0, subst (λ o. Gains first (sample_line seed datagrams loss) (written o)) (sym k.1) begun))
           (λ (k : PutsAll lanes plan.table (lanes_of results) lanes' × GainsPart (written out) (report_text plan (sample_sent seed datagrams loss) results Ended) (written out')).
-          inr (k.0, part first (written out) (written out') (sample_line seed datagrams loss) (report_text plan (sample_sent seed datagrams loss) results Ended) begun k.1))
-          (h.front (sample_sent seed datagrams loss) results Ended is are);
+          inr (k.0, (k.1.0, k.1.1, join first (written out) (written out') (sample_line seed datagrams loss) k.1.0 begun k.1.2)))
+          (h.front (sample_sent seed datagrams loss) results Ended is are));
     }
 
 -- Whatever finish the answer tells.

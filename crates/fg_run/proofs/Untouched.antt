@@ -20,7 +20,7 @@ use Rattle.fg_run.specs.declared.request.Request.TheVariants.{Asked, Ordered, Re
 use Rattle.fg_run.specs.Drill.{DrillsPart, records_sent}
 use Rattle.fg_run.specs.Encode.{EncodesPart}
 use Rattle.fg_run.specs.Run.{AnswersPart}
-use Rattle.fg_run.specs.Sample.{SamplesPart, sample_line, sample_sent}
+use Rattle.fg_run.specs.Sample.{SamplesPart, sample_line}
 
 lane_stays : (lanes : Lanes) (port : ℕ) (piece : List ℕ) → LaneGainsPart lanes lanes port piece
 lane_stays lanes port piece = record {
@@ -85,7 +85,7 @@ pub no_sample : (seed datagrams loss : ℕ) (plan : Plan) (lanes : Option Lanes)
     → GainsPart written (sample_line seed datagrams loss) written' → SamplesPart seed datagrams loss plan lanes lanes written written'
 no_sample seed datagrams loss plan lanes written written' part = record {
   others = others_stay plan lanes;
-  front = λ results are. inl (nothing_put plan (sample_sent seed datagrams loss) results lanes are, part);
+  front = inl (refl, part);
 }
 
 -- whatever was asked for

@@ -4,7 +4,7 @@ use Rattle.fg_io.specs.Outlet.{Lanes, Puts, WhereTold}
 use Rattle.fg_io.specs.Sink.{GainsPart}
 use Rattle.fg_shape.specs.declared.encoding.Losses.{Losses}
 use Rattle.fg_shape.specs.declared.encoding.Settings.{Settings}
-use Rattle.fg_trace.specs.Trace.{Record, Ending, Ended}
+use Rattle.fg_trace.specs.Trace.{Record, Ending, Ended, NotTrace, Cut, TooLong}
 use Rattle.fg_flows.specs.declared.Plan.{Plan}
 use Rattle.fg_encode.specs.Stream.{StreamEnding, IsCut}
 use Rattle.fg_repair.specs.Flow.{FlowResult, IsFlowResult}
@@ -15,7 +15,7 @@ use Rattle.fg_drill.specs.Repaired.{Peels, stream_shown}
 use Rattle.fg_drill.specs.Thinned.{is_lost, thinned}
 use Rattle.fg_run.specs.declared.ended.Why.{Why}
 use Rattle.fg_run.specs.declared.ended.Why.TheVariants as why
-use Rattle.fg_run.specs.Endings.{why_of_ending, why_of_stream}
+use Rattle.fg_run.specs.Endings.{why_of_stream}
 
 -- What is sent of the payloads of a stream.
 abbrev pub records_sent : Settings → Losses → List (List ℕ) → List Record
@@ -37,7 +37,9 @@ pub record DrillsStream
 -- The answer where some trace ended so: after a whole one that of some stream, else the trace's own.
 abbrev pub IsPassedOn : Ending → Why → Type 0
 IsPassedOn Ended answer = (end : StreamEnding) × (answer ≡ why_of_stream end)
-IsPassedOn end answer = answer ≡ why_of_ending end
+IsPassedOn (NotTrace n) answer = answer ≡ why.NotTrace n
+IsPassedOn (Cut n) answer = answer ≡ why.Cut n
+IsPassedOn (TooLong n) answer = answer ≡ why.TooLong n
 
 -- So it is for the input. One that doesn't tell its bytes is repaired too, whatever its trace.
 abbrev pub Drills :

@@ -1,13 +1,14 @@
 -- Laws of drills and samples.
-use Rattle.std.specs.Prelude.{◌≡◌, ◌⊎◌, ◌∷◌, ◌≤◌, ◌^◌, [], ℕ, List, Option, IfSome}
+use Rattle.std.specs.Prelude.{◌≡◌, ◌⊎◌, ◌∷◌, ◌≤◌, ◌^◌, [], ℕ, List, Option, Some, IfSome}
 use Rattle.std.specs.Option.{option_map}
 use Rattle.fg_io.specs.Outlet.{Lanes}
 use Rattle.fg_shape.specs.declared.encoding.Losses.{Losses}
 use Rattle.fg_shape.specs.declared.encoding.Settings.{Settings}
-use Rattle.fg_trace.specs.Trace.{Ended, IsTrace}
+use Rattle.fg_trace.specs.Trace.{Ending, Ended, IsTrace}
 use Rattle.fg_flows.specs.declared.Plan.{Plan}
 use Rattle.fg_flows.specs.Plan.{PlanFits}
 use Rattle.fg_encode.specs.Encoder.{CanEncode}
+use Rattle.fg_repair.specs.Repair.{Outputs}
 use Rattle.fg_drill.specs.Drawn.{drawn_drops, sample_layout, sample_settings}
 use Rattle.fg_drill.specs.Few.{MayLose}
 use Rattle.fg_drill.specs.Made.{made_stream}
@@ -18,7 +19,8 @@ use Rattle.fg_run.specs.Drill.{Drills, StreamComesBack}
 use Rattle.fg_run.specs.DrillSteps.{DrillsTrace}
 use Rattle.fg_run.specs.Encode.{IsStreamAnswer}
 use Rattle.fg_run.specs.Ended.{IsFault}
-use Rattle.fg_run.specs.Sample.{records_made, sample_sent}
+use Rattle.fg_run.specs.Repair.{EncodingsComeBack}
+use Rattle.fg_run.specs.Sample.{SampleComesBack, Samples, losses_made, records_made, sample_sent}
 
 -- The trace of what is sent of a drill's input.
 abbrev pub trace_sent : Settings → Losses → ℕ → Option (List ℕ) → Option (List ℕ)
@@ -62,3 +64,17 @@ SamplesAreTraces =
     → losses.drops ≡ drawn_drops seed loss (media_number sample_layout datagrams) → losses.every ≡ 0
     → IsTrace (thinned_trace sample_settings losses (2 ^ 40) (made_stream seed datagrams)) (2 ^ 42)
     (sample_sent seed datagrams loss) Ended
+
+-- What a sample comes to brings the made stream back.
+abbrev pub SamplesComeBack : Type 0
+SamplesComeBack =
+    (seed datagrams loss : ℕ) (plan : Plan) (answer : Why) (lanes lanes' : Option Lanes) (written written' : Option (List ℕ))
+    → datagrams ≤ 20000 → PlanFits plan → plan.table ≡ sample_settings.port ∷ []
+    → MayLose (losses_made seed datagrams loss) → Samples seed datagrams loss plan answer lanes lanes' written written'
+    → SampleComesBack seed datagrams loss plan lanes lanes'
+
+-- What a repair comes to brings back each thinned encoding that the trace is.
+abbrev pub RepairsComeBack : Type 0
+RepairsComeBack =
+    (plan : Plan) (bytes : List ℕ) (end : Ending) (lanes lanes' : Option Lanes) (written written' : Option (List ℕ))
+    → Outputs plan end (Some bytes) lanes lanes' written written' → EncodingsComeBack plan bytes lanes lanes'

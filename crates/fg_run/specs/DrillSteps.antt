@@ -1,16 +1,20 @@
 -- How far a drill has come. No public contract cites what stands here.
-use Rattle.std.specs.Prelude.{◌≡◌, ℕ, List, Option, None, Some, IfSome}
+use Rattle.std.specs.Prelude.{◌≡◌, ◌⊎◌, ℕ, Bool, List, Option, None, Some, IfSome}
 use Rattle.fg_io.specs.Outlet.{Lanes}
 use Rattle.fg_ts.specs.declared.TsFault.TheVariants as packets
-use Rattle.fg_trace.specs.Trace.{Ending, Ended}
+use Rattle.fg_trace.specs.Trace.{Record, IsTrace, Ending, Ended, NotTrace, Cut, TooLong as PastMost}
 use Rattle.fg_flows.specs.declared.Plan.{Plan}
 use Rattle.fg_encode.specs.Stream.{StreamEnding, Whole, TooLong, Ragged, NoSync, IsCut}
 use Rattle.fg_repair.specs.Repair.{Outputs}
 use Rattle.fg_drill.specs.declared.thinned.StreamFault.{StreamFault}
 use Rattle.fg_drill.specs.declared.thinned.StreamFault.TheVariants.{NotTransport, TooLong as PastLimit}
 use Rattle.fg_drill.specs.Payloads.{payloads_of}
+use Rattle.fg_drill.specs.ThinnedSource.{ending_told}
 use Rattle.fg_run.specs.declared.ended.Why.{Why}
-use Rattle.fg_run.specs.Endings.{why_of_ending, why_of_stream}
+use Rattle.fg_run.specs.declared.ended.Why.TheVariants as why
+use Rattle.fg_run.specs.Ended.{IsFault}
+use Rattle.fg_run.specs.Endings.{why_of_stream}
+use Rattle.fg_run.specs.Stopping.{StopsLanes}
 
 -- The ending of a stream of which this fault is told.
 abbrev pub ending_of : Option StreamFault → StreamEnding
@@ -28,7 +32,9 @@ IsEndingsAnswer packets max stream answer =
 -- After a whole trace it is that answer, else that to the trace's ending.
 abbrev pub FollowsTrace : Ending → ℕ → ℕ → Option (List ℕ) → Why → Type 0
 FollowsTrace Ended packets max stream answer = IsEndingsAnswer packets max stream answer
-FollowsTrace end packets max stream answer = answer ≡ why_of_ending end
+FollowsTrace (NotTrace n) packets max stream answer = answer ≡ why.NotTrace n
+FollowsTrace (Cut n) packets max stream answer = answer ≡ why.Cut n
+FollowsTrace (PastMost n) packets max stream answer = answer ≡ why.TooLong n
 
 -- The outputs have gained what a repair gives for the trace, and the answer follows it.
 abbrev pub DrillsTrace :
@@ -36,3 +42,19 @@ abbrev pub DrillsTrace :
     → Option (List ℕ) → Type 0
 DrillsTrace plan packets max stream trace answer lanes lanes' written written' =
     (end : Ending) × Outputs plan end trace lanes lanes' written written' × FollowsTrace end packets max stream answer
+
+-- The answer is that of the ending that the source has told.
+abbrev pub TellsEnding : Why → Bool → Option StreamFault → Type 0
+TellsEnding answer told fault = (end : StreamEnding) × (answer ≡ why_of_stream end) × (ending_told told fault ≡ Some end)
+
+-- Where the trace was whole, every answer but a fault's is.
+abbrev pub TellsAll : Plan → Option (List ℕ) → Why → Bool → Option StreamFault → Type 0
+TellsAll plan trace answer told fault =
+    IfSome trace (λ bytes. (records : List Record) → IsTrace bytes plan.max records Ended
+    → IsFault answer ⊎ TellsEnding answer told fault)
+
+-- A fault, or want of memory, stopped the repair of the trace at a stage.
+abbrev pub StopsTrace : Plan → Option (List ℕ) → Why → Option Lanes → Option Lanes → Type 0
+StopsTrace plan trace answer lanes lanes' =
+    IfSome trace (λ bytes. (records : List Record) (end : Ending) → IsTrace bytes plan.max records end
+    → StopsLanes plan answer records lanes lanes')

@@ -1,9 +1,10 @@
 -- How far an encoding has come. No public contract cites what stands here.
-use Rattle.std.specs.Prelude.{◌≡◌, ◌⊎◌, ℕ, true, List, [], Option, IfSome}
+use Rattle.std.specs.Prelude.{◌≡◌, ◌⊎◌, ℕ, true, List, [], Option, Some, IfSome, Result, Ok, Err}
 use Rattle.fg_io.specs.Sent.{Sent}
 use Rattle.fg_trace.specs.Trace.{trace_of}
 use Rattle.fg_encode.specs.Encoder.{EncoderState, StandsAfter as HasTaken}
 use Rattle.fg_encode.specs.Encoding.{encoding}
+use Rattle.fg_encode.specs.Reading.{IsStreamReadFor}
 use Rattle.fg_encode.specs.Stream.{StreamEnding, IsCut}
 use Rattle.fg_encode.specs.StreamReader.{StreamState, StandsAfter}
 use Rattle.fg_run.specs.declared.ended.Why.{Why}
@@ -23,10 +24,21 @@ pub record IsUnderway (first now : Option (List ℕ)) (work : Encoding) (before 
   pub goes_on : CanGoOn work.reader work.encoder payloads
   pub sent : Sent before (trace_of (encoding work.encoder.settings payloads)) work.trace after
 
--- All payloads of the stream are encoded, and this is the answer to its ending.
-pub record HasEncoded (first : Option (List ℕ)) (answer : Why) (work : Encoding) (before after : Option (List ℕ)) : Type 0 where
+-- The stream was read so far.
+abbrev pub IsReadTo : ℕ → Option StreamEnding → Option (List ℕ) → Option (List ℕ) → Type 0
+IsReadTo max ending first now = IfSome first (λ bytes. IsStreamReadFor max ending bytes now)
+
+-- All payloads of the stream are encoded, and this is the answer to its ending, for which it was read.
+pub record HasEncoded
+    (first now : Option (List ℕ)) (answer : Why) (work : Encoding) (before after : Option (List ℕ)) : Type 0 where
   pub payloads : List (List ℕ)
   pub end : StreamEnding
   pub answer_is : answer ≡ why_of_stream end
   pub of_input : IfSome first (λ bytes. IsCut work.encoder.settings.packets work.reader.max bytes payloads end)
+  pub read : IsReadTo work.reader.max (Some end) first now
   pub sent : Sent before (trace_of (encoding work.encoder.settings payloads)) work.trace after
+
+-- The answer of an encoding that comes to this.
+abbrev pub answer_of : Result Why Why → Why
+answer_of (Ok answer) = answer
+answer_of (Err answer) = answer

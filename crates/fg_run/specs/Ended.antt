@@ -29,10 +29,15 @@ status_of (NotTransport fault) = 7
 
 -- A fault of the outside, or want of memory.
 abbrev pub IsFault : Why → Type 0
+IsFault Done = ⊥
+IsFault (Words fault) = ⊥
 IsFault ReadFault = ⊤
 IsFault WriteFault = ⊤
+IsFault (NotTrace n) = ⊥
+IsFault (Cut n) = ⊥
+IsFault (TooLong n) = ⊥
 IsFault Memory = ⊤
-IsFault _ = ⊥
+IsFault (NotTransport fault) = ⊥
 
 -- A name as it is spelled in the words.
 abbrev pub name_text : Name → List ℕ

@@ -15,5 +15,6 @@ Asks words (Refused fault) = FirstFault words fault × ((question : Question) �
 
 -- An order has all its numbers within the ranges of the grammar.
 abbrev pub RequestFits : Request → Type 0
+RequestFits (Asked question) = Unit {0}
 RequestFits (Ordered order) = OrderFits order
-RequestFits _ = Unit {0}
+RequestFits (Refused fault) = Unit {0}

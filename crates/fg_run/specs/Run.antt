@@ -1,20 +1,24 @@
 -- What the program answers to each request: this project's own.
-use Rattle.std.specs.Prelude.{◌≡◌, ◌⊎◌, ℕ, List, [], Option, IfSome, ⊤}
+use Rattle.std.specs.Prelude.{◌≡◌, ◌⊎◌, ℕ, List, [], Option, Some, IfSome, ⊤}
 use Rattle.fg_io.specs.Outlet.{Lanes}
 use Rattle.fg_io.specs.Sink.{Gains, GainsPart}
 use Rattle.fg_trace.specs.declared.step.Finish.{Finish}
 use Rattle.fg_trace.specs.Trace.{Record, Ending, NotTrace, IsTrace}
+use Rattle.fg_encode.specs.Stream.{StreamEnding, IsCut}
 use Rattle.fg_cli.specs.Help.{answer_text}
 use Rattle.fg_cli.specs.declared.Order.TheVariants.{Repair, Encode, Drill, Inspect, Sample}
 use Rattle.fg_repair.specs.Repair.{Outputs, OutputsPart}
 use Rattle.fg_inspect.specs.Inspect.{Tells, TellsPart}
 use Rattle.fg_run.specs.declared.ended.Why.{Why}
 use Rattle.fg_run.specs.declared.ended.Why.TheVariants as why
-use Rattle.fg_run.specs.Drill.{Drills, DrillsPart, StreamComesBack}
+use Rattle.fg_run.specs.Drill.{Drills, DrillsPart, StreamComesBack, records_sent}
 use Rattle.fg_run.specs.Encode.{Encodes, EncodesPart, EndsStream, IsStreamAnswer}
 use Rattle.fg_run.specs.Ended.{IsFault}
 use Rattle.fg_run.specs.Endings.{why_of_ending, why_of_finish}
-use Rattle.fg_run.specs.Sample.{Samples, SamplesPart}
+use Rattle.fg_run.specs.Reading.{ReadsStream, ReadsTrace}
+use Rattle.fg_run.specs.Repair.{EncodingsComeBack}
+use Rattle.fg_run.specs.Sample.{SampleComesBack, Samples, SamplesPart, sample_sent}
+use Rattle.fg_run.specs.Stopping.{StopsLanes}
 use Rattle.fg_run.specs.declared.request.Request.{Request}
 use Rattle.fg_run.specs.declared.request.Request.TheVariants.{Asked, Ordered, Refused}
 
@@ -83,43 +87,99 @@ AnswersPart (Refused fault) input lanes lanes' written out out' = (lanes' ≡ la
 
 -- What the request leaves alone, whatever its answer: the input, the sink, the lanes.
 abbrev pub ReadsNothing : Request → Type 0
+ReadsNothing (Asked question) = ⊤
+ReadsNothing (Refused fault) = ⊤
 ReadsNothing (Ordered (Repair plan)) = ⊥
 ReadsNothing (Ordered (Encode settings max)) = ⊥
 ReadsNothing (Ordered (Drill settings plan losses max)) = ⊥
 ReadsNothing (Ordered (Inspect table max)) = ⊥
-ReadsNothing request = ⊤
+ReadsNothing (Ordered (Sample seed datagrams loss plan)) = ⊤
 
 abbrev pub WritesNothing : Request → Type 0
+WritesNothing (Asked question) = ⊥
 WritesNothing (Refused fault) = ⊤
-WritesNothing request = ⊥
+WritesNothing (Ordered (Repair plan)) = ⊥
+WritesNothing (Ordered (Encode settings max)) = ⊥
+WritesNothing (Ordered (Drill settings plan losses max)) = ⊥
+WritesNothing (Ordered (Inspect table max)) = ⊥
+WritesNothing (Ordered (Sample seed datagrams loss plan)) = ⊥
 
 abbrev pub MakesNoLane : Request → Type 0
+MakesNoLane (Asked question) = ⊤
+MakesNoLane (Refused fault) = ⊤
 MakesNoLane (Ordered (Repair plan)) = ⊥
+MakesNoLane (Ordered (Encode settings max)) = ⊤
 MakesNoLane (Ordered (Drill settings plan losses max)) = ⊥
+MakesNoLane (Ordered (Inspect table max)) = ⊤
 MakesNoLane (Ordered (Sample seed datagrams loss plan)) = ⊥
-MakesNoLane request = ⊤
 
--- The request writes only once all of its input was read: where reading fails, nothing was written.
+-- The request writes only once all of its input was read: where reading fails, nothing was written. What reads no input
+-- has no such fault.
 abbrev pub WritesLast : Request → Type 0
+WritesLast (Asked question) = ⊥
+WritesLast (Refused fault) = ⊥
 WritesLast (Ordered (Repair plan)) = ⊤
-WritesLast request = ⊥
+WritesLast (Ordered (Encode settings max)) = ⊥
+WritesLast (Ordered (Drill settings plan losses max)) = ⊥
+WritesLast (Ordered (Inspect table max)) = ⊥
+WritesLast (Ordered (Sample seed datagrams loss plan)) = ⊥
 
 -- The input isn't what the request reads: it is no trace.
 abbrev pub IsNoInput : Request → List ℕ → Type 0
+IsNoInput (Asked question) bytes = ⊥
+IsNoInput (Refused fault) bytes = ⊥
 IsNoInput (Ordered (Repair plan)) bytes = IsNoTrace plan.max bytes
+IsNoInput (Ordered (Encode settings max)) bytes = ⊥
+IsNoInput (Ordered (Drill settings plan losses max)) bytes = ⊥
 IsNoInput (Ordered (Inspect table max)) bytes = IsNoTrace max bytes
-IsNoInput request bytes = ⊥
+IsNoInput (Ordered (Sample seed datagrams loss plan)) bytes = ⊥
 
 -- After this answer to the request nothing of the input is left.
 abbrev pub ReadsAll : Request → Why → Type 0
+ReadsAll (Asked question) answer = ⊥
+ReadsAll (Refused fault) answer = ⊥
 ReadsAll (Ordered (Repair plan)) answer = EndsTrace answer
 ReadsAll (Ordered (Encode settings max)) answer = EndsStream answer
 ReadsAll (Ordered (Drill settings plan losses max)) answer = EndsStream answer
 ReadsAll (Ordered (Inspect table max)) answer = EndsTrace answer
-ReadsAll request answer = ⊥
+ReadsAll (Ordered (Sample seed datagrams loss plan)) answer = ⊥
 
--- What comes back of a stream that the request drills, where the input tells its bytes and the answer is no fault.
+-- How far the request has read an input of these bytes with this answer, of which this is left.
+abbrev pub Reads : Request → Why → List ℕ → Option (List ℕ) → Type 0
+Reads (Asked question) answer bytes now = now ≡ Some bytes
+Reads (Refused fault) answer bytes now = now ≡ Some bytes
+Reads (Ordered (Repair plan)) answer bytes now = ReadsTrace plan.max answer bytes now
+Reads (Ordered (Encode settings max)) answer bytes now = ReadsStream max answer bytes now
+Reads (Ordered (Drill settings plan losses max)) answer bytes now = ReadsStream max answer bytes now
+Reads (Ordered (Inspect table max)) answer bytes now = ReadsTrace max answer bytes now
+Reads (Ordered (Sample seed datagrams loss plan)) answer bytes now = now ≡ Some bytes
+
+-- Where a fault, or want of memory, stops what the request does to the lanes: a repair over the records of the input's trace,
+-- a drill over what is sent of its stream, a sample over what is sent of the made one.
+abbrev pub StopsAt : Request → Why → Option (List ℕ) → Option Lanes → Option Lanes → Type 0
+StopsAt (Asked question) answer input lanes lanes' = lanes' ≡ lanes
+StopsAt (Refused fault) answer input lanes lanes' = lanes' ≡ lanes
+StopsAt (Ordered (Repair plan)) answer input lanes lanes' =
+    IfSome input (λ bytes. (records : List Record) (end : Ending) → IsTrace bytes plan.max records end
+    → StopsLanes plan answer records lanes lanes')
+StopsAt (Ordered (Encode settings max)) answer input lanes lanes' = lanes' ≡ lanes
+StopsAt (Ordered (Drill settings plan losses max)) answer input lanes lanes' =
+    IfSome input (λ bytes. (payloads : List (List ℕ)) (end : StreamEnding) → IsCut settings.packets max bytes payloads end
+    → StopsLanes plan answer (records_sent settings losses payloads) lanes lanes')
+StopsAt (Ordered (Inspect table max)) answer input lanes lanes' = lanes' ≡ lanes
+StopsAt (Ordered (Sample seed datagrams loss plan)) answer input lanes lanes' =
+    StopsLanes plan answer (sample_sent seed datagrams loss) lanes lanes'
+
+-- What comes back of a thinned encoding that the request repairs, where the answer is no fault: of one that the input
+-- exactly is, and of a stream in the input, where its bytes are told; and of the made stream.
 abbrev pub ComesBack : Request → Why → Option (List ℕ) → Option Lanes → Option Lanes → Type 0
+ComesBack (Asked question) answer input lanes lanes' = ⊤
+ComesBack (Refused fault) answer input lanes lanes' = ⊤
+ComesBack (Ordered (Repair plan)) answer input lanes lanes' =
+    IfSome input (λ bytes. IsFault answer ⊎ EncodingsComeBack plan bytes lanes lanes')
+ComesBack (Ordered (Encode settings max)) answer input lanes lanes' = ⊤
 ComesBack (Ordered (Drill settings plan losses max)) answer input lanes lanes' =
     IfSome input (λ bytes. IsFault answer ⊎ StreamComesBack settings plan losses max answer bytes lanes lanes')
-ComesBack request answer input lanes lanes' = ⊤
+ComesBack (Ordered (Inspect table max)) answer input lanes lanes' = ⊤
+ComesBack (Ordered (Sample seed datagrams loss plan)) answer input lanes lanes' =
+    IsFault answer ⊎ SampleComesBack seed datagrams loss plan lanes lanes'

@@ -11,19 +11,19 @@ ghost use Rattle.fg_run.specs.declared.ended.Why.{Why as AnyWhy};
 ghost use Rattle.fg_run.specs.declared.request.Request.{Request as AnyRequest};
 ghost use Rattle.fg_run.specs.Ended.{IsFault};
 ghost use Rattle.fg_run.specs.Request.{RequestFits};
-ghost use Rattle.fg_run.specs.Run.{Answers, AnswersPart, ComesBack, IsAnswer, IsNoInput, MakesNoLane, ReadsAll, ReadsNothing, WritesLast, WritesNothing};
+ghost use Rattle.fg_run.specs.Run.{Answers, AnswersPart, ComesBack, IsAnswer, IsNoInput, MakesNoLane, Reads, ReadsAll, ReadsNothing, StopsAt, WritesLast, WritesNothing};
 
 use crate::drilling::drill;
 use crate::encoding::run_encode;
 use crate::ended::Why;
 use crate::inspection::run_inspect;
+use crate::repairing::repair;
 use crate::request::Request;
 use crate::sampling::sample;
 use fg_cli::{Order, Question};
 use fg_flows::Plan;
 use fg_io::laws::parts_of_writes;
 use fg_io::{Outlet, Sink, Source, write_all};
-use fg_repair::repair_alone;
 use std::alloc::Global;
 
 /// Does what the request asks for, and tells why it ended.
@@ -43,11 +43,13 @@ pub fn answer<S: Source, K: Sink, O: Outlet>(
     ensures words { (fault : AnyWordFault) → result ≡ Why.Words fault → request ≡ Request.Refused fault }
     ensures part { IsFault result → AnswersPart request (S.left input.old) (O.lanes lanes.old)
         (O.lanes lanes.new) K.written out.old out.new }
+    ensures stops { IsFault result → StopsAt request result (S.left input.old) (O.lanes lanes.old) (O.lanes lanes.new) }
     ensures no_input { IfSome (S.left input.old) (λ bytes. IsNoInput request bytes
         → (lanes.new ≡ lanes.old) × (out.new ≡ out.old)) }
     ensures nothing_read { ReadsNothing request → input.new ≡ input.old }
     ensures nothing_written { WritesNothing request → out.new ≡ out.old }
     ensures no_lane { MakesNoLane request → lanes.new ≡ lanes.old }
+    ensures reads { IfSome (S.left input.old) (λ bytes. Reads request result bytes (S.left input.new)) }
     ensures all_read { ReadsAll request result → IsAtEnd (S.left input.new) }
 
     ensures no_report { WritesLast request → result ≡ Why.ReadFault → out.new ≡ out.old }
@@ -64,9 +66,7 @@ pub fn answer<S: Source, K: Sink, O: Outlet>(
 {
     match request {
         Request::Asked(question) => answer_question(alloc, question, out),
-        Request::Ordered(Order::Repair(plan)) => {
-            repair_alone(alloc, &plan, input, out, lanes).into()
-        }
+        Request::Ordered(Order::Repair(plan)) => repair(alloc, &plan, input, out, lanes),
         Request::Ordered(Order::Encode { settings, max }) => {
             run_encode(alloc, &settings, max, input, out).why
         }

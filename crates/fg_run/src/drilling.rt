@@ -1,18 +1,21 @@
 //! The drill of a stream.
-ghost use Rattle.std.specs.Prelude.{◌≡◌, ◌≢◌, ◌⊎◌, ◌≤◌, ◌^◌, ◌∷◌, [], IfSome};
+ghost use Rattle.std.specs.Prelude.{◌≡◌, ◌≢◌, ◌⊎◌, ◌≤◌, ◌^◌, ◌∷◌, [], ℕ, List, IfSome};
 ghost use Rattle.std.specs.Io.KnownBytes.{IsAtEnd};
 ghost use Rattle.fg_io.specs.Faults.{CountsFault};
 ghost use Rattle.fg_encode.specs.Encoder.{CanEncode};
+ghost use Rattle.fg_encode.specs.Stream.{StreamEnding, IsCut};
 ghost use Rattle.fg_flows.specs.Plan.{PlanFits};
 ghost use Rattle.fg_repair.specs.Repair.{OutputsPart};
 ghost use Rattle.fg_drill.specs.Few.{MayLose};
-ghost use Rattle.fg_drill.specs.ThinnedSource.{trace_left};
+ghost use Rattle.fg_drill.specs.ThinnedSource.{fixed_of, trace_left};
 ghost use Rattle.fg_run.specs.declared.ended.Why.{Why as AnyWhy};
-ghost use Rattle.fg_run.specs.Drill.{Drills, DrillsPart, StreamComesBack};
-ghost use Rattle.fg_run.specs.DrillSteps.{DrillsTrace, IsEndingsAnswer, ending_of};
+ghost use Rattle.fg_run.specs.Drill.{Drills, DrillsPart, StreamComesBack, records_sent};
+ghost use Rattle.fg_run.specs.DrillSteps.{DrillsTrace, IsEndingsAnswer, StopsTrace, TellsAll, TellsEnding, ending_of};
 ghost use Rattle.fg_run.specs.Encode.{EndsStream, IsStreamAnswer};
 ghost use Rattle.fg_run.specs.Ended.{IsFault};
 ghost use Rattle.fg_run.specs.Endings.{why_of_stream};
+ghost use Rattle.fg_run.specs.Reading.{ReadsStream};
+ghost use Rattle.fg_run.specs.Stopping.{StopsLanes};
 
 use crate::ended::Why;
 use crate::laws::{drills_come_back, repairs_are_drills};
@@ -58,9 +61,16 @@ pub(crate) fn drill<S: Source, K: Sink, O: Outlet>(
         → IsStreamAnswer settings.packets max bytes why → IsFault result ⊎ (result ≡ why)) }
     ensures all_read { EndsStream result → IsAtEnd (S.left input.new) }
 
-    // After a fault or want of memory they are parts.
+    // The input is read as far as the answer needs, and at most a byte past the limit.
+    ensures reads { IfSome (S.left input.old) (λ bytes. ReadsStream max result bytes (S.left input.new)) }
+
+    // After a fault or want of memory they are parts, and the lanes stand at a stage of the repair.
     ensures part { IsFault result → DrillsPart settings plan.now losses max (S.left input.old)
         (O.lanes lanes.old) (O.lanes lanes.new) K.written out.old out.new }
+    ensures stops { IsFault result → IfSome (S.left input.old) (λ bytes. (payloads : List (List ℕ)) (end : StreamEnding)
+        → IsCut settings.packets max bytes payloads end
+        → StopsLanes plan.now result (records_sent settings losses payloads)
+        (O.lanes lanes.old) (O.lanes lanes.new)) }
 
     // With no fault the stream comes back.
     ensures comes_back { IfSome (S.left input.old) (λ bytes. IsFault result
@@ -107,6 +117,10 @@ fn repair_sent<S: Source, K: Sink, O: Outlet>(
     ensures all_read { EndsStream result → IsAtEnd (S.left source.new.inner) }
     ensures part { IsFault result → OutputsPart plan.now (trace_left source.old)
         (O.lanes lanes.old) (O.lanes lanes.new) K.written out.old out.new }
+    ensures stops { IsFault result → StopsTrace plan.now (trace_left source.old) result
+        (O.lanes lanes.old) (O.lanes lanes.new) }
+    ensures tells { TellsAll plan.now (trace_left source.old) result source.new.told source.new.fault }
+    ensures same { fixed_of S.fixed source.new ≡ fixed_of S.fixed source.old }
     ensures read_fault { result ≡ Why.ReadFault
         → CountsFault (S.faults source.old.inner) (S.faults source.new.inner) }
     ensures write_fault { result ≡ Why.WriteFault
@@ -135,7 +149,10 @@ fn ending<S: Source>(source: &mut Thinned<S>) -> Why
     requires { IsAtEnd (trace_left source.old) }
     ensures answer { (result ≡ Why.ReadFault)
         ⊎ IsEndingsAnswer source.old.settings.packets source.old.max source.old.stream result }
+    ensures tells { (result ≡ Why.ReadFault)
+        ⊎ IfSome source.old.stream (λ bytes. TellsEnding result source.new.told source.new.fault) }
     ensures all_read { EndsStream result → IsAtEnd (S.left source.new.inner) }
+    ensures same { fixed_of S.fixed source.new ≡ fixed_of S.fixed source.old }
     ensures read_fault { result ≡ Why.ReadFault
         → CountsFault (S.faults source.old.inner) (S.faults source.new.inner) }
     ensures no_read_fault { result ≢ Why.ReadFault

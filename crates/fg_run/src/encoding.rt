@@ -5,13 +5,14 @@ ghost use Rattle.fg_io.specs.Faults.{CountsFault, CountsFor};
 ghost use Rattle.fg_encode.specs.Encoder.{CanEncode};
 ghost use Rattle.fg_run.specs.declared.ended.Why.{Why as AnyWhy};
 ghost use Rattle.fg_run.specs.Encode.{Encodes, EncodesPart, EndsStream, IsStreamAnswer};
-ghost use Rattle.fg_run.specs.EncodeSteps.{HasEncoded, IsUnderway};
+ghost use Rattle.fg_run.specs.EncodeSteps.{HasEncoded, IsReadTo, IsUnderway, answer_of};
 ghost use Rattle.fg_run.specs.Ended.{IsFault, status_of};
+ghost use Rattle.fg_run.specs.Reading.{ReadsStream};
 
 use crate::ended::{Ended, Why};
 use crate::trace_buffer::TraceBuffer;
 use fg_encode::laws::a_payload_more_adds_its_records;
-use fg_encode::stream::{StreamFault, StreamReader, StreamStep, one_cut};
+use fg_encode::stream::{StreamFault, StreamReader, StreamStep, one_cut, read_as_far_as_needed};
 use fg_encode::{Batch, Encoder};
 use fg_io::{Failed, Sink, Source};
 use fg_shape::Settings;
@@ -42,6 +43,9 @@ pub fn run_encode<S: Source, K: Sink>(
     ensures exactly { IfSome (S.left input.old) (λ bytes. (why : AnyWhy)
         → IsStreamAnswer settings.now.packets max bytes why → IsFault result.why ⊎ (result.why ≡ why)) }
     ensures all_read { EndsStream result.why → IsAtEnd (S.left input.new) }
+
+    // The input is read as far as the answer needs, and at most a byte past the limit.
+    ensures reads { IfSome (S.left input.old) (λ bytes. ReadsStream max result.why bytes (S.left input.new)) }
 
     // After a fault or want of memory the trace is a part.
     ensures part { IsFault result.why → EncodesPart settings.now max (S.left input.old)
@@ -82,6 +86,8 @@ fn encode<S: Source, K: Sink>(
     ensures part { OnErr result (EncodesPart settings.now max (S.left input.old)
         (K.written out.old) (K.written out.new)) }
     ensures all_read { IfOk result (λ why. EndsStream why → IsAtEnd (S.left input.new)) }
+    ensures read_for { IfSome (S.left input.old) (λ bytes.
+        ReadsStream max (answer_of result) bytes (S.left input.new)) }
     ensures reads { CountsFor Why.ReadFault result (S.faults input.old) (S.faults input.new) }
     ensures writes { CountsFor Why.WriteFault result (K.faults out.old) (K.faults out.new) }
 {
@@ -135,13 +141,14 @@ impl Encoding {
         requires limit { self.old.reader.max ≤ 2 ^ 40 }
         ensures whole { IfOk result (λ why. (first before : Option (List ℕ))
             → IsUnderway first (S.left input.old) self.old before (K.written out.old)
-            → HasEncoded first why self.new before (K.written out.new)) }
+            → HasEncoded first (S.left input.new) why self.new before (K.written out.new)) }
         ensures settings { self.new.encoder.settings ≡ self.old.encoder.settings }
         ensures max { self.new.reader.max ≡ self.old.reader.max }
         ensures fault { IfErr result IsFault }
         ensures part { OnErr result ((first before : Option (List ℕ))
             → IsUnderway first (S.left input.old) self.old before (K.written out.old)
-            → EncodesPart self.old.encoder.settings self.old.reader.max first before (K.written out.new)) }
+            → EncodesPart self.old.encoder.settings self.old.reader.max first before (K.written out.new)
+            × IsReadTo self.old.reader.max None first (S.left input.new)) }
         ensures all_read { IfOk result (λ why. EndsStream why → IsAtEnd (S.left input.new)) }
         ensures reads { CountsFor Why.ReadFault result (S.faults input.old) (S.faults input.new) }
         ensures writes { CountsFor Why.WriteFault result (K.faults out.old) (K.faults out.new) }
@@ -168,11 +175,12 @@ impl Encoding {
             → IsUnderway first (S.left input.new) self.new before (K.written out.new))) }
         ensures ends { IfOk result (λ end. IfSome end (λ why. (first before : Option (List ℕ))
             → IsUnderway first (S.left input.old) self.old before (K.written out.old)
-            → HasEncoded first why self.new before (K.written out.new))) }
+            → HasEncoded first (S.left input.new) why self.new before (K.written out.new))) }
         ensures fault { IfErr result IsFault }
         ensures part { OnErr result ((first before : Option (List ℕ))
             → IsUnderway first (S.left input.old) self.old before (K.written out.old)
-            → EncodesPart self.old.encoder.settings self.old.reader.max first before (K.written out.new)) }
+            → EncodesPart self.old.encoder.settings self.old.reader.max first before (K.written out.new)
+            × IsReadTo self.old.reader.max None first (S.left input.new)) }
         ensures all_read { IfOk result (λ end. IfSome end (λ why.
             EndsStream why → IsAtEnd (S.left input.new))) }
         ensures open { IfOk result (λ end. IfNone end (self.new.reader.kept ≡ None)) }
@@ -184,6 +192,7 @@ impl Encoding {
         ensures writes { CountsFor Why.WriteFault result (K.faults out.old) (K.faults out.new) }
     {
         a_payload_more_adds_its_records();
+        read_as_far_as_needed();
         match self.reader.next(input) {
             Ok(StreamStep::Payload) => {
                 self.encoder.push(self.reader.payload(), &mut self.batch);

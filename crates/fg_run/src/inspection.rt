@@ -5,6 +5,7 @@ ghost use Rattle.fg_io.specs.Faults.{CountsFault};
 ghost use Rattle.fg_inspect.specs.Inspect.{TellsPart};
 ghost use Rattle.fg_run.specs.declared.ended.Why.{Why as AnyWhy};
 ghost use Rattle.fg_run.specs.Ended.{IsFault, status_of};
+ghost use Rattle.fg_run.specs.Reading.{ReadsTrace};
 ghost use Rattle.fg_run.specs.Run.{EndsTrace, Inspects, IsNoTrace, IsTraceAnswer};
 
 use crate::ended::{Ended, Why};
@@ -34,6 +35,9 @@ pub fn run_inspect<S: Source, K: Sink>(
     ensures exactly { IfSome (S.left input.old) (λ bytes. (why : AnyWhy)
         → IsTraceAnswer max bytes why → IsFault result.why ⊎ (result.why ≡ why)) }
     ensures all_read { EndsTrace result.why → IsAtEnd (S.left input.new) }
+
+    // The input is read as far as the answer needs, and at most a byte past the limit.
+    ensures reads { IfSome (S.left input.old) (λ bytes. ReadsTrace max result.why bytes (S.left input.new)) }
 
     // What is no trace has nothing told, whatever the answer.
     ensures refused { IfSome (S.left input.old) (λ bytes. IsNoTrace max bytes → out.new ≡ out.old) }

@@ -1,5 +1,5 @@
 //! Laws of the definitions, each the contract of a function that does nothing, or only calls laws of the crates below.
-ghost use Rattle.fg_run.specs.DrillLaws.{DrillsAreExact, DrillsComeBack, RepairsAreDrills, SamplesAreCounted, SamplesAreTraces};
+ghost use Rattle.fg_run.specs.DrillLaws.{DrillsAreExact, DrillsComeBack, RepairsAreDrills, RepairsComeBack, SamplesAreCounted, SamplesAreTraces, SamplesComeBack};
 ghost use Rattle.fg_run.specs.Laws.{OneAnswer, OneRequest, WholeStreamsAreDone};
 
 use fg_cli::laws::{one_question, one_reading};
@@ -7,7 +7,7 @@ use fg_drill::laws::few::{
     losses_are_few, made_streams_are_cut, made_streams_are_packets, records_are_counted,
 };
 use fg_drill::laws::payloads::{payloads_are_the_cut, thinned_traces_are_traces};
-use fg_drill::laws::repaired::thinned_comes_back;
+use fg_drill::laws::repaired::{thinned_comes_back, thinned_traces_come_back};
 use fg_encode::laws::{cuts_are_payloads, whole_cut_is_all};
 use fg_encode::stream::one_cut;
 use fg_trace::laws::one_trace;
@@ -65,4 +65,23 @@ pub fn samples_are_traces()
     records_are_counted();
     payloads_are_the_cut();
     thinned_traces_are_traces();
+}
+
+/// What a sample comes to brings the made stream back, as a drill does.
+pub fn samples_come_back()
+    ensures { SamplesComeBack }
+{
+    losses_are_few();
+    cuts_are_payloads();
+    whole_cut_is_all();
+    thinned_comes_back();
+    made_streams_are_cut();
+    made_streams_are_packets();
+}
+
+/// What a repair comes to brings back each thinned encoding that the trace is.
+pub fn repairs_come_back()
+    ensures { RepairsComeBack }
+{
+    thinned_traces_come_back();
 }

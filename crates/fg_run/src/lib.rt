@@ -11,7 +11,7 @@ ghost use Rattle.fg_run.specs.declared.ended.Why.{Why as AnyWhy};
 ghost use Rattle.fg_run.specs.declared.request.Request.{Request as AnyRequest};
 ghost use Rattle.fg_run.specs.Ended.{IsFault, TellsFault, status_of};
 ghost use Rattle.fg_run.specs.Request.{Asks};
-ghost use Rattle.fg_run.specs.Run.{Answers, AnswersPart, ComesBack, IsAnswer, IsNoInput, MakesNoLane, ReadsAll, ReadsNothing, WritesLast, WritesNothing};
+ghost use Rattle.fg_run.specs.Run.{Answers, AnswersPart, ComesBack, IsAnswer, IsNoInput, MakesNoLane, Reads, ReadsAll, ReadsNothing, StopsAt, WritesLast, WritesNothing};
 
 mod answer;
 mod drilling;
@@ -21,6 +21,7 @@ mod fault_line;
 mod gate;
 mod inspection;
 pub mod laws;
+mod repairing;
 mod request;
 mod sampling;
 #[cfg(test)]
@@ -71,8 +72,9 @@ pub fn run<
         → IsFault result.why ⊎ Answers request result.why (S.left input.old)
         (O.lanes lanes.old) (O.lanes lanes.new) (K.written out.old) (K.written out.new) }
 
-    // And its last sentence. Where the words ask for a drill and the answer is no fault, no play is inconsistent, and the
-    // flow's lane gains the stream without the slots that no play shows: all of it, where what is sent peels.
+    // And its last sentence. Where the answer is no fault, what comes back of a thinned encoding: of a trace that is one, on a
+    // repaired flow's port, of a drill's stream and of a sample's. No play of its flow is inconsistent, and the flow's lane gains
+    // the stream without the slots that no play shows: all of it, where what is sent peels.
     ensures comes_back { (request : AnyRequest) → Asks (map string_bytes words.now) request
         → ComesBack request result.why (S.left input.old) (O.lanes lanes.old) (O.lanes lanes.new) }
 
@@ -94,17 +96,20 @@ pub fn run<
     ensures words { (fault : AnyWordFault) → result.why ≡ Why.Words fault
         → Asks (map string_bytes words.now) (Request.Refused fault) }
 
-    // After a fault or want of memory the outputs have gained parts. After a read fault a request that writes last has
-    // written nothing.
+    // After a fault or want of memory the outputs have gained parts, and the lanes stand at a stage: the first fault ends the
+    // call. After a read fault a request that writes last has written nothing.
     ensures part { IsFault result.why → (request : AnyRequest)
         → Asks (map string_bytes words.now) request
         → AnswersPart request (S.left input.old) (O.lanes lanes.old) (O.lanes lanes.new)
         K.written out.old out.new }
+    ensures stops { IsFault result.why → (request : AnyRequest)
+        → Asks (map string_bytes words.now) request
+        → StopsAt request result.why (S.left input.old) (O.lanes lanes.old) (O.lanes lanes.new) }
     ensures no_report { (request : AnyRequest) → Asks (map string_bytes words.now) request
         → WritesLast request → result.why ≡ Why.ReadFault → out.new ≡ out.old }
 
     // What a request has no business with is left alone, whatever the answer. An input that isn't what the request reads
-    // makes nothing.
+    // makes nothing. What it reads is read as far as the answer needs, and at most a byte past the limit.
     ensures nothing_read { (request : AnyRequest) → Asks (map string_bytes words.now) request
         → ReadsNothing request → input.new ≡ input.old }
     ensures nothing_written { (request : AnyRequest) → Asks (map string_bytes words.now) request
@@ -114,6 +119,8 @@ pub fn run<
     ensures no_input { IfSome (S.left input.old) (λ bytes. (request : AnyRequest)
         → Asks (map string_bytes words.now) request → IsNoInput request bytes
         → (lanes.new ≡ lanes.old) × (out.new ≡ out.old)) }
+    ensures reads { IfSome (S.left input.old) (λ bytes. (request : AnyRequest)
+        → Asks (map string_bytes words.now) request → Reads request result.why bytes (S.left input.new)) }
     ensures all_read { (request : AnyRequest) → Asks (map string_bytes words.now) request
         → ReadsAll request result.why → IsAtEnd (S.left input.new) }
 

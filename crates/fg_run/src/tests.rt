@@ -9,8 +9,11 @@ use std::process::Abort;
 use std::test::Fail;
 
 mod drills;
+mod failing;
 mod faults;
 mod flows;
+mod lengths;
+mod order;
 mod repairs;
 mod streams;
 mod traces;
@@ -73,6 +76,7 @@ fn words_of(alloc: Global, line: &str) -> Result<Vec<String>, AllocError> {
 /// What a run is to come to.
 #[derive(Clone, Copy)]
 struct Wanted<'a> {
+    status: u8,
     why: Why,
     /// The line on the error sink.
     line: &'a str,
@@ -91,7 +95,7 @@ impl Wanted<'_> {
         outside: &Outside,
     ) -> Result<(), AllocError> {
         assert_eq!(rt; ended.why, self.why);
-        assert_eq!(rt; ended.status, self.why.status());
+        assert_eq!(rt; ended.status, self.status);
         assert_eq!(rt; outside.err.bytes(), self.line.as_bytes());
         assert_eq!(rt; outside.out.bytes(), self.out.as_bytes());
         let Some(numbers) = self.lane else {

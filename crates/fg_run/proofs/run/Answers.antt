@@ -2,8 +2,8 @@ use Rattle.std.proofs.Common.{◌≡◌, ◌⊎◌, inl, refl}
 use Rattle.fg_run.specs.declared.ended.Why.{Why}
 use Rattle.fg_run.specs.declared.ended.Why.TheVariants.{Memory, ReadFault}
 use Rattle.fg_run.specs.Ended.{IsFault}
-use Rattle.fg_run.specs.Run.{Answers, AnswersPart, ComesBack, IsAnswer, IsNoInput, MakesNoLane, ReadsNothing, WritesLast, WritesNothing}
-use Rattle.fg_run.proofs.Asked.{of_each, of_each_told, complete_told, memory_told, memory_complete, nothing_made, comes_back_not}
+use Rattle.fg_run.specs.Run.{Answers, AnswersPart, ComesBack, IsAnswer, IsNoInput, MakesNoLane, Reads, ReadsNothing, StopsAt, WritesLast, WritesNothing}
+use Rattle.fg_run.proofs.Asked.{of_each, of_each_told, complete_told, memory_told, memory_complete, nothing_made, comes_back_not, reads_not, stops_not}
 use Rattle.fg_run.proofs.Untouched.{untouched}
 use Rattle.fg_run.proofs.run.Goals as goal
 use Rattle.fg_run.proofs.run.Goals.{in-Ok, in-Err}
@@ -45,6 +45,20 @@ returns-clause-part g c = elim c.match-read_request.branch [
   | in-Ok w ↦ rw (c.tell_end.ensures.why, w.why-is, w.out-is, w.lanes-is)
       (λ fault. of_each c.one_request.ensures _ w.in-Ok.request (λ request. AnswersPart request _ _ _ _ _ _) w.in-Ok.ensures.asked (w.answer-why.ensures.part fault))
   | in-Err w ↦ rw (w.out-is, w.lanes-is) (λ fault request h. untouched c.parts_of_writes.ensures.none request _ _ _ _)
+]
+
+pub returns-clause-stops : goal.returns-clause-stops
+returns-clause-stops g c = elim c.match-read_request.branch [
+  | in-Ok w ↦ rw (c.tell_end.ensures.why, w.why-is, w.lanes-is)
+      (λ fault. of_each c.one_request.ensures _ w.in-Ok.request (λ request. StopsAt request w.answer-why.result _ _ _) w.in-Ok.ensures.asked (w.answer-why.ensures.stops fault))
+  | in-Err w ↦ rw (c.tell_end.ensures.why, w.why-is, w.lanes-is) (λ fault request h. stops_not request _ _)
+]
+
+pub returns-clause-reads : goal.returns-clause-reads
+returns-clause-reads g c = elim c.match-read_request.branch [
+  | in-Ok w ↦ rw (c.tell_end.ensures.why, w.why-is, w.input-is)
+      (of_each_told c.one_request.ensures _ w.in-Ok.request _ (λ request bytes. Reads request w.answer-why.result bytes _) w.in-Ok.ensures.asked w.answer-why.ensures.reads)
+  | in-Err w ↦ rw (c.tell_end.ensures.why, w.why-is, w.input-is) (reads_not _ _)
 ]
 
 pub returns-clause-no_report : goal.returns-clause-no_report

@@ -46,7 +46,7 @@ impl Drill<'_> {
         lane.truncate(self.bytes);
         let mut outside = wide(alloc, &stream)?;
         let ended = outside.run(rt, alloc, self.line)?;
-        assert_eq!(rt; ended.why, Why::Done);
+        assert_eq!(rt; ended.status, 0);
         assert_eq!(rt; outside.out.bytes(), self.report.as_bytes());
         assert_eq!(rt; outside.lanes.lane(5000), Some(lane.as_slice()));
         Ok(())
@@ -162,31 +162,66 @@ fn burst(alloc: Global, first: u16, lost: u16) -> Result<String, AllocError> {
     Ok(line)
 }
 
-/// How many bytes of 200 datagrams of one packet come back, where so many are lost from a slot on.
-fn comes_back<W: Threads + Wait + Sync>(
+/// Drills a stream in datagrams of one packet, of which so many are lost from a slot on, and checks what comes back.
+fn comes_back_as<W: Abort + Threads + Wait + Sync>(
     rt: &W,
     alloc: Global,
+    stream: &[u8],
     first: u16,
     lost: u16,
-) -> Result<usize, AllocError> {
-    let mut stream = lane_of(alloc, &[0; 29])?;
-    stream.truncate(37_600);
-    let mut outside = wide(alloc, &stream)?;
+    lane: &[u8],
+) -> Result<(), AllocError> {
+    let mut outside = Outside::new(alloc, stream)?;
+    outside.input = MemSource::new(alloc, stream, 100_000, &[])?;
+    outside.lanes = MemOutlet::new(alloc, &[5000], 37_600, &[])?;
     let line = burst(alloc, first, lost)?;
-    let _ = outside.run(rt, alloc, &line)?;
-    match outside.lanes.lane(5000) {
-        Some(lane) => Ok(lane.len()),
-        None => Ok(0),
-    }
+    let ended = outside.run(rt, alloc, &line)?;
+    assert_eq!(rt; ended.status, 0);
+    assert!(rt; outside.lanes.lane(5000) == Some(lane));
+    Ok(())
 }
 
-// Ten slots in a row are in ten columns, or in two matrices. Of eleven from slot 45 on, column 5 loses slots 45 and 55.
+/// The stream without its packets 45 and 55.
+fn without_two(alloc: Global, stream: &[u8]) -> Result<Vec<u8>, AllocError> {
+    let mut left = Vec::from_slice(alloc, stream.get(..8460).unwrap_or(b""))?;
+    left.extend_from_slice(stream.get(8648..10_340).unwrap_or(b""))?;
+    left.extend_from_slice(stream.get(10_528..).unwrap_or(b""))?;
+    Ok(left)
+}
+
+/// The stream of 200 packets, no two of which are alike.
+fn packets(alloc: Global) -> Result<Vec<u8>, AllocError> {
+    let mut stream = stream_without(alloc, 29, &[])?;
+    stream.truncate(37_600);
+    Ok(stream)
+}
+
+// Ten slots in a row are in ten columns.
 #[test]
-fn ten_lost_come_back_and_eleven_do_not(rt: HostRuntime) -> Result<(), Fail> {
-    for first in 1..100 {
-        assert_eq!(rt; comes_back(&rt, rt.alloc(), first, 10)?, 37_600);
+fn ten_lost_of_a_matrix_come_back(rt: HostRuntime) -> Result<(), Fail> {
+    let stream = packets(rt.alloc())?;
+    for first in 1..50 {
+        comes_back_as(&rt, rt.alloc(), &stream, first, 10, &stream)?;
     }
-    assert_eq!(rt; comes_back(&rt, rt.alloc(), 45, 11)?, 37_600 - 2 * 188);
+    Ok(())
+}
+
+// Or in two matrices.
+#[test]
+fn ten_lost_of_two_matrices_come_back(rt: HostRuntime) -> Result<(), Fail> {
+    let stream = packets(rt.alloc())?;
+    for first in 50..100 {
+        comes_back_as(&rt, rt.alloc(), &stream, first, 10, &stream)?;
+    }
+    Ok(())
+}
+
+// Of eleven from slot 45 on, column 5 loses slots 45 and 55.
+#[test]
+fn eleven_lost_leave_two_out(rt: HostRuntime) -> Result<(), Fail> {
+    let stream = packets(rt.alloc())?;
+    let left = without_two(rt.alloc(), &stream)?;
+    comes_back_as(&rt, rt.alloc(), &stream, 45, 11, &left)?;
     Ok(())
 }
 
@@ -220,14 +255,15 @@ fn workers_change_nothing_of_a_sample(rt: HostRuntime) -> Result<(), Fail> {
     let ended = one.run(
         &rt,
         rt.alloc(),
-        "sample seed=7 datagrams=300 loss=3 workers=0",
+        "sample seed=1 datagrams=100 loss=3 workers=0",
     )?;
     let other = many.run(
         &rt,
         rt.alloc(),
-        "sample seed=7 datagrams=300 loss=3 workers=4",
+        "sample seed=1 datagrams=100 loss=3 workers=4",
     )?;
     assert_eq!(rt; ended, other);
+    assert_eq!(rt; ended.status, 0);
     assert_eq!(rt; one.out.bytes(), many.out.bytes());
     assert_eq!(rt; one.lanes.lane(5000), many.lanes.lane(5000));
     Ok(())

@@ -22,7 +22,7 @@ fn is_empty_lane(outside: &Outside) -> bool {
 
 /// Which part of the outside is to fail.
 #[derive(Clone, Copy)]
-enum Part {
+pub enum Part {
     Input,
     Out,
     Lanes,
@@ -115,7 +115,7 @@ fn a_full_lane(rt: HostRuntime) -> Result<(), Fail> {
     outside.lanes = MemOutlet::new(rt.alloc(), &[5000], 2000, &[])?;
     let ended = outside.run(&rt, rt.alloc(), "repair flow=5000")?;
     let lane = lane_of(rt.alloc(), &[10, 11, 12])?;
-    assert_eq!(rt; ended.why, Why::WriteFault);
+    assert_eq!(rt; ended.status, 3);
     assert_eq!(rt; outside.lanes.lane(5000), lane.get(..2000));
     assert_eq!(rt; outside.out.bytes(), b"".as_slice());
     Ok(())
@@ -127,7 +127,7 @@ fn a_full_sink(rt: HostRuntime) -> Result<(), Fail> {
     outside.out = MemSink::new(rt.alloc(), 100, &[])?;
     let ended = outside.run(&rt, rt.alloc(), "repair flow=5000")?;
     let lane = lane_of(rt.alloc(), &[10, 11, 12])?;
-    assert_eq!(rt; ended.why, Why::WriteFault);
+    assert_eq!(rt; ended.status, 3);
     assert_eq!(rt; outside.lanes.lane(5000), Some(lane.as_slice()));
     assert_eq!(rt; Some(outside.out.bytes()), THREE.as_bytes().get(..100));
     Ok(())

@@ -39,7 +39,7 @@ fn expect_both<W: Abort + Threads + Wait + Sync>(
 ) -> Result<(), AllocError> {
     let mut outside = Outside::new(alloc, &two_flows(alloc)?)?;
     let ended = outside.run(rt, alloc, line)?;
-    assert_eq!(rt; ended.why, Why::Done);
+    assert_eq!(rt; ended.status, 0);
     let report = format!(in alloc; "{one}{other}other 0\n")?;
     assert_eq!(rt; outside.out.bytes(), report.as_bytes());
     let all = [0, 1, 2, 3, 4, 5, 6, 7, 8, 9, 10, 11, 12, 13, 14, 15];
@@ -61,7 +61,7 @@ fn two_flows_are_each_alone(rt: HostRuntime) -> Result<(), Fail> {
 fn records_of_another_flow_are_other(rt: HostRuntime) -> Result<(), Fail> {
     let mut outside = Outside::new(rt.alloc(), &two_flows(rt.alloc())?)?;
     let ended = outside.run(&rt, rt.alloc(), "repair flow=7000")?;
-    assert_eq!(rt; ended.why, Why::Done);
+    assert_eq!(rt; ended.status, 0);
     let report = format!(in rt.alloc(); "{SECOND}other 19\n")?;
     assert_eq!(rt; outside.out.bytes(), report.as_bytes());
     assert_eq!(rt; outside.lanes.lane(5000), None);
@@ -74,7 +74,7 @@ fn a_flow_without_records(rt: HostRuntime) -> Result<(), Fail> {
     push_sent(rt.alloc(), &mut bytes, 4999, Sent::Media(0))?;
     let mut outside = Outside::new(rt.alloc(), &bytes)?;
     let ended = outside.run(&rt, rt.alloc(), "repair flow=6000 flow=5000")?;
-    assert_eq!(rt; ended.why, Why::Done);
+    assert_eq!(rt; ended.status, 0);
     assert!(rt;
         outside.out.bytes().starts_with(
             b"flow 6000 shown 0 repaired 0 missing 0 windows 0 inconsistent 0
@@ -124,7 +124,7 @@ fn many_flows<W: Threads + Wait + Sync>(
 #[test]
 fn sixty_four_flows(rt: HostRuntime) -> Result<(), Fail> {
     let (ended, outside) = many_flows(&rt, rt.alloc())?;
-    assert_eq!(rt; ended.why, Why::Done);
+    assert_eq!(rt; ended.status, 0);
     for port in ports() {
         let lane = lane_of(rt.alloc(), &[port])?;
         assert_eq!(rt; outside.lanes.lane(port), Some(lane.as_slice()));

@@ -16,6 +16,7 @@ fn repairs<W: Abort + Threads + Wait + Sync>(
     lane: &[u16],
 ) -> Result<(), AllocError> {
     let wanted = Wanted {
+        status: 0,
         why: Why::Done,
         line: "",
         out: report,
@@ -41,6 +42,7 @@ fn three_in_order(rt: HostRuntime) -> Result<(), Fail> {
 #[test]
 fn no_bytes_are_no_trace(rt: HostRuntime) -> Result<(), Fail> {
     let wanted = Wanted {
+        status: 4,
         why: Why::NotTrace(0),
         line: "not a trace at byte 0\n",
         out: "",
@@ -148,6 +150,7 @@ other 0
 fn a_window_is_played_before_what_makes_it_due(rt: HostRuntime) -> Result<(), Fail> {
     let sent = [0, 1, 3, 4, 2].map(Sent::Media);
     let wanted = Wanted {
+        status: 0,
         why: Why::Done,
         line: "",
         out: "flow 5000 shown 4 repaired 0 missing 1 windows 2 inconsistent 0
@@ -189,6 +192,7 @@ fn a_cut_record_in_any_pieces(rt: HostRuntime) -> Result<(), Fail> {
     bytes.truncate(4000);
     let report = two_of_three(rt.alloc(), "cut at byte 2688\n")?;
     let wanted = Wanted {
+        status: 4,
         why: Why::Cut(2688),
         line: "cut at byte 2688\n",
         out: report.as_str(),
@@ -207,6 +211,7 @@ fn a_cut_record_in_any_pieces(rt: HostRuntime) -> Result<(), Fail> {
 fn more_bytes_than_there_may_be(rt: HostRuntime) -> Result<(), Fail> {
     let report = two_of_three(rt.alloc(), "too long at byte 2688\n")?;
     let wanted = Wanted {
+        status: 5,
         why: Why::TooLong(2688),
         line: "too long at byte 2688\n",
         out: report.as_str(),
@@ -234,6 +239,7 @@ fn what_is_ignored_and_what_is_bad(rt: HostRuntime) -> Result<(), Fail> {
     push_record(&mut bytes, 5000, &extended)?;
     push_record(&mut bytes, 5000, &[0x80; 11])?;
     let wanted = Wanted {
+        status: 0,
         why: Why::Done,
         line: "",
         out: "flow 5000 shown 4 repaired 1 missing 0 windows 1 inconsistent 0

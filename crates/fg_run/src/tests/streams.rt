@@ -38,28 +38,32 @@ fn one_packet_is_sent_as_220_bytes(rt: HostRuntime) -> Result<(), Fail> {
 fn no_payload_leaves_the_magic(rt: HostRuntime) -> Result<(), Fail> {
     let unsynced = one_and(rt.alloc(), 0x46, 188)?;
     let ragged = one_and(rt.alloc(), 0x47, 2)?;
-    for (bytes, line, why, told) in [
-        (b"".as_slice(), "encode columns=4 rows=4", Why::Done, ""),
+    for (bytes, line, status, why, told) in [
+        (b"".as_slice(), "encode columns=4 rows=4", 0, Why::Done, ""),
         (
             unsynced.as_slice(),
             "encode columns=4 rows=4",
+            7,
             Why::NotTransport(TsFault::NoSync(1)),
             "not transport: packet 1\n",
         ),
         (
             ragged.as_slice(),
             "encode columns=4 rows=4",
+            7,
             Why::NotTransport(TsFault::Ragged(190)),
             "not transport: length 190\n",
         ),
         (
             unsynced.as_slice(),
             "encode columns=4 rows=4 packets=1 max=187",
+            5,
             Why::TooLong(0),
             "too long at byte 0\n",
         ),
     ] {
         let wanted = Wanted {
+            status,
             why,
             line: told,
             out: "FECTRAC1",
@@ -122,6 +126,7 @@ fn what_is_encoded_is_repaired_to_the_stream(rt: HostRuntime) -> Result<(), Fail
 #[test]
 fn three_in_order_are_inspected(rt: HostRuntime) -> Result<(), Fail> {
     let wanted = Wanted {
+        status: 0,
         why: Why::Done,
         line: "",
         out: "0 0 5000 1328 media seq 10 len 1316

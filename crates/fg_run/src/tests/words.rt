@@ -111,6 +111,7 @@ fn words_are_refused_at_once(rt: HostRuntime) -> Result<(), Fail> {
         ),
     ] {
         let wanted = Wanted {
+            status: 1,
             why: Why::Words(fault),
             line: told,
             out: "",
@@ -124,6 +125,7 @@ fn words_are_refused_at_once(rt: HostRuntime) -> Result<(), Fail> {
 #[test]
 fn the_version(rt: HostRuntime) -> Result<(), Fail> {
     let wanted = Wanted {
+        status: 0,
         why: Why::Done,
         line: "",
         out: "fgate 0.1.0\n",
@@ -155,7 +157,7 @@ fn a_help_that_is_not_written(rt: HostRuntime) -> Result<(), Fail> {
     let mut outside = Outside::new(rt.alloc(), b"")?;
     outside.out = MemSink::new(rt.alloc(), 5, &[])?;
     let ended = outside.run(&rt, rt.alloc(), "--help")?;
-    assert_eq!(rt; ended.why, Why::WriteFault);
+    assert_eq!(rt; ended.status, 3);
     assert_eq!(rt; outside.out.bytes(), b"fgate".as_slice());
     assert_eq!(rt; outside.err.bytes(), b"write fault\n".as_slice());
     Ok(())
@@ -168,6 +170,7 @@ fn a_fault_of_the_error_sink_changes_nothing_else(rt: HostRuntime) -> Result<(),
         outside.err = MemSink::new(rt.alloc(), room, &[fails])?;
         let ended = outside.run(&rt, rt.alloc(), "repair flow=5000")?;
         let wanted = Wanted {
+            status: 4,
             why: Why::NotTrace(0),
             line,
             out: "",

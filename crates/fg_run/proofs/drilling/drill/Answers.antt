@@ -1,8 +1,13 @@
-use Rattle.std.proofs.Common.{◌∙◌, ap, rules}
+use Rattle.std.proofs.Common.{◌≡◌, ◌∙◌, Option, IfSome, List, ℕ, ap, arith, rules, subst, sym}
+use Rattle.fg_run.specs.Reading.{ReadsStream}
 use Rattle.fg_shape.specs.declared.encoding.Settings.{Settings}
 use Rattle.fg_drill.specs.ThinnedSource.{ThinningState, trace_left}
 use Rattle.fg_run.specs.DrillLaws.{trace_sent}
 use Rattle.fg_run.proofs.Drills.{as_told, drills_part, part_as_told}
+use Rattle.fg_trace.specs.declared.step.Finish.TheVariants as finish
+use Rattle.fg_run.specs.declared.ended.Why.TheVariants as why
+use Rattle.fg_run.proofs.Reading.{drill_reads, drill_tells, reads_nothing, reads_of, same_max, same_stream}
+use Rattle.fg_run.proofs.Repairs.{drill_stops, drill_stops_first, stops_as_told}
 use Rattle.fg_run.proofs.Untouched.{no_drill}
 use Rattle.fg_run.proofs.drilling.drill.Goals as goal
 
@@ -41,6 +46,39 @@ returns-clause-part g c = λ fault.
     (part_as_told c.args.plan.now _ _ g.K.Sink.written _ _ (trace_left c.of-source.result) (trace_sent c.args.settings c.args.losses c.args.max input)
     (c.of-source.ensures.left ∙ ap (λ (t : ThinningState). trace_sent t.settings t.losses t.max input) c.in-Ok.ensures)
     (c.repair_sent-why.ensures.part fault))
+
+pub returns-in_default-clause-stops : goal.returns-in_default-clause-stops
+returns-in_default-clause-stops g c = λ fault. drill_stops_first c.args.settings c.args.plan.now c.args.losses c.args.max finish.Memory _ _
+
+pub returns-in_default-clause-reads : goal.returns-in_default-clause-reads
+returns-in_default-clause-reads g c = reads_nothing c.args.max why.Memory _ tt
+
+pub returns-clause-stops : goal.returns-clause-stops
+returns-clause-stops g c = λ fault.
+    let input = g.S.Source.left c.args.input.now in
+    drill_stops c.thinned_traces_are_traces.ensures.stream c.payloads_are_the_cut.ensures.cut
+    c.args.settings c.args.plan.now c.args.losses c.args.max c.repair_sent-why.result input _ _
+    c.requires.settings c.requires.inner c.requires.max.1
+    (stops_as_told c.args.plan.now c.repair_sent-why.result _ _ (trace_left c.of-source.result) (trace_sent c.args.settings c.args.losses c.args.max input)
+    (c.of-source.ensures.left ∙ ap (λ (t : ThinningState). trace_sent t.settings t.losses t.max input) c.in-Ok.ensures)
+    (c.repair_sent-why.ensures.stops fault))
+
+pub returns-clause-reads : goal.returns-clause-reads
+returns-clause-reads g c =
+    let input = g.S.Source.left c.args.input.now in
+    let source = c.of-source.result in
+    let of = c.of-source.ensures in
+    let after = c.repair_sent-why.new.source in
+    let answer = c.repair_sent-why.result in
+    let same = same_stream _ _ c.repair_sent-why.ensures.same in
+    let limit = same_max _ _ c.repair_sent-why.ensures.same ∙ of.max ∙ ap (λ (t : ThinningState). t.max) c.in-Ok.ensures in
+    let tells = drill_tells c.thinned_traces_are_traces.ensures.stream c.args.settings c.args.plan.now c.args.losses c.args.max answer input
+    (trace_left source) after.stream after.told after.fault c.requires.settings c.requires.inner c.requires.max.1
+    (of.left ∙ ap (λ (t : ThinningState). trace_sent t.settings t.losses t.max input) c.in-Ok.ensures) (same ∙ of.stream) c.repair_sent-why.ensures.tells in
+    let read = reads_of c.args.max answer after.stream input _ (same ∙ of.stream)
+    (drill_reads after.max c.args.max answer after.stream _ after.told after.fault limit tells c.into_inner-input.ensures.reads) in
+    let last : g.S.Source.left c.input-1.given.0 ≡ g.S.Source.left c.into_inner-input.result.now = first_of (search (rules), grind (arith)) in
+    subst (λ (o : Option (List ℕ)). IfSome input (λ bytes. ReadsStream c.args.max answer bytes o)) (sym last) read
 
 pub returns-clause-comes_back : goal.returns-clause-comes_back
 returns-clause-comes_back g c =

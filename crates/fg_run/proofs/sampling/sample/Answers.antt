@@ -7,7 +7,10 @@ use Rattle.fg_drill.specs.Made.{made_stream}
 use Rattle.fg_drill.specs.ThinnedSource.{thinned_trace, trace_left}
 use Rattle.fg_run.specs.Sample.{sample_line, sample_sent}
 use Rattle.fg_run.proofs.Drills.{part_as_told}
-use Rattle.fg_run.proofs.Samples.{line_is, samples_part, whole_sample}
+use Rattle.fg_trace.specs.declared.step.Finish.TheVariants as finish
+use Rattle.fg_run.proofs.ComingBack.{sample_back}
+use Rattle.fg_run.proofs.Repairs.{stops_as_told, stops_first}
+use Rattle.fg_run.proofs.Samples.{line_is, may_be_made, samples_part, whole_sample}
 use Rattle.fg_run.proofs.Untouched.{no_sample}
 use Rattle.fg_run.proofs.sampling.sample.Goals as goal
 
@@ -40,12 +43,45 @@ returns-in-Ok-write_all-clause-whole g c =
     c.in-Ok.ensures.records c.in-Ok.ensures.drops c.count-lost.ensures c.in-Ok-sample_line.ensures)
     c.in-Ok-write_all.ensures.whole c.repair_made.ensures.whole
 
+pub returns-in-Ok-write_all-clause-comes_back : goal.returns-in-Ok-write_all-clause-comes_back
+returns-in-Ok-write_all-clause-comes_back g c =
+    sample_back c.samples_come_back.ensures c.args.seed c.args.datagrams c.args.loss c.args.plan.now c.repair_made.result _ _ _ _
+    c.requires.datagrams.1 c.requires.plan c.requires.flow
+    (may_be_made c.samples_are_traces.ensures.counted c.args.seed c.args.datagrams c.args.loss c.in-Ok.records c.in-Ok.losses
+    c.in-Ok.ensures.records c.in-Ok.ensures.drops c.in-Ok.ensures.every c.in-Ok.ensures.few)
+    (returns-in-Ok-write_all-clause-whole g c)
+
+pub returns-in_default-clause-stops : goal.returns-in_default-clause-stops
+returns-in_default-clause-stops g c = λ fault. stops_first c.args.plan.now finish.Memory (sample_sent c.args.seed c.args.datagrams c.args.loss) _
+
+pub returns-in_default-sample_line-clause-stops : goal.returns-in_default-sample_line-clause-stops
+returns-in_default-sample_line-clause-stops g c = λ fault. stops_first c.args.plan.now finish.Memory (sample_sent c.args.seed c.args.datagrams c.args.loss) _
+
+pub returns-in_default-new-clause-stops : goal.returns-in_default-new-clause-stops
+returns-in_default-new-clause-stops g c = λ fault. stops_first c.args.plan.now finish.Memory (sample_sent c.args.seed c.args.datagrams c.args.loss) _
+
+pub returns-clause-stops : goal.returns-clause-stops
+returns-clause-stops g c = λ fault. stops_first c.args.plan.now finish.WriteFault (sample_sent c.args.seed c.args.datagrams c.args.loss) _
+
+pub returns-in-Ok-write_all-clause-stops : goal.returns-in-Ok-write_all-clause-stops
+returns-in-Ok-write_all-clause-stops g c = λ fault.
+    let losses = c.in-Ok.losses in
+    let bytes = thinned_trace sample_settings losses (2 ^ 40) (made_stream c.args.seed c.args.datagrams) in
+    let sent = sample_sent c.args.seed c.args.datagrams c.args.loss in
+    stops_as_told c.args.plan.now c.repair_made.result _ _ (trace_left c.in-Ok-new.source) (Some bytes)
+    (c.in-Ok-new.ensures.left ∙ ap (λ (s : Settings). Some (thinned_trace s losses (2 ^ 40) c.new-made.result)) c.sample_settings.ensures
+    ∙ ap (λ (made : List ℕ). Some (thinned_trace sample_settings losses (2 ^ 40) made)) c.new-made.ensures)
+    (c.repair_made.ensures.stops fault) sent Ended
+    (subst (λ n. IsTrace bytes n sent Ended) (sym c.requires.inner)
+    (c.samples_are_traces.ensures.trace c.args.seed c.args.datagrams c.args.loss losses c.requires.datagrams.1
+    (c.in-Ok.ensures.drops ∙ ap (λ n. drawn_drops c.args.seed c.args.loss n) c.in-Ok.ensures.records) c.in-Ok.ensures.every))
+
 pub returns-in-Ok-write_all-clause-part : goal.returns-in-Ok-write_all-clause-part
 returns-in-Ok-write_all-clause-part g c = λ fault.
     let losses = c.in-Ok.losses in
     let bytes = thinned_trace sample_settings losses (2 ^ 40) (made_stream c.args.seed c.args.datagrams) in
     let sent = sample_sent c.args.seed c.args.datagrams c.args.loss in
-    samples_part c.parts_of_writes.ensures.all c.parts_of_writes.ensures.of_second c.args.seed c.args.datagrams c.args.loss c.args.plan.now bytes c.deref.result.now
+    samples_part c.writes_join.ensures c.args.seed c.args.datagrams c.args.loss c.args.plan.now bytes c.deref.result.now
     _ _ _ g.K.Sink.written c.write_all.new.sink _
     (subst (λ n. IsTrace bytes n sent Ended) (sym c.requires.inner)
     (c.samples_are_traces.ensures.trace c.args.seed c.args.datagrams c.args.loss losses c.requires.datagrams.1
