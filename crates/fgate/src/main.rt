@@ -14,7 +14,7 @@ ghost use Rattle.fg_run.specs.declared.request.Request.{Request as AnyRequest};
 ghost use Rattle.fg_run.specs.declared.request.Request.TheVariants.{Refused};
 ghost use Rattle.fg_run.specs.Ended.{IsFault, TellsFault, status_of};
 ghost use Rattle.fg_run.specs.Request.{Asks};
-ghost use Rattle.fg_run.specs.Run.{Answers, AnswersPart, ComesBack, IsAnswer, IsNoInput, MakesNoLane, ReadsAll, ReadsNothing, WritesLast, WritesNothing};
+ghost use Rattle.fg_run.specs.Run.{Answers, AnswersPart, ComesBack, IsAnswer, IsNoInput, MakesNoLane, Reads, ReadsAll, ReadsNothing, StopsAt, WritesLast, WritesNothing};
 
 use fg_io::{
     FolderOutlet, Outlet, Sink, Source, StderrSink, StdinSource, StdoutSink, hold_standard_streams,
@@ -89,6 +89,9 @@ fn run_words<W: Threads + Wait + Sync, S: Source + Send, K: Sink + Send, E: Sink
         → Asks (map string_bytes words.items) request
         → AnswersPart request (S.left input.old) (O.lanes lanes.old) (O.lanes lanes.new)
         K.written out.old out.new) }
+    ensures stops { IfOk words (λ words. IsFault result.why → (request : AnyRequest)
+        → Asks (map string_bytes words.items) request
+        → StopsAt request result.why (S.left input.old) (O.lanes lanes.old) (O.lanes lanes.new)) }
     ensures no_report { IfOk words (λ words. (request : AnyRequest)
         → Asks (map string_bytes words.items) request
         → WritesLast request → result.why ≡ Why.ReadFault → out.new ≡ out.old) }
@@ -104,6 +107,9 @@ fn run_words<W: Threads + Wait + Sync, S: Source + Send, K: Sink + Send, E: Sink
     ensures no_input { IfOk words (λ words. IfSome (S.left input.old) (λ bytes. (request : AnyRequest)
         → Asks (map string_bytes words.items) request → IsNoInput request bytes
         → (lanes.new ≡ lanes.old) × (out.new ≡ out.old))) }
+    ensures reads { IfOk words (λ words. IfSome (S.left input.old) (λ bytes. (request : AnyRequest)
+        → Asks (map string_bytes words.items) request
+        → Reads request result.why bytes (S.left input.new))) }
     ensures all_read { IfOk words (λ words. (request : AnyRequest)
         → Asks (map string_bytes words.items) request
         → ReadsAll request result.why → IsAtEnd (S.left input.new)) }

@@ -9,3 +9,9 @@ returns-in-Ok-clause-complete g c = rw c.in-Ok.is (rw c.deref.ensures.value at c
 
 pub returns-in-Ok-clause-part : goal.returns-in-Ok-clause-part
 returns-in-Ok-clause-part g c = rw c.in-Ok.is (rw c.deref.ensures.value at c.run.ensures.part)
+
+pub returns-in-Ok-clause-stops : goal.returns-in-Ok-clause-stops
+returns-in-Ok-clause-stops g c = rw c.in-Ok.is (rw c.deref.ensures.value at c.run.ensures.stops)
+
+pub returns-in-Ok-clause-reads : goal.returns-in-Ok-clause-reads
+returns-in-Ok-clause-reads g c = rw c.in-Ok.is (rw c.deref.ensures.value at c.run.ensures.reads)
