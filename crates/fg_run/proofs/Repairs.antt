@@ -111,14 +111,18 @@ nothing_made None = tt
 nothing_made (Some lanes) = record { lanes = tt; others = λ other no. refl }
 
 pub stops_first : (plan : Plan) (answer : Finish) (records : List Record) (lanes : Option Lanes) → StopsLanes plan (why_of_finish answer) records lanes lanes
-stops_first plan answer records lanes = (answer, refl, record {
-  stage = Making zero;
-  broken = None;
-  unbroken = λ e. refl;
-  pieces = [];
-  gained = tt;
-  puts = nothing_made lanes;
-})
+stops_first plan answer records lanes = (
+  answer,
+  refl,
+  record {
+    stage = Making zero;
+    broken = None;
+    unbroken = λ e. refl;
+    pieces = [];
+    gained = tt;
+    puts = nothing_made lanes;
+  },
+)
 
 -- all lanes are whole
 each_whole : (plan : Plan) (records : List Record) (broken : Option ℕ) (n : ℕ) (ports : List ℕ) (results : List FlowResult) → AllZip (IsFlowResult plan.window plan.depth records) ports results
