@@ -1,6 +1,6 @@
 -- What comes back of a stream that is drilled, and of a sample.
-use Rattle.std.proofs.Common.{◌≡◌, ◌≢◌, ◌⊎◌, inl, inr, ⊎_elim, ℕ, zero, suc, ◌<◌, ◌≤◌, ◌^◌, Option, None, Some, IfSome, List, [], ◌∷◌, ◌++◌, length, refl, sym, ap, ◌∙◌, subst, arith, lit≤}
-use Rattle.std.specs.List.{AllZip, Contains, concat, flat_map, slice_index_or}
+use Rattle.std.proofs.Common.{◌≡◌, ◌≢◌, ◌⊎◌, inl, inr, ⊎_elim, ℕ, zero, suc, ◌<◌, ◌≤◌, ◌^◌, Option, None, Some, List, [], ◌∷◌, ◌++◌, length, refl, sym, ap, ◌∙◌, subst, arith, lit≤}
+use Rattle.std.specs.List.{AllZip, Contains, concat, slice_index_or}
 use Rattle.fg_io.specs.Outlet.{Lanes, Puts}
 use Rattle.fg_shape.specs.declared.encoding.Losses.{Losses}
 use Rattle.fg_shape.specs.declared.encoding.Settings.{Settings}
@@ -12,7 +12,7 @@ use Rattle.fg_encode.specs.Laws.{CutsArePayloads, WholeCutIsAll}
 use Rattle.fg_encode.specs.Stream.{StreamEnding, Whole, TooLong, Ragged, NoSync, IsCut}
 use Rattle.fg_repair.specs.Flow.{FlowResult, IsFlowResult}
 use Rattle.fg_repair.specs.Lanes.{PutsAll}
-use Rattle.fg_repair.specs.Repair.{AreResults, lanes_of}
+use Rattle.fg_repair.specs.Repair.{lanes_of}
 use Rattle.fg_drill.specs.ComesBack.{CanComeBack, NothingIsInconsistent, WhatIsShownComesBack, PeelingBringsAllBack, stream_of}
 use Rattle.fg_drill.specs.Drawn.{sample_layout, sample_settings}
 use Rattle.fg_drill.specs.Few.{LossesAreFew, MayLose}

@@ -1,10 +1,9 @@
 -- What a drill comes to, from what the repair of its trace does.
-use Rattle.std.proofs.Common.{◌≡◌, ◌⊎◌, inl, inr, ⊎_elim, ℕ, ◌≤◌, ◌^◌, Option, None, Some, IfSome, List, [], ◌∷◌, refl, sym, ap, ◌∙◌, subst}
+use Rattle.std.proofs.Common.{◌≡◌, ◌⊎◌, inl, inr, ℕ, ◌≤◌, ◌^◌, Option, None, Some, IfSome, List, refl, sym, ap, ◌∙◌, subst}
 use Rattle.std.specs.Option.{option_map}
-use Rattle.std.specs.Io.KnownBytes.{IsAtEnd}
 use Rattle.fg_io.specs.Laws.{AllIsPart}
 use Rattle.fg_io.specs.Outlet.{Lanes, WhereTold}
-use Rattle.fg_io.specs.Sink.{Gains, GainsPart}
+use Rattle.fg_io.specs.Sink.{GainsPart}
 use Rattle.fg_shape.specs.declared.encoding.Losses.{Losses}
 use Rattle.fg_shape.specs.declared.encoding.Settings.{Settings}
 use Rattle.fg_ts.specs.declared.TsFault.TheVariants as packets
@@ -24,17 +23,16 @@ use Rattle.fg_drill.specs.declared.thinned.StreamFault.{StreamFault}
 use Rattle.fg_drill.specs.declared.thinned.StreamFault.TheVariants.{NotTransport, TooLong as PastLimit}
 use Rattle.fg_drill.specs.PayloadLaws.{CutPayloads}
 use Rattle.fg_drill.specs.Payloads.{payloads_of}
-use Rattle.fg_drill.specs.Thinned.{is_lost, thinned}
 use Rattle.fg_drill.specs.ThinnedSource.{EndsFor, LeavesNothing, ThinnedFixed, thinned_trace}
 use Rattle.fg_drill.specs.TraceLaws.{StreamIsTrace}
 use Rattle.fg_run.specs.declared.ended.Why.{Why}
 use Rattle.fg_run.specs.declared.ended.Why.TheVariants as why
-use Rattle.fg_run.specs.Drill.{Drills, DrillsPart, IsPassedOn, records_sent}
+use Rattle.fg_run.specs.Drill.{DrillsPart, IsPassedOn, records_sent}
 use Rattle.fg_run.specs.DrillLaws.{DrillsAreExact, RepairsAreDrills, trace_sent}
 use Rattle.fg_run.specs.DrillSteps.{DrillsTrace, FollowsTrace, IsEndingsAnswer, ending_of}
-use Rattle.fg_run.specs.Encode.{EndsStream, IsStreamAnswer}
+use Rattle.fg_run.specs.Encode.{EndsStream}
 use Rattle.fg_run.specs.Ended.{IsFault}
-use Rattle.fg_run.specs.Endings.{why_of_ending, why_of_finish, why_of_stream}
+use Rattle.fg_run.specs.Endings.{why_of_finish, why_of_stream}
 
 -- The stream's ending
 

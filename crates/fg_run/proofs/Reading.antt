@@ -1,5 +1,5 @@
 -- How far an input is read.
-use Rattle.std.proofs.Common.{◌≡◌, ◌⊎◌, inl, inr, ⊎_elim, ℕ, ◌≤◌, ◌^◌, Bool, true, false, Option, None, Some, IfSome, IfErr, IfOk, Result, Ok, Err, List, [], refl, sym, ap, ◌∙◌, subst, arith, ◌++◌, length, take, unwrap_or, length-append}
+use Rattle.std.proofs.Common.{◌≡◌, ◌⊎◌, inl, inr, ℕ, ◌≤◌, ◌^◌, Bool, true, Option, None, Some, IfSome, IfErr, IfOk, Result, Ok, Err, List, [], refl, sym, ap, ◌∙◌, subst, arith, ◌++◌, length, take, unwrap_or, length-append}
 use Rattle.std.specs.Option.{option_map}
 use Rattle.std.specs.Io.KnownBytes.{IsAtEnd}
 use Rattle.std.proofs.lemmas.List.{length-take}
@@ -10,7 +10,6 @@ use Rattle.fg_trace.specs.Finish.{finish_of, IsFault as IsFinishFault}
 use Rattle.fg_trace.specs.Reading.{IsReadFor}
 use Rattle.fg_trace.specs.Trace.{Record, Ending, Ended, IsTrace}
 use Rattle.fg_flows.specs.declared.Plan.{Plan}
-use Rattle.fg_ts.specs.declared.TsFault.{TsFault}
 use Rattle.fg_ts.specs.declared.TsFault.TheVariants as packets
 use Rattle.fg_encode.specs.Reading.{IsStreamReadFor, ReadsAsFar, ReadsLittle, ending_told as ending_kept}
 use Rattle.fg_encode.specs.Stream.{StreamEnding}

@@ -1,20 +1,19 @@
 -- What a repair comes to: what comes back of a thinned encoding, and where a fault stops it.
-use Rattle.std.proofs.Common.{◌≡◌, ◌⊎◌, inl, inr, ⊎_elim, ℕ, zero, suc, ◌<◌, ◌≤◌, ◌^◌, Option, None, Some, IfSome, List, [], ◌∷◌, ◌++◌, length, take, refl, sym, ap, ◌∙◌, subst, arith}
+use Rattle.std.proofs.Common.{◌≡◌, ◌⊎◌, inl, inr, ℕ, zero, suc, ◌<◌, ◌≤◌, ◌^◌, Option, None, Some, IfSome, List, [], ◌∷◌, ◌++◌, length, take, refl, sym, subst, arith}
 use Rattle.std.specs.List.{AllZip, Contains, slice_index_or}
-use Rattle.std.specs.Option.{option_map}
 use Rattle.fg_io.specs.Outlet.{Lanes, lane_bytes, lane_of}
 use Rattle.fg_shape.specs.declared.encoding.Losses.{Losses}
 use Rattle.fg_shape.specs.declared.encoding.Settings.{Settings}
 use Rattle.fg_trace.specs.declared.step.Finish.{Finish}
 use Rattle.fg_trace.specs.declared.step.Finish.TheVariants as finish
-use Rattle.fg_trace.specs.Finish.{finish_of, IsFault as IsFinishFault}
+use Rattle.fg_trace.specs.Finish.{IsFault as IsFinishFault}
 use Rattle.fg_trace.specs.Laws.{OneTrace}
 use Rattle.fg_trace.specs.Trace.{Record, Ending, Ended, IsTrace}
 use Rattle.fg_flows.specs.declared.Plan.{Plan}
 use Rattle.fg_encode.specs.Encoder.{CanEncode}
 use Rattle.fg_encode.specs.Stream.{StreamEnding, Whole, TooLong, Ragged, NoSync, IsCut}
 use Rattle.fg_repair.specs.Flow.{FlowResult, IsFlowResult}
-use Rattle.fg_repair.specs.Lanes.{LanesGain, PutsAll}
+use Rattle.fg_repair.specs.Lanes.{PutsAll}
 use Rattle.fg_repair.specs.Repair.{AreResults, Gain, Outputs, Finishes, lanes_of}
 use Rattle.fg_repair.specs.Stops.{Stops, Flushing, Making, HasGained, HasGainedPart}
 use Rattle.fg_repair.proofs.Firsts.{first_all}

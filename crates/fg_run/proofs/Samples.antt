@@ -1,7 +1,5 @@
 -- What a sample comes to, from what the repair of its trace does.
-use Rattle.std.proofs.Common.{◌≡◌, ◌⊎◌, inl, inr, ⊎_elim, ℕ, ◌+◌, ◌*◌, ◌<◌, ◌≤◌, ◌^◌, Option, None, Some, IfSome, List, [], ◌∷◌, ◌++◌, length, map, refl, sym, ap, ◌∙◌, subst, arith}
-use Rattle.std.specs.List.{range_with_len}
-use Rattle.std.specs.Option.{option_map}
+use Rattle.std.proofs.Common.{◌≡◌, ◌⊎◌, inl, inr, ⊎_elim, ℕ, ◌≤◌, ◌^◌, Option, Some, List, ◌++◌, length, sym, ap, ◌∙◌, subst, arith}
 use Rattle.std.specs.Fmt.{decimal}
 use Rattle.std.proofs.lemmas.List.FromFn.{length-map-range_with_len}
 use Rattle.fg_io.specs.Laws.{WritesJoin}
@@ -14,11 +12,9 @@ use Rattle.fg_trace.specs.Laws.{OneTrace}
 use Rattle.fg_trace.specs.Trace.{Record, Ending, Ended, IsTrace}
 use Rattle.fg_flows.specs.declared.Plan.{Plan}
 use Rattle.fg_encode.specs.Encoder.{CanEncode}
-use Rattle.fg_encode.specs.Encoding.{encoding}
 use Rattle.fg_encode.specs.Stream.{payload_of, Whole}
-use Rattle.fg_repair.specs.Flow.{FlowResult}
 use Rattle.fg_repair.specs.Lanes.{PutsAll, PutsAllPart}
-use Rattle.fg_repair.specs.Repair.{AreResults, OutputsPart, Finishes, lanes_of, report_text}
+use Rattle.fg_repair.specs.Repair.{OutputsPart, Finishes, lanes_of, report_text}
 use Rattle.fg_shape.specs.declared.encoding.Losses.{Losses}
 use Rattle.fg_drill.specs.Drawn.{drawn_drops, sample_layout, sample_settings}
 use Rattle.fg_drill.specs.Few.{MayLose, RecordsAreCounted}

@@ -1,4 +1,3 @@
-use Rattle.std.proofs.Common.{sym}
 use Rattle.fg_run.proofs.Reading.{reads_trace}
 use Rattle.fg_run.proofs.Repairs.{finish_stops, finishes_back}
 use Rattle.fg_run.proofs.repairing.repair.Goals as goal

@@ -1,11 +1,11 @@
-use Rattle.std.proofs.Common.{◌≡◌, ◌∙◌, ◌^◌, Option, Some, List, ℕ, ap, sym, subst}
+use Rattle.std.proofs.Common.{◌∙◌, ◌^◌, Some, List, ℕ, ap, sym, subst}
 use Rattle.fg_io.specs.Sink.{GainsPart}
 use Rattle.fg_shape.specs.declared.encoding.Settings.{Settings}
 use Rattle.fg_trace.specs.Trace.{IsTrace, Ended}
 use Rattle.fg_drill.specs.Drawn.{drawn_drops, sample_settings}
 use Rattle.fg_drill.specs.Made.{made_stream}
 use Rattle.fg_drill.specs.ThinnedSource.{thinned_trace, trace_left}
-use Rattle.fg_run.specs.Sample.{sample_line, sample_sent}
+use Rattle.fg_run.specs.Sample.{sample_sent}
 use Rattle.fg_run.proofs.Drills.{part_as_told}
 use Rattle.fg_trace.specs.declared.step.Finish.TheVariants as finish
 use Rattle.fg_run.proofs.ComingBack.{sample_back}

@@ -1,5 +1,4 @@
-use Rattle.std.proofs.Common.{◌≡◌, ◌∙◌, ◌++◌, ◌∷◌, ◌*◌, ℕ, Option, None, Some, Ok, Err, List, [], length, refl, ap, subst}
-use Rattle.fg_ts.specs.Packets.{ArePackets}
+use Rattle.std.proofs.Common.{◌∙◌, ◌++◌, ◌∷◌, ℕ, None, Some, Ok, Err, List, [], length, refl, ap, subst}
 use Rattle.fg_encode.specs.declared.stream.StreamStep.TheVariants.{Payload, End}
 use Rattle.fg_encode.specs.declared.stream.StreamFault.TheVariants.{NotTransport, ReadFault, TooLong as PastLimit}
 use Rattle.fg_encode.specs.Encoder.{StandsAfter}
