@@ -15,3 +15,6 @@ returns-in-Ok-clause-stops g c = rw c.in-Ok.is (rw c.deref.ensures.value at c.ru
 
 pub returns-in-Ok-clause-reads : goal.returns-in-Ok-clause-reads
 returns-in-Ok-clause-reads g c = rw c.in-Ok.is (rw c.deref.ensures.value at c.run.ensures.reads)
+
+pub returns-in-Ok-clause-words : goal.returns-in-Ok-clause-words
+returns-in-Ok-clause-words g c = rw c.in-Ok.is (rw c.deref.ensures.value at c.run.ensures.words)
