@@ -11,17 +11,19 @@ use fg_desk::{Desk, Played, Reply, Tray};
 use fg_shape::Shape;
 use fg_words::Word;
 use std::alloc::{AllocError, Global};
+use std::rt::Clock;
 use std::sync::Wait;
 use std::sync::atomic::AtomicBool;
 use std::sync::atomic::Ordering::SeqCst;
 use std::test::Fail;
-use std::thread::{Threads, join};
+use std::thread::{self, Threads, join};
+use std::time::Duration;
 
 /// How many matrices of five columns and five rows the flow has.
 const MATRICES: u16 = 40;
 
-/// How often a pass asks for a job at most.
-const TAKES: u32 = 20_000;
+/// For how many milliseconds the admitter waits at most until some pass has taken a job.
+const PATIENCE: u32 = 20_000;
 
 /// How many windows a flow can have.
 const WINDOWS: u32 = 200;
@@ -169,13 +171,29 @@ fn board_flushes(
     Ok(())
 }
 
-// The whole flow comes to a board's admitter.
-fn board_is_fed(
-    wait: &impl Wait,
+// Sleeps for a millisecond.
+fn pause(clock: &impl Clock) {
+    thread::sleep(clock, Duration::from_millis(1));
+}
+
+// Waits until some pass has taken a job, but not for ever.
+fn wait_for_a_take(clock: &impl Clock, taken: &AtomicBool) {
+    for _ in 0..PATIENCE {
+        if taken.load(SeqCst) {
+            break;
+        }
+        pause(clock);
+    }
+}
+
+// The whole flow comes to a board's admitter. Before the flush, when equations are open, it waits for a take.
+fn board_is_fed<R: Wait + Clock>(
+    wait: &R,
     alloc: Global,
     board: &Board,
     admitter: &mut Admitter,
     flow: &[Datagram],
+    taken: &AtomicBool,
 ) -> Result<Log, AllocError>
     requires turn { admitter.old.seat.turn ≡ board.now.name }
     requires window { admitter.old.window ≤ 100 }
@@ -185,6 +203,7 @@ fn board_is_fed(
     for datagram in flow {
         board_takes(wait, alloc, board, admitter, datagram, &mut log)?;
     }
+    wait_for_a_take(wait, taken);
     board_flushes(wait, alloc, board, admitter, &mut log)?;
     Ok(log)
 }
@@ -238,63 +257,87 @@ fn desk_is_fed(alloc: Global, flow: &[Datagram]) -> Result<Log, AllocError> {
 }
 
 // The admitter's thread. It tells the passes when it is done.
-fn admitter_works(
-    wait: &impl Wait,
+fn admitter_works<R: Wait + Clock>(
+    wait: &R,
     alloc: Global,
     board: &Board,
     mut admitter: Admitter,
     flow: &[Datagram],
     done: &AtomicBool,
+    taken: &AtomicBool,
 ) -> (Admitter, Result<Log, AllocError>)
     requires turn { admitter.seat.turn ≡ board.now.name }
     requires window { admitter.window ≤ 100 }
     ensures { result.0.seat.turn ≡ board.now.name }
 {
-    let log = board_is_fed(wait, alloc, board, &mut admitter, flow);
+    let log = board_is_fed(wait, alloc, board, &mut admitter, flow, taken);
     done.store(true, SeqCst);
     (admitter, log)
 }
 
-// A job, where one is open, is done and brought. Where memory is short, it is done by nobody.
-fn work_once(wait: &impl Wait, alloc: Global, board: &Board, hand: &mut Hand)
+// A job, where one is open, is done and brought. Where memory is short, it is done by nobody. Whether one was taken.
+fn work_once(wait: &impl Wait, alloc: Global, board: &Board, hand: &mut Hand) -> bool
     requires { hand.old.turn ≡ board.now.name }
     ensures { hand.new.turn ≡ board.now.name }
 {
-    if let Ok(Some(_)) = take(wait, board, hand) {
-        let _ = bring(wait, alloc, board, hand);
+    match take(wait, board, hand) {
+        Ok(Some(_)) => {
+            let _ = bring(wait, alloc, board, hand);
+            true
+        }
+        Ok(None) | Err(AllocError) => false,
     }
 }
 
 // What a pass does until the admitter is done.
-fn hand_works(wait: &impl Wait, alloc: Global, board: &Board, hand: &mut Hand, done: &AtomicBool)
+fn hand_works<R: Wait + Clock>(
+    wait: &R,
+    alloc: Global,
+    board: &Board,
+    hand: &mut Hand,
+    done: &AtomicBool,
+    taken: &AtomicBool,
+)
     requires { hand.old.turn ≡ board.now.name }
     ensures { hand.new.turn ≡ board.now.name }
 {
-    for _ in 0..TAKES {
+    for _ in 0..u32::MAX {
         if done.load(SeqCst) {
             break;
         }
-        work_once(wait, alloc, board, hand);
+        if work_once(wait, alloc, board, hand) {
+            taken.store(true, SeqCst);
+        } else {
+            pause(wait);
+        }
     }
 }
 
 // A pass's thread.
-fn pass_works(wait: &impl Wait, alloc: Global, board: &Board, pass: Pass, done: &AtomicBool) -> Pass
+fn pass_works<R: Wait + Clock>(
+    wait: &R,
+    alloc: Global,
+    board: &Board,
+    pass: Pass,
+    done: &AtomicBool,
+    taken: &AtomicBool,
+) -> Pass
     requires { pass.turn ≡ board.now.name }
     ensures { result.turn ≡ board.now.name }
 {
     let mut hand = hand_of(pass);
-    hand_works(wait, alloc, board, &mut hand, done);
+    hand_works(wait, alloc, board, &mut hand, done, taken);
     pass_of(hand)
 }
 
-fn both_passes<R: Threads + Wait + Sync>(
+fn both_passes<R: Threads + Wait + Clock + Sync>(
     rt: &R,
     alloc: Global,
     board: &Board,
     one: Pass,
     two: Pass,
     done: &AtomicBool,
+    taken: &AtomicBool,
 ) -> (Pass, Pass)
     requires { (one.turn ≡ board.now.name) × (two.turn ≡ board.now.name) }
     ensures { (result.0.turn ≡ board.now.name) × (result.1.turn ≡ board.now.name) }
@@ -304,42 +347,42 @@ fn both_passes<R: Threads + Wait + Sync>(
         move ||
             requires { one.turn ≡ board.now.name }
             ensures { result.turn ≡ board.entry.now.name }
-        { pass_works(rt, alloc, board, one, done) },
+        { pass_works(rt, alloc, board, one, done, taken) },
         move ||
             requires { two.turn ≡ board.now.name }
             ensures { result.turn ≡ board.entry.now.name }
-        { pass_works(rt, alloc, board, two, done) },
+        { pass_works(rt, alloc, board, two, done, taken) },
     )
 }
 
-// The admitter and two passes are threads. What the admitter was answered.
-fn worked<R: Threads + Wait + Sync>(
+// The admitter and two passes are threads. What the admitter was answered, and whether some pass took a job.
+fn worked<R: Threads + Wait + Clock + Sync>(
     rt: &R,
     alloc: Global,
     flow: &[Datagram],
-) -> Result<Log, AllocError> {
+) -> Result<(Log, bool), AllocError> {
     let (board, mut admitter) = open(alloc, 10, 40)?;
     let one = pass_of(further_hand(&board, &mut admitter));
     let two = pass_of(further_hand(&board, &mut admitter));
-    let done = AtomicBool::new(false);
-    let (shared, done) = (&board, &done);
+    let (done, taken) = (AtomicBool::new(false), AtomicBool::new(false));
+    let (shared, done, taken) = (&board, &done, &taken);
     let ((mut admitter, log), (one, two)) = join(
         rt,
         move ||
             requires { (admitter.seat.turn ≡ shared.now.name) × (admitter.window ≤ 100) }
             ensures { result.0.seat.turn ≡ shared.entry.now.name }
-        { admitter_works(rt, alloc, shared, admitter, flow, done) },
+        { admitter_works(rt, alloc, shared, admitter, flow, done, taken) },
         move ||
             requires { (one.turn ≡ shared.now.name) × (two.turn ≡ shared.now.name) }
             ensures { (result.0.turn ≡ shared.entry.now.name) × (result.1.turn ≡ shared.entry.now.name) }
-        { both_passes(rt, alloc, shared, one, two, done) },
+        { both_passes(rt, alloc, shared, one, two, done, taken) },
     );
     put_back(&board, &mut admitter, hand_of(one));
     put_back(&board, &mut admitter, hand_of(two));
     if admitter.made() == 0 {
         board.close(admitter);
     }
-    log
+    Ok((log?, taken.load(SeqCst)))
 }
 
 /// How many positions were shown with a word that was repaired, and how many without a word.
@@ -362,7 +405,8 @@ fn admitter_and_passes_as_threads(rt: HostRuntime) -> Result<(), Fail> {
     let alloc: Global = rt.alloc();
     let flow = flow(alloc)?;
     let alone = desk_is_fed(alloc, &flow)?;
-    let shared = worked(&rt, alloc, &flow)?;
+    let (shared, taken) = worked(&rt, alloc, &flow)?;
+    assert!(rt; taken);
     assert_eq!(rt; shared.replies.len(), flow.len());
     assert!(rt; shared.same(&alone));
     // Ten matrices lose four words for good, and the others 128 words in all.
