@@ -58,11 +58,19 @@ fn status_of(part: Part) -> u8 {
     }
 }
 
+/// What the lane has, or no byte where it isn't there.
+fn lane_in(outside: &Outside) -> &[u8] {
+    match outside.lanes.lane(5000) {
+        Some(lane) => lane,
+        None => &[],
+    }
+}
+
 /// Whether the sink and the lane have prefixes of what they have after the whole run.
 fn is_part(outside: &Outside, whole: &Outside) -> bool {
-    let lane = outside.lanes.lane(5000).unwrap_or(b"");
-    let all = whole.lanes.lane(5000).unwrap_or(b"");
-    all.starts_with(lane) && whole.out.bytes().starts_with(outside.out.bytes())
+    let (lane, text) = (lane_in(outside), outside.out.bytes());
+    let (all, whole_text) = (lane_in(whole), whole.out.bytes());
+    all.starts_with(lane) && whole_text.starts_with(text)
 }
 
 // The stream has 21,056 bytes, which come in 6 pieces, and a read gives none. The lane is made, and then put to.

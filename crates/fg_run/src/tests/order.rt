@@ -1,4 +1,6 @@
 //! The order in which lanes are made and flushed.
+ghost use Rattle.std.specs.Prelude.{None};
+
 use super::*;
 use fg_io::Failed;
 
