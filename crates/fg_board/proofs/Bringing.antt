@@ -1,5 +1,5 @@
 -- What passes bring: it follows from what they were told, and from what jobs tell.
-use Rattle.std.proofs.Common.{◌≡◌, ◌==◌, ◌↔◌, not, ℕ, Bool, List, [], ◌∷◌, ◌++◌, map, filter_map, Option, Some, None, IsSome, IsTrue, refl, sym, ap, subst, ◌∙◌, ⊎_elim, eq-eqb, ne_eqb}
+use Rattle.std.proofs.Common.{◌≡◌, ◌==◌, ◌↔◌, not, ℕ, Bool, List, [], ◌∷◌, ◌++◌, map, filter_map, true, false, Option, Some, None, IsSome, IsTrue, refl, sym, ap, subst, ◌∙◌, ⊎_elim, eq-eqb, ne_eqb}
 use Rattle.std.proofs.lemmas.Bool.{cases_eq, cond-true, cond-false}
 use Rattle.std.proofs.lemmas.List.{length-replicate, map-append}
 use Rattle.std.proofs.lemmas.List.Elements.{All-contains, All-weaker, All-contains_itself, Contains-append_right}
@@ -13,17 +13,21 @@ use Rattle.fg_words.specs.Laws.{XorAssociates, XorCommutes, XorHasZero, XorUndoe
 use Rattle.fg_peel.specs.declared.row.Missing.TheVariants.{One}
 use Rattle.fg_peel.specs.Equation.{Equation, slots, others, sum_at, IsComplete, IsSettled}
 use Rattle.fg_peel.specs.Slots.{IsMissing}
+use Rattle.fg_peel.proofs.Lists.{Contains-here, Contains-there, Contains-map}
+use Rattle.fg_peel.proofs.Options.{value_of}
+use Rattle.fg_peel.proofs.Maps.{entry_of_get}
 use Rattle.fg_desk.specs.State.{Live}
 use Rattle.fg_turn.specs.Standing.{Standing}
 use Rattle.fg_desk.specs.Contents.{CanFill, known_in}
 use Rattle.fg_core.specs.Board.{BoardState, JobState, IsCurrent, job_sum}
-use Rattle.fg_core.specs.Core.{take}
+use Rattle.fg_core.specs.Core.{take, CanDo}
+use Rattle.fg_core.specs.declared.fate.Fate.{Fate}
+use Rattle.fg_board.specs.Deeds.{brings, checks}
 use Rattle.fg_core.specs.Views.{Told, word_at, equation_is, seen_of, IsWorked, IsChecked, told_of_job}
 use Rattle.fg_core.specs.Codes.{Entry, told_code, told_from, IsOwnedBy, GrowsFrom, ToldIsReadBack}
 use Rattle.fg_core.specs.Laws.{WorkedWordsFollow, CheckedComeOut}
 use Rattle.fg_board.specs.Actors.{TakenJob, WasTold, IsLater, TakesTurn, IsWorkedBy}
 use Rattle.fg_core.specs.declared.key.Key.{Key}
-use Rattle.fg_board.proofs.Lists.{Contains-here, Contains-there, Contains-map, value_of, entry_of_get}
 use Rattle.fg_board.proofs.Later.{still_told}
 use Rattle.fg_board.proofs.OneTurn.{owning, told_back}
 
@@ -36,7 +40,7 @@ module _ (calls told : List Entry) (board : BoardState) (owned : IsOwnedBy calls
       → (live : Live) → IsCurrent board key live → known_in board.desk slot ≡ None → CanFill board.desk live.equation slot word
   word_follows follow slot word worked live current unknown =
       let o = owning calls board owned in
-      follow o.window o.depth o.calls board (map told_from told) key live worked.0 slot word o.owned grows current worked.1
+      follow o.playout o.calls board (map told_from told) key live worked.0 slot word o.owned grows current worked.1
       unknown
 
   -- and a check that follows from it holds.
@@ -45,7 +49,7 @@ module _ (calls told : List Entry) (board : BoardState) (owned : IsOwnedBy calls
       → (live : Live) → IsCurrent board key live → IsSettled (known_in board.desk) live.equation
   check_follows come_out comes checked is live current =
       let o = owning calls board owned in
-      come_out o.window o.depth o.calls board (map told_from told) key live checked.0 comes o.owned grows current checked.1 is
+      come_out o.playout o.calls board (map told_from told) key live checked.0 comes o.owned grows current checked.1 is
 
 -- Sums
 
@@ -177,3 +181,16 @@ pub job_worked_by :
 job_worked_by taken was (Ok word) is = λ slot missing later goes_on.
     (taken.job.equation, job_worked taken was later goes_on slot word missing is)
 job_worked_by taken was (Err error) is = is
+
+-- What is brought may be brought, by who holds the job and by another one.
+pub can_bring :
+    (holds_job : Bool) (told : List Told) (key : Key) (slot : ℕ) (word : Word) (fate : Fate)
+    → (equation : Equation) × IsWorked told key equation slot word → CanDo told (brings holds_job key slot word fate)
+can_bring true told key slot word fate worked = worked
+can_bring false told key slot word fate worked = worked
+
+pub can_check :
+    (holds_job : Bool) (told : List Told) (key : Key) (zero : Bool) (fate : Fate)
+    → (equation : Equation) × IsChecked told key equation zero → CanDo told (checks holds_job key zero fate)
+can_check true told key zero fate checked = checked
+can_check false told key zero fate checked = checked

@@ -6,6 +6,7 @@ use Rattle.std.proofs.lemmas.List.Elements.{Contains-append_left}
 use Rattle.std.specs.List.{Contains}
 use Rattle.fg_words.specs.declared.Word.{Word}
 use Rattle.fg_peel.specs.Equation.{Equation, slots}
+use Rattle.fg_peel.proofs.Lists.{Contains-here, Contains-there}
 use Rattle.fg_turn.specs.Standing.{Standing}
 use Rattle.fg_core.specs.Board.{BoardState, IsHeld, Looks}
 use Rattle.fg_core.specs.Codes.{Entry, told_code, told_from, ToldIsReadBack}
@@ -18,7 +19,6 @@ use Rattle.fg_core.specs.declared.fate.Look.{Look}
 use Rattle.fg_core.specs.declared.fate.Look.TheVariants as looked
 use Rattle.fg_board.specs.Actors.{IsLater, TakesTurn}
 use Rattle.fg_board.specs.Laws.{EachIsLater, TurnsGoOn, NoTurnsGoOn, TurnsAreOfTheCore, FindsOrIsGone, BroughtWordsAreFound}
-use Rattle.fg_board.proofs.Lists.{Contains-here, Contains-there}
 use Rattle.fg_board.proofs.OneTurn.{owning, told_after, is_told}
 
 pub each_is_later : EachIsLater
@@ -117,7 +117,7 @@ brought_is_found :
 brought_is_found found key slot word answer new later last brought on turn =
     let o = owning last.calls turn.entered turn.owned in
     finds_or_is_gone turn.entered turn.left key slot word answer turn.event_is
-    (found o.window o.depth o.calls turn.entered turn.left (map told_from later.told) key brought.equation slot word answer
+    (found o.playout o.calls turn.entered turn.left (map told_from later.told) key brought.equation slot word answer
     o.owned turn.grows (still_told new later on (equation_is key.serial brought.equation) brought.equation_told)
     brought.slot_is (still_told new later on (word_at key.epoch slot word) brought.word_told) turn.event_is)
 

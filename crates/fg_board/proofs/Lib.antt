@@ -1,6 +1,5 @@
 mod Bringing
 mod Later
-mod Lists
 mod OneCall
 mod OneTurn
 pub mod OwnDesk

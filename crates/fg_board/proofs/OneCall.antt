@@ -4,6 +4,7 @@ use Rattle.std.proofs.lemmas.List.{map-append}
 use Rattle.std.proofs.lemmas.List.Elements.{All-cons, All-nil}
 use Rattle.std.specs.Prelude.{length, IfSome, option_map}
 use Rattle.std.specs.List.{All}
+use Rattle.fg_shape.specs.Playout.{Playout}
 use Rattle.fg_desk.specs.declared.desk.Played.{Played}
 use Rattle.fg_desk.specs.Play.{Shown}
 use Rattle.fg_turn.specs.Standing.{Standing}
@@ -26,16 +27,16 @@ module _
   call_extends ([] ∷ entries) is = absurd is
   call_extends ((window ∷ []) ∷ entries) is = absurd is
   call_extends ((window ∷ depth ∷ rest) ∷ entries) is =
-      subst (λ (calls : List Call). IsOwned window depth calls new)
+      subst (λ (calls : List Call). IsOwned (record { window = window; depth = depth }) calls new)
       (ap (λ (c : Call). map call_from entries ++ c ∷ []) (sym (back call)) ∙ sym (map-append call_from entries (call_code call ∷ [])))
-      (extend window depth (map call_from entries) call old new is can does)
+      (extend (record { window = window; depth = depth }) (map call_from entries) call old new is can does)
 
   call_carries_on : CarriesOn (Some (call_code call)) old new
   call_carries_on = record {
     owned = call_extends;
     grows = λ entries told is grows.
         (let o = owning entries old is in
-        keep_told o.window o.depth o.calls call old new (map told_from told) o.owned can does grows);
+        keep_told o.playout o.calls call old new (map told_from told) o.owned can does grows);
   }
 
 -- A call is a step, with its entry.
@@ -65,8 +66,8 @@ seen_grows back board =
 
 -- A whole turn, from the seat as it was, as it stood inside, and as it is, where the turn said this call.
 pub call_made :
-    (call said : Call) (window depth : ℕ) (old inner new : Standing BoardState) (entered left : BoardState) → said ≡ call
-    → entered.desk.state ≡ desk_of (record { seat = old; window = window; depth = depth })
+    (call said : Call) (playout : Playout) (old inner new : Standing BoardState) (entered left : BoardState) → said ≡ call
+    → entered.desk.state ≡ desk_of (record { seat = old; playout = playout })
     → inner ≡ record old { turns = old.turns + 1; inside = true; entered = Some entered }
     → new ≡ record inner {
       calls = inner.calls ++ call_code said ∷ [];
@@ -75,10 +76,9 @@ pub call_made :
       left = Some left;
     }
     → IsOwnedBy old.calls entered → GrowsFrom old.told entered → IsCall entered call left → IsOwnedBy new.calls left
-    → MakesCall call (record { seat = old; window = window; depth = depth }) (record { seat = new; window = window; depth = depth })
-call_made call said window depth old inner new entered left same own goes_in goes_out owned grows is left_owned = record {
-  window = refl;
-  depth = refl;
+    → MakesCall call (record { seat = old; playout = playout }) (record { seat = new; playout = playout })
+call_made call said playout old inner new entered left same own goes_in goes_out owned grows is left_owned = record {
+  playout = refl;
   turn = ap (λ (s : Standing BoardState). s.turn) goes_out ∙ ap (λ (s : Standing BoardState). s.turn) goes_in;
   made = ap (λ (s : Standing BoardState). s.made) goes_out ∙ ap (λ (s : Standing BoardState). s.made) goes_in;
   seated = ap (λ (s : Standing BoardState). s.seated) goes_out ∙ ap (λ (s : Standing BoardState). s.seated) goes_in;

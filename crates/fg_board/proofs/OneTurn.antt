@@ -6,7 +6,9 @@ use Rattle.std.proofs.lemmas.List.Elements.{Contains-append_right}
 use Rattle.std.specs.List.{All, Contains}
 use Rattle.std.specs.FinMap.{get}
 use mathlib.Core.List.{IsPrefix}
+use Rattle.fg_shape.specs.Playout.{Playout}
 use Rattle.fg_peel.specs.Equation.{Equation}
+use Rattle.fg_peel.proofs.Lists.{Contains-here, Contains-there}
 use Rattle.fg_desk.specs.State.{Live}
 use Rattle.fg_turn.specs.Standing.{Standing}
 use Rattle.fg_core.specs.Board.{BoardState, IsLive, IsHeld, Looks, Asks, look_of, equation_with}
@@ -22,7 +24,6 @@ use Rattle.fg_core.specs.declared.fate.Look.{Look}
 use Rattle.fg_core.specs.declared.fate.Look.TheVariants as looked
 use Rattle.fg_core.specs.declared.fate.Asked.{Asked}
 use Rattle.fg_core.specs.declared.fate.Asked.TheVariants as asked
-use Rattle.fg_board.proofs.Lists.{Contains-here, Contains-there}
 
 -- What holds of an option's value.
 pub some_and_weaker : {X : Type 0} (o : Option X) (P Q : X → Type 0) → ((x : X) → P x → Q x) → IsSomeAnd o P → IsSomeAnd o Q
@@ -37,37 +38,36 @@ some_and_of (Some x) P Q from is = from x refl is
 
 -- Entries make of a board what their calls make of it.
 pub record Owning (entries : List Entry) (board : BoardState) : Type 0 where
-  pub window : ℕ
-  pub depth : ℕ
+  pub playout : Playout
   pub calls : List Call
-  pub owned : IsOwned window depth calls board
+  pub owned : IsOwned playout calls board
 
 pub owning : (entries : List Entry) (board : BoardState) → IsOwnedBy entries board → Owning entries board
 owning [] board is = absurd is
 owning ([] ∷ entries) board is = absurd is
 owning ((window ∷ []) ∷ entries) board is = absurd is
 owning ((window ∷ depth ∷ rest) ∷ entries) board is =
-    record { window = window; depth = depth; calls = map call_from entries; owned = is }
+    record { playout = record { window = window; depth = depth }; calls = map call_from entries; owned = is }
 
 -- The same entries make another board what they make of this one, if each list of calls does.
 owned_stays :
-    (old new : BoardState) → ((window depth : ℕ) (calls : List Call) → IsOwned window depth calls old → IsOwned window depth calls new)
+    (old new : BoardState) → ((playout : Playout) (calls : List Call) → IsOwned playout calls old → IsOwned playout calls new)
     → (entries : List Entry) → IsOwnedBy entries old → IsOwnedBy entries new
 owned_stays old new keeps [] is = absurd is
 owned_stays old new keeps ([] ∷ entries) is = absurd is
 owned_stays old new keeps ((window ∷ []) ∷ entries) is = absurd is
-owned_stays old new keeps ((window ∷ depth ∷ rest) ∷ entries) is = keeps window depth (map call_from entries) is
+owned_stays old new keeps ((window ∷ depth ∷ rest) ∷ entries) is = keeps (record { window = window; depth = depth }) (map call_from entries) is
 
 -- Each event carries on both.
 pub event_carries_on :
     EventsKeepOwned → EventsKeepTold → (seat : Standing BoardState) (event : Event) (entered left : BoardState)
     → Follows seat event entered left → CarriesOn None entered left
 event_carries_on keep_owned keep_told seat event entered left follows = record {
-  owned = owned_stays entered left (λ window depth calls is.
-      keep_owned window depth calls event entered left (map told_from seat.told) is follows.grows follows.can follows.does);
+  owned = owned_stays entered left (λ playout calls is.
+      keep_owned playout calls event entered left (map told_from seat.told) is follows.grows follows.can follows.does);
   grows = λ entries told is grows.
       (let o = owning entries entered is in
-      keep_told o.window o.depth o.calls event entered left (map told_from seat.told) (map told_from told) o.owned
+      keep_told o.playout o.calls event entered left (map told_from seat.told) (map told_from told) o.owned
       follows.grows follows.can follows.does grows);
 }
 
@@ -159,7 +159,7 @@ pub told_grows :
 told_grows holds back seat event left entered follows =
     let o = owning seat.calls entered follows.owned in
     subst (λ (told : List Told). All (IsBorneOut left) told) (sym (told_back back (seen_of left ∷ told_of left event)))
-    (holds o.window o.depth o.calls event entered left (told_of left event) o.owned follows.does
+    (holds o.playout o.calls event entered left (told_of left event) o.owned follows.does
     (event_tells event entered left follows.does))
 
 -- A whole turn

@@ -19,7 +19,7 @@ module _ (call : Call) (old new : AdmitterState) (makes : MakesCall call old new
   pub left_is_board : makes.left ≡ board_of new
   left_is_board =
       sym (ap (λ (o : Option BoardState). elim o as (λ _. BoardState) [
-        | None ↦ opened_board new.window new.depth
+        | None ↦ opened_board new.playout
         | Some left ↦ left
       ]) makes.left_is)
 

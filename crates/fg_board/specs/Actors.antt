@@ -5,6 +5,7 @@ use Rattle.std.specs.List.{All, Contains}
 use mathlib.Core.List.{IsPrefix}
 use Rattle.std.specs.FinMap.{get}
 use Rattle.fg_words.specs.declared.Word.{Word}
+use Rattle.fg_shape.specs.Playout.{Playout}
 use Rattle.fg_desk.specs.declared.reply.Reply.{Reply}
 use Rattle.fg_desk.specs.declared.reply.Reply.TheVariants.{Admitted}
 use Rattle.fg_desk.specs.State.{State}
@@ -83,16 +84,15 @@ IsCheckedBy taken zero =
 
 -- The admitter
 
--- The admitter as contracts see it: its seat, and the window and the depth of its board.
+-- The admitter as contracts see it: its seat, and the settings of its board.
 pub record AdmitterState : Type 0 where
   pub seat : Standing BoardState
-  pub window : ℕ
-  pub depth : ℕ
+  pub playout : Playout
 
 -- The board that it left last, which is a new one before its first call.
 abbrev pub board_of : AdmitterState → BoardState
 board_of admitter = elim admitter.seat.left as (λ _. BoardState) [
-  | None ↦ opened_board admitter.window admitter.depth
+  | None ↦ opened_board admitter.playout
   | Some left ↦ left
 ]
 
@@ -103,15 +103,14 @@ desk_of admitter = (board_of admitter).desk.state
 -- That board is what its calls make of an empty desk, whatever passes did between them.
 abbrev pub IsOwnBoard : AdmitterState → Type 0
 IsOwnBoard admitter =
-    (entries : List Entry) × (admitter.seat.calls ≡ opening_code admitter.window admitter.depth ∷ entries)
-    × IsOwned admitter.window admitter.depth (map call_from entries) (board_of admitter)
+    (entries : List Entry) × (admitter.seat.calls ≡ opening_code admitter.playout ∷ entries)
+    × IsOwned admitter.playout (map call_from entries) (board_of admitter)
 
 -- One turn of the admitter: one call, from the state that it entered, whose desk is its own, to the one that it left.
 -- What was entered is what its calls so far made of the board, and has grown from all that it was told. What was left is
 -- what its calls made with this one.
 pub record MakesCall (call : Call) (old new : AdmitterState) : Type 0 where
-  pub window : new.window ≡ old.window
-  pub depth : new.depth ≡ old.depth
+  pub playout : new.playout ≡ old.playout
   pub turn : new.seat.turn ≡ old.seat.turn
   pub made : new.seat.made ≡ old.seat.made
   pub seated : new.seat.seated ≡ old.seat.seated

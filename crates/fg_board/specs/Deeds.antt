@@ -1,5 +1,5 @@
 -- What one turn did, as its arguments and its answer say, and what it tells. No public contract cites it.
-use Rattle.std.specs.Prelude.{ℕ, List, [], ◌∷◌, ◌++◌, map, Option, Some, None}
+use Rattle.std.specs.Prelude.{ℕ, Bool, true, false, List, [], ◌∷◌, ◌++◌, map, Option, Some, None}
 use Rattle.std.specs.FinMap.{get}
 use Rattle.fg_desk.specs.State.{Live}
 use Rattle.fg_turn.specs.Standing.{Standing}
@@ -11,21 +11,30 @@ use Rattle.fg_board.specs.declared.turns.Deed.{Deed}
 use Rattle.fg_board.specs.declared.turns.Deed.TheVariants as deed
 use Rattle.fg_board.specs.declared.turns.Made.{Made}
 use Rattle.fg_board.specs.declared.turns.Made.TheVariants as made
+use Rattle.fg_words.specs.declared.Word.{Word}
+use Rattle.fg_core.specs.declared.fate.Fate.{Fate}
 use Rattle.fg_core.specs.declared.fate.Look.{Look}
 use Rattle.fg_core.specs.declared.fate.Look.TheVariants as looked
 use Rattle.fg_core.specs.declared.key.Key.{Key}
 
 -- Passes
 
+-- A word or a check is brought by who holds the job, or by another one.
+abbrev pub brings : Bool → Key → ℕ → Word → Fate → Event
+brings true = publish
+brings false = offer
+
+abbrev pub checks : Bool → Key → Bool → Fate → Event
+checks true = vouch
+checks false = attest
+
 abbrev pub event_of : Deed → Event
 event_of (deed.Take job) = take job.value
-event_of (deed.Publish key slot share fate) = publish key slot share.value fate
-event_of (deed.Vouch key zero fate) = vouch key zero fate
+event_of (deed.Bring holds_job key slot share fate) = brings holds_job key slot share.value fate
+event_of (deed.Check holds_job key zero fate) = checks holds_job key zero fate
 event_of (deed.GiveBack key fate) = give_back key fate
 event_of (deed.Look key slot answer) = look key (Some slot) answer.value
 event_of (deed.Ask key answer) = look key None (look_of answer.value)
-event_of (deed.Offer key slot share fate) = offer key slot share.value fate
-event_of (deed.Attest key zero fate) = attest key zero fate
 
 -- The equation of a serial number, where one is live under it.
 abbrev pub told_of_live : ℕ → Option Live → List Told

@@ -1,5 +1,6 @@
 -- What an admitter knows of its own desk. No public contract cites it.
 use Rattle.std.specs.Prelude.{◌≡◌, ◌≤◌, ◌<◌, ◌^◌, false, ℕ, Option, IfSome, option_map}
+use Rattle.fg_shape.specs.Playout.{Playout}
 use Rattle.fg_desk.specs.State.{State, Top}
 use Rattle.fg_board.specs.Actors.{AdmitterState, desk_of, IsOwnBoard}
 
@@ -7,10 +8,9 @@ use Rattle.fg_board.specs.Actors.{AdmitterState, desk_of, IsOwnBoard}
 abbrev pub top_of : Option (ℕ × ℕ) → Option Top
 top_of = option_map (λ t. record { position = t.0; seq = t.1 })
 
--- It is told of a desk: its window, its depth, its top, its mark and its calls.
-pub record Knows (window depth : ℕ) (top : Option (ℕ × ℕ)) (mark calls : ℕ) (desk : State) : Type 0 where
-  pub window_is : desk.window ≡ window
-  pub depth_is : desk.depth ≡ depth
+-- It is told of a desk: its settings, its top, its mark and its calls.
+pub record Knows (playout : Playout) (top : Option (ℕ × ℕ)) (mark calls : ℕ) (desk : State) : Type 0 where
+  pub playout_is : desk.playout ≡ playout
   pub top_is : top_of top ≡ desk.top
   pub mark_is : mark ≡ desk.mark
   pub calls_is : calls ≡ desk.calls
@@ -19,7 +19,9 @@ pub record Knows (window depth : ℕ) (top : Option (ℕ × ℕ)) (mark calls : 
 -- What an admitter has between its calls.
 pub record KnowsItsDesk (admitter : AdmitterState) (top : Option (ℕ × ℕ)) (mark calls : ℕ) : Type 0 where
   pub outside : admitter.seat.inside ≡ false
-  pub window : (1 ≤ admitter.window) × (admitter.window ≤ 100) × (admitter.window ≤ admitter.depth)
-  pub depth : admitter.depth < 2 ^ 32
+  pub window :
+      (1 ≤ admitter.playout.window) × (admitter.playout.window ≤ 100)
+      × (admitter.playout.window ≤ admitter.playout.depth)
+  pub depth : admitter.playout.depth < 2 ^ 32
   pub own : IsOwnBoard admitter
-  pub knows : Knows admitter.window admitter.depth top mark calls (desk_of admitter)
+  pub knows : Knows admitter.playout top mark calls (desk_of admitter)

@@ -1,6 +1,8 @@
 -- How the values that contracts see of a board's actors are told apart. No public contract cites it.
-use Rattle.std.specs.Prelude.{ℕ, refl}
-use Rattle.std.specs.Coded.{Coded, code_by, coded×, coded_ℕ}
+use Rattle.std.specs.Prelude.{refl}
+use Rattle.std.specs.Coded.{Coded, code_by, coded×}
+use Rattle.fg_shape.specs.Playout.{Playout}
+use Rattle.fg_desk.specs.Inside.{playout_code}
 use Rattle.fg_turn.specs.Standing.{Standing, standing_coded}
 use Rattle.fg_core.specs.Board.{BoardState, JobState}
 use Rattle.fg_core.specs.Codings.{board_code, job_code}
@@ -13,5 +15,5 @@ taken_job_code =
 
 abbrev pub admitter_code : Coded AdmitterState
 admitter_code =
-    code_by (Standing BoardState × (ℕ × ℕ)) (coded× (standing_coded board_code) (coded× coded_ℕ coded_ℕ))
-    (λ a. (a.seat, (a.window, a.depth))) (λ p. record { seat = p.0; window = p.1.0; depth = p.1.1 }) (λ _. refl)
+    code_by (Standing BoardState × Playout) (coded× (standing_coded board_code) playout_code)
+    (λ a. (a.seat, a.playout)) (λ p. record { seat = p.0; playout = p.1 }) (λ _. refl)

@@ -58,7 +58,7 @@ impl Near {
 /// The owner of a board: it admits the flow's datagrams and plays its windows. It knows the desk that its calls have
 /// made, so it needs no turn to see whether a play is due.
 ///
-/// Contracts see its standing, and the window and the depth of its board.
+/// Contracts see its standing, and the settings of its board.
 #[derive(Drop)]
 pub struct Admitter {
     pub(crate) owner: Owner<Flow>,
@@ -76,9 +76,9 @@ impl Model for Admitter {
 
     ghost coded = { admitter_code };
 
-    ghost view = { λ a. record { seat = a.owner; window = a.window; depth = a.depth } };
+    ghost view = { λ a. record { seat = a.owner; playout = record { window = a.window; depth = a.depth } } };
 
-    ghost invariant = { λ a. KnowsItsDesk (record { seat = a.owner; window = a.window; depth = a.depth })
+    ghost invariant = { λ a. KnowsItsDesk (record { seat = a.owner; playout = record { window = a.window; depth = a.depth } })
         a.near.top a.near.mark a.near.calls };
 }
 
@@ -92,8 +92,9 @@ fn enter_own(
 ) -> Flow
     requires turn { (owner.old.turn ≡ turn.now.name) × (owner.old.inside ≡ false) }
     requires window { (1 ≤ window) × (window ≤ 100) × (window ≤ depth) }
-    requires own { IsOwnBoard (record { seat = owner.old; window = window; depth = depth }) }
-    ensures own { result.desk.state ≡ desk_of (record { seat = owner.old; window = window; depth = depth }) }
+    requires own { IsOwnBoard (record { seat = owner.old; playout = record { window = window; depth = depth } }) }
+    ensures own { result.desk.state
+        ≡ desk_of (record { seat = owner.old; playout = record { window = window; depth = depth } }) }
     ensures owner { IsOwnedBy owner.old.calls result }
     ensures grows { GrowsFrom owner.old.told result }
     ensures seat { owner.new
@@ -112,9 +113,9 @@ impl Admitter {
     pub(crate) fn new(owner: Owner<Flow>, window: u32, depth: u32) -> Admitter
         requires outside { owner.inside ≡ false }
         requires window { (1 ≤ window) × (window ≤ 100) × (window ≤ depth) }
-        requires calls { owner.calls ≡ opening_code window depth ∷ [] }
+        requires calls { owner.calls ≡ opening_code (record { window = window; depth = depth }) ∷ [] }
         requires left { owner.left ≡ None }
-        ensures { result ≡ record { seat = owner; window = window; depth = depth } }
+        ensures { result ≡ record { seat = owner; playout = record { window = window; depth = depth } } }
     {
         opening_is_owned();
         let near = Near {
@@ -167,8 +168,7 @@ impl Admitter {
         ensures facts { Holds (desk_of self.now) }
         ensures solved { AreSolved (board_of self.now).desk }
         ensures own { IsOwnBoard self.now }
-        ensures window { (desk_of self.now).window ≡ self.now.window }
-        ensures depth { (desk_of self.now).depth ≡ self.now.depth }
+        ensures playout { (desk_of self.now).playout ≡ self.now.playout }
     {
         let top_has_room = match self.near.top {
             Some((top, _)) => top < POSITIONS,
@@ -244,9 +244,9 @@ impl Admitter {
         requires board { self.old.seat.turn ≡ board.now.name }
         requires room { HasRoom (desk_of self.old) }
         requires started { IsSome (desk_of self.old).top }
-        requires tray { self.old.window ≤ tray.old.window }
+        requires tray { self.old.playout.window ≤ tray.old.window }
         ensures call { MakesCall (play result) self.old self.new }
-        ensures play { IsPlay self.old.window (desk_of self.old) (play_of result tray.new.shown) (desk_of self.new) }
+        ensures play { IsPlay self.old.playout.window (desk_of self.old) (play_of result tray.new.shown) (desk_of self.new) }
         ensures count { result.count ≡ length tray.new.shown }
         ensures tray { tray.new.window ≡ tray.old.window }
     {
@@ -261,7 +261,7 @@ impl Admitter {
     pub fn flush_step(&mut self, wait: &impl Wait, board: &Board, tray: &mut Tray) -> Option<Played>
         requires board { self.old.seat.turn ≡ board.now.name }
         requires room { HasRoom (desk_of self.old) }
-        requires tray { self.old.window ≤ tray.old.window }
+        requires tray { self.old.playout.window ≤ tray.old.window }
         ensures call { MakesCall (flush result) self.old self.new }
         ensures flushes { Flushes (desk_of self.old) (option_map (λ played. play_of played tray.new.shown) result) (desk_of self.new) }
         ensures count { IfSome result (λ played. played.count ≡ length tray.new.shown) }

@@ -4,12 +4,15 @@ ghost use Rattle.std.specs.Prelude.{◌≡◌, ◌↔◌, ◌+◌, ◌-◌, ◌<
 ghost use Rattle.std.specs.FinMap.{get};
 ghost use Rattle.fg_words.specs.Word.{zero_word};
 ghost use Rattle.fg_peel.specs.declared.row.Missing.TheVariants.{One};
-ghost use Rattle.fg_peel.specs.Equation.{Equation, IsComplete};
+ghost use Rattle.fg_peel.specs.Equation.{Equation, IsComplete, IsSettled};
 ghost use Rattle.fg_peel.specs.Slots.{IsMissing};
 ghost use Rattle.fg_turn.specs.Standing.{owner_of, newcomer_of};
-ghost use Rattle.fg_core.specs.Board.{job_sum, look_of, TellsEquation, TellsReadable};
+ghost use Rattle.fg_desk.specs.State.{Live};
+ghost use Rattle.fg_desk.specs.Contents.{CanFill, known_in};
+ghost use Rattle.fg_core.specs.Board.{IsCurrent, job_sum, look_of, TellsEquation, TellsReadable};
 ghost use Rattle.fg_core.specs.Codes.{told_from, opening_code};
-ghost use Rattle.fg_core.specs.Core.{take, publish, vouch, give_back, look, offer, attest};
+ghost use Rattle.fg_core.specs.Core.{take, publish, vouch, give_back, look, offer, attest, IsEvent};
+ghost use Rattle.fg_board.specs.Deeds.{brings, checks};
 ghost use Rattle.fg_core.specs.Views.{IsWorked, IsChecked, WasAnswered};
 ghost use Rattle.fg_board.specs.Actors.{TakenJob, IsLater, TakesTurn, TakesNoTurn};
 
@@ -69,45 +72,78 @@ fn take_inside(
     }
 }
 
-// A word is published, in one turn.
-fn publish_inside(
+// Takes a word that is brought to the state: by who holds the job, which is given back, or by another one.
+fn bring(flow: &mut Flow, key: Key, slot: u64, share: Shared, holds_job: bool) -> Fate
+    requires { (live : Live) → IsCurrent flow.old key live → known_in flow.old.desk slot ≡ None
+        → CanFill flow.old.desk live.equation slot share }
+    ensures { IsEvent flow.old (brings holds_job key slot share result) flow.new }
+{
+    if holds_job {
+        flow.publish(key, slot, share)
+    } else {
+        flow.offer(key, slot, share)
+    }
+}
+
+// A word is brought, in one turn.
+fn bring_inside(
     wait: &impl Wait,
     turn: &Turn<Flow>,
     seat: &mut Seat<Flow>,
     key: Key,
     slot: u64,
     share: Shared,
+    holds_job: bool,
 ) -> Fate
     requires turn { (seat.old.turn ≡ turn.now.name) × (seat.old.inside ≡ false) }
     requires worked { (equation : Equation) × IsWorked (map told_from seat.old.told) key equation slot share }
     ensures outside { seat.new.inside ≡ false }
-    ensures turn { TakesTurn (publish key slot share result) seat.old seat.new }
+    ensures turn { TakesTurn (brings holds_job key slot share result) seat.old seat.new }
 {
     worked_words_follow();
     let mut flow = turn.enter(wait, seat);
     let word = Snapshot::of(&share);
-    let fate = flow.publish(key, slot, share);
-    settle(turn, seat, flow, Deed::Publish(key, slot, word, fate));
+    let fate = bring(&mut flow, key, slot, share, holds_job);
+    settle(
+        turn,
+        seat,
+        flow,
+        Deed::Bring(holds_job, key, slot, word, fate),
+    );
     fate
 }
 
-// A check is vouched for, in one turn.
-fn vouch_inside(
+// Takes a check to the state: by who holds the job, or by another one.
+fn check(flow: &mut Flow, key: Key, zero: bool, holds_job: bool) -> Fate
+    requires { IsTrue zero → (live : Live) → IsCurrent flow.old key live
+        → IsSettled (known_in flow.old.desk) live.equation }
+    ensures { IsEvent flow.old (checks holds_job key zero result) flow.new }
+{
+    if holds_job {
+        flow.vouch(key, zero)
+    } else {
+        flow.attest(key, zero)
+    }
+}
+
+// A check is brought, in one turn.
+fn check_inside(
     wait: &impl Wait,
     turn: &Turn<Flow>,
     seat: &mut Seat<Flow>,
     key: Key,
     zero: bool,
+    holds_job: bool,
 ) -> Fate
     requires turn { (seat.old.turn ≡ turn.now.name) × (seat.old.inside ≡ false) }
     requires checked { (equation : Equation) × IsChecked (map told_from seat.old.told) key equation zero }
     ensures outside { seat.new.inside ≡ false }
-    ensures turn { TakesTurn (vouch key zero result) seat.old seat.new }
+    ensures turn { TakesTurn (checks holds_job key zero result) seat.old seat.new }
 {
     checked_come_out();
     let mut flow = turn.enter(wait, seat);
-    let fate = flow.vouch(key, zero);
-    settle(turn, seat, flow, Deed::Vouch(key, zero, fate));
+    let fate = check(&mut flow, key, zero, holds_job);
+    settle(turn, seat, flow, Deed::Check(holds_job, key, zero, fate));
     fate
 }
 
@@ -162,48 +198,6 @@ fn ask_inside(wait: &impl Wait, turn: &Turn<Flow>, seat: &mut Seat<Flow>, key: K
     answer
 }
 
-// A word is offered, in one turn.
-fn offer_inside(
-    wait: &impl Wait,
-    turn: &Turn<Flow>,
-    seat: &mut Seat<Flow>,
-    key: Key,
-    slot: u64,
-    share: Shared,
-) -> Fate
-    requires turn { (seat.old.turn ≡ turn.now.name) × (seat.old.inside ≡ false) }
-    requires worked { (equation : Equation) × IsWorked (map told_from seat.old.told) key equation slot share }
-    ensures outside { seat.new.inside ≡ false }
-    ensures turn { TakesTurn (offer key slot share result) seat.old seat.new }
-{
-    worked_words_follow();
-    let mut flow = turn.enter(wait, seat);
-    let word = Snapshot::of(&share);
-    let fate = flow.offer(key, slot, share);
-    settle(turn, seat, flow, Deed::Offer(key, slot, word, fate));
-    fate
-}
-
-// A check is attested, in one turn.
-fn attest_inside(
-    wait: &impl Wait,
-    turn: &Turn<Flow>,
-    seat: &mut Seat<Flow>,
-    key: Key,
-    zero: bool,
-) -> Fate
-    requires turn { (seat.old.turn ≡ turn.now.name) × (seat.old.inside ≡ false) }
-    requires checked { (equation : Equation) × IsChecked (map told_from seat.old.told) key equation zero }
-    ensures outside { seat.new.inside ≡ false }
-    ensures turn { TakesTurn (attest key zero result) seat.old seat.new }
-{
-    checked_come_out();
-    let mut flow = turn.enter(wait, seat);
-    let fate = flow.attest(key, zero);
-    settle(turn, seat, flow, Deed::Attest(key, zero, fate));
-    fate
-}
-
 impl Board {
     /// A new board for a flow whose plays close `window` positions, and for which a play is due where a datagram lies
     /// `depth` positions past the mark, with its admitter. It can have up to `passes` passes at once.
@@ -218,7 +212,10 @@ impl Board {
         requires passes { passes ≤ 65534 }
         ensures seats { IfOk result (λ r. r.0.seats ≡ passes + 1) }
         ensures admitter { IfOk result (λ r. r.1
-            ≡ record { seat = owner_of r.0.name (opening_code window depth ∷ []); window = window; depth = depth }) }
+            ≡ record {
+              seat = owner_of r.0.name (opening_code (record { window = window; depth = depth }) ∷ []);
+              playout = record { window = window; depth = depth };
+            }) }
     {
         opening_is_owned();
         let flow = Flow::new(alloc, window, depth)?;
@@ -293,7 +290,7 @@ impl Board {
     {
         let key = job.key();
         let slot = job.missing().unwrap();
-        publish_inside(wait, &self.turn, &mut pass.seat, key, slot, share)
+        bring_inside(wait, &self.turn, &mut pass.seat, key, slot, share, true)
     }
 
     /// Brings whether the equation of a job comes out, whose slots all had words, in one turn. The job is given back where
@@ -307,7 +304,7 @@ impl Board {
     {
         xor_is_a_group();
         job.work.room();
-        vouch_inside(wait, &self.turn, &mut pass.seat, job.key(), zero)
+        check_inside(wait, &self.turn, &mut pass.seat, job.key(), zero, true)
     }
 
     /// Gives a job back as it is, in one turn.
@@ -351,7 +348,7 @@ impl Board {
         requires word { (equation : Equation) × IsWorked (map told_from pass.old.told) key equation slot share }
         ensures { TakesTurn (offer key slot share result) pass.old pass.new }
     {
-        offer_inside(wait, &self.turn, &mut pass.seat, key, slot, share)
+        bring_inside(wait, &self.turn, &mut pass.seat, key, slot, share, false)
     }
 
     /// Brings whether the key's equation comes out, in one turn. It has to follow from what the pass was told.
@@ -360,6 +357,6 @@ impl Board {
         requires check { (equation : Equation) × IsChecked (map told_from pass.old.told) key equation zero }
         ensures { TakesTurn (attest key zero result) pass.old pass.new }
     {
-        attest_inside(wait, &self.turn, &mut pass.seat, key, zero)
+        check_inside(wait, &self.turn, &mut pass.seat, key, zero, false)
     }
 }

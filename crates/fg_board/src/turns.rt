@@ -23,13 +23,13 @@ use std::snapshot::Snapshot;
 #[derive(Drop)]
 pub(crate) enum Deed {
     Take(Snapshot<Option<Work>>),
-    Publish(Key, u64, Snapshot<Shared>, Fate),
-    Vouch(Key, bool, Fate),
+    /// A word, and whether who brings it holds the job.
+    Bring(bool, Key, u64, Snapshot<Shared>, Fate),
+    /// A check, and whether who brings it holds the job.
+    Check(bool, Key, bool, Fate),
     GiveBack(Key, Fate),
     Look(Key, u64, Snapshot<Look>),
     Ask(Key, Snapshot<Asked>),
-    Offer(Key, u64, Snapshot<Shared>, Fate),
-    Attest(Key, bool, Fate),
 }
 
 /// What the admitter did in its turn.

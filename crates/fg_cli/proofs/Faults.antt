@@ -121,43 +121,31 @@ same_bad words i j x y =
       | inr apart ↦ (elim apart [ inl less ↦ absurd (x.2 (earlier words i j less y.0 y.1)) | inr more ↦ absurd (y.2 (earlier words j i more x.0 x.1)) ])
     ]
 
-of_line : (words : List (List ℕ)) (a b : WordFault) (c d : Command) (xs ys : List Setting) → IsLine words c xs → IsLine words d ys → FirstOfLine c xs a → FirstOfLine d ys b → a ≡ b
-of_line words a b c d xs ys p q x y = one_of_line c xs a b (p.limited key.Depth) x (same_fault words c d xs ys b p q y)
+-- how a fault stands: no word is there, a word can't stand, or the whole line has it
+data Standing (words : List (List ℕ)) (f : WordFault) : Type 0 where
+  empty : words ≡ [] → f ≡ fault.NoCommand → Standing words f
+  bad : (i : ℕ) → FirstFault words (fault.BadWord i) → f ≡ fault.BadWord i → Standing words f
+  whole : (c : Command) (xs : List Setting) → IsLine words c xs → FirstOfLine c xs f → Standing words f
+
+standing : (words : List (List ℕ)) (f : WordFault) → FirstFault words f → Standing words f
+standing words fault.NoCommand x = empty x refl
+standing words (fault.BadWord i) x = bad i x refl
+standing words (fault.Missing m) x = whole x.0 x.1 x.2 x.3
+standing words (fault.Depth i) x = whole x.0 x.1 x.2 x.3
+standing words (fault.Layout f) x = whole x.0 x.1 x.2 x.3
+standing words (fault.Flows f) x = whole x.0 x.1 x.2 x.3
+
+one_standing : (words : List (List ℕ)) (a b : WordFault) → Standing words a → Standing words b → a ≡ b
+one_standing words a b (empty none e) (empty _ e') = e ∙ sym e'
+one_standing words a b (empty none e) (bad j y e') = absurd (no_word words j none y.0)
+one_standing words a b (empty none e) (whole d ys line y) = absurd (no_line words d ys none line)
+one_standing words a b (bad i x e) (empty none e') = absurd (no_word words i none x.0)
+one_standing words a b (bad i x e) (bad j y e') = e ∙ ap (λ z. fault.BadWord z) (same_bad words i j x y) ∙ sym e'
+one_standing words a b (bad i x e) (whole d ys line y) = absurd (x.2 (line_begins words d ys i line))
+one_standing words a b (whole c xs line x) (empty none e') = absurd (no_line words c xs none line)
+one_standing words a b (whole c xs line x) (bad j y e') = absurd (y.2 (line_begins words c xs j line))
+one_standing words a b (whole c xs line x) (whole d ys other y) =
+    one_of_line c xs a b (line.limited key.Depth) x (same_fault words c d xs ys b line other y)
 
 pub one_fault : (words : List (List ℕ)) (a b : WordFault) → FirstFault words a → FirstFault words b → a ≡ b
-one_fault words fault.NoCommand fault.NoCommand x y = refl
-one_fault words fault.NoCommand (fault.BadWord j) x y = absurd (no_word words j x y.0)
-one_fault words (fault.BadWord i) fault.NoCommand x y = absurd (no_word words i y x.0)
-one_fault words (fault.BadWord i) (fault.BadWord j) x y = ap (λ z. fault.BadWord z) (same_bad words i j x y)
-one_fault words fault.NoCommand (fault.Missing m) x y = absurd (no_line words y.0 y.1 x y.2)
-one_fault words (fault.Missing m) fault.NoCommand x y = absurd (no_line words x.0 x.1 y x.2)
-one_fault words (fault.BadWord i0) (fault.Missing m) x y = absurd (x.2 (line_begins words y.0 y.1 i0 y.2))
-one_fault words (fault.Missing m) (fault.BadWord i0) x y = absurd (y.2 (line_begins words x.0 x.1 i0 x.2))
-one_fault words (fault.Missing m) (fault.Missing m2) x y = of_line words (fault.Missing m) (fault.Missing m2) x.0 y.0 x.1 y.1 x.2 y.2 x.3 y.3
-one_fault words (fault.Missing m) (fault.Depth i2) x y = of_line words (fault.Missing m) (fault.Depth i2) x.0 y.0 x.1 y.1 x.2 y.2 x.3 y.3
-one_fault words (fault.Missing m) (fault.Layout f2) x y = of_line words (fault.Missing m) (fault.Layout f2) x.0 y.0 x.1 y.1 x.2 y.2 x.3 y.3
-one_fault words (fault.Missing m) (fault.Flows g2) x y = of_line words (fault.Missing m) (fault.Flows g2) x.0 y.0 x.1 y.1 x.2 y.2 x.3 y.3
-one_fault words fault.NoCommand (fault.Depth i) x y = absurd (no_line words y.0 y.1 x y.2)
-one_fault words (fault.Depth i) fault.NoCommand x y = absurd (no_line words x.0 x.1 y x.2)
-one_fault words (fault.BadWord i0) (fault.Depth i) x y = absurd (x.2 (line_begins words y.0 y.1 i0 y.2))
-one_fault words (fault.Depth i) (fault.BadWord i0) x y = absurd (y.2 (line_begins words x.0 x.1 i0 x.2))
-one_fault words (fault.Depth i) (fault.Missing m2) x y = of_line words (fault.Depth i) (fault.Missing m2) x.0 y.0 x.1 y.1 x.2 y.2 x.3 y.3
-one_fault words (fault.Depth i) (fault.Depth i2) x y = of_line words (fault.Depth i) (fault.Depth i2) x.0 y.0 x.1 y.1 x.2 y.2 x.3 y.3
-one_fault words (fault.Depth i) (fault.Layout f2) x y = of_line words (fault.Depth i) (fault.Layout f2) x.0 y.0 x.1 y.1 x.2 y.2 x.3 y.3
-one_fault words (fault.Depth i) (fault.Flows g2) x y = of_line words (fault.Depth i) (fault.Flows g2) x.0 y.0 x.1 y.1 x.2 y.2 x.3 y.3
-one_fault words fault.NoCommand (fault.Layout f) x y = absurd (no_line words y.0 y.1 x y.2)
-one_fault words (fault.Layout f) fault.NoCommand x y = absurd (no_line words x.0 x.1 y x.2)
-one_fault words (fault.BadWord i0) (fault.Layout f) x y = absurd (x.2 (line_begins words y.0 y.1 i0 y.2))
-one_fault words (fault.Layout f) (fault.BadWord i0) x y = absurd (y.2 (line_begins words x.0 x.1 i0 x.2))
-one_fault words (fault.Layout f) (fault.Missing m2) x y = of_line words (fault.Layout f) (fault.Missing m2) x.0 y.0 x.1 y.1 x.2 y.2 x.3 y.3
-one_fault words (fault.Layout f) (fault.Depth i2) x y = of_line words (fault.Layout f) (fault.Depth i2) x.0 y.0 x.1 y.1 x.2 y.2 x.3 y.3
-one_fault words (fault.Layout f) (fault.Layout f2) x y = of_line words (fault.Layout f) (fault.Layout f2) x.0 y.0 x.1 y.1 x.2 y.2 x.3 y.3
-one_fault words (fault.Layout f) (fault.Flows g2) x y = of_line words (fault.Layout f) (fault.Flows g2) x.0 y.0 x.1 y.1 x.2 y.2 x.3 y.3
-one_fault words fault.NoCommand (fault.Flows g) x y = absurd (no_line words y.0 y.1 x y.2)
-one_fault words (fault.Flows g) fault.NoCommand x y = absurd (no_line words x.0 x.1 y x.2)
-one_fault words (fault.BadWord i0) (fault.Flows g) x y = absurd (x.2 (line_begins words y.0 y.1 i0 y.2))
-one_fault words (fault.Flows g) (fault.BadWord i0) x y = absurd (y.2 (line_begins words x.0 x.1 i0 x.2))
-one_fault words (fault.Flows g) (fault.Missing m2) x y = of_line words (fault.Flows g) (fault.Missing m2) x.0 y.0 x.1 y.1 x.2 y.2 x.3 y.3
-one_fault words (fault.Flows g) (fault.Depth i2) x y = of_line words (fault.Flows g) (fault.Depth i2) x.0 y.0 x.1 y.1 x.2 y.2 x.3 y.3
-one_fault words (fault.Flows g) (fault.Layout f2) x y = of_line words (fault.Flows g) (fault.Layout f2) x.0 y.0 x.1 y.1 x.2 y.2 x.3 y.3
-one_fault words (fault.Flows g) (fault.Flows g2) x y = of_line words (fault.Flows g) (fault.Flows g2) x.0 y.0 x.1 y.1 x.2 y.2 x.3 y.3
+one_fault words a b x y = one_standing words a b (standing words a x) (standing words b y)

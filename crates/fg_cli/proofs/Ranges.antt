@@ -2,6 +2,7 @@
 use Rattle.std.proofs.Common.{◌≡◌, ℕ, suc, ◌≤◌, true, false, List, [], ◌∷◌, slice_get, unwrap_or, refl, sym, subst, inl, inr, ◌⊎◌, arith, lit≤}
 use Rattle.std.specs.List.{All}
 use Rattle.std.proofs.lemmas.List.Elements.{All-cons, All-nil}
+use Rattle.fg_shape.specs.Kind.{IsFlowPort}
 use Rattle.fg_cli.specs.declared.grammar.Key.{Key}
 use Rattle.fg_cli.specs.declared.grammar.Key.TheVariants as key
 use Rattle.fg_cli.specs.declared.settings.Setting.{Setting}
@@ -56,7 +57,7 @@ packets_in ss all = number_in key.Packets ss all (lit≤ tt, lit≤ tt)
 pub rate_in : (ss : List Setting) → InRanges ss → (1 ≤ number_of key.Rate ss) × (number_of key.Rate ss ≤ 10000000000)
 rate_in ss all = number_in key.Rate ss all (lit≤ tt, lit≤ tt)
 
-pub port_in : (ss : List Setting) → InRanges ss → (1 ≤ number_of key.Port ss) × (number_of key.Port ss ≤ 65531)
+pub port_in : (ss : List Setting) → InRanges ss → IsFlowPort (number_of key.Port ss)
 port_in ss all = number_in key.Port ss all (lit≤ tt, lit≤ tt)
 
 pub datagrams_in : (ss : List Setting) → InRanges ss → (1 ≤ number_of key.Datagrams ss) × (number_of key.Datagrams ss ≤ 20000)

@@ -4,6 +4,7 @@
 use Rattle.std.specs.Prelude.{◌≤◌, ◌∷◌, [], ℕ, zero, suc, Bool, List, Option, Some, None, IsTrue, codes, nat_eq}
 use Rattle.std.specs.Fmt.{decimal}
 use Rattle.std.specs.List.{list_any}
+use Rattle.fg_shape.specs.declared.kind.TheConstants.{LAST_PORT}
 use Rattle.fg_cli.specs.declared.Name.TheVariants as name
 use Rattle.fg_cli.specs.declared.grammar.Command.{Command}
 use Rattle.fg_cli.specs.declared.grammar.Command.TheVariants as command
@@ -45,7 +46,7 @@ optional name range default = record { name = name; range = range; absent = Defa
 
 -- The table, a row for each name.
 abbrev pub row : Key → TableRow
-row key.Flow = record { name = codes "flow"; range = Number 1 65531; absent = Needed name.Flow; most = None }
+row key.Flow = record { name = codes "flow"; range = Number 1 LAST_PORT; absent = Needed name.Flow; most = None }
 row key.Window = optional (codes "window") (Number 1 100) 100
 row key.Depth = optional (codes "depth") (Number 1 1000) 400
 row key.Workers = optional (codes "workers") (Number 0 16) 4
@@ -56,7 +57,7 @@ row key.Fec = optional (codes "fec") (Either (codes "column") (codes "both")) 1
 row key.Layout = optional (codes "layout") (Either (codes "block") (codes "staggered")) 0
 row key.Packets = optional (codes "packets") (Number 1 7) 7
 row key.Rate = optional (codes "rate") (Number 1 10000000000) 10000000
-row key.Port = optional (codes "port") (Number 1 65531) 5000
+row key.Port = optional (codes "port") (Number 1 LAST_PORT) 5000
 row key.Seq = optional (codes "seq") (Number 0 65535) 0
 row key.Ssrc = optional (codes "ssrc") (Number 0 4294967295) 0
 row key.Stamp = optional (codes "stamp") (Number 0 4294967295) 0

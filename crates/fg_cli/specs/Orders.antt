@@ -1,9 +1,9 @@
 -- What a command line orders, and the first rule that one breaks.
-use Rattle.std.specs.Prelude.{◌≡◌, ◌+◌, ◌^◌, ◌<◌, ◌≤◌, ◌∷◌, [], ℕ, List, Some, None, ◌⊎◌, length, nat_eq, take}
-use Rattle.std.specs.List.{All}
+use Rattle.std.specs.Prelude.{◌≡◌, ◌+◌, ◌^◌, ◌<◌, ◌≤◌, ◌∷◌, [], ℕ, List, Some, None, length, nat_eq, take}
 use Rattle.fg_shape.specs.declared.encoding.Settings.{Settings}
 use Rattle.fg_shape.specs.declared.encoding.Losses.{Losses}
 use Rattle.fg_shape.specs.Limits.{FirstLayoutFault}
+use Rattle.fg_shape.specs.Losses.{LossesFit}
 use Rattle.fg_shape.specs.Settings.{SettingsFit}
 use Rattle.fg_flows.specs.declared.Plan.{Plan}
 use Rattle.fg_flows.specs.Flows.{FirstFlowFault, IsTable}
@@ -116,12 +116,7 @@ abbrev pub IsFault : List (List ℕ) → ReadWords → Type 0
 IsFault words answer.Memory = Unit {0}
 IsFault words (answer.Words fault) = FirstFault words fault
 
--- Up to 1,000 numbers of records, each at least 1; and a number of at least 2, or 0.
-pub record LossesFit (losses : Losses) : Type 0 where
-  pub numbers : All (λ number. 1 ≤ number) losses.drops
-  pub few : length losses.drops ≤ 1000
-  pub every : (losses.every ≡ 0) ⊎ (2 ≤ losses.every)
-
+-- The most bytes of an input.
 abbrev pub MaxFits : ℕ → Type 0
 MaxFits max = (8 ≤ max) × (max ≤ 1099511627776)
 

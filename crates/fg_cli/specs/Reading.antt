@@ -1,5 +1,5 @@
 -- What the private functions of the reader stand for. No public contract cites it.
-use Rattle.std.specs.Prelude.{◌≡◌, ◌≤◌, ℕ, List, Option, Some, None, length, slice_index}
+use Rattle.std.specs.Prelude.{◌≡◌, ◌≤◌, ℕ, List, Option, Some, None, Result, IfErr, IfOk, length, slice_index}
 use Rattle.fg_cli.specs.declared.grammar.Row.{Row}
 use Rattle.fg_cli.specs.declared.grammar.Values.{Values}
 use Rattle.fg_cli.specs.declared.grammar.Values.TheVariants as values
@@ -9,10 +9,13 @@ use Rattle.fg_flows.specs.declared.TableFault.TheVariants as tables
 use Rattle.fg_cli.specs.declared.ReadWords.{ReadWords}
 use Rattle.fg_cli.specs.declared.ReadWords.TheVariants as answer
 use Rattle.fg_cli.specs.declared.WordFault.TheVariants.{Flows}
+use Rattle.fg_cli.specs.declared.Order.{Order}
 use Rattle.fg_cli.specs.declared.grammar.Command.{Command}
+use Rattle.fg_cli.specs.declared.grammar.Key.TheVariants as key
 use Rattle.fg_cli.specs.declared.settings.Setting.{Setting}
 use Rattle.fg_cli.specs.Grammar.{row, Range, TableRow, Number, Either, Allows, value_text}
-use Rattle.fg_cli.specs.Orders.{DepthIsBelow, FirstOfLine, IsDepthWord}
+use Rattle.fg_cli.specs.Lines.{values_of, IsKnown}
+use Rattle.fg_cli.specs.Orders.{AreWhole, DepthIsBelow, FirstOfLine, IsDepthWord, IsOrder, OrderFits}
 
 -- the range and the row of the code, as those of the table
 abbrev pub range_seen : Values → Range
@@ -54,6 +57,19 @@ IsShallow settings (Some i) = DepthIsBelow settings × IsDepthWord settings i
 abbrev pub IsLineFault : Command → List Setting → ReadWords → Type 0
 IsLineFault command settings answer.Memory = Unit {0}
 IsLineFault command settings (answer.Words fault) = FirstOfLine command settings fault
+
+-- settings of which none is missing and the depth isn't below the window
+pub record CanBeOrdered (command : Command) (settings : List Setting) : Type 0 where
+  pub known : All (IsKnown command) settings
+  pub bounded : AreBounded settings
+  pub drops : length (values_of key.Drop settings) ≤ 1000
+  pub whole : AreWhole command settings
+
+-- the order of the command with these settings, or the first rule that they break
+pub record Orders (command : Command) (settings : List Setting) (result : Result Order ReadWords) : Type 0 where
+  pub order : IfOk result (IsOrder command settings)
+  pub fits : IfOk result OrderFits
+  pub faults : IfErr result (IsLineFault command settings)
 
 -- a table's fault, and a layout's, as the fault of the words
 abbrev pub table_fault : TableFault → ReadWords

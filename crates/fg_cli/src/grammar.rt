@@ -4,6 +4,7 @@ ghost use Rattle.fg_cli.specs.Grammar.{Knows, Number, Either, about, command_abo
 ghost use Rattle.fg_cli.specs.Reading.{BeginsPlain, Reads, range_seen, row_seen};
 
 use crate::Name;
+use fg_shape::LAST_PORT;
 
 /// What the first word says is to be done.
 #[derive(Clone, Copy, Debug, PartialEq, Eq)]
@@ -124,41 +125,21 @@ impl Command {
     pub fn keys(self) -> &'static [Key]
         ensures { result.now ≡ keys_of self }
     {
+        use Key::{
+            Columns, Datagrams, Depth, Drop, Every, Fec, Flow, Layout, Loss, Max, Packets, Port,
+            Rate, Rows, Seed, Seq, Ssrc, Stamp, Window, Workers,
+        };
         match self {
-            Command::Repair => &[Key::Flow, Key::Window, Key::Depth, Key::Workers, Key::Max],
+            Command::Repair => &[Flow, Window, Depth, Workers, Max],
             Command::Encode => &[
-                Key::Max,
-                Key::Columns,
-                Key::Rows,
-                Key::Fec,
-                Key::Layout,
-                Key::Packets,
-                Key::Rate,
-                Key::Port,
-                Key::Seq,
-                Key::Ssrc,
-                Key::Stamp,
+                Max, Columns, Rows, Fec, Layout, Packets, Rate, Port, Seq, Ssrc, Stamp,
             ],
             Command::Drill => &[
-                Key::Window,
-                Key::Depth,
-                Key::Workers,
-                Key::Max,
-                Key::Columns,
-                Key::Rows,
-                Key::Fec,
-                Key::Layout,
-                Key::Packets,
-                Key::Rate,
-                Key::Port,
-                Key::Seq,
-                Key::Ssrc,
-                Key::Stamp,
-                Key::Drop,
-                Key::Every,
+                Window, Depth, Workers, Max, Columns, Rows, Fec, Layout, Packets, Rate, Port, Seq,
+                Ssrc, Stamp, Drop, Every,
             ],
-            Command::Inspect => &[Key::Flow, Key::Max],
-            Command::Sample => &[Key::Workers, Key::Seed, Key::Datagrams, Key::Loss],
+            Command::Inspect => &[Flow, Max],
+            Command::Sample => &[Workers, Seed, Datagrams, Loss],
         }
     }
 
@@ -185,7 +166,7 @@ impl Key {
         match self {
             Key::Flow => Row {
                 name: "flow",
-                values: Values::Number(1, 65_531),
+                values: Values::Number(1, u64::from(LAST_PORT)),
                 absent: Absent::Needed(Name::Flow),
                 most: None,
             },
@@ -203,7 +184,7 @@ impl Key {
             Key::Layout => optional_row("layout", Values::Either("block", "staggered"), 0),
             Key::Packets => optional_row("packets", Values::Number(1, 7), 7),
             Key::Rate => optional_row("rate", Values::Number(1, 10_000_000_000), 10_000_000),
-            Key::Port => optional_row("port", Values::Number(1, 65_531), 5000),
+            Key::Port => optional_row("port", Values::Number(1, u64::from(LAST_PORT)), 5000),
             Key::Seq => optional_row("seq", Values::Number(0, 65_535), 0),
             Key::Ssrc => optional_row("ssrc", Values::Number(0, 4_294_967_295), 0),
             Key::Stamp => optional_row("stamp", Values::Number(0, 4_294_967_295), 0),

@@ -2,7 +2,7 @@
 ghost use Rattle.std.specs.Prelude.{◌≡◌, ◌++◌, ◌∷◌, [], ◌-◌, ◌≤◌, IfNone, IfOk, IfSome, OnOk, drop, length, map, string_bytes};
 ghost use Rattle.std.specs.Fmt.{decimal};
 ghost use Rattle.fg_cli.specs.Grammar.{value_text};
-ghost use Rattle.fg_cli.specs.Help.{IsQuestion, absent_text, answer_text, blanks, command_help, command_line, command_part, help, intro, key_line, lines_text, outro, range_text, row_line, rules, spelling, times_text, version};
+ghost use Rattle.fg_cli.specs.Help.{IsQuestion, absent_text, answer_text, blanks, command_help, command_line, command_part, help, intro, key_line, outro, range_text, row_line, rules, spelling, times_text, version};
 ghost use Rattle.fg_cli.specs.Reading.{range_seen, row_seen};
 
 use crate::grammar::{Absent, Command, Key, Row, Values};
@@ -11,6 +11,51 @@ use std::alloc::{AllocError, Global};
 
 /// Blanks up to the column in which the meaning of a name begins.
 const BLANKS: &str = "                          ";
+
+/// What the program is, and how it is called.
+const INTRO: &str = "\
+fgate: repairs MPEG transport streams in RTP by SMPTE ST 2022-1 parity
+
+usage: fgate COMMAND NAME=VALUE ..
+       fgate COMMAND --help
+       fgate --help
+       fgate --version
+
+Standard input is a trace, for encode and drill a stream. Standard output is the
+report, for encode a trace. Each flow goes to the file PORT.ts of this folder.
+";
+
+/// The lines that name the first rule that the words break.
+const RULES: &str = "
+standard error, with words counted from 0, which is the command:
+  words: no command       there is no word
+  words: bad word I       word I is none that may stand there
+  words: missing NAME     NAME must be there
+  words: depth below window at word I
+  words: layout 1         columns are not 1..20
+  words: layout 2         rows are not 4..20
+  words: layout 3         columns times rows is more than 100
+  words: layout 4         fec=both, and fewer than 4 columns
+  words: flows 1          there is no flow
+  words: flows 2          there are more than 64 flows
+  words: flows 3 at I     flow I, counted from 0, is not 1..65531
+  words: flows 4 at I     flow I shares P, P+2 or P+4 with an earlier flow
+";
+
+/// The statuses, and an example.
+const OUTRO: &str = "
+status:
+  0  all was done
+  1  the words are faulty, and nothing was read
+  2  reading failed
+  3  writing failed
+  4  the input is no trace, or ends inside a record
+  5  the input is longer than max
+  6  there was no memory
+  7  the stream is not of whole transport packets
+
+example: fgate repair flow=5000 flow=6000 < night.trace
+";
 
 /// What is asked of the program in place of a command.
 #[derive(Clone, Copy, Debug, PartialEq, Eq)]
@@ -114,20 +159,7 @@ pub fn version_text() -> &'static str
 fn push_intro(text: &mut Vec<u8>) -> Result<(), AllocError>
     ensures { OnOk result (text.new.items ≡ text.old.items ++ intro) }
 {
-    push_lines(
-        text,
-        &[
-            "fgate: repairs MPEG transport streams in RTP by SMPTE ST 2022-1 parity",
-            "",
-            "usage: fgate COMMAND NAME=VALUE ..",
-            "       fgate COMMAND --help",
-            "       fgate --help",
-            "       fgate --version",
-            "",
-            "Standard input is a trace, for encode and drill a stream. Standard output is the",
-            "report, for encode a trace. Each flow goes to the file PORT.ts of this folder.",
-        ],
-    )
+    text.extend_from_slice(INTRO.as_bytes())
 }
 
 /// Pushes the lines that name the first rule that the words break.
@@ -135,25 +167,7 @@ fn push_intro(text: &mut Vec<u8>) -> Result<(), AllocError>
 fn push_rules(text: &mut Vec<u8>) -> Result<(), AllocError>
     ensures { OnOk result (text.new.items ≡ text.old.items ++ rules) }
 {
-    push_lines(
-        text,
-        &[
-            "",
-            "standard error, with words counted from 0, which is the command:",
-            "  words: no command       there is no word",
-            "  words: bad word I       word I is none that may stand there",
-            "  words: missing NAME     NAME must be there",
-            "  words: depth below window at word I",
-            "  words: layout 1         columns are not 1..20",
-            "  words: layout 2         rows are not 4..20",
-            "  words: layout 3         columns times rows is more than 100",
-            "  words: layout 4         fec=both, and fewer than 4 columns",
-            "  words: flows 1          there is no flow",
-            "  words: flows 2          there are more than 64 flows",
-            "  words: flows 3 at I     flow I, counted from 0, is not 1..65531",
-            "  words: flows 4 at I     flow I shares P, P+2 or P+4 with an earlier flow",
-        ],
-    )
+    text.extend_from_slice(RULES.as_bytes())
 }
 
 /// Pushes the statuses and an example.
@@ -161,35 +175,7 @@ fn push_rules(text: &mut Vec<u8>) -> Result<(), AllocError>
 fn push_outro(text: &mut Vec<u8>) -> Result<(), AllocError>
     ensures { OnOk result (text.new.items ≡ text.old.items ++ outro) }
 {
-    push_lines(
-        text,
-        &[
-            "",
-            "status:",
-            "  0  all was done",
-            "  1  the words are faulty, and nothing was read",
-            "  2  reading failed",
-            "  3  writing failed",
-            "  4  the input is no trace, or ends inside a record",
-            "  5  the input is longer than max",
-            "  6  there was no memory",
-            "  7  the stream is not of whole transport packets",
-            "",
-            "example: fgate repair flow=5000 flow=6000 < night.trace",
-        ],
-    )
-}
-
-/// Pushes lines.
-fn push_lines(text: &mut Vec<u8>, lines: &[&str]) -> Result<(), AllocError>
-    ensures { OnOk result (text.new.items
-        ≡ text.old.items ++ lines_text (map (λ line. line.now) lines.now)) }
-{
-    for line in lines {
-        text.extend_from_slice(line.as_bytes())?;
-        text.push(b'\n')?;
-    }
-    Ok(())
+    text.extend_from_slice(OUTRO.as_bytes())
 }
 
 /// Pushes a blank line and a command with its names.

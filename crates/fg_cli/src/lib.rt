@@ -6,7 +6,7 @@ ghost use Rattle.fg_cli.specs.Orders.{IsFault, IsReading, OrderFits};
 
 use fg_flows::{FlowFault, Plan, Table, TableFault};
 use fg_shape::{LayoutFault, Losses, Settings};
-use std::alloc::{AllocError, AllocFailed, Global};
+use std::alloc::{AllocError, Global};
 use thiserror::Error;
 
 mod grammar;
@@ -95,28 +95,6 @@ pub enum ReadWords {
     Words(WordFault),
 }
 
-impl From<AllocError> for ReadWords {
-    ghost use Rattle.std.specs.Prelude.{◌≡◌};
-    ghost use Rattle.fg_cli.specs.declared.ReadWords.TheVariants.{Memory};
-
-    ghost from_gives = { λ _ fault. fault ≡ Memory };
-
-    fn from(_fault: AllocError) -> ReadWords {
-        ReadWords::Memory
-    }
-}
-
-impl<T: Drop> From<AllocFailed<T>> for ReadWords {
-    ghost use Rattle.std.specs.Prelude.{◌≡◌};
-    ghost use Rattle.fg_cli.specs.declared.ReadWords.TheVariants.{Memory};
-
-    ghost from_gives = { λ _ fault. fault ≡ Memory };
-
-    fn from(_fault: AllocFailed<T>) -> ReadWords {
-        ReadWords::Memory
-    }
-}
-
 impl From<TableFault> for ReadWords {
     ghost use Rattle.std.specs.Prelude.{◌≡◌};
     ghost use Rattle.fg_cli.specs.Reading.{table_fault};
@@ -140,6 +118,17 @@ impl From<LayoutFault> for ReadWords {
 
     fn from(fault: LayoutFault) -> ReadWords {
         ReadWords::Words(WordFault::Layout(fault))
+    }
+}
+
+impl From<AllocError> for ReadWords {
+    ghost use Rattle.std.specs.Prelude.{◌≡◌};
+    ghost use Rattle.fg_cli.specs.declared.ReadWords.TheVariants.{Memory};
+
+    ghost from_gives = { λ _ fault. fault ≡ Memory };
+
+    fn from(_fault: AllocError) -> ReadWords {
+        ReadWords::Memory
     }
 }
 

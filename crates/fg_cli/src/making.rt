@@ -1,5 +1,6 @@
 //! The order that a command and its settings make.
 ghost use Rattle.std.specs.Prelude.{◌≡◌, ◌∷◌, [], ◌^◌, ◌≤◌, All, IfErr, IfOk, length, nat_eq};
+ghost use Rattle.fg_shape.specs.Kind.{IsFlowPort};
 ghost use Rattle.fg_shape.specs.Limits.{FirstLayoutFault};
 ghost use Rattle.fg_shape.specs.Settings.{SettingsFit};
 ghost use Rattle.fg_flows.specs.Flows.{IsTable, IsTableFault};
@@ -8,8 +9,9 @@ ghost use Rattle.fg_cli.specs.declared.grammar.Command.TheVariants as command;
 ghost use Rattle.fg_cli.specs.declared.grammar.Key.TheVariants as key;
 ghost use Rattle.fg_cli.specs.declared.ReadWords.TheVariants as answer;
 ghost use Rattle.fg_cli.specs.Lines.{IsKnown, number_of, values_of};
-ghost use Rattle.fg_cli.specs.Orders.{AreLosses, AreSettings, AreWhole, DepthIsBelow, IsOrder, IsPlan, LossesFit, MaxFits, OrderFits};
-ghost use Rattle.fg_cli.specs.Reading.{AreBounded, InRanges, IsLineFault, IsShallow};
+ghost use Rattle.fg_cli.specs.Orders.{AreLosses, AreSettings, AreWhole, DepthIsBelow, IsOrder, IsPlan, MaxFits, OrderFits};
+ghost use Rattle.fg_shape.specs.Losses.{LossesFit};
+ghost use Rattle.fg_cli.specs.Reading.{AreBounded, CanBeOrdered, InRanges, IsLineFault, IsShallow, Orders};
 
 use crate::grammar::{Command, Key};
 use crate::settings::{Setting, is_of, missing, number, place};
@@ -58,13 +60,8 @@ fn shallow_depth(settings: &[Setting]) -> Option<usize>
 
 /// The order of settings of which none is missing and the depth isn't below the window.
 fn whole_order(alloc: Global, command: Command, settings: &[Setting]) -> Result<Order, ReadWords>
-    requires known { All (IsKnown command) settings.now }
-    requires bounded { AreBounded settings.now }
-    requires drops { length (values_of key.Drop settings.now) ≤ 1000 }
-    requires whole { AreWhole command settings.now }
-    ensures order { IfOk result (IsOrder command settings.now) }
-    ensures fits { IfOk result OrderFits }
-    ensures faults { IfErr result (IsLineFault command settings.now) }
+    requires { CanBeOrdered command settings.now }
+    ensures { Orders command settings.now result }
 {
     match command {
         Command::Repair => repair(alloc, settings),
@@ -77,12 +74,8 @@ fn whole_order(alloc: Global, command: Command, settings: &[Setting]) -> Result<
 
 /// What `repair` orders.
 fn repair(alloc: Global, settings: &[Setting]) -> Result<Order, ReadWords>
-    requires known { All (IsKnown command.Repair) settings.now }
-    requires bounded { AreBounded settings.now }
-    requires whole { AreWhole command.Repair settings.now }
-    ensures order { IfOk result (IsOrder command.Repair settings.now) }
-    ensures fits { IfOk result OrderFits }
-    ensures faults { IfErr result (IsLineFault command.Repair settings.now) }
+    requires { CanBeOrdered command.Repair settings.now }
+    ensures { Orders command.Repair settings.now result }
 {
     let table = flows(alloc, settings)?;
     let max = max_of(settings);
@@ -91,12 +84,8 @@ fn repair(alloc: Global, settings: &[Setting]) -> Result<Order, ReadWords>
 
 /// What `encode` orders.
 fn encode(settings: &[Setting]) -> Result<Order, ReadWords>
-    requires known { All (IsKnown command.Encode) settings.now }
-    requires bounded { AreBounded settings.now }
-    requires whole { AreWhole command.Encode settings.now }
-    ensures order { IfOk result (IsOrder command.Encode settings.now) }
-    ensures fits { IfOk result OrderFits }
-    ensures faults { IfErr result (IsLineFault command.Encode settings.now) }
+    requires { CanBeOrdered command.Encode settings.now }
+    ensures { Orders command.Encode settings.now result }
 {
     let max = max_of(settings);
     let settings = encoding(settings)?;
@@ -105,13 +94,8 @@ fn encode(settings: &[Setting]) -> Result<Order, ReadWords>
 
 /// What `drill` orders.
 fn drill(alloc: Global, settings: &[Setting]) -> Result<Order, ReadWords>
-    requires known { All (IsKnown command.Drill) settings.now }
-    requires bounded { AreBounded settings.now }
-    requires drops { length (values_of key.Drop settings.now) ≤ 1000 }
-    requires whole { AreWhole command.Drill settings.now }
-    ensures order { IfOk result (IsOrder command.Drill settings.now) }
-    ensures fits { IfOk result OrderFits }
-    ensures faults { IfErr result (IsLineFault command.Drill settings.now) }
+    requires { CanBeOrdered command.Drill settings.now }
+    ensures { Orders command.Drill settings.now result }
 {
     let encoding = encoding(settings)?;
     let table = one_flow(alloc, encoding.port)?;
@@ -128,12 +112,8 @@ fn drill(alloc: Global, settings: &[Setting]) -> Result<Order, ReadWords>
 
 /// What `inspect` orders.
 fn inspect(alloc: Global, settings: &[Setting]) -> Result<Order, ReadWords>
-    requires known { All (IsKnown command.Inspect) settings.now }
-    requires bounded { AreBounded settings.now }
-    requires whole { AreWhole command.Inspect settings.now }
-    ensures order { IfOk result (IsOrder command.Inspect settings.now) }
-    ensures fits { IfOk result OrderFits }
-    ensures faults { IfErr result (IsLineFault command.Inspect settings.now) }
+    requires { CanBeOrdered command.Inspect settings.now }
+    ensures { Orders command.Inspect settings.now result }
 {
     let table = flows(alloc, settings)?;
     let max = max_of(settings);
@@ -142,12 +122,8 @@ fn inspect(alloc: Global, settings: &[Setting]) -> Result<Order, ReadWords>
 
 /// What `sample` orders.
 fn sample(alloc: Global, settings: &[Setting]) -> Result<Order, ReadWords>
-    requires known { All (IsKnown command.Sample) settings.now }
-    requires bounded { AreBounded settings.now }
-    requires whole { AreWhole command.Sample settings.now }
-    ensures order { IfOk result (IsOrder command.Sample settings.now) }
-    ensures fits { IfOk result OrderFits }
-    ensures faults { IfErr result (IsLineFault command.Sample settings.now) }
+    requires { CanBeOrdered command.Sample settings.now }
+    ensures { Orders command.Sample settings.now result }
 {
     let table = one_flow(alloc, SAMPLE_PORT)?;
     let plan = plan(table, settings, INNER_MAX);
@@ -269,8 +245,7 @@ fn ports(alloc: Global, settings: &[Setting]) -> Result<Vec<u16>, AllocError>
 
 /// The table of one flow.
 fn one_flow(alloc: Global, port: u16) -> Result<Table, ReadWords>
-    requires least { 1 ≤ port }
-    requires greatest { port ≤ 65531 }
+    requires { IsFlowPort port }
     ensures flows { IfOk result (λ table. table ≡ port ∷ []) }
     ensures table { IfOk result IsTable }
     ensures memory { IfErr result (λ fault. fault ≡ answer.Memory) }

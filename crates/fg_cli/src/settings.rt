@@ -1,5 +1,5 @@
 //! The settings that follow a command, and what they say of each name.
-ghost use Rattle.std.specs.Prelude.{◌≡◌, ◌+◌, ◌∷◌, [], ◌<◌, ◌≤◌, ◌↔◌, IfErr, IfNone, IfOk, IfSome, IsTrue, map, length, slice_get, string_bytes};
+ghost use Rattle.std.specs.Prelude.{◌≡◌, ◌+◌, ◌∷◌, ◌++◌, [], ◌<◌, ◌≤◌, ◌↔◌, IfErr, IfNone, IfOk, IfSome, IsTrue, OnOk, map, length, slice_get, string_bytes};
 ghost use Rattle.fg_cli.specs.Grammar.{command_text, row, same_key};
 ghost use Rattle.fg_cli.specs.Lines.{AtMost, IsKnown, IsLine, IsPlace, missing_name, missing_of, number_of, setting_text, values_of};
 ghost use Rattle.fg_cli.specs.Orders.{IsFault};
@@ -7,7 +7,7 @@ ghost use Rattle.fg_cli.specs.Reading.{AreBounded, greatest_of};
 
 use crate::grammar::{Absent, Command, Key};
 use crate::{Name, ReadWords, WordFault};
-use std::alloc::Global;
+use std::alloc::{AllocError, Global};
 
 /// A name and the value that it is given.
 #[derive(Clone, Copy)]
@@ -32,9 +32,17 @@ pub fn read_settings(
         let Some(setting) = next_setting(command, words[i].as_str(), &settings) else {
             return Err(ReadWords::Words(WordFault::BadWord(i)));
         };
-        settings.push(setting)?;
+        add(&mut settings, setting)?;
     }
     Ok(settings)
+}
+
+/// Adds a setting.
+fn add(settings: &mut Vec<Setting>, setting: Setting) -> Result<(), AllocError>
+    ensures { OnOk result (settings.new.items ≡ settings.old.items ++ setting ∷ []) }
+{
+    settings.push(setting)?;
+    Ok(())
 }
 
 /// The setting that the word spells, where it may stand after the command and these settings.

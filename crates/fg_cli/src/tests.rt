@@ -5,6 +5,7 @@ ghost use Rattle.std.specs.Prelude.{◌≤◌};
 use crate::{
     Command, Name, Order, Question, ReadWords, WordFault, help_text, read_words, version_text,
 };
+use WordFault::{BadWord, Depth, Flows, Layout, Missing};
 use fg_flows::FlowFault;
 use fg_shape::LayoutFault;
 use std::alloc::{AllocError, Global};
@@ -40,6 +41,20 @@ fn refuse(rt: &impl Abort, alloc: Global, line: &str, fault: WordFault) -> Resul
     Ok(())
 }
 
+/// Checks that none of the words may stand after the command.
+fn refuse_each(
+    rt: &impl Abort,
+    alloc: Global,
+    command: &str,
+    words: &str,
+) -> Result<(), AllocError> {
+    for word in words.split(' ') {
+        let line = format!(in alloc; "{command} {word}")?;
+        refuse(rt, alloc, &line, BadWord(1))?;
+    }
+    Ok(())
+}
+
 /// Checks that the line orders something.
 fn accept(rt: &impl Abort, alloc: Global, line: &str) {
     assert!(rt; order(alloc, line).is_ok(), "{line}");
@@ -50,19 +65,13 @@ fn worked_examples(rt: HostRuntime) -> Result<(), Fail> {
     for (line, fault) in [
         (
             "encode columns=3 rows=4 fec=both",
-            WordFault::Layout(LayoutFault::RowsNeedFour),
+            Layout(LayoutFault::RowsNeedFour),
         ),
-        (
-            "encode columns=20 rows=6",
-            WordFault::Layout(LayoutFault::Product),
-        ),
-        ("drill columns=4 rows=4 drop=0", WordFault::BadWord(3)),
-        (
-            "repair flow=5000 flow=5002",
-            WordFault::Flows(FlowFault::Clash(1)),
-        ),
-        ("repair", WordFault::Missing(Name::Flow)),
-        ("", WordFault::BadWord(0)),
+        ("encode columns=20 rows=6", Layout(LayoutFault::Product)),
+        ("drill columns=4 rows=4 drop=0", BadWord(3)),
+        ("repair flow=5000 flow=5002", Flows(FlowFault::Clash(1))),
+        ("repair", Missing(Name::Flow)),
+        ("", BadWord(0)),
     ] {
         refuse(&rt, rt.alloc(), line, fault)?;
     }
@@ -71,178 +80,82 @@ fn worked_examples(rt: HostRuntime) -> Result<(), Fail> {
 }
 
 #[test]
-fn least_and_greatest_of_repair(rt: HostRuntime) {
+fn least_and_greatest(rt: HostRuntime) {
     for line in [
-        "repair flow=1",
-        "repair flow=65531",
-        "repair flow=5000 window=1",
-        "repair flow=5000 window=100",
-        "repair flow=5000 window=1 depth=1",
-        "repair flow=5000 depth=1000",
-        "repair flow=5000 workers=0",
-        "repair flow=5000 workers=16",
-        "repair flow=5000 max=8",
-        "repair flow=5000 max=1099511627776",
-    ] {
-        accept(&rt, rt.alloc(), line);
-    }
-}
-
-#[test]
-fn below_and_above_of_repair(rt: HostRuntime) -> Result<(), Fail> {
-    for line in [
-        "repair flow=0",
-        "repair flow=65532",
-        "repair window=0",
-        "repair window=101",
-        "repair depth=0",
-        "repair depth=1001",
-        "repair workers=17",
-        "repair max=7",
-        "repair max=1099511627777",
-    ] {
-        refuse(&rt, rt.alloc(), line, WordFault::BadWord(1))?;
-    }
-    Ok(())
-}
-
-#[test]
-fn least_and_greatest_of_encode(rt: HostRuntime) {
-    for line in [
-        "encode columns=1 rows=4 fec=column",
-        "encode columns=20 rows=5 fec=both",
-        "encode columns=5 rows=20 layout=block",
-        "encode columns=5 rows=4 layout=staggered packets=1 rate=1 port=1",
-        "encode columns=5 rows=4 packets=7 rate=10000000000 port=65531",
-        "encode columns=5 rows=4 seq=0 ssrc=0 stamp=0 max=8",
-        "encode columns=5 rows=4 seq=65535 ssrc=4294967295 stamp=4294967295",
-        "encode columns=5 rows=4 max=1099511627776",
-    ] {
-        accept(&rt, rt.alloc(), line);
-    }
-}
-
-#[test]
-fn below_and_above_of_encode(rt: HostRuntime) -> Result<(), Fail> {
-    for line in [
-        "encode columns=256",
-        "encode rows=256",
-        "encode fec=rows",
-        "encode layout=blocks",
-        "encode packets=0",
-        "encode packets=8",
-        "encode rate=0",
-        "encode rate=10000000001",
-        "encode port=0",
-        "encode port=65532",
-        "encode seq=65536",
-        "encode ssrc=4294967296",
-        "encode stamp=4294967296",
-        "encode max=7",
-    ] {
-        refuse(&rt, rt.alloc(), line, WordFault::BadWord(1))?;
-    }
-    Ok(())
-}
-
-#[test]
-fn least_and_greatest_of_drill_and_sample(rt: HostRuntime) {
-    for line in [
-        "drill columns=4 rows=4",
-        "drill columns=4 rows=4 drop=1 drop=9999999999999",
-        "drill columns=4 rows=4 every=2",
+        "repair flow=1 window=1 depth=1 workers=0 max=8",
+        "repair flow=65531 window=100 depth=1000 workers=16 max=1099511627776",
+        "encode columns=1 rows=4 fec=column layout=block packets=1 rate=1 port=1 seq=0 ssrc=0 stamp=0 max=8",
+        "encode columns=20 rows=5 fec=both layout=staggered packets=7 rate=10000000000 port=65531 max=1099511627776",
+        "encode columns=5 rows=20 seq=65535 ssrc=4294967295 stamp=4294967295",
+        "drill columns=4 rows=4 drop=1 drop=9999999999999 every=2",
         "drill columns=4 rows=4 every=9999999999999 window=1 depth=1 workers=16",
-        "sample seed=0",
-        "sample seed=9999999999999 datagrams=1 loss=0 workers=0",
-        "sample seed=1 datagrams=20000 loss=20 workers=16",
+        "sample seed=0 datagrams=1 loss=0 workers=0",
+        "sample seed=9999999999999 datagrams=20000 loss=20 workers=16",
     ] {
         accept(&rt, rt.alloc(), line);
     }
 }
 
 #[test]
-fn below_and_above_of_drill_and_sample(rt: HostRuntime) -> Result<(), Fail> {
-    for line in [
-        "drill drop=0",
-        "drill drop=10000000000000",
-        "drill every=0",
-        "drill every=1",
-        "drill every=10000000000000",
-        "sample seed=10000000000000",
-        "sample datagrams=0",
-        "sample datagrams=20001",
-        "sample loss=21",
-        "sample workers=17",
+fn below_and_above(rt: HostRuntime) -> Result<(), Fail> {
+    for (command, words) in [
+        (
+            "repair",
+            "flow=0 flow=65532 window=0 window=101 depth=0 depth=1001 workers=17 max=7 max=1099511627777",
+        ),
+        (
+            "encode",
+            "columns=256 rows=256 fec=rows layout=blocks packets=0 packets=8 rate=0 rate=10000000001 port=0 port=65532",
+        ),
+        ("encode", "seq=65536 ssrc=4294967296 stamp=4294967296 max=7"),
+        (
+            "drill",
+            "drop=0 drop=10000000000000 every=0 every=1 every=10000000000000",
+        ),
+        (
+            "sample",
+            "seed=10000000000000 datagrams=0 datagrams=20001 loss=21 workers=17",
+        ),
     ] {
-        refuse(&rt, rt.alloc(), line, WordFault::BadWord(1))?;
-    }
-    Ok(())
-}
-
-#[test]
-fn forms_of_numbers(rt: HostRuntime) -> Result<(), Fail> {
-    for line in [
-        "repair flow=05000",
-        "repair workers=00",
-        "repair flow=+5000",
-        "repair workers=-0",
-        "repair flow=",
-        "repair flow=5000\t",
-        "repair flow=5e3",
-        "repair flow=0x10",
-        "repair flow=99999999999999999999999999",
-    ] {
-        refuse(&rt, rt.alloc(), line, WordFault::BadWord(1))?;
+        refuse_each(&rt, rt.alloc(), command, words)?;
     }
     Ok(())
 }
 
 #[test]
 fn forms_of_words(rt: HostRuntime) -> Result<(), Fail> {
-    for line in [
-        "repair  flow=5000",
-        "repair flow",
-        "repair =5000",
-        "repair flow==5000",
-        "repair flow=5000=",
-        "repair Flow=5000",
-        "repair seed=1",
-        "repair port=5000",
-        "encode flow=5000",
-        "encode window=5",
-        "encode fec=Both",
-        "encode layout=",
-        "inspect window=5",
-        "sample depth=5",
+    for (command, words) in [
+        (
+            "repair",
+            "flow=05000 workers=00 flow=+5000 workers=-0 flow= flow=5000\t flow=5e3 flow=0x10",
+        ),
+        (
+            "repair",
+            "flow=99999999999999999999999999 flow =5000 flow==5000 flow=5000= Flow=5000 seed=1 port=5000",
+        ),
+        ("encode", "flow=5000 window=5 fec=Both layout="),
+        ("inspect", "window=5"),
+        ("sample", "depth=5"),
     ] {
-        refuse(&rt, rt.alloc(), line, WordFault::BadWord(1))?;
+        refuse_each(&rt, rt.alloc(), command, words)?;
     }
+    refuse(&rt, rt.alloc(), "repair  flow=5000", BadWord(1))?;
     for line in ["Repair flow=5000", "flow=5000", "repair= flow=5000"] {
-        refuse(&rt, rt.alloc(), line, WordFault::BadWord(0))?;
+        refuse(&rt, rt.alloc(), line, BadWord(0))?;
     }
     Ok(())
 }
 
 #[test]
 fn names_that_stand_twice(rt: HostRuntime) -> Result<(), Fail> {
-    refuse(
-        &rt,
-        rt.alloc(),
-        "repair window=5 window=5",
-        WordFault::BadWord(2),
-    )?;
+    refuse(&rt, rt.alloc(), "repair window=5 window=5", BadWord(2))?;
     refuse(
         &rt,
         rt.alloc(),
         "encode fec=both rows=4 fec=both",
-        WordFault::BadWord(3),
+        BadWord(3),
     )?;
-    refuse(
-        &rt,
-        rt.alloc(),
-        "sample seed=1 seed=2",
-        WordFault::BadWord(2),
-    )?;
+    refuse(&rt, rt.alloc(), "sample seed=1 seed=2", BadWord(2))?;
     accept(&rt, rt.alloc(), "inspect flow=5000 flow=6000");
     accept(&rt, rt.alloc(), "drill columns=4 rows=4 drop=5 drop=5");
     Ok(())
@@ -258,24 +171,19 @@ fn names_that_are_missing(rt: HostRuntime) -> Result<(), Fail> {
         ("drill rows=4", Name::Columns),
         ("sample loss=1", Name::Seed),
     ] {
-        refuse(&rt, rt.alloc(), line, WordFault::Missing(name))?;
+        refuse(&rt, rt.alloc(), line, Missing(name))?;
     }
     Ok(())
 }
 
 #[test]
 fn depth_below_window(rt: HostRuntime) -> Result<(), Fail> {
-    refuse(
-        &rt,
-        rt.alloc(),
-        "repair flow=5000 depth=99",
-        WordFault::Depth(2),
-    )?;
+    refuse(&rt, rt.alloc(), "repair flow=5000 depth=99", Depth(2))?;
     refuse(
         &rt,
         rt.alloc(),
         "repair depth=9 flow=5000 window=10",
-        WordFault::Depth(1),
+        Depth(1),
     )?;
     accept(&rt, rt.alloc(), "repair flow=5000 depth=10 window=10");
     Ok(())
@@ -285,22 +193,13 @@ fn depth_below_window(rt: HostRuntime) -> Result<(), Fail> {
 #[test]
 fn several_faults(rt: HostRuntime) -> Result<(), Fail> {
     for (line, fault) in [
-        ("repair flow=1 flow=1 depth=1 window", WordFault::BadWord(4)),
-        ("repair depth=1", WordFault::Missing(Name::Flow)),
-        ("repair flow=1 flow=1 depth=1", WordFault::Depth(3)),
-        ("drill columns=0 rows=4 depth=1", WordFault::Depth(3)),
-        (
-            "encode rows=99 columns=0",
-            WordFault::Layout(LayoutFault::Columns),
-        ),
-        (
-            "drill rows=3 columns=4",
-            WordFault::Layout(LayoutFault::Rows),
-        ),
-        (
-            "inspect flow=9 flow=7 flow=9",
-            WordFault::Flows(FlowFault::Clash(1)),
-        ),
+        ("repair flow=1 flow=1 depth=1 window", BadWord(4)),
+        ("repair depth=1", Missing(Name::Flow)),
+        ("repair flow=1 flow=1 depth=1", Depth(3)),
+        ("drill columns=0 rows=4 depth=1", Depth(3)),
+        ("encode rows=99 columns=0", Layout(LayoutFault::Columns)),
+        ("drill rows=3 columns=4", Layout(LayoutFault::Rows)),
+        ("inspect flow=9 flow=7 flow=9", Flows(FlowFault::Clash(1))),
     ] {
         refuse(&rt, rt.alloc(), line, fault)?;
     }
@@ -340,7 +239,7 @@ fn sixty_five_flows(rt: HostRuntime) -> Result<(), Fail> {
     let words = with_many(rt.alloc(), "repair", "flow", 65, 5000, 6)?;
     assert_eq!(rt;
         fault_of(rt.alloc(), &words),
-        Some(WordFault::Flows(FlowFault::TooMany))
+        Some(Flows(FlowFault::TooMany))
     );
     Ok(())
 }
@@ -355,10 +254,7 @@ fn a_thousand_drops(rt: HostRuntime) -> Result<(), Fail> {
 #[test]
 fn a_thousand_and_one_drops(rt: HostRuntime) -> Result<(), Fail> {
     let words = with_many(rt.alloc(), "drill columns=4 rows=4", "drop", 1001, 1, 3)?;
-    assert_eq!(rt;
-        fault_of(rt.alloc(), &words),
-        Some(WordFault::BadWord(1003))
-    );
+    assert_eq!(rt; fault_of(rt.alloc(), &words), Some(BadWord(1003)));
     Ok(())
 }
 

@@ -1,12 +1,12 @@
 -- What a flow's calls make of its board, from what the desk's calls make of the desk.
-use Rattle.std.proofs.Common.{◌≡◌, ◌<◌, ℕ, List, length, replicate, set, true, false, true≢false, Bor, is_some, Option, Some, None, IfSome, IfNone, option_map, refl, sym, ap, subst, ◌∙◌, ⊎_elim, arith}
+use Rattle.std.proofs.Common.{◌≡◌, ◌<◌, ℕ, Bool, List, length, replicate, set, true, true≢false, Option, Some, None, IfSome, IfNone, option_map, refl, sym, ap, subst, ◌∙◌, ⊎_elim, arith}
 use Rattle.std.proofs.lemmas.Bool.{cases_lt}
 use Rattle.std.proofs.lemmas.List.{get_or-replicate, get_or_past, length-replicate}
-use Rattle.std.specs.Option.{option_copied}
 use Rattle.std.specs.FinMap.{get}
-use Rattle.fg_words.specs.declared.Word.{Word}
-use Rattle.std.specs.FinSet.{contains-empty, insert}
+use Rattle.std.specs.FinSet.{contains-empty}
 use Rattle.std.specs.Ordering.{nat_cmp}
+use Rattle.fg_shape.specs.Playout.{Playout}
+use Rattle.fg_peel.proofs.Options.{some_and}
 use Rattle.fg_desk.specs.declared.reply.Reply.{Reply}
 use Rattle.fg_desk.specs.declared.reply.Reply.TheVariants.{Admitted}
 use Rattle.fg_desk.specs.declared.desk.Played.{Played}
@@ -16,24 +16,18 @@ use Rattle.fg_desk.specs.Admission.{Parity, AdmitsParity}
 use Rattle.fg_window.specs.RowEntries.{positions_below}
 use Rattle.fg_desk.specs.Play.{Play, Shown, IsPlay, Flushes}
 use Rattle.fg_desk.specs.Contents.{Contents, IsPlaceAfter, ChangesInPlay, opened}
-use Rattle.fg_core.specs.Board.{IsCurrent, IsHeld, AdmitsParityOn, PlaysOn, FlushesOn, GivesKey, opened_board, with_back, with_vouched}
+use Rattle.fg_core.specs.Board.{IsCurrent, IsHeld, AdmitsParityOn, PlaysOn, FlushesOn, GivesKey, opened_board, with_vouched}
 use Rattle.fg_core.specs.Core.{play_of}
-use Rattle.fg_core.specs.Flow.{no_mark, mark_at, says, is_vouched, is_handed_out, board_of, AreKept}
+use Rattle.fg_core.specs.Flow.{no_mark, mark_at, says, is_vouched, is_handed_out, board_of, with_handed, AreKept}
 use Rattle.fg_core.specs.declared.key.Key.{Key}
 use Rattle.fg_core.specs.declared.marks.Mark.{Mark}
 use Rattle.fg_core.proofs.Follows.{counted_follows, parity_follows, play_follows}
-use Rattle.fg_core.proofs.Marking.{keeps_marks, put_same, put_in, put_out, put_kept}
-use Rattle.fg_core.proofs.Options.{some_and}
-
--- What a look at a position tells.
-pub none_of_copied : (o : Option Word) (r : Option (Bor Word)) → option_copied r ≡ o → is_some r ≡ false → o ≡ None
-none_of_copied o None is none = sym is
-none_of_copied o (Some w) is none = absurd (cc)
+use Rattle.fg_core.proofs.Marking.{keeps_marks, put_same, put_as, put_kept}
 
 -- Nothing is marked at first.
-pub opened_is : (window depth : ℕ) (marks : List Mark) → board_of (opened window depth) marks ≡ opened_board window depth
+pub opened_is : (playout : Playout) (marks : List Mark) → board_of (opened playout) marks ≡ opened_board playout
 unfolding positions_below
-opened_is window depth marks = refl
+opened_is playout marks = refl
 
 no_mark_at : (place : ℕ) → mark_at (replicate 512 no_mark) place ≡ no_mark
 no_mark_at place = ⊎_elim
@@ -41,8 +35,8 @@ no_mark_at place = ⊎_elim
     (λ past. get_or_past (replicate 512 no_mark) place no_mark (omega (arith, past, length-replicate {A = Mark} 512 no_mark)))
     (cases_lt place 512)
 
-pub opened_kept : (window depth : ℕ) → AreKept (opened window depth) (replicate 512 no_mark)
-opened_kept window depth = record {
+pub opened_kept : (playout : Playout) → AreKept (opened playout) (replicate 512 no_mark)
+opened_kept playout = record {
   past = λ place tells. ⊎_elim
       (λ is. absurd (true≢false (sym is ∙ ap (λ (m : Mark). m.vouched) (no_mark_at place))))
       (λ is. absurd (true≢false (sym is ∙ ap (λ (m : Mark). m.handed_out) (no_mark_at place))))
@@ -82,12 +76,12 @@ module _ (old new : Contents) (marks : List Mark) (kept : AreKept old marks) whe
   }
 
   pub plays_on :
-      (play : Play) → IsPlay old.state.window old.state play new.state → ChangesInPlay play.outcome old new
+      (play : Play) → IsPlay old.state.playout.window old.state play new.state → ChangesInPlay play.outcome old new
       → PlaysOn (board_of old marks) play (board_of new marks)
   plays_on play plays changes = record {
     state = plays;
     changes = changes;
-    marks = keeps_marks marks old new kept (play_follows old new kept.bare old.state.window play plays changes);
+    marks = keeps_marks marks old new kept (play_follows old new kept.bare old.state.playout.window play plays changes);
   }
 
   pub flushes_on :
@@ -109,32 +103,17 @@ module _
   at_now : mark.epoch ≡ desk.epoch
   at_now = now ∙ current.epoch_is
 
-  pub freed :
-      mark.vouched ≡ says is_vouched key.epoch key.serial (mark_at marks key.place) → mark.handed_out ≡ false
-      → board_of desk (set marks key.place mark) ≡ with_back (board_of desk marks) key.serial
-  freed as_before says_not =
-      let same : mark.vouched ≡ says is_vouched desk.epoch key.serial (mark_at marks live.place) =
-      as_before ∙ (λ i. says is_vouched (current.epoch_is i) key.serial (mark_at marks (sym current.place_is i))) in
-      subst (λ (p : ℕ). board_of desk (set marks p mark) ≡ with_back (board_of desk marks) key.serial) current.place_is
-      (λ i. record {
-        desk = desk;
-        vouched = put_same desk marks facts count key.serial live current.live_is mark own at_now is_vouched same i;
-        handed_out = put_out desk marks facts count key.serial live current.live_is mark own at_now is_handed_out says_not i;
-      })
-
   pub handed :
-      mark.vouched ≡ says is_vouched key.epoch key.serial (mark_at marks key.place) → mark.handed_out ≡ true
-      → board_of desk (set marks key.place mark)
-      ≡ record (board_of desk marks) { handed_out = insert (board_of desk marks).handed_out key.serial }
-  handed as_before says_so =
+      (out : Bool) → mark.vouched ≡ says is_vouched key.epoch key.serial (mark_at marks key.place) → mark.handed_out ≡ out
+      → board_of desk (set marks key.place mark) ≡ with_handed (board_of desk marks) key.serial out
+  handed out as_before says_so =
       let same : mark.vouched ≡ says is_vouched desk.epoch key.serial (mark_at marks live.place) =
       as_before ∙ (λ i. says is_vouched (current.epoch_is i) key.serial (mark_at marks (sym current.place_is i))) in
-      subst (λ (p : ℕ). board_of desk (set marks p mark)
-      ≡ record (board_of desk marks) { handed_out = insert (board_of desk marks).handed_out key.serial }) current.place_is
+      subst (λ (p : ℕ). board_of desk (set marks p mark) ≡ with_handed (board_of desk marks) key.serial out) current.place_is
       (λ i. record {
         desk = desk;
         vouched = put_same desk marks facts count key.serial live current.live_is mark own at_now is_vouched same i;
-        handed_out = put_in desk marks facts count key.serial live current.live_is mark own at_now is_handed_out says_so i;
+        handed_out = put_as desk marks facts count key.serial live current.live_is mark own at_now out is_handed_out says_so i;
       })
 
   pub told_of :
@@ -146,7 +125,7 @@ module _
       subst (λ (p : ℕ). board_of desk (set marks p mark) ≡ with_vouched (board_of desk marks) key.serial) current.place_is
       (λ i. record {
         desk = desk;
-        vouched = put_in desk marks facts count key.serial live current.live_is mark own at_now is_vouched says_so i;
+        vouched = put_as desk marks facts count key.serial live current.live_is mark own at_now true is_vouched says_so i;
         handed_out = put_same desk marks facts count key.serial live current.live_is mark own at_now is_handed_out same i;
       })
 

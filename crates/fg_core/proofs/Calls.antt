@@ -5,33 +5,20 @@ use Rattle.std.proofs.lemmas.Option.{same_Some}
 use Rattle.std.specs.FinMap.{get}
 use Rattle.std.specs.FinSet.{contains}
 use Rattle.fg_peel.specs.Equation.{IsSettled}
-use Rattle.fg_peel.specs.Laws.{PeelingsTakeEquations, PeelingsTakeWords}
+use Rattle.fg_peel.proofs.Options.{value_of, none_has_no_value}
 use Rattle.fg_desk.specs.State.{State, Live}
 use Rattle.fg_desk.specs.Facts.{Holds}
-use Rattle.fg_desk.specs.Laws.{MediaKeeps, ParityKeeps, PlayKeeps, FlushStepKeeps, MediaAdds, ParityAdds}
 use Rattle.fg_desk.specs.Contents.{AreSolved, known_in}
 use Rattle.fg_core.specs.Board.{BoardState, IsLive, KeepsMarks}
 use Rattle.fg_core.specs.Views.{Told, saw, word_at, equation_is, IsBorneOut}
 use Rattle.fg_core.specs.Core.{Call, media, parity, play, flush, play_of, IsCallOn, CanCallOn, AreCallsOn, KeyIsOf, CanCall, IsCall}
+use Rattle.fg_core.specs.Below.{CallLaws}
 use Rattle.fg_core.specs.Laws.{CallsExtend, CallsKeepTold}
 use Rattle.fg_core.proofs.Known.{slot_is_kept, stays_settled}
 use Rattle.fg_core.proofs.Next.{IsNext, AreBareKept, is_next_counted}
-use Rattle.fg_core.proofs.Options.{value_of, none_has_no_value}
-use Rattle.fg_core.proofs.Played.{PlayLaws, play_is_next}
+use Rattle.fg_core.proofs.Played.{play_is_next}
 use Rattle.fg_core.proofs.Protected.{parity_is_next}
 use Rattle.fg_core.proofs.Received.{media_is_next}
-
--- The laws of the crates below that calls rest on.
-pub record CallLaws : Type 0 where
-  pub media_keeps : MediaKeeps
-  pub parity_keeps : ParityKeeps
-  pub play_keeps : PlayKeeps
-  pub flush_keeps : FlushStepKeeps
-  pub media_adds : MediaAdds
-  pub parity_adds : ParityAdds
-  pub take_words : PeelingsTakeWords
-  pub take_equations : PeelingsTakeEquations
-  pub plays : PlayLaws
 
 -- One call more on a desk of its own.
 calls_and_one :
@@ -77,15 +64,15 @@ facts_hold :
     CallLaws → (old new : BoardState) (call : Call) → Holds old.desk.state → CanCall old call → IsCall old call new
     → Holds new.desk.state
 facts_hold laws old new (media seq word reply) holds can is =
-    laws.media_keeps old.desk.state new.desk.state seq word reply holds can.2 can.1 is.state
+    laws.facts.media old.desk.state new.desk.state seq word reply holds can.2 can.1 is.state
 facts_hold laws old new (parity datagram reply key) holds can is =
-    laws.parity_keeps old.desk.state new.desk.state datagram reply holds can.0 can.1 is.state
+    laws.facts.parity old.desk.state new.desk.state datagram reply holds can.0 can.1 is.state
 facts_hold laws old new (play played) holds can is =
-    laws.play_keeps old.desk.state.window old.desk.state new.desk.state (play_of played is.0) holds
+    laws.facts.play old.desk.state.playout.window old.desk.state new.desk.state (play_of played is.0) holds
     (λ none. none_has_no_value old.desk.state.top none can.1) is.1.state
-facts_hold laws old new (flush None) holds can is = laws.flush_keeps old.desk.state new.desk.state None holds is.0
+facts_hold laws old new (flush None) holds can is = laws.facts.flush old.desk.state new.desk.state None holds is.0
 facts_hold laws old new (flush (Some played)) holds can is =
-    laws.flush_keeps old.desk.state new.desk.state (Some (play_of played is.0)) holds is.1.0
+    laws.facts.flush old.desk.state new.desk.state (Some (play_of played is.0)) holds is.1.0
 
 -- What it keeps of the board's desk.
 desk_is_next :
@@ -96,7 +83,7 @@ desk_is_next laws old new (media seq word reply) holds solved bare is =
 desk_is_next laws old new (parity datagram reply key) holds solved bare is =
     parity_is_next laws.parity_adds laws.take_equations old.desk new.desk datagram holds solved bare is.solved reply is.state
 desk_is_next laws old new (play played) holds solved bare is =
-    play_is_next laws.plays old.desk.state.window old.desk new.desk (play_of played is.0) holds solved is.1.state is.1.changes
+    play_is_next laws.plays old.desk.state.playout.window old.desk new.desk (play_of played is.0) holds solved is.1.state is.1.changes
 desk_is_next laws old new (flush None) holds solved bare is = is_next_counted old.desk new.desk solved bare is.1 is.0.1
 desk_is_next laws old new (flush (Some played)) holds solved bare is =
     play_is_next laws.plays _ old.desk new.desk (play_of played is.0) holds solved is.1.0.plays is.1.1
@@ -153,7 +140,7 @@ module _
       (now.0, now.1, settled_after serial now.0 now.1 kept.1 settled)
 
 pub calls_extend : CallLaws → CallsExtend
-calls_extend laws window depth calls call old new owned can is =
+calls_extend laws playout calls call old new owned can is =
     let holds = facts_hold laws old new call owned.facts can is in
     let next = desk_is_next laws old new call owned.facts owned.solved owned.bare is in
     let marks = marks_kept old new call is in
@@ -174,7 +161,7 @@ calls_extend laws window depth calls call old new owned can is =
     }
 
 pub calls_keep_told : CallLaws → CallsKeepTold
-calls_keep_told laws window depth calls call old new told owned can is =
+calls_keep_told laws playout calls call old new told owned can is =
     All-weaker (IsBorneOut old) (IsBorneOut new)
     (told_after old new owned.facts (facts_hold laws old new call owned.facts can is)
     (desk_is_next laws old new call owned.facts owned.solved owned.bare is)) told

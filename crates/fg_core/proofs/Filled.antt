@@ -8,11 +8,11 @@ use Rattle.fg_words.specs.declared.Word.{Word}
 use Rattle.fg_peel.specs.Equation.{Equation, slots, Keeps, IsSettled}
 use Rattle.fg_peel.specs.Peeling.{Step, CanFollow, after_step, end_of, given_word}
 use Rattle.fg_peel.specs.Laws.{PeelingsAppend}
+use Rattle.fg_peel.proofs.Options.{value_of, has_value}
+use Rattle.fg_peel.proofs.Maps.{beside_inserted, inserted}
+use Rattle.fg_peel.proofs.Sums.{sum_at-agree}
 use Rattle.fg_desk.specs.State.{known, live_equations}
 use Rattle.fg_desk.specs.Contents.{Contents, AreSolved, CanFill, known_in, filled}
-use Rattle.fg_core.proofs.Options.{value_of, has_value, beside_inserted}
-use Rattle.fg_core.proofs.Entries.{inserted}
-use Rattle.fg_core.proofs.Lists.{same_sum}
 
 -- Where neither of two options has a value, none of them has.
 neither : (o p : Option Word) → option_or o p ≡ None → (o ≡ None) × (p ≡ None)
@@ -25,7 +25,7 @@ pub stays_settled :
     → IsSettled other equation
 stays_settled one other keeps equation settled = (
   λ q c. (let v = value_of (one q) (settled.0 q c) in has_value (other q) v.0 (keeps q v.0 v.1)),
-  settled.1 ∙ same_sum one other (slots equation)
+  settled.1 ∙ sum_at-agree one other (slots equation)
       (λ q c. let v = value_of (one q) (settled.0 q c) in v.1 ∙ sym (keeps q v.0 v.1)),
 )
 

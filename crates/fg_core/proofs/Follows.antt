@@ -3,6 +3,8 @@ use Rattle.std.proofs.Common.{◌≡◌, ◌<◌, ◌≤◌, ℕ, Some, sym, ap,
 use Rattle.std.specs.Ordering.{nat_cmp}
 use Rattle.std.specs.FinMap.{FinMap, get}
 use Rattle.fg_words.specs.declared.Word.{Word}
+use Rattle.fg_peel.proofs.Options.{some_and}
+use Rattle.fg_peel.proofs.Maps.{beside_inserted}
 use Rattle.fg_desk.specs.declared.reply.Reply.{Reply}
 use Rattle.fg_desk.specs.declared.reply.Reply.TheVariants.{Admitted}
 use Rattle.fg_desk.specs.declared.reply.Outcome.{Outcome}
@@ -12,7 +14,6 @@ use Rattle.fg_desk.specs.Admission.{Parity, AdmitsMedia, AdmitsParity, IsAfterMe
 use Rattle.fg_desk.specs.Play.{Play, IsPlay}
 use Rattle.fg_desk.specs.Contents.{Contents, GivesWay, IsAfterArrival, ChangesInPlay, epoch_after}
 use Rattle.fg_core.proofs.Next.{AreBareKept}
-use Rattle.fg_core.proofs.Options.{some_and, beside_inserted}
 use Rattle.fg_core.proofs.Played.{bare_is_kept}
 use Rattle.fg_core.proofs.Received.{contradicted_or_not, not_contradicted}
 

@@ -7,6 +7,8 @@ use Rattle.std.specs.FinMap.{get, entries}
 use Rattle.std.specs.FinSet.{empty}
 use Rattle.fg_words.specs.declared.Word.{Word}
 use Rattle.fg_peel.specs.Equation.{Equation}
+use Rattle.fg_peel.proofs.Options.{has_value}
+use Rattle.fg_peel.proofs.Maps.{get_of_entry}
 use Rattle.fg_desk.specs.State.{Live}
 use Rattle.fg_desk.specs.Facts.{Holds}
 use Rattle.fg_desk.specs.Contents.{Contents, known_in, filled}
@@ -19,8 +21,6 @@ use Rattle.fg_core.specs.declared.fate.Fate.{Fate}
 use Rattle.fg_core.specs.declared.fate.Fate.TheVariants.{Done, Beaten, Gone}
 use Rattle.fg_core.specs.declared.fate.Look.{Look}
 use Rattle.fg_core.specs.declared.fate.Look.TheVariants as looked
-use Rattle.fg_core.proofs.Options.{has_value}
-use Rattle.fg_core.proofs.Entries.{get_of_entry}
 use Rattle.fg_core.proofs.Filled.{filled_is_known, filled_keeps}
 use Rattle.fg_core.proofs.Told.{told_in_equation}
 
@@ -119,7 +119,7 @@ keeps_told old new (inr more) told holds =
     (holds_filled old.desk more.slot more.word more.unknown told holds)
 
 pub events_keep_told : EventsKeepTold
-events_keep_told window depth calls event old new told others owned grows can does holds =
+events_keep_told playout calls event old new told others owned grows can does holds =
     All-weaker (IsBorneOut old) (IsBorneOut new) (keeps_told old new (event_leaves old event new does)) others holds
 
 -- What the answers tell
@@ -241,7 +241,7 @@ module _ (old : BoardState) (facts : Holds old.desk.state) (told : List Told) wh
   event_tells (attest key comes fate) new does tells = nothing_told new told tells
 
 pub answers_hold : AnswersHold
-answers_hold window depth calls event old new told owned does tells =
+answers_hold playout calls event old new told owned does tells =
     All-cons (IsBorneOut new) (seen_of new) told (seen_holds new) (event_tells old owned.facts told event new does tells)
 
 -- Who was told a word of a slot near the mark finds it there.
@@ -255,11 +255,11 @@ found_there board key slot word (looked.Known other) new is held known =
     ap looked.Known (same_Some other word (sym known.1 ∙ is))
 
 pub told_words_are_found : ToldWordsAreFound
-told_words_are_found window depth calls board new told key slot word answer owned grows c near looks held =
+told_words_are_found playout calls board new told key slot word answer owned grows c near looks held =
     found_there board key slot word answer new
     ((All-contains (IsBorneOut board) told (word_at key.epoch slot word) grows c).1 held.1.epoch_is near) held looks
 
 pub words_of_equations_are_found : WordsOfEquationsAreFound
-words_of_equations_are_found window depth calls board new told key equation slot word answer owned grows listed at c looks held =
+words_of_equations_are_found playout calls board new told key equation slot word answer owned grows listed at c looks held =
     found_there board key slot word answer new
     (told_in_equation board owned.facts told grows key held.0 held.1 equation listed slot at word c) held looks

@@ -12,9 +12,9 @@ use Rattle.fg_shape.proofs.ShapeLemmas.{get_or-slots_of, slot_of_number, number_
 use Rattle.fg_peel.specs.declared.row.Missing.TheVariants.{One}
 use Rattle.fg_peel.specs.Equation.{sum_at, IsComplete}
 use Rattle.fg_peel.specs.Slots.{IsMissing}
+use Rattle.fg_peel.proofs.Options.{none_or_some, has_value, none_has_no_value}
+use Rattle.fg_peel.proofs.Maps.{in_empty, beside_inserted, inserted}
 use Rattle.fg_core.specs.Work.{inputs_from, MissOne, HaveRoom}
-use Rattle.fg_core.proofs.Options.{none_or_some, has_value, none_has_no_value, in_empty, beside_inserted}
-use Rattle.fg_core.proofs.Entries.{inserted}
 
 pub none_of : {X : Type 0} (o : Option X) → is_some o ≡ false → o ≡ None
 none_of None is = refl

@@ -1,29 +1,22 @@
 -- What is known of a desk, and where its solved words stand.
-use Rattle.std.proofs.Common.{◌≡◌, ◌+◌, ◌<◌, ◌≤◌, ◌==◌, ℕ, ltb, List, [], ◌∷◌, Option, Some, None, IsSome, refl, sym, ap, ap₂, subst, ◌∙◌, ⊎_elim, arith, lt-ltb, le-ltb, ne_eqb}
-use Rattle.std.proofs.lemmas.Bool.{cases_lt, cond-true, cond-false}
-use Rattle.std.proofs.lemmas.List.Elements.{recursion_from_All, Contains-append_right}
-use Rattle.std.specs.List.{Contains, AllByRecursion, filter_map, cons_option}
+use Rattle.std.proofs.Common.{◌≡◌, ◌+◌, ◌<◌, ◌≤◌, ◌==◌, ℕ, List, [], ◌∷◌, Option, Some, None, IsSome, refl, sym, ap, ◌∙◌, ⊎_elim, arith, ne_eqb}
+use Rattle.std.proofs.lemmas.Bool.{cases_lt, cond-false}
+use Rattle.std.proofs.lemmas.List.Elements.{recursion_from_All}
+use Rattle.std.specs.List.{Contains, AllByRecursion}
 use Rattle.std.specs.FinMap.{get}
 use Rattle.fg_words.specs.declared.Word.{Word}
-use Rattle.fg_words.specs.Word.{IsMedia, word_sum}
-use Rattle.fg_peel.specs.Equation.{Equation, slots, sum_at, IsSettled, AreAdmissible}
+use Rattle.fg_shape.specs.Playout.{Playout}
+use Rattle.fg_peel.specs.Equation.{Equation, slots, IsSettled}
 use Rattle.fg_peel.specs.Peeling.{Step, after_step, given_word, end_of}
-use Rattle.fg_desk.specs.State.{State, Live, known, live_equations}
+use Rattle.fg_peel.proofs.Sums.{sum_at-agree}
+use Rattle.fg_peel.proofs.Options.{value_of, has_value, none_has_no_value, or_first, or_second, or_none, same_functions}
+use Rattle.fg_peel.proofs.Maps.{in_empty}
+use Rattle.fg_desk.specs.State.{State, Live, known}
 use Rattle.fg_desk.specs.Admission.{kept_count}
 use Rattle.fg_desk.specs.Facts.{Holds}
-use Rattle.fg_desk.specs.Laws.{StepsAreAhead, LiveStandUnderSerials}
+use Rattle.fg_desk.specs.Laws.{StepsAreAhead}
 use Rattle.fg_desk.specs.Contents.{Contents, AreSolved, known_in, opened}
-use Rattle.fg_core.proofs.Options.{value_of, has_value, none_has_no_value, or_first, or_second, or_none, same_options, in_empty}
-
--- What a desk knows below the mark is kept, and the rest is received.
-
-pub known_below : (desk : State) (position : ℕ) → position < desk.mark → known desk position ≡ get desk.kept position
-known_below desk position below =
-    cond-true (ltb position desk.mark) (get desk.kept position) (get desk.media position) (lt-ltb position desk.mark below)
-
-pub known_ahead : (desk : State) (position : ℕ) → desk.mark ≤ position → known desk position ≡ get desk.media position
-known_ahead desk position ahead =
-    cond-false (ltb position desk.mark) (get desk.kept position) (get desk.media position) (le-ltb position desk.mark ahead)
+use Rattle.fg_desk.proofs.Orderly.{known_below}
 
 -- The words that need no equation come before those solved.
 module _ (desk : Contents) (position : ℕ) where
@@ -39,12 +32,12 @@ module _ (desk : Contents) (position : ℕ) where
 -- A desk on which nothing is solved.
 pub nothing_solved : (desk : Contents) → ((q : ℕ) → get desk.solved q ≡ None) → AreSolved desk
 nothing_solved desk none = record {
-  peeled = ([], tt, same_options (known_in desk) (known desk.state) (λ q. known_alone desk q (none q)));
+  peeled = ([], tt, same_functions (known_in desk) (known desk.state) (λ q. known_alone desk q (none q)));
   beside = λ q some. absurd (none_has_no_value (get desk.solved q) (none q) some);
 }
 
-pub opened_is_solved : (window depth : ℕ) → AreSolved (opened window depth)
-opened_is_solved window depth = nothing_solved (opened window depth) (λ q. in_empty q)
+pub opened_is_solved : (playout : Playout) → AreSolved (opened playout)
+opened_is_solved playout = nothing_solved (opened playout) (λ q. in_empty q)
 
 -- A peeling leaves what lies before all its steps.
 pub end_before :
@@ -88,37 +81,6 @@ slot_is_kept desk holds serial live is slot c = ⊎_elim
     (λ ahead. omega (arith, ahead))
     (cases_lt slot desk.mark)
 
--- Known words are media words, and an equation's slots differ from each other.
-module _ (live_stand : LiveStandUnderSerials) (desk : State) (holds : Holds desk) where
-  pub known_media : (q : ℕ) (word : Word) → known desk q ≡ Some word → IsMedia word
-  known_media q word is = ⊎_elim
-      (λ below. (holds.kept q word (sym (known_below desk q below) ∙ is)).media)
-      (λ ahead. (holds.media q word (sym (known_ahead desk q ahead) ∙ is)).media)
-      (cases_lt q desk.mark)
-
-  pub admissible : AreAdmissible (known desk) (live_equations desk)
-  admissible = record {
-    known_media = known_media;
-    some_offset = λ equation listed.
-        (let r = (live_stand desk equation).0 listed in
-        subst (λ (e : Equation). 1 ≤ e.offset) r.3 (holds.live r.0 r.1 r.2).shape.some_offset);
-  }
-
--- The sum of words does not depend on what an assignment has elsewhere.
-
-words_agree :
-    (one other : ℕ → Option Word) (positions : List ℕ) → ((q : ℕ) → Contains positions q → one q ≡ other q)
-    → filter_map one positions ≡ filter_map other positions
-words_agree one other [] same = refl
-words_agree one other (q ∷ positions) same =
-    ap₂ cons_option (same q (0, omega arith, refl))
-    (words_agree one other positions (λ p c. same p (Contains-append_right (q ∷ []) positions p c)))
-
-pub sum_agrees :
-    (one other : ℕ → Option Word) (positions : List ℕ) → ((q : ℕ) → Contains positions q → one q ≡ other q)
-    → sum_at one positions ≡ sum_at other positions
-sum_agrees one other positions same = ap word_sum (words_agree one other positions same)
-
 -- An equation that was settled is so in words that keep those at its slots.
 pub stays_settled :
     (one other : ℕ → Option Word) (equation : Equation)
@@ -126,6 +88,6 @@ pub stays_settled :
     → IsSettled one equation → IsSettled other equation
 stays_settled one other equation keeps settled = (
   λ q c. (let v = value_of (one q) (settled.0 q c) in has_value (other q) v.0 (keeps q v.0 c v.1)),
-  settled.1 ∙ sum_agrees one other (slots equation)
+  settled.1 ∙ sum_at-agree one other (slots equation)
       (λ q c. (let v = value_of (one q) (settled.0 q c) in v.1 ∙ sym (keeps q v.0 c v.1))),
 )

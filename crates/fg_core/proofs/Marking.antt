@@ -1,5 +1,5 @@
 -- Which equations are marked, by the marks at their places.
-use Rattle.std.proofs.Common.{◌≡◌, ◌≢◌, ◌⊎◌, ◌<◌, ◌≤◌, ◌&&◌, ◌||◌, ◌==◌, not, ℕ, zero, suc, Bool, true, false, true≢false, cond, List, length, set, Option, Some, None, inl, inr, refl, sym, ap, subst, ◌∙◌, ⊎_elim, arith, eq-eqb, ne_eqb}
+use Rattle.std.proofs.Common.{◌≡◌, ◌≢◌, ◌⊎◌, ◌<◌, ◌≤◌, ◌&&◌, ◌||◌, ◌==◌, not, ℕ, zero, suc, Bool, true, false, true≢false, cond, if◌then◌else◌, List, length, set, Option, Some, None, inl, inr, refl, sym, ap, subst, ◌∙◌, ⊎_elim, arith, eq-eqb, ne_eqb}
 use Rattle.std.proofs.lemmas.Bool.{cases_eq, and_parts, and_from}
 use Rattle.std.proofs.lemmas.Bool.Decides.{Decides-eqb}
 use Rattle.std.proofs.lemmas.Option.{same_Some}
@@ -9,6 +9,8 @@ use Rattle.std.specs.Cmp.{unsigned_tied, nat_cmp_total}
 use Rattle.std.specs.FinMap.{get}
 use Rattle.std.specs.FinSet as set_of
 use Rattle.std.specs.FinSet.{FinSet, contains, contains-insert, contains-remove, contains-empty, same_set, nat_cmp-IsAntisymmetric}
+use Rattle.fg_peel.proofs.Maps.{was_or_inserted}
+use Rattle.fg_peel.proofs.Options.{value_of, has_value}
 use Rattle.fg_desk.specs.State.{Live}
 use Rattle.fg_desk.specs.Facts.{Holds}
 use Rattle.fg_window.specs.RowEntries.{positions_below}
@@ -16,29 +18,26 @@ use Rattle.fg_desk.specs.Contents.{Contents}
 use Rattle.fg_core.specs.Board.{KeepsMarks, AreMarksAfter}
 use Rattle.fg_core.specs.Flow.{no_mark, mark_at, says, is_marked, marked, is_vouched, is_handed_out, board_of, AreKept}
 use Rattle.fg_core.specs.declared.marks.Mark.{Mark}
-use Rattle.fg_core.proofs.Entries.{was_or_inserted}
 use Rattle.fg_core.proofs.Follows.{Follows}
-use Rattle.fg_core.proofs.Options.{value_of, has_value}
 
--- A set has one more number, or one less.
-pub has_inserted : (s : FinSet nat_cmp) (k q : ℕ) → q ≡ k → contains (set_of.insert s k) q ≡ true
-has_inserted s k q same =
+-- A set with one more number, or with one less.
+abbrev pub with_number : Bool → FinSet nat_cmp → ℕ → FinSet nat_cmp
+with_number more s k = (if more then set_of.insert s k else set_of.remove s k)
+
+pub has_number : (more : Bool) (s : FinSet nat_cmp) (k q : ℕ) → q ≡ k → contains (with_number more s k) q ≡ more
+has_number true s k q same =
     contains-insert nat_cmp_total s k q ∙ ap (λ b. b || contains s q) (unsigned_tied q k ∙ eq-eqb q k same)
-
-pub beside_insert : (s : FinSet nat_cmp) (k q : ℕ) → q ≢ k → contains (set_of.insert s k) q ≡ contains s q
-beside_insert s k q other =
-    contains-insert nat_cmp_total s k q ∙ ap (λ b. b || contains s q) (unsigned_tied q k ∙ ne_eqb q k other)
-
-pub has_removed : (s : FinSet nat_cmp) (k q : ℕ) → q ≡ k → contains (set_of.remove s k) q ≡ false
-has_removed s k q same =
+has_number false s k q same =
     contains-remove nat_cmp_total s k q ∙ ap (λ b. not b && contains s q) (unsigned_tied q k ∙ eq-eqb q k same)
 
-pub beside_remove : (s : FinSet nat_cmp) (k q : ℕ) → q ≢ k → contains (set_of.remove s k) q ≡ contains s q
-beside_remove s k q other =
+pub beside_number : (more : Bool) (s : FinSet nat_cmp) (k q : ℕ) → q ≢ k → contains (with_number more s k) q ≡ contains s q
+beside_number true s k q other =
+    contains-insert nat_cmp_total s k q ∙ ap (λ b. b || contains s q) (unsigned_tied q k ∙ ne_eqb q k other)
+beside_number false s k q other =
     contains-remove nat_cmp_total s k q ∙ ap (λ b. not b && contains s q) (unsigned_tied q k ∙ ne_eqb q k other)
 
 stays_in : (s : FinSet nat_cmp) (k q : ℕ) → contains s q ≡ true → contains (set_of.insert s k) q ≡ true
-stays_in s k q is = ⊎_elim (λ same. has_inserted s k q same) (λ other. beside_insert s k q other ∙ is) (cases_eq q k)
+stays_in s k q is = ⊎_elim (λ same. has_number true s k q same) (λ other. beside_number true s k q other ∙ is) (cases_eq q k)
 
 -- The positions below a limit that pass a test.
 of_below : (n : ℕ) (test : ℕ → Bool) (q : ℕ) → contains (positions_below n test) q ≡ true → (q < n) × (test q ≡ true)
@@ -66,7 +65,7 @@ in_below (suc n) test q less is = go (test n) refl (in_below n test q)
         (λ other. rest (omega (arith, less, other)) is)
         (cases_eq q n)
     go true e rest = ⊎_elim
-        (λ same. has_inserted (positions_below n test) n q same)
+        (λ same. has_number true (positions_below n test) n q same)
         (λ other. stays_in (positions_below n test) n q (rest (omega (arith, less, other)) is))
         (cases_eq q n)
 
@@ -219,26 +218,16 @@ module _
       (λ other. put_there which q other)
       (cases_eq q serial))
 
-  pub put_in : (which : Mark → Bool) → which mark ≡ true
-      → marked which (set marks live.place mark) desk ≡ set_of.insert (marked which marks desk) serial
-  put_in which says_so =
-      same_set nat_cmp_total nat_cmp-IsAntisymmetric (marked which (set marks live.place mark) desk) (set_of.insert (marked which marks desk) serial)
+  pub put_as : (says_so : Bool) (which : Mark → Bool) → which mark ≡ says_so
+      → marked which (set marks live.place mark) desk ≡ with_number says_so (marked which marks desk) serial
+  put_as says_so which is_so =
+      same_set nat_cmp_total nat_cmp-IsAntisymmetric (marked which (set marks live.place mark) desk)
+      (with_number says_so (marked which marks desk) serial)
       (λ q. ⊎_elim
       (λ same.
-      ap (contains (marked which (set marks live.place mark) desk)) same ∙ put_here which ∙ says_so
-      ∙ sym (has_inserted (marked which marks desk) serial q same))
-      (λ other. put_there which q other ∙ sym (beside_insert (marked which marks desk) serial q other))
-      (cases_eq q serial))
-
-  pub put_out : (which : Mark → Bool) → which mark ≡ false
-      → marked which (set marks live.place mark) desk ≡ set_of.remove (marked which marks desk) serial
-  put_out which says_not =
-      same_set nat_cmp_total nat_cmp-IsAntisymmetric (marked which (set marks live.place mark) desk) (set_of.remove (marked which marks desk) serial)
-      (λ q. ⊎_elim
-      (λ same.
-      ap (contains (marked which (set marks live.place mark) desk)) same ∙ put_here which ∙ says_not
-      ∙ sym (has_removed (marked which marks desk) serial q same))
-      (λ other. put_there which q other ∙ sym (beside_remove (marked which marks desk) serial q other))
+      ap (contains (marked which (set marks live.place mark) desk)) same ∙ put_here which ∙ is_so
+      ∙ sym (has_number says_so (marked which marks desk) serial q same))
+      (λ other. put_there which q other ∙ sym (beside_number says_so (marked which marks desk) serial q other))
       (cases_eq q serial))
 
   pub put_kept : AreKept desk marks → AreKept desk (set marks live.place mark)

@@ -15,6 +15,8 @@ use Rattle.fg_peel.specs.declared.Line.{Line}
 use Rattle.fg_peel.specs.declared.row.Missing.TheVariants.{One}
 use Rattle.fg_peel.specs.Equation.{Equation, slots, IsComplete}
 use Rattle.fg_peel.specs.Slots.{equation_of, lines_of, IsMissing}
+use Rattle.fg_peel.proofs.Lists.{Contains-here, Contains-there, Contains-cases, Contains-nil}
+use Rattle.fg_peel.proofs.Options.{value_of, has_value, none_has_no_value, or_first}
 use Rattle.fg_desk.specs.State.{Live, known}
 use Rattle.fg_desk.specs.Facts.{Holds}
 use Rattle.fg_window.specs.Lines.{live_of}
@@ -25,10 +27,8 @@ use Rattle.fg_core.specs.Flow.{says, mark_at, marked, is_vouched, is_handed_out,
 use Rattle.fg_core.specs.declared.key.Key.{Key}
 use Rattle.fg_core.specs.declared.marks.Mark.{Mark}
 use Rattle.fg_core.proofs.Inputs.{input_of_number, input_is_slot}
-use Rattle.fg_core.proofs.Known.{known_below}
-use Rattle.fg_core.proofs.Lists.{Contains-here, Contains-there, Contains-cases, Contains-nil}
+use Rattle.fg_desk.proofs.Orderly.{known_below}
 use Rattle.fg_core.proofs.Marking.{marked_is}
-use Rattle.fg_core.proofs.Options.{value_of, has_value, none_has_no_value, or_first}
 
 -- Shares
 

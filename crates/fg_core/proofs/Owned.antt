@@ -12,10 +12,10 @@ not_in_empty : (k : ℕ) → contains (empty {R = nat_cmp}) k ≡ true → ⊥
 not_in_empty k is = true≢false (sym is ∙ contains-empty nat_cmp k)
 
 pub opening_is_owned : OpeningHolds → OpeningIsOwned
-opening_is_owned opening window depth one most fits = record {
+opening_is_owned opening playout one most fits = record {
   desk = refl;
-  facts = opening window depth one most fits;
-  solved = opened_is_solved window depth;
+  facts = opening playout one most fits;
+  solved = opened_is_solved playout;
   vouched = λ serial is. absurd (not_in_empty serial is);
   handed_out = λ serial is. absurd (not_in_empty serial is);
   bare = λ position is. absurd (not_in_empty position is);

@@ -5,6 +5,8 @@ use Rattle.std.specs.FinMap.{get}
 use Rattle.fg_words.specs.declared.Word.{Word}
 use Rattle.fg_peel.specs.Equation.{Keeps}
 use Rattle.fg_peel.specs.Laws.{SolutionsKeepPeelings}
+use Rattle.fg_peel.proofs.Options.{none_has_no_value, same_functions}
+use Rattle.fg_peel.proofs.Maps.{in_empty}
 use Rattle.fg_desk.specs.declared.reply.Outcome.{Outcome}
 use Rattle.fg_desk.specs.declared.reply.Outcome.TheVariants.{Repaired, Inconsistent}
 use Rattle.fg_desk.specs.State.{State, Live, Words, known, live_equations}
@@ -13,10 +15,11 @@ use Rattle.fg_desk.specs.Solution.{IsSolution}
 use Rattle.fg_desk.specs.Play.{Play, Decides, IsPlay}
 use Rattle.fg_desk.specs.Facts.{Holds}
 use Rattle.fg_desk.specs.Laws.{SolvedStaysPeeled, SolutionsArePeelings, StepsAreAhead, LiveStandUnderSerials}
+use Rattle.fg_core.specs.Below.{PlayLaws}
 use Rattle.fg_desk.specs.Contents.{Contents, AreSolved, ChangesInPlay, IsSolvedAfter, known_in}
-use Rattle.fg_core.proofs.Known.{known_below, known_ahead, known_alone, nothing_solved, kept_below, admissible}
+use Rattle.fg_desk.proofs.Orderly.{orderly_from_holds, known_below, known_ahead, admissible}
+use Rattle.fg_core.proofs.Known.{known_alone, nothing_solved, kept_below}
 use Rattle.fg_core.proofs.Next.{IsNext, AreBareKept}
-use Rattle.fg_core.proofs.Options.{none_has_no_value, same_options, in_empty}
 
 module _ (count : ℕ) (old : State) (play : Play) (new : State) (plays : IsPlay count old play new) where
   mark_rises : old.mark ≤ new.mark
@@ -98,7 +101,7 @@ module _
           peeled = (
             _,
             peeled.0,
-            same_options (known_in new) _ (λ q. ⊎_elim
+            same_functions (known_in new) _ (λ q. ⊎_elim
                 (λ below. known_behind q below ∙ sym (peeled.2 q below))
                 (λ ahead. stays_known q ahead ∙ ap (λ (f : ℕ → Option Word). f q) solved.peeled.2 ∙ sym (peeled.1 q ahead))
                 (cases_lt q new.state.mark)),
@@ -137,16 +140,8 @@ module _
   keeps_known : (words : ℕ → Option Word) → IsSolution old.state words → Keeps (known_in old) words
   keeps_known words solution =
       subst (λ (f : ℕ → Option Word). Keeps f words) (sym solved.peeled.2)
-      (kept (known old.state) (live_equations old.state) (admissible live_stand old.state holds) words
+      (kept (known old.state) (live_equations old.state) (admissible old.state (orderly_from_holds old.state holds)) words
       ((solutions old.state holds words).0 solution) solved.peeled.0 solved.peeled.1)
-
--- The laws of the crates below that a play rests on.
-pub record PlayLaws : Type 0 where
-  pub kept : SolutionsKeepPeelings
-  pub solutions : SolutionsArePeelings
-  pub steps_are_ahead : StepsAreAhead
-  pub live_stand : LiveStandUnderSerials
-  pub stays : SolvedStaysPeeled
 
 pub play_is_next :
     PlayLaws → (count : ℕ) (old new : Contents) (play : Play) → Holds old.state → AreSolved old

@@ -3,6 +3,8 @@ use Rattle.std.proofs.Common.{◌≡◌, ℕ, inl, sym, ap, subst, ◌∙◌, ar
 use Rattle.std.specs.List.{Contains}
 use Rattle.fg_peel.specs.Equation.{Equation}
 use Rattle.fg_peel.specs.Laws.{PeelingsTakeEquations}
+use Rattle.fg_peel.proofs.Options.{some_and}
+use Rattle.fg_peel.proofs.Maps.{beside_inserted}
 use Rattle.fg_desk.specs.declared.reply.Reply.{Reply}
 use Rattle.fg_desk.specs.declared.reply.Reply.TheVariants.{Admitted}
 use Rattle.fg_desk.specs.State.{State, known, live_equations}
@@ -11,7 +13,6 @@ use Rattle.fg_desk.specs.Facts.{Holds}
 use Rattle.fg_desk.specs.Laws.{ParityAdds}
 use Rattle.fg_desk.specs.Contents.{Contents, AreSolved}
 use Rattle.fg_core.proofs.Next.{IsNext, AreBareKept, is_next_counted}
-use Rattle.fg_core.proofs.Options.{some_and, beside_inserted}
 
 -- The desk with one more equation.
 module _ (old : Contents) (place : ℕ) (equation : Equation) where

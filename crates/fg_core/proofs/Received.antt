@@ -1,5 +1,5 @@
 -- What a media datagram makes of what is known and solved.
-use Rattle.std.proofs.Common.{◌≡◌, ◌≢◌, ◌+◌, ◌==◌, ◌⊎◌, ℕ, cond, filter, List, Option, Some, None, IsSome, is_none, inl, inr, sym, ap, subst, ◌∙◌, ⊎_elim, arith, eq-eqb, ne_eqb}
+use Rattle.std.proofs.Common.{◌≡◌, ◌≤◌, ◌≢◌, ◌+◌, ◌==◌, ◌⊎◌, ℕ, cond, filter, List, Option, Some, None, IsSome, is_none, inl, inr, sym, ap, subst, ◌∙◌, ⊎_elim, arith, eq-eqb, ne_eqb}
 use Rattle.std.proofs.lemmas.Bool.{cases_eq, cond-true, cond-false}
 use Rattle.std.proofs.lemmas.Option.{same_Some, none-some}
 use Rattle.std.specs.Ordering.{nat_cmp}
@@ -9,6 +9,8 @@ use Rattle.fg_words.specs.declared.Word.{Word}
 use Rattle.fg_peel.specs.Equation.{Equation, Keeps, Agree}
 use Rattle.fg_peel.specs.Peeling.{Step, IsPeeling, end_of}
 use Rattle.fg_peel.specs.Laws.{PeelingsTakeWords}
+use Rattle.fg_peel.proofs.Options.{none_or_some, none_has_no_value, some_and, some_and_from, or_first, or_twice, same_functions}
+use Rattle.fg_peel.proofs.Maps.{in_empty, removed, beside_removed}
 use Rattle.fg_desk.specs.declared.reply.Reply.{Reply}
 use Rattle.fg_desk.specs.declared.reply.Reply.TheVariants.{Admitted}
 use Rattle.fg_desk.specs.State.{State, Live, Words, known, live_equations}
@@ -18,7 +20,6 @@ use Rattle.fg_desk.specs.Laws.{MediaAdds}
 use Rattle.fg_desk.specs.Contents.{Contents, AreSolved, GivesWay, IsContradicted, IsAfterArrival, known_in}
 use Rattle.fg_core.proofs.Known.{known_first, solved_second, nothing_solved}
 use Rattle.fg_core.proofs.Next.{IsNext, AreBareKept, is_next_counted}
-use Rattle.fg_core.proofs.Options.{none_or_some, none_has_no_value, some_and, some_and_from, or_first, or_twice, same_options, in_empty, removed, beside_removed}
 use Rattle.fg_core.proofs.SameWords.{same_or_other}
 
 -- Another word was solved at the position, or none was but this one.
@@ -70,21 +71,33 @@ module _
   bare_after : (p : ℕ) → IsSome (get old.state.kept p) → IsSome (get state.kept p)
   bare_after p some = subst (λ (o : Option Word). IsSome o) (sym (ap (λ (m : Words). get m p) receives.kept_is)) some
 
-  -- All that was solved is withdrawn.
-  is_next_withdrawn : IsNext old (record old { state = state; solved = empty; epoch = old.epoch + 1 })
-  is_next_withdrawn =
+  -- The desk afterwards, whatever is solved then, and whatever the epoch.
+  abbrev after_it : Words → ℕ → Contents
+  after_it others epoch = record old { state = state; solved = others; epoch = epoch }
+
+  is_next_after :
+      (others : Words) (epoch : ℕ) → old.epoch ≤ epoch → epoch ≤ old.epoch + 1
+      → (epoch ≡ old.epoch → (q : ℕ) (other : Word) → known_in old q ≡ Some other → known_in (after_it others epoch) q ≡ Some other)
+      → AreSolved (after_it others epoch) → IsNext old (after_it others epoch)
+  is_next_after others epoch rises one_more words solved =
       let m = receives.mark_is in
       let a = receives.admitted_is in
       record {
         mark = omega (arith, m);
         admitted = omega (arith, a);
-        epoch = omega arith;
-        one_more = omega arith;
-        words = λ same. absurd (omega (arith, same));
+        epoch = rises;
+        one_more = one_more;
+        words = λ same q other _ is. words same q other is;
         lives = λ serial live _ is. still_live old.state state position word receives serial live is;
-        solved = nothing_solved (record old { state = state; solved = empty; epoch = old.epoch + 1 }) (λ q. in_empty q);
+        solved = solved;
         bare = λ p is. bare_after p (bare p is);
       }
+
+  -- All that was solved is withdrawn.
+  is_next_withdrawn : IsNext old (after_it empty (old.epoch + 1))
+  is_next_withdrawn =
+      is_next_after empty (old.epoch + 1) (omega arith) (omega arith) (λ same. absurd (omega (arith, same)))
+      (nothing_solved (after_it empty (old.epoch + 1)) (λ q. in_empty q))
 
   -- The position is received and no more solved.
   module _
@@ -139,7 +152,7 @@ module _
           peeled = (
             rest,
             subst (λ (es : List Equation). IsPeeling (known state) es rest) (sym receives.lives_are) taken.0,
-            same_options (known_in after) (end_of (known state) rest)
+            same_functions (known_in after) (end_of (known state) rest)
                 (λ q. known_after q ∙ ap (λ (f : ℕ → Option Word). option_or (known state q) (f q)) end ∙ sym (taken.1 q)),
           );
           beside = λ q some. ⊎_elim
@@ -163,18 +176,8 @@ module _
 
     is_next_agreed : IsNext old after
     is_next_agreed =
-        let m = receives.mark_is in
-        let a = receives.admitted_is in
-        record {
-          mark = omega (arith, m);
-          admitted = omega (arith, a);
-          epoch = omega arith;
-          one_more = omega arith;
-          words = λ _ q other _ is. words_after q other is;
-          lives = λ serial live _ is. still_live old.state state position word receives serial live is;
-          solved = solved_after;
-          bare = λ p is. bare_after p (bare p is);
-        }
+        is_next_after (remove old.solved position) old.epoch (omega arith) (omega arith) (λ _ q other is. words_after q other is)
+        solved_after
 
 module _ (media_adds : MediaAdds) (take_words : PeelingsTakeWords) (old new : Contents) (seq : ℕ) (word : Word) (holds : Holds old.state) where
   -- What is known after a word is admitted at a position.

@@ -2,6 +2,7 @@
 use Rattle.std.proofs.Common.{◌≡◌, ◌==◌, ◌++◌, ℕ, Bool, true, false, cond, List, [], ◌∷◌, Some, None, refl, sym, ap, subst, ◌∙◌, append_assoc, append-nil}
 use Rattle.std.proofs.lemmas.List.Elements.{All-nil, All-push, All-append}
 use Rattle.std.specs.List.{All}
+use Rattle.fg_shape.specs.Playout.{Playout}
 use Rattle.fg_desk.specs.State.{State, opening}
 use Rattle.fg_core.specs.Board.{BoardState, opened_board}
 use Rattle.fg_core.specs.Views.{Told, IsBorneOut, Grows, seen_of}
@@ -10,8 +11,8 @@ use Rattle.fg_core.specs.Laws.{OpeningIsOwned, CallsExtend, CallsKeepTold, Event
 use Rattle.fg_core.proofs.Growing.{seen_holds}
 
 -- What holds of a world all along a run.
-record IsSound (window depth : ℕ) (world : World) : Type 0 where
-  owned : IsOwned window depth world.calls world.board
+record IsSound (playout : Playout) (world : World) : Type 0 where
+  owned : IsOwned playout world.calls world.board
   own : Grows world.own world.board
   views : (number : ℕ) → Grows (world.views number) world.board
 
@@ -27,63 +28,63 @@ told_one P views number told before holds other = go (other == number)
 
 module _
     (calls_extend : CallsExtend) (calls_keep_told : CallsKeepTold) (events_keep_owned : EventsKeepOwned)
-    (events_keep_told : EventsKeepTold) (answers_hold : AnswersHold) (window depth : ℕ) where
+    (events_keep_told : EventsKeepTold) (answers_hold : AnswersHold) (playout : Playout) where
   -- It holds after a call of the admitter,
   after_call :
-      (old : World) (call : Call) (board : BoardState) → IsSound window depth old → CanCall old.board call
+      (old : World) (call : Call) (board : BoardState) → IsSound playout old → CanCall old.board call
       → IsCall old.board call board
-      → IsSound window depth (record old {
+      → IsSound playout (record old {
         board = board;
         calls = old.calls ++ call ∷ [];
         own = old.own ++ seen_of board ∷ [];
       })
   after_call old call board sound can does =
       let grows : (told : List Told) → Grows told old.board → Grows told board =
-      λ told. calls_keep_told window depth old.calls call old.board board told sound.owned can does in
+      λ told. calls_keep_told playout old.calls call old.board board told sound.owned can does in
       record {
-        owned = calls_extend window depth old.calls call old.board board sound.owned can does;
+        owned = calls_extend playout old.calls call old.board board sound.owned can does;
         own = All-push (IsBorneOut board) old.own (seen_of board) (grows old.own sound.own) (seen_holds board);
         views = λ number. grows (old.views number) (sound.views number);
       }
 
   -- after an event of a pass,
   after_event :
-      (old : World) (number : ℕ) (event : Event) (board : BoardState) (told : List Told) → IsSound window depth old
+      (old : World) (number : ℕ) (event : Event) (board : BoardState) (told : List Told) → IsSound playout old
       → CanDo (old.views number) event → IsEvent old.board event board → Tells board event told
-      → IsSound window depth (record old { board = board; views = with_told old.views number (seen_of board ∷ told) })
+      → IsSound playout (record old { board = board; views = with_told old.views number (seen_of board ∷ told) })
   after_event old number event board told sound can does tells =
       let mine = sound.views number in
       let grows : (others : List Told) → Grows others old.board → Grows others board =
-      λ others. events_keep_told window depth old.calls event old.board board (old.views number) others sound.owned mine can does in
+      λ others. events_keep_told playout old.calls event old.board board (old.views number) others sound.owned mine can does in
       record {
-        owned = events_keep_owned window depth old.calls event old.board board (old.views number) sound.owned mine can does;
+        owned = events_keep_owned playout old.calls event old.board board (old.views number) sound.owned mine can does;
         own = grows old.own sound.own;
         views = told_one (IsBorneOut board) old.views number (seen_of board ∷ told)
             (λ other. grows (old.views other) (sound.views other))
-            (answers_hold window depth old.calls event old.board board told sound.owned does tells);
+            (answers_hold playout old.calls event old.board board told sound.owned does tells);
       }
 
   -- so after a turn of anybody,
-  after_turn : (old : World) (turn : Turn) (new : World) → IsSound window depth old → IsTurn old turn new → IsSound window depth new
+  after_turn : (old : World) (turn : Turn) (new : World) → IsSound playout old → IsTurn old turn new → IsSound playout new
   after_turn old (admitter call) new sound taken =
-      subst (λ (w : World). IsSound window depth w) (sym taken.2) (after_call old call new.board sound taken.0 taken.1)
+      subst (λ (w : World). IsSound playout w) (sym taken.2) (after_call old call new.board sound taken.0 taken.1)
   after_turn old (pass number event) new sound taken =
-      subst (λ (w : World). IsSound window depth w) (sym taken.4)
+      subst (λ (w : World). IsSound playout w) (sym taken.4)
       (after_event old number event new.board taken.0 sound taken.1 taken.2 taken.3)
 
   -- and after a run.
-  after_run : (turns : List Turn) (old new : World) → IsSound window depth old → IsRun old turns new → IsSound window depth new
-  after_run [] old new sound run = subst (λ (w : World). IsSound window depth w) (sym run) sound
+  after_run : (turns : List Turn) (old new : World) → IsSound playout old → IsRun old turns new → IsSound playout new
+  after_run [] old new sound run = subst (λ (w : World). IsSound playout w) (sym run) sound
   after_run (turn ∷ turns) old new sound run =
       after_run turns run.0 new (after_turn old turn run.0 sound run.1) run.2
 
 pub core_holds :
     OpeningIsOwned → CallsExtend → CallsKeepTold → EventsKeepOwned → EventsKeepTold → AnswersHold → CoreHolds
-core_holds opened calls_extend calls_keep events_keep_owned events_keep_told answers window depth turns world some most deep run =
-    let nothing : Grows [] (opened_board window depth) = All-nil (IsBorneOut (opened_board window depth)) in
-    let sound = after_run calls_extend calls_keep events_keep_owned events_keep_told answers window depth turns
-    (opened_world window depth) world
-    (record { owned = opened window depth some most deep; own = nothing; views = λ number. nothing }) run in
+core_holds opened calls_extend calls_keep events_keep_owned events_keep_told answers playout turns world some most deep run =
+    let nothing : Grows [] (opened_board playout) = All-nil (IsBorneOut (opened_board playout)) in
+    let sound = after_run calls_extend calls_keep events_keep_owned events_keep_told answers playout turns
+    (opened_world playout) world
+    (record { owned = opened playout some most deep; own = nothing; views = λ number. nothing }) run in
     (sound.owned, sound.own, sound.views)
 
 -- A call on a board is one on its desk.
@@ -144,16 +145,16 @@ run_between (turn ∷ earlier) later old new run =
     (rest.0, (run.0, run.1, rest.1), rest.2)
 
 pub later_turns_keep_calls : EventsLeaveTheState → LaterTurnsKeepCalls
-later_turns_keep_calls leave window depth earlier later new run =
-    let parts = run_between earlier later (opened_world window depth) new run in
-    let before = calls_of_run leave earlier (opened_world window depth) parts.0 parts.1 in
+later_turns_keep_calls leave playout earlier later new run =
+    let parts = run_between earlier later (opened_world playout) new run in
+    let before = calls_of_run leave earlier (opened_world playout) parts.0 parts.1 in
     let after = calls_of_run leave later parts.0 new parts.2 in (
       parts.0,
       after.calls,
       parts.1,
       parts.2,
       after.calls_are,
-      subst (λ (calls : List Call). AreCallsOn (opening window depth) calls parts.0.board.desk.state) (sym before.calls_are)
+      subst (λ (calls : List Call). AreCallsOn (opening playout) calls parts.0.board.desk.state) (sym before.calls_are)
           before.made,
       after.made,
     )

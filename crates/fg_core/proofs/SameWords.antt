@@ -3,10 +3,7 @@ use Rattle.std.proofs.Common.{◌≡◌, ◌≢◌, ◌⊎◌, ℕ, List, bytes_
 use Rattle.std.proofs.lemmas.Bool.{cases_eq, cases_Bool}
 use Rattle.std.proofs.lemmas.Slice.Eq.{bytes_eq-Decides}
 use Rattle.fg_words.specs.declared.Word.{Word}
-
--- Words with equal fields are equal.
-word_of : (a b : Word) → a.pt ≡ b.pt → a.ts ≡ b.ts → a.len ≡ b.len → a.bytes ≡ b.bytes → a ≡ b
-word_of a b pt ts len bytes = λ i. record { pt = pt i; ts = ts i; len = len i; bytes = bytes i }
+use Rattle.fg_words.proofs.WordLemmas.{word-ext}
 
 same_bytes : (xs ys : List ℕ) → (xs ≡ ys) ⊎ (xs ≢ ys)
 same_bytes xs ys =
@@ -21,7 +18,7 @@ same_or_other a b = ⊎_elim
     (λ pt. ⊎_elim
     (λ ts. ⊎_elim
     (λ len. ⊎_elim
-    (λ bytes. inl (word_of a b pt ts len bytes))
+    (λ bytes. inl (word-ext a b pt ts len bytes))
     (λ n. inr (λ same. n (ap (λ (w : Word). w.bytes) same)))
     (same_bytes a.bytes b.bytes))
     (λ n. inr (λ same. n (ap (λ (w : Word). w.len) same)))

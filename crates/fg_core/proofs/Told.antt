@@ -7,6 +7,9 @@ use Rattle.std.specs.FinMap.{get}
 use Rattle.fg_words.specs.declared.Word.{Word}
 use Rattle.fg_words.specs.Word.{word_xor}
 use Rattle.fg_peel.specs.Equation.{Equation, slots, others, IsSettled}
+use Rattle.fg_peel.proofs.Options.{value_of, has_value}
+use Rattle.fg_peel.proofs.Lists.{others-element}
+use Rattle.fg_peel.proofs.Sums.{sum_at-agree}
 use Rattle.fg_desk.specs.State.{Live, live_equations}
 use Rattle.fg_desk.specs.Admission.{kept_count}
 use Rattle.fg_desk.specs.Facts.{Holds}
@@ -16,8 +19,6 @@ use Rattle.fg_core.specs.Board.{BoardState, IsLive, IsCurrent, mark_of}
 use Rattle.fg_core.specs.Views.{Told, word_at, equation_is, IsBorneOut, Grows, IsWorked, IsChecked}
 use Rattle.fg_core.specs.Laws.{WorkedWordsFollow, CheckedComeOut}
 use Rattle.fg_core.specs.declared.key.Key.{Key}
-use Rattle.fg_core.proofs.Options.{value_of, has_value}
-use Rattle.fg_core.proofs.Lists.{other_element, same_sum}
 
 module _ (board : BoardState) (facts : Holds board.desk.state) where
   -- What stands under a serial number is live.
@@ -75,9 +76,9 @@ module _
           (let t = worked.words_told other c differs in
           has_value (known_in board.desk other) t.0 (told_in_equation equation worked.equation_told other c t.0 t.2)),
     );
-    word_is = worked.word_is ∙ ap (word_xor equation.parity) (same_sum worked.words (known_in board.desk) (others slot (slots equation))
+    word_is = worked.word_is ∙ ap (word_xor equation.parity) (sum_at-agree worked.words (known_in board.desk) (others slot (slots equation))
         (λ q c.
-        let e = other_element slot (slots equation) q c in
+        let e = others-element slot (slots equation) q c in
         let t = worked.words_told q e.0 e.1 in
         t.1 ∙ sym (told_in_equation equation worked.equation_told q e.0 t.0 t.2)));
   }
@@ -91,7 +92,7 @@ module _
         λ slot c.
             (let t = checked.words_told slot c in
             has_value (known_in board.desk slot) t.0 (told_in_equation equation checked.equation_told slot c t.0 t.2)),
-        checked.zero_is comes ∙ same_sum checked.words (known_in board.desk) (slots equation)
+        checked.zero_is comes ∙ sum_at-agree checked.words (known_in board.desk) (slots equation)
             (λ q c.
             let t = checked.words_told q c in
             t.1 ∙ sym (told_in_equation equation checked.equation_told q c t.0 t.2)),
@@ -99,11 +100,11 @@ module _
 
 -- As laws, of a board that the admitter's calls make.
 pub worked_words_follow : LiveStandUnderSerials → WorkedWordsFollow
-worked_words_follow stand window depth calls board told key live equation slot word owned grows current worked unknown =
+worked_words_follow stand playout calls board told key live equation slot word owned grows current worked unknown =
     subst (λ (e : Equation). CanFill board.desk e slot word)
     (sym (told_is_live board owned.facts told grows key live current equation worked.equation_told))
     (worked_can_fill board owned.facts told grows key live current stand equation slot word worked unknown)
 
 pub checked_come_out : CheckedComeOut
-checked_come_out window depth calls board told key live equation zero owned grows current checked comes =
+checked_come_out playout calls board told key live equation zero owned grows current checked comes =
     checked_is_settled board owned.facts told grows key live current equation zero checked comes

@@ -8,6 +8,7 @@ use Rattle.fg_words.specs.declared.Word.{Word}
 use Rattle.fg_words.specs.Word.{word_xor}
 use Rattle.fg_shape.specs.declared.Shape.{Shape}
 use Rattle.fg_shape.specs.Shape.{IsShape}
+use Rattle.fg_shape.specs.Playout.{Playout}
 use Rattle.fg_peel.specs.declared.row.Missing.TheVariants.{One}
 use Rattle.fg_peel.specs.Equation.{Equation, slots, sum_at, IsComplete}
 use Rattle.fg_peel.specs.Slots.{IsMissing}
@@ -32,8 +33,8 @@ pub record BoardState : Type 0 where
   pub handed_out : FinSet nat_cmp
 
 -- A board at first.
-abbrev pub opened_board : ℕ → ℕ → BoardState
-opened_board window depth = record { desk = opened window depth; vouched = empty; handed_out = empty }
+abbrev pub opened_board : Playout → BoardState
+opened_board playout = record { desk = opened playout; vouched = empty; handed_out = empty }
 
 -- The first position that isn't played yet.
 abbrev pub mark_of : BoardState → ℕ
@@ -96,7 +97,7 @@ pub record AdmitsParityOn (old : BoardState) (parity : Parity) (reply : Reply) (
 
 -- It plays a window.
 pub record PlaysOn (old : BoardState) (play : Play) (new : BoardState) : Type 0 where
-  pub state : IsPlay old.desk.state.window old.desk.state play new.desk.state
+  pub state : IsPlay old.desk.state.playout.window old.desk.state play new.desk.state
   pub changes : ChangesInPlay play.outcome old.desk new.desk
   pub marks : KeepsMarks old new
 

@@ -3,6 +3,7 @@
 use Rattle.std.specs.Prelude.{◌≡◌, ℕ, zero, suc, List, [], ◌∷◌, map, Some, None}
 use Rattle.fg_words.specs.declared.Word.{Word}
 use Rattle.fg_words.specs.Word.{zero_word}
+use Rattle.fg_shape.specs.Playout.{Playout}
 use Rattle.fg_desk.specs.declared.reply.Reply.{Reply}
 use Rattle.fg_desk.specs.declared.reply.Reply.TheVariants.{Admitted, Duplicate, Conflict, Late, NotStarted, BeforeStart, Ahead, Crowded}
 use Rattle.fg_desk.specs.declared.reply.Outcome.{Outcome}
@@ -105,12 +106,13 @@ call_from (suc (suc (suc (suc (suc kind)))) ∷ first ∷ count ∷ outcome ∷ 
 call_from _ = flush None
 
 -- The list with which the admitter's calls begin: the window and the depth.
-abbrev pub opening_code : ℕ → ℕ → Entry
-opening_code window depth = window ∷ depth ∷ []
+abbrev pub opening_code : Playout → Entry
+opening_code playout = playout.window ∷ playout.depth ∷ []
 
 -- What entries, the first of them the opening, make of a board.
 abbrev pub IsOwnedBy : List Entry → BoardState → Type 0
-IsOwnedBy ((window ∷ depth ∷ rest) ∷ entries) board = IsOwned window depth (map call_from entries) board
+IsOwnedBy ((window ∷ depth ∷ rest) ∷ entries) board =
+    IsOwned (record { window = window; depth = depth }) (map call_from entries) board
 IsOwnedBy _ board = ⊥
 
 -- A board has grown from what these lists tell.

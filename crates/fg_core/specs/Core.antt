@@ -6,6 +6,7 @@ use Rattle.std.specs.FinSet.{contains}
 use Rattle.fg_words.specs.declared.Word.{Word}
 use Rattle.fg_words.specs.Word.{IsMedia}
 use Rattle.fg_shape.specs.Shape.{IsShape}
+use Rattle.fg_shape.specs.Playout.{Playout}
 use Rattle.fg_peel.specs.Equation.{Equation, IsSettled}
 use Rattle.fg_desk.specs.declared.reply.Reply.{Reply}
 use Rattle.fg_desk.specs.declared.desk.Played.{Played}
@@ -43,7 +44,7 @@ abbrev pub IsCallOn : State → Call → State → Type 0
 IsCallOn old (media seq word reply) new = AdmitsMedia old seq word reply new
 IsCallOn old (parity given reply key) new = AdmitsParity old given reply new × GivesKey old reply key new
 IsCallOn old (play played) new =
-    (shown : List Shown) × IsPlay old.window old (play_of played shown) new × CountIs played shown
+    (shown : List Shown) × IsPlay old.playout.window old (play_of played shown) new × CountIs played shown
 IsCallOn old (flush None) new = Flushes old None new
 IsCallOn old (flush (Some played)) new =
     (shown : List Shown) × Flushes old (Some (play_of played shown)) new × CountIs played shown
@@ -70,9 +71,9 @@ KeyIsOf epoch (play played) = ⊤
 KeyIsOf epoch (flush played) = ⊤
 
 -- What the admitter's calls make of a board, whatever passes did between them.
-pub record IsOwned (window depth : ℕ) (calls : List Call) (board : BoardState) : Type 0 where
+pub record IsOwned (playout : Playout) (calls : List Call) (board : BoardState) : Type 0 where
   -- The desk is the one that the calls make of an empty one, with these answers.
-  pub desk : AreCallsOn (opening window depth) calls board.desk.state
+  pub desk : AreCallsOn (opening playout) calls board.desk.state
   pub facts : Holds board.desk.state
   -- What is solved is a peeling of it.
   pub solved : AreSolved board.desk
@@ -166,9 +167,9 @@ pub record World : Type 0 where
   pub own : List Told
   pub views : ℕ → List Told
 
-abbrev pub opened_world : ℕ → ℕ → World
-opened_world window depth =
-    record { board = opened_board window depth; calls = []; own = []; views = λ number. [] }
+abbrev pub opened_world : Playout → World
+opened_world playout =
+    record { board = opened_board playout; calls = []; own = []; views = λ number. [] }
 
 -- What one pass was told more.
 abbrev pub with_told : (ℕ → List Told) → ℕ → List Told → ℕ → List Told

@@ -1,9 +1,9 @@
 -- How the marks at places tell which live equations are handed out and vouched for. No public contract cites it.
-use Rattle.std.specs.Prelude.{◌≡◌, ◌⊎◌, ◌≤◌, ◌<◌, ◌&&◌, ◌==◌, ◌^◌, ℕ, Bool, true, false, List, length, slice_index_or, Option, Some, None, IsSome, IsSomeAnd}
+use Rattle.std.specs.Prelude.{◌≡◌, ◌⊎◌, ◌≤◌, ◌<◌, ◌&&◌, ◌==◌, ◌^◌, ℕ, Bool, true, false, List, length, slice_index_or, Option, Some, None, IsSome, IsSomeAnd, if◌then◌else◌}
 use Rattle.std.specs.List.{Contains}
 use Rattle.std.specs.Ordering.{nat_cmp}
 use Rattle.std.specs.FinMap.{get}
-use Rattle.std.specs.FinSet.{FinSet, contains}
+use Rattle.std.specs.FinSet.{FinSet, contains, insert, remove}
 use Rattle.fg_words.specs.declared.Word.{Word}
 use Rattle.fg_shape.specs.Shape.{IsShape}
 use Rattle.fg_peel.specs.declared.Line.{Line}
@@ -51,6 +51,12 @@ is_handed_out mark = mark.handed_out
 abbrev pub board_of : Contents → List Mark → BoardState
 board_of desk marks =
     record { desk = desk; vouched = marked is_vouched marks desk; handed_out = marked is_handed_out marks desk }
+
+-- An equation is handed out, or handed out no more.
+abbrev pub with_handed : BoardState → ℕ → Bool → BoardState
+with_handed board serial out = record board {
+  handed_out = (if out then insert board.handed_out serial else remove board.handed_out serial);
+}
 
 -- Each mark that says something is of an equation that was admitted, and of this epoch or an earlier one.
 abbrev pub ArePast : List Mark → ℕ → ℕ → Type 0

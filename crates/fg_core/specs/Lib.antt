@@ -1,3 +1,4 @@
+pub mod Below
 pub mod Board
 pub mod Codes
 pub mod Codings

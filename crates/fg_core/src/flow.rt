@@ -2,14 +2,14 @@
 
 ghost use Rattle.std.specs.Prelude.{◌≡◌, ◌↔◌, ◌<◌, ◌≤◌, length, Some, None, Option, IsSome, IfOk, IfErr, IfSome, IfNone, IsTrue, option_map};
 ghost use Rattle.std.specs.FinMap.{get};
-ghost use Rattle.std.specs.FinSet.{insert};
 ghost use Rattle.fg_words.specs.Word.{IsMedia};
 ghost use Rattle.fg_shape.specs.Shape.{IsShape};
 ghost use Rattle.fg_peel.specs.Equation.{IsSettled};
 ghost use Rattle.fg_desk.specs.State.{Live};
 ghost use Rattle.fg_desk.specs.Admission.{IsDue};
 ghost use Rattle.fg_desk.specs.Contents.{HasRoom, CanFill, known_in};
-ghost use Rattle.fg_core.specs.Board.{opened_board, IsCurrent, IsHeld, AdmitsMediaOn, AdmitsParityOn, PlaysOn, FlushesOn, Takes, Offers, Publishes, Attests, Vouches, GivesBack, Looks, Asks, TellsReadable, with_back, with_vouched, VouchedAreComplete};
+ghost use Rattle.fg_core.specs.Board.{opened_board, IsCurrent, IsHeld, AdmitsMediaOn, AdmitsParityOn, PlaysOn, FlushesOn, Takes, Offers, Publishes, Attests, Vouches, GivesBack, Looks, Asks, TellsReadable, with_vouched, VouchedAreComplete};
+ghost use Rattle.fg_core.specs.Flow.{with_handed};
 ghost use Rattle.fg_core.specs.Core.{play_of};
 
 use crate::fate::{Asked, Fate, Look};
@@ -64,7 +64,7 @@ impl Flow {
     pub fn new(alloc: Global, window: u32, depth: u32) -> Result<Flow, AllocError>
         requires window { (1 ≤ window) × (window ≤ 100) }
         requires depth { (window ≤ depth) × (depth ≤ 1000) }
-        ensures { IfOk result (λ flow. flow ≡ opened_board window depth) }
+        ensures { IfOk result (λ flow. flow ≡ opened_board (record { window = window; depth = depth })) }
     {
         Ok(Flow {
             desk: Box::new(alloc, Desk::new(alloc, window, depth)?)?,
@@ -125,7 +125,7 @@ impl Flow {
     pub fn play(&mut self, tray: &mut Tray) -> Played
         requires room { HasRoom self.old.desk.state }
         requires started { IsSome self.old.desk.state.top }
-        requires tray { self.old.desk.state.window ≤ tray.old.window }
+        requires tray { self.old.desk.state.playout.window ≤ tray.old.window }
         ensures play { PlaysOn self.old (play_of result tray.new.shown) self.new }
         ensures count { result.count ≡ length tray.new.shown }
         ensures tray { tray.new.window ≡ tray.old.window }
@@ -136,7 +136,7 @@ impl Flow {
     /// Makes a flush step, where one is defined.
     pub fn flush_step(&mut self, tray: &mut Tray) -> Option<Played>
         requires room { HasRoom self.old.desk.state }
-        requires tray { self.old.desk.state.window ≤ tray.old.window }
+        requires tray { self.old.desk.state.playout.window ≤ tray.old.window }
         ensures flushes { FlushesOn self.old (option_map (λ played. play_of played tray.new.shown) result) self.new }
         ensures count { IfSome result (λ played. played.count ≡ length tray.new.shown) }
         ensures none { IfNone result (tray.new ≡ tray.old) }
@@ -156,7 +156,7 @@ impl Flow {
             return Ok(None);
         };
         let work = work_of(alloc, &self.desk, key)?;
-        self.hand_out(key);
+        self.hand(key, true);
         Ok(Some(work))
     }
 
@@ -184,11 +184,11 @@ impl Flow {
     {
         match self.offer(key, slot, share) {
             Fate::Done => {
-                self.free(key);
+                self.hand(key, false);
                 Fate::Done
             }
             Fate::Beaten(other) => {
-                self.free(key);
+                self.hand(key, false);
                 Fate::Beaten(other)
             }
             Fate::Gone { mark, epoch } => Fate::Gone { mark, epoch },
@@ -221,7 +221,7 @@ impl Flow {
         }
         if zero {
             self.settle(key);
-            self.free(key);
+            self.hand(key, false);
         }
         Fate::Done
     }
@@ -233,7 +233,7 @@ impl Flow {
         if !self.holds(key) {
             return self.gone();
         }
-        self.free(key);
+        self.hand(key, false);
         Fate::Done
     }
 
@@ -296,25 +296,14 @@ impl Flow {
         self.marks.put(key.place, mark);
     }
 
-    /// Marks an equation as handed out no more.
-    fn free(&mut self, key: Key)
+    /// Marks an equation as handed out, or as handed out no more.
+    fn hand(&mut self, key: Key, out: bool)
         requires { IsHeld self.old key }
-        ensures { self.new ≡ with_back self.old key.serial }
+        ensures { self.new ≡ with_handed self.old key.serial out }
     {
         facts(&self.desk);
         let mut mark = mark_of(&self.marks, key);
-        mark.handed_out = false;
-        self.marks.put(key.place, mark);
-    }
-
-    /// Marks an equation as handed out.
-    fn hand_out(&mut self, key: Key)
-        requires { IsHeld self.old key }
-        ensures { self.new ≡ record self.old { handed_out = insert self.old.handed_out key.serial } }
-    {
-        facts(&self.desk);
-        let mut mark = mark_of(&self.marks, key);
-        mark.handed_out = true;
+        mark.handed_out = out;
         self.marks.put(key.place, mark);
     }
 }

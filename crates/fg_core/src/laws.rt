@@ -1,5 +1,6 @@
 //! The laws of the core. Each is the contract of a function that does nothing, or only calls other laws.
 
+ghost use Rattle.fg_core.specs.Below.{CallLaws};
 ghost use Rattle.fg_core.specs.Codes.{CallsAreReadBack, ToldIsReadBack};
 ghost use Rattle.fg_core.specs.Laws.{OpeningIsOwned, CallsExtend, CallsKeepTold, EventsKeepOwned, EventsKeepTold, EventsLeaveTheState, AnswersHold};
 ghost use Rattle.fg_core.specs.Laws.{CoreHolds, LaterTurnsKeepCalls, ToldWordsAreFound, WordsOfEquationsAreFound, WorkedWordsFollow, CheckedComeOut, CallsMakeOneDesk};
@@ -17,9 +18,9 @@ pub fn opening_is_owned()
     facts_are_kept();
 }
 
-/// A call of the admitter extends its calls: the board is then what they make of it.
-pub fn calls_extend()
-    ensures { CallsExtend }
+/// What of the laws below those of calls rest on.
+fn laws_of_calls()
+    ensures { CallLaws }
 {
     facts_are_kept();
     admissions_add();
@@ -28,19 +29,21 @@ pub fn calls_extend()
     mark_makes_no_difference();
     live_equations();
     solved_stays_peeled();
+    one_outcome();
+}
+
+/// A call of the admitter extends its calls: the board is then what they make of it.
+pub fn calls_extend()
+    ensures { CallsExtend }
+{
+    laws_of_calls();
 }
 
 /// And it keeps what anybody was told.
 pub fn calls_keep_told()
     ensures { CallsKeepTold }
 {
-    facts_are_kept();
-    admissions_add();
-    peelings_stay();
-    confluence();
-    mark_makes_no_difference();
-    live_equations();
-    solved_stays_peeled();
+    laws_of_calls();
 }
 
 /// What the admitter's calls make of a board stays so whatever passes do, as long as each brings what follows from what
@@ -91,8 +94,7 @@ pub fn later_turns_keep_calls()
 pub fn calls_make_one_desk()
     ensures { CallsMakeOneDesk }
 {
-    facts_are_kept();
-    one_outcome();
+    laws_of_calls();
 }
 
 /// Who was told a word finds it there as long as its key isn't gone.

@@ -124,9 +124,8 @@ fn is_open(desk: &Desk, marks: &Marks, line: &Line) -> bool
         return false;
     }
     match missing(desk, line) {
-        Missing::Nothing => are_shared(desk, line),
-        Missing::One(_) => are_shared(desk, line),
         Missing::Several => false,
+        _ => are_shared(desk, line),
     }
 }
 

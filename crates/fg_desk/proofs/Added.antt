@@ -4,9 +4,9 @@ use Rattle.std.proofs.lemmas.Bool.{cases_eq}
 use Rattle.std.proofs.lemmas.Option.{same_Some}
 use Rattle.std.specs.FinMap.{get}
 use Rattle.fg_peel.specs.Equation.{Equation}
+use Rattle.fg_peel.proofs.Maps.{inserted, beside_inserted}
 use Rattle.fg_desk.specs.State.{State, Live}
 use Rattle.fg_desk.specs.Admission.{HaveSameSlots, HasTwin, with_equation}
-use Rattle.fg_window.proofs.Options.{inserted, beside_inserted}
 
 abbrev pub added : ℕ → Equation → Live
 added place equation = record { place = place; equation = equation }

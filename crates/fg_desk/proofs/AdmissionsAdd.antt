@@ -7,12 +7,13 @@ use Rattle.std.specs.FinMap.{get}
 use Rattle.fg_words.specs.declared.Word.{Word}
 use Rattle.fg_unwrap.specs.Position.{position_of}
 use Rattle.fg_peel.specs.Equation.{Equation}
+use Rattle.fg_peel.proofs.Options.{none_or_some, some_and}
+use Rattle.fg_peel.proofs.Maps.{inserted, beside_inserted, nothing_in_empty}
 use Rattle.fg_desk.specs.declared.reply.Reply.TheVariants.{Admitted}
 use Rattle.fg_desk.specs.State.{State, Live, known, live_equations}
 use Rattle.fg_desk.specs.Admission.{IsLeastFree, position_on, with_media, with_equation, equation_at}
 use Rattle.fg_desk.specs.Facts.{Holds}
 use Rattle.fg_desk.specs.Laws.{MediaAdds, ParityAdds}
-use Rattle.fg_window.proofs.Options.{none_or_some, some_and, inserted, beside_inserted, nothing_in_empty}
 use Rattle.fg_desk.proofs.Added.{added, at_added, beside_added, added_or_old}
 use Rattle.fg_desk.proofs.Equations.{serial_of, live_at}
 use Rattle.fg_desk.proofs.Orderly.{known_below, known_ahead}

@@ -8,13 +8,13 @@ use Rattle.std.specs.FinSet.{contains}
 use Rattle.std.proofs.lemmas.List.FromFn.{get_or-map-range_with_len}
 use Rattle.fg_words.specs.declared.Word.{Word}
 use Rattle.fg_peel.specs.Equation.{Keeps}
+use Rattle.fg_peel.proofs.Options.{chosen}
 use Rattle.fg_desk.specs.Admission.{kept_count}
 use Rattle.fg_desk.specs.Contents.{kept_shown}
 use Rattle.fg_desk.specs.Play.{nothing_shown}
 use Rattle.fg_window.specs.Row.{RowState, row_received, row_known, row_words, Advances}
 use Rattle.fg_desk.specs.State.{Words}
 use Rattle.fg_desk.proofs.DeskWords.{shown_in, received_below, received_ahead, known_kept, words_kept}
-use Rattle.fg_window.proofs.Options.{chosen}
 use Rattle.fg_window.proofs.Choices.{if-less, if-not_less}
 
 module _ (count : ℕ) (old new : RowState) (advances : Advances count old new) where

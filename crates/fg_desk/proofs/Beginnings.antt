@@ -2,6 +2,7 @@
 use Rattle.std.proofs.Common.{◌≡◌, ◌+◌, ◌-◌, ◌++◌, ℕ, min, List, [], ◌∷◌, Option, Some, None, sym, ap, subst, ◌∙◌, append_assoc}
 use Rattle.std.specs.List.{All}
 use Rattle.fg_words.specs.declared.Word.{Word}
+use Rattle.fg_shape.specs.Playout.{Playout}
 use Rattle.fg_peel.specs.Laws.{Uniqueness}
 use Rattle.fg_desk.specs.declared.reply.Reply.{Reply}
 use Rattle.fg_desk.specs.State.{State, opening}
@@ -32,9 +33,9 @@ module _ (unique : Uniqueness) where
   due_begin old seq [] plays now new orderly a b = (plays, λ i. plays)
   due_begin old seq (play ∷ due) [] now new orderly a b = absurd (b.0 a.0)
   due_begin old seq (play ∷ due) (play' ∷ plays) now new orderly a b =
-      let state : b.1.0 ≡ a.1.0 = one_state_after unique old.window old orderly play' play b.1.0 a.1.0 b.1.1 a.1.1 in
-      one_more play play' plays due (one_play unique old.window old orderly play' play b.1.0 a.1.0 b.1.1 a.1.1)
-      (due_begin a.1.0 seq due plays now new (orderly_after_play old.window old play a.1.0 a.1.1 orderly) a.1.2
+      let state : b.1.0 ≡ a.1.0 = one_state_after unique old.playout.window old orderly play' play b.1.0 a.1.0 b.1.1 a.1.1 in
+      one_more play play' plays due (one_play unique old.playout.window old orderly play' play b.1.0 a.1.0 b.1.1 a.1.1)
+      (due_begin a.1.0 seq due plays now new (orderly_after_play old.playout.window old play a.1.0 a.1.1 orderly) a.1.2
       (subst (λ (s : State). ArePlaysDue s seq plays new) state b.1.2))
 
   steps_begin :
@@ -45,13 +46,13 @@ module _ (unique : Uniqueness) where
   steps_begin old (play ∷ flushed) (play' ∷ plays) now empty orderly a b =
       let state : b.0 ≡ a.0 = one_state_after_step unique old orderly play' play b.0 a.0 b.1 a.1 in
       one_more play play' plays flushed (one_flush_step unique old orderly play' play b.0 a.0 b.1 a.1)
-      (steps_begin a.0 flushed plays now empty (orderly_after_play (min old.window (a.1.highest + 1 - old.mark)) old play a.0 a.1.plays orderly)
+      (steps_begin a.0 flushed plays now empty (orderly_after_play (min old.playout.window (a.1.highest + 1 - old.mark)) old play a.0 a.1.plays orderly)
       a.2 (subst (λ (s : State). IsFlush s plays empty) state b.2))
 
   pub one_taking : OneTaking
-  one_taking window depth arrivals plays plays' replies replies' new new' read a b =
-      let same = one_taking_all unique (opening window depth) arrivals plays plays' replies replies' new new'
-      (orderly_opening window depth) read a b in
+  one_taking playout arrivals plays plays' replies replies' new new' read a b =
+      let same = one_taking_all unique (opening playout) arrivals plays plays' replies replies' new new'
+      (orderly_opening playout) read a b in
       (same.play, same.answers, same.state)
 
   -- A run after its first datagrams.
@@ -63,14 +64,14 @@ module _ (unique : Uniqueness) where
     orderly : IsOrderly between
 
   goes_on :
-      (window depth : ℕ) (earlier later : List Arrival) (before taken : List Play) (first replies : List (Option Reply))
+      (playout : Playout) (earlier later : List Arrival) (before taken : List Play) (first replies : List (Option Reply))
       (between filled : State)
-      → All IsRead earlier → TakesAll (opening window depth) earlier before first between
-      → TakesAll (opening window depth) (earlier ++ later) taken replies filled → GoesOn later before taken between filled
-  goes_on window depth earlier later before taken first replies between filled read a b =
-      let parts = later_changes_nothing (opening window depth) filled earlier later taken replies b in
-      let same = one_taking_all unique (opening window depth) earlier parts.1 before parts.3 first parts.0 between
-      (orderly_opening window depth) read parts.5 a in
+      → All IsRead earlier → TakesAll (opening playout) earlier before first between
+      → TakesAll (opening playout) (earlier ++ later) taken replies filled → GoesOn later before taken between filled
+  goes_on playout earlier later before taken first replies between filled read a b =
+      let parts = later_changes_nothing (opening playout) filled earlier later taken replies b in
+      let same = one_taking_all unique (opening playout) earlier parts.1 before parts.3 first parts.0 between
+      (orderly_opening playout) read parts.5 a in
       record {
         after = parts.2;
         second = parts.4;
@@ -80,8 +81,8 @@ module _ (unique : Uniqueness) where
       }
 
   pub taken_plays_come_first : TakenPlaysComeFirst
-  taken_plays_come_first window depth earlier later before plays first replies taken read a run =
-      let rest = goes_on window depth earlier later before run.taken first replies taken run.filled read a run.takes in (
+  taken_plays_come_first playout earlier later before plays first replies taken read a run =
+      let rest = goes_on playout earlier later before run.taken first replies taken run.filled read a run.takes in (
         rest.after ++ run.flushed,
         run.plays_are ∙ ap (λ (ps : List Play). ps ++ run.flushed) rest.is ∙ append_assoc before rest.after run.flushed,
       )
@@ -100,8 +101,8 @@ module _ (unique : Uniqueness) where
       )
 
   pub due_plays_come_next : DuePlaysComeNext
-  due_plays_come_next window depth seq word earlier later before due plays first replies taken now read a played run =
-      let rest = goes_on window depth earlier (carries seq word ∷ later) before run.taken first replies taken run.filled read a run.takes in
+  due_plays_come_next playout seq word earlier later before due plays first replies taken now read a played run =
+      let rest = goes_on playout earlier (carries seq word ∷ later) before run.taken first replies taken run.filled read a run.takes in
       let begin = next_begins taken now run.filled seq word later due rest.after rest.second rest.orderly played rest.takes in (
         begin.0 ++ run.flushed,
         run.plays_are
@@ -112,9 +113,9 @@ module _ (unique : Uniqueness) where
       )
 
   pub flush_steps_come_next : FlushStepsComeNext
-  flush_steps_come_next window depth arrivals before flushed plays first replies taken now read a steps run =
-      let same = one_taking_all unique (opening window depth) arrivals run.taken before replies first run.filled taken
-      (orderly_opening window depth) read run.takes a in
+  flush_steps_come_next playout arrivals before flushed plays first replies taken now read a steps run =
+      let same = one_taking_all unique (opening playout) arrivals run.taken before replies first run.filled taken
+      (orderly_opening playout) read run.takes a in
       let orderly = subst IsOrderly same.state same.orderly in
       let begin = steps_begin taken flushed run.flushed now run.empty orderly steps
       (subst (λ (s : State). IsFlush s run.flushed run.empty) same.state run.flush) in (

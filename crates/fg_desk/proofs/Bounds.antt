@@ -4,28 +4,29 @@ use Rattle.std.proofs.lemmas.Option.{none-some, same_Some, MatchOption-from_none
 use Rattle.std.specs.Bool.{⊤}
 use Rattle.fg_words.specs.declared.Word.{Word}
 use Rattle.fg_unwrap.specs.Position.{position_of}
+use Rattle.fg_shape.specs.Playout.{Playout}
+use Rattle.fg_peel.proofs.Options.{none_or_some, some_and}
 use Rattle.fg_desk.specs.declared.reply.Reply.{Reply}
 use Rattle.fg_desk.specs.declared.reply.Reply.TheVariants.{Admitted}
 use Rattle.fg_desk.specs.State.{State, Top, opening}
 use Rattle.fg_desk.specs.Contents.{HasRoom}
 use Rattle.fg_desk.specs.Admission.{Parity, IsDue, IsLeastFree, IsAfterMedia, IsAfterParity, position_on, farther, with_media, with_equation, equation_at, counted}
 use Rattle.fg_desk.specs.Play.{Play, IsPlay}
-use Rattle.fg_window.proofs.Options.{none_or_some, some_and}
 use Rattle.fg_desk.proofs.Opened.{position_at_first, position_after}
 use Rattle.fg_desk.proofs.Parities.{position_most}
 
 -- A datagram lies at most 32,767 past the top, so `most` of them bring the top this far. The mark has passed what was
 -- due before `due` of them. A play moves the mark, so the calls are no more than datagrams and positions played.
 pub record Within (deep most due : ℕ) (desk : State) : Type 0 where
-  pub window : 1 ≤ desk.window
-  pub fits : desk.window ≤ desk.depth
-  pub depth_is : desk.depth ≡ deep
+  pub window : 1 ≤ desk.playout.window
+  pub fits : desk.playout.window ≤ desk.playout.depth
+  pub depth_is : desk.playout.depth ≡ deep
   pub top : (t : Top) → desk.top ≡ Some t → t.position ≤ 32767 * most
   pub mark : desk.mark ≤ 32767 * due
   pub calls : desk.calls ≤ most + desk.mark
 
-pub within_opening : (window depth : ℕ) → 1 ≤ window → window ≤ depth → Within depth 0 0 (opening window depth)
-within_opening window depth some fits = record {
+pub within_opening : (playout : Playout) → 1 ≤ playout.window → playout.window ≤ playout.depth → Within playout.depth 0 0 (opening playout)
+within_opening playout some fits = record {
   window = some;
   fits = fits;
   depth_is = refl;
@@ -47,7 +48,7 @@ within_next deep most desk w = record {
 -- What a due position is at most.
 pub due_at_most :
     (deep most : ℕ) (old : State) (seq : ℕ) → Within deep most (most + 1) old → IsDue old seq
-    → old.mark + old.depth ≤ 32767 * (most + 1)
+    → old.mark + old.playout.depth ≤ 32767 * (most + 1)
 due_at_most deep most old seq w due =
     let t = some_and old.top _ due in
     let p = some_and (position_of t.0.position t.0.seq seq) _ t.2 in
@@ -58,15 +59,15 @@ due_at_most deep most old seq w due =
 
 pub within_play :
     (deep most : ℕ) (old : State) (seq : ℕ) (play : Play) (next : State) → Within deep most (most + 1) old → IsDue old seq
-    → IsPlay old.window old play next → Within deep most (most + 1) next
+    → IsPlay old.playout.window old play next → Within deep most (most + 1) next
 within_play deep most old seq play next w due plays =
     let some = w.window in
     let fits = w.fits in
     let calls = w.calls in
     let limit = due_at_most deep most old seq w due in
     let mark = plays.mark in
-    let window : next.window ≡ old.window = ap (λ (s : State). s.window) plays.rest in
-    let depth : next.depth ≡ old.depth = ap (λ (s : State). s.depth) plays.rest in
+    let window : next.playout.window ≡ old.playout.window = ap (λ (s : State). s.playout.window) plays.rest in
+    let depth : next.playout.depth ≡ old.playout.depth = ap (λ (s : State). s.playout.depth) plays.rest in
     let count : next.calls ≡ old.calls + 1 = ap (λ (s : State). s.calls) plays.rest in
     let top : next.top ≡ old.top = ap (λ (s : State). s.top) plays.rest in
     record {

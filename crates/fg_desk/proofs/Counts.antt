@@ -6,17 +6,17 @@ use Rattle.std.proofs.lemmas.Bool.Decides.{Decides-eqb}
 use Rattle.std.specs.Int.{from_bool}
 use Rattle.fg_desk.specs.declared.reply.Reply.{Reply}
 use Rattle.fg_desk.specs.declared.reply.Reply.TheVariants.{Admitted, Duplicate, Conflict, Late, NotStarted, BeforeStart, Ahead, Crowded}
-use Rattle.fg_desk.specs.declared.run.Stream.{Stream}
-use Rattle.fg_desk.specs.declared.run.Stream.TheVariants.{Media, Column, Row}
+use Rattle.fg_shape.specs.declared.kind.Kind.{Kind}
+use Rattle.fg_shape.specs.declared.kind.Kind.TheVariants.{Media, Column, Row}
 use Rattle.fg_desk.specs.declared.run.Datagram.{Datagram}
 use Rattle.fg_desk.specs.Arrivals.{arrival_of}
-use Rattle.fg_desk.specs.Run.{Arrival, came_by, stream_number, reply_number, is_counted, count_of}
+use Rattle.fg_desk.specs.Run.{Arrival, came_by, kind_number, reply_number, is_counted, count_of}
 use Rattle.fg_desk.specs.Laws.{CountsAreOfReplies, CountsAdd, CountsStayWithin}
 
-stream_at : ℕ → Stream
+stream_at : ℕ → Kind
 stream_at n = get_or (Media ∷ Column ∷ []) n Row
 
-stream_is : (stream : Stream) → stream_at (stream_number stream) ≡ stream
+stream_is : (stream : Kind) → stream_at (kind_number stream) ≡ stream
 unfolding stream_at
 stream_is Media = refl
 stream_is Column = refl
@@ -43,14 +43,14 @@ reply_is None = refl
 pub counts_are_of_replies : CountsAreOfReplies
 counts_are_of_replies stream reply answer arrival = (
   λ is.
-      let both = and_parts (stream_number (came_by arrival) == stream_number stream) (reply_number answer == reply_number reply) is in
-      let streams = (Decides-eqb (stream_number (came_by arrival)) (stream_number stream)).0 both.0 in
+      let both = and_parts (kind_number (came_by arrival) == kind_number stream) (reply_number answer == reply_number reply) is in
+      let streams = (Decides-eqb (kind_number (came_by arrival)) (kind_number stream)).0 both.0 in
       let replies = (Decides-eqb (reply_number answer) (reply_number reply)).0 both.1 in (
         sym (stream_is (came_by arrival)) ∙ ap stream_at streams ∙ stream_is stream,
         sym (reply_is answer) ∙ ap reply_at replies ∙ reply_is reply,
       ),
-  λ both. and_from (stream_number (came_by arrival) == stream_number stream) (reply_number answer == reply_number reply)
-      ((Decides-eqb (stream_number (came_by arrival)) (stream_number stream)).1 (ap stream_number both.0))
+  λ both. and_from (kind_number (came_by arrival) == kind_number stream) (reply_number answer == reply_number reply)
+      ((Decides-eqb (kind_number (came_by arrival)) (kind_number stream)).1 (ap kind_number both.0))
       ((Decides-eqb (reply_number answer) (reply_number reply)).1 (ap reply_number both.1)),
 )
 
@@ -80,7 +80,7 @@ counts_stay_within stream reply (arrival ∷ arrivals) (answer ∷ answers) =
 
 -- The count of one more datagram, which is counted or not, and of all of them.
 pub count_more :
-    (stream : Stream) (reply : Option Reply) (datagrams : List Datagram) (answers : List (Option Reply)) (i : ℕ)
+    (stream : Kind) (reply : Option Reply) (datagrams : List Datagram) (answers : List (Option Reply)) (i : ℕ)
     (datagram : Datagram) (answer answer' : Option Reply) (counted : Bool) (count : ℕ)
     → i < length datagrams → i < length answers → answer ≡ get_or answers i answer'
     → counted ≡ is_counted stream reply (arrival_of (get_or datagrams i datagram)) answer
@@ -100,7 +100,7 @@ count_more stream reply datagrams answers i datagram answer answer' counted coun
     )
 
 pub count_all :
-    (stream : Stream) (reply : Option Reply) (datagrams : List Datagram) (answers : List (Option Reply)) (i : ℕ)
+    (stream : Kind) (reply : Option Reply) (datagrams : List Datagram) (answers : List (Option Reply)) (i : ℕ)
     → min (length datagrams) (length answers) ≤ i
     → count_of stream reply (map arrival_of (take i datagrams)) (take i answers)
     ≡ count_of stream reply (map arrival_of datagrams) answers

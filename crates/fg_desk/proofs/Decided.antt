@@ -4,8 +4,8 @@ use Rattle.std.proofs.lemmas.Bool.{cases_lt}
 use Rattle.std.specs.List.{Contains}
 pub use Rattle.fg_words.proofs.DecisionLemmas.{IsDecided, decided_both, decided_either, decided_if, decided_as, decided_below, decided_less, decided_most, decided_words, decided_media}
 use Rattle.fg_peel.specs.Verdict.{IsLeast}
+use Rattle.fg_peel.proofs.Lists.{Contains-here, Contains-there, Contains-cases, Contains-nil}
 use Rattle.fg_window.specs.Words.{IsGreatest}
-use Rattle.fg_window.proofs.Lists.{Contains-here, Contains-there, Contains-cases, Contains-nil}
 
 -- Of a list's elements.
 module _ {X : Type 0} (P : X → Type 0) (each : (x : X) → IsDecided (P x)) where

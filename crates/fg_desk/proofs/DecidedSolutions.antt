@@ -9,23 +9,16 @@ use Rattle.fg_words.specs.Word.{IsMedia}
 use Rattle.fg_peel.specs.Equation.{Equation, slots, sum_at, IsComplete, ComesOut, AllComeOut}
 use Rattle.fg_peel.specs.Solution.{FindsMedia}
 use Rattle.fg_peel.specs.Peeling.{IsSound, end_of}
-use Rattle.fg_peel.specs.Laws.{MaximalPeelingExists, MaximalPeelingsEndAtClosure, MaximalPeelingsAreTested, SoundWhereSolvable}
+use Rattle.fg_peel.proofs.Lists.{Contains-cases, Contains-nil}
+use Rattle.fg_peel.proofs.Options.{none_or_some, none_has_no_value, value_of, has_value}
 use Rattle.fg_desk.specs.State.{State, known, live_equations}
 use Rattle.fg_desk.specs.Solution.{InClosure, IsSolution, given, derived}
 use Rattle.fg_desk.specs.Play.{IsHighest}
-use Rattle.fg_window.proofs.Lists.{Contains-cases, Contains-nil}
-use Rattle.fg_window.proofs.Options.{none_or_some, none_has_no_value, value_of, has_value}
 use Rattle.fg_desk.proofs.Decided.{IsDecided, decided_both, decided_if, decided_as, decided_all, decided_below, greatest_or_none, decided_words, decided_media}
 use Rattle.fg_desk.proofs.MadeMaps.{limit_of, keys_limit}
+use Rattle.fg_desk.specs.Existence.{PeelingLaws}
 use Rattle.fg_desk.proofs.Orderly.{IsOrderly, known_ahead, admissible}
 use Rattle.fg_desk.proofs.Peeled.{closure_to_peel, closure_from_peel, solution_to_peel, solution_from_peel}
-
--- What is known of peelings.
-pub record PeelingLaws : Type 0 where
-  pub exists : MaximalPeelingExists
-  pub filled : MaximalPeelingsEndAtClosure
-  pub tested : MaximalPeelingsAreTested
-  pub solvable : SoundWhereSolvable
 
 -- All slots of a list's equations lie below a limit.
 slots_limit :

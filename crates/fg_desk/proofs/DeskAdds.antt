@@ -8,17 +8,18 @@ use Rattle.fg_words.specs.Word.{HasRoom}
 use Rattle.fg_shape.specs.Shape.{IsShape}
 use Rattle.fg_peel.specs.Equation.{Equation}
 use Rattle.fg_peel.specs.Laws.{PeelingsTakeEquations}
+use Rattle.fg_peel.proofs.Options.{none_or_some, none_has_no_value}
+use Rattle.fg_peel.proofs.Maps.{inserted, beside_inserted}
 use Rattle.fg_desk.specs.declared.reply.Reply.TheVariants.{Admitted}
 use Rattle.fg_desk.specs.State.{Live, known, live_equations}
 use Rattle.fg_desk.specs.Admission.{IsEquationReply, IsLeastFree, live_limit, with_equation}
 use Rattle.fg_desk.specs.Facts.{Holds}
-use Rattle.fg_desk.specs.Inside.{Parts, AreSound, state_of}
+use Rattle.fg_desk.specs.Inside.{AreLimited, Parts, AreSound, state_of}
 use Rattle.fg_window.specs.Row.{row_known, row_words}
 use Rattle.fg_window.specs.Lines.{LinesState, AreLines}
 use Rattle.fg_desk.proofs.Added.{added}
 use Rattle.fg_desk.proofs.AdmissionsAdd.{stays_listed}
-use Rattle.fg_desk.proofs.DeskPlays.{AreLimited, ComeByPeeling, sound_from}
-use Rattle.fg_window.proofs.Options.{none_or_some, none_has_no_value, inserted, beside_inserted}
+use Rattle.fg_desk.proofs.DeskPlays.{ComeByPeeling, sound_from}
 use Rattle.fg_desk.proofs.Parities.{IsNew, with_equation_holds}
 use Rattle.fg_window.proofs.Places.{free_place}
 
@@ -60,13 +61,13 @@ module _
 
   limited : AreLimited (with_line parts (lines_with parts place equation))
   limited =
-      let admitted = sound.admitted_limit in
-      let epoch = sound.epoch_limit in
+      let admitted = sound.limits.admitted_limit in
+      let epoch = sound.limits.epoch_limit in
       record {
-        depth_limit = sound.depth_limit;
-        reach = sound.reach;
-        mark_limit = sound.mark_limit;
-        top_limit = sound.top_limit;
+        depth_limit = sound.limits.depth_limit;
+        reach_is = sound.limits.reach_is;
+        mark_limit = sound.limits.mark_limit;
+        top_limit = sound.limits.top_limit;
         admitted_limit = omega (arith, admitted);
         calls_limit = omega (arith, calls);
         epoch_limit = omega (arith, epoch);

@@ -4,6 +4,8 @@ use Rattle.std.specs.FinMap.{get}
 use Rattle.fg_words.specs.declared.Word.{Word}
 use Rattle.fg_unwrap.specs.Position.{position_of}
 use Rattle.fg_peel.specs.Equation.{Equation}
+use Rattle.fg_peel.proofs.Maps.{inserted}
+use Rattle.fg_peel.proofs.Options.{some_and_from}
 use Rattle.fg_desk.specs.declared.reply.Reply.{Reply}
 use Rattle.fg_desk.specs.declared.reply.Reply.TheVariants.{Admitted, NotStarted, BeforeStart}
 use Rattle.fg_desk.specs.State.{State, Top, Live}
@@ -13,21 +15,20 @@ use Rattle.fg_desk.specs.Inside.{Parts, AreSound, state_of}
 use Rattle.fg_desk.proofs.Added.{added}
 use Rattle.fg_desk.proofs.DeskPlays.{sound_from}
 use Rattle.fg_desk.proofs.Opened.{counted_holds}
-use Rattle.fg_window.proofs.Options.{inserted, some_and_from}
 
 abbrev pub counted_parts : Parts → Parts
 counted_parts parts = record parts { calls = parts.calls + 1 }
 
 pub counted_sound : (parts : Parts) → AreSound parts → parts.calls < 2 ^ 62 → AreSound (counted_parts parts)
 counted_sound parts sound calls =
-    let admitted = sound.admitted_limit in
-    let epoch = sound.epoch_limit in
+    let admitted = sound.limits.admitted_limit in
+    let epoch = sound.limits.epoch_limit in
     sound_from (counted_parts parts)
     (record {
-      depth_limit = sound.depth_limit;
-      reach = sound.reach;
-      mark_limit = sound.mark_limit;
-      top_limit = sound.top_limit;
+      depth_limit = sound.limits.depth_limit;
+      reach_is = sound.limits.reach_is;
+      mark_limit = sound.limits.mark_limit;
+      top_limit = sound.limits.top_limit;
       admitted_limit = omega (arith, admitted);
       calls_limit = omega (arith, calls);
       epoch_limit = omega (arith, epoch);

@@ -13,6 +13,10 @@ use Rattle.fg_peel.specs.Equation.{AreMedia, IsSettled, slots, others}
 use Rattle.fg_peel.specs.Peeling.{Step, given_word}
 use Rattle.fg_peel.specs.Slots.{IsMissing}
 use Rattle.fg_peel.specs.Laws.{PeelingsAppend}
+use Rattle.fg_peel.proofs.Lists.{others-element}
+use Rattle.fg_peel.proofs.Sums.{sum_at-agree}
+use Rattle.fg_peel.proofs.Options.{or_second, none_or_some, none_has_no_value, value_of, has_value}
+use Rattle.fg_peel.proofs.Maps.{inserted, beside_inserted, removed, beside_removed}
 use Rattle.fg_desk.specs.State.{State, Live, known, live_equations}
 use Rattle.fg_desk.specs.Contents.{Contents, IsLiveAt, CanFill, filled}
 use Rattle.fg_desk.specs.Facts.{Holds}
@@ -20,17 +24,14 @@ use Rattle.fg_desk.specs.Inside.{Parts, AreSound, SettledComeOut, state_of, cont
 use Rattle.fg_window.specs.Row.{RowState, row_received, row_known, row_words, publishes}
 use Rattle.fg_window.specs.Lines.{LinesState, SettlesAt, Reopens}
 use Rattle.fg_desk.specs.Window.{MakesWay, without_cached}
-use Rattle.fg_desk.proofs.DeskOneWord.{IsWith, words_stay, same_words, peeled_with_step, settled_by_word}
-use Rattle.fg_desk.proofs.DeskPlays.{AreLimited, ComeByPeeling, StandBeside, sound_from}
-use Rattle.fg_desk.proofs.DeskReceives.{removed_here, removed_beside}
+use Rattle.fg_desk.proofs.DeskOneWord.{IsWith, with_removed, words_stay, same_words, peeled_with_step, settled_by_word}
+use Rattle.fg_desk.proofs.DeskPlays.{ComeByPeeling, StandBeside, sound_from}
 use Rattle.fg_desk.proofs.DeskRecovers.{are_in_row}
-use Rattle.fg_desk.proofs.DeskSums.{other_element}
 use Rattle.fg_desk.proofs.DeskWays.{Agrees, with_row, sound_without_cached, agrees_uncached}
-use Rattle.fg_desk.proofs.DeskWords.{or_first, or_second, or_neither, words_keep, received_ahead}
+use Rattle.fg_desk.proofs.DeskWords.{or_neither, words_keep, received_ahead}
 use Rattle.fg_desk.proofs.Equations.{live_at}
-use Rattle.fg_window.proofs.Options.{none_or_some, none_has_no_value, value_of, has_value, inserted, beside_inserted}
 use Rattle.fg_desk.proofs.Orderly.{orderly_from_holds, known_base}
-use Rattle.fg_desk.proofs.SettledWords.{sum_at-agree, settled_keeps}
+use Rattle.fg_desk.proofs.SettledWords.{settled_keeps}
 
 -- What is asked of a desk, of what it is seen as.
 pub fills_here :
@@ -77,21 +78,10 @@ module _
       (sym (one_at_place (state_of (with_row parts row parts.lines)) sound.facts serial serial' live other is is' place)) comes_out)
       ((settles.settled serial').0 settled)
 
-  limited : AreLimited (with_row parts row lines_then)
-  limited = record {
-    depth_limit = sound.depth_limit;
-    reach = sound.reach;
-    mark_limit = sound.mark_limit;
-    top_limit = sound.top_limit;
-    admitted_limit = sound.admitted_limit;
-    calls_limit = sound.calls_limit;
-    epoch_limit = sound.epoch_limit;
-  }
-
   pub sound_settled : AreSound (with_row parts row left)
   sound_settled =
       subst (λ (l : LinesState). AreSound (with_row parts row l)) lines_are
-      (sound_from (with_row parts row lines_then) limited sound.facts sound.cached sound.solved sound.peeled
+      (sound_from (with_row parts row lines_then) sound.limits sound.facts sound.cached sound.solved sound.peeled
       all_settled sound.rooms sound.beside)
 
 -- What is vouched for in the known words comes out in the row's.
@@ -110,7 +100,6 @@ module _
   received_none : row_received parts.row slot ≡ None
   received_none = (or_neither (row_received parts.row slot) (get parts.row.solved slot) missing.1).0
 
-  -- What the call that puts it there asks.
   pub slot_unsolved : get parts.row.solved slot ≡ None
   slot_unsolved = (or_neither (row_received parts.row slot) (get parts.row.solved slot) missing.1).1
 
@@ -148,12 +137,7 @@ module _
     }
 
     words_are : IsWith slot word (row_words parts.row) (row_words row_then)
-    words_are = record {
-      here = λ q here. or_first (row_known row_then q) (get (remove parts.row.cached slot) q) word (known_is.here q here);
-      beside = λ q beside.
-          (ap (λ (o : Option Word). option_or o (get (remove parts.row.cached slot) q)) (known_is.beside q beside)
-          ∙ ap (option_or (row_known parts.row q)) (removed_beside parts.row.cached slot q beside));
-    }
+    words_are = with_removed slot word (row_known parts.row) (row_known row_then) parts.row.cached known_is
 
     solved_then : ComeByPeeling parts (row_known row_then)
     solved_then =
@@ -174,7 +158,7 @@ module _
         ∙ ap (word_xor live.equation.parity)
         (sum_at-agree (row_known parts.row) (row_words parts.row) (others slot (slots live.equation))
         (λ q c.
-        let e = other_element slot (slots live.equation) q c in
+        let e = others-element slot (slots live.equation) q c in
         let v = value_of (row_known parts.row q) (missing.2 q e.0 e.1) in
         v.1 ∙ sym (words_keep parts.row q v.0 v.1)))
 
@@ -200,8 +184,8 @@ module _
 
     media_then : AreMedia (get (remove parts.row.cached slot))
     media_then q found at = ⊎_elim
-        (λ here. absurd (none-some found (sym (removed_here parts.row.cached slot q here) ∙ at)))
-        (λ beside. sound.cached q found (sym (removed_beside parts.row.cached slot q beside) ∙ at))
+        (λ here. absurd (none-some found (sym (removed parts.row.cached slot q here) ∙ at)))
+        (λ beside. sound.cached q found (sym (beside_removed parts.row.cached slot q beside) ∙ at))
         (cases_eq q slot)
 
     beside_then : StandBeside (with_row parts row_then parts.lines)
@@ -214,20 +198,9 @@ module _
         sound.beside q (subst (λ (o : Option Word). IsSome o) (beside_inserted parts.row.solved slot word q beside) some))
         (cases_eq q slot)
 
-    limited_then : AreLimited (with_row parts row_then parts.lines)
-    limited_then = record {
-      depth_limit = sound.depth_limit;
-      reach = sound.reach;
-      mark_limit = sound.mark_limit;
-      top_limit = sound.top_limit;
-      admitted_limit = sound.admitted_limit;
-      calls_limit = sound.calls_limit;
-      epoch_limit = sound.epoch_limit;
-    }
-
     sound_then : AreSound (with_row parts row_then parts.lines)
     sound_then =
-        sound_from (with_row parts row_then parts.lines) limited_then sound.facts media_then solved_then peeled_then
+        sound_from (with_row parts row_then parts.lines) sound.limits sound.facts media_then solved_then peeled_then
         (λ serial' other is' settled.
         settled_keeps (row_words parts.row) (row_words row_then) other.equation
         (words_stay slot word (row_words parts.row) (row_words row_then) words_are agrees)
@@ -243,6 +216,25 @@ module _
         (sound.facts.live serial live is).shape.some_offset missing word_is room (sound.rooms serial live is) known_is
         group.commutes group.associates group.has_zero group.undoes))
         left settles
+
+-- What the call that puts the word there asks.
+pub record CanPut (parts : Parts) (slot : ℕ) : Type 0 where
+  pub ahead : parts.row.mark ≤ slot
+  pub near : slot < parts.row.mark + parts.row.reach
+  pub none : get parts.row.media slot ≡ None
+  pub unsolved : get parts.row.solved slot ≡ None
+
+pub can_put :
+    (parts : Parts) → AreSound parts → (now : Contents) (place slot : ℕ) (word : Word) → contents_of parts ≡ now
+    → IsLiveAt now.state place (λ equation. CanFill now equation slot word) → CanPut parts slot
+can_put parts sound now place slot word is at =
+    let a = fills_here (contents_of parts) now place slot word is at in
+    record {
+      ahead = slot_ahead parts sound a.0 a.1 a.2 slot a.4.missing;
+      near = slot_near parts sound a.0 a.1 a.2 slot a.4.missing;
+      none = slot_no_media parts sound a.0 a.1 a.2 slot a.4.missing;
+      unsolved = slot_unsolved parts sound a.0 a.1 a.2 slot a.4.missing;
+    }
 
 -- So it is where way is made for the word.
 module _

@@ -4,16 +4,16 @@ use Rattle.std.proofs.Math.Nat.{le-min}
 use Rattle.std.proofs.lemmas.Bool.{cases_lt}
 use Rattle.std.specs.FinMap.{get}
 use Rattle.fg_peel.specs.Laws.{FoundKeepsClosure, MaximalPeelingsEndAtClosure, PeelingsKeepWords}
+use Rattle.fg_peel.proofs.Options.{none_has_no_value, value_of, has_value}
 use Rattle.fg_desk.specs.State.{Words, live_equations}
 use Rattle.fg_desk.specs.Play.{IsHighest, HasMore}
-use Rattle.fg_desk.specs.Inside.{Parts, AreSound, state_of}
+use Rattle.fg_desk.specs.Inside.{AreLimited, Parts, AreSound, state_of}
 use Rattle.fg_window.specs.Row.{RowState, row_received, row_known, row_words, IsRow, IsHighestWord}
 use Rattle.fg_desk.specs.Window.{IsRecovered}
-use Rattle.fg_desk.proofs.DeskPlays.{with_found, sound_without_found, AreLimited}
+use Rattle.fg_desk.proofs.DeskPlays.{with_found, sound_without_found}
 use Rattle.fg_desk.proofs.DeskRecovers.{has_closure, words_kept}
 use Rattle.fg_desk.proofs.DeskWords.{or_cases, or_neither, received_ahead, unsolved_below, uncached_below}
 use Rattle.fg_desk.proofs.Opened.{counted_holds}
-use Rattle.fg_window.proofs.Options.{none_has_no_value, value_of, has_value}
 use Rattle.fg_desk.proofs.SettledWords.{settled_keeps}
 
 -- No position at the mark or past it has a word.
@@ -44,13 +44,13 @@ module _
 
   sound_at : PeelingsKeepWords → parts.calls < 2 ^ 62 → AreSound (counted_with parts (with_found parts cached))
   sound_at keep calls =
-      let admitted = sound.admitted_limit in
-      let epoch = sound.epoch_limit in
+      let admitted = sound.limits.admitted_limit in
+      let epoch = sound.limits.epoch_limit in
       let limits : AreLimited (counted_with parts (with_found parts cached)) = record {
-        depth_limit = sound.depth_limit;
-        reach = sound.reach;
-        mark_limit = sound.mark_limit;
-        top_limit = sound.top_limit;
+        depth_limit = sound.limits.depth_limit;
+        reach_is = sound.limits.reach_is;
+        mark_limit = sound.limits.mark_limit;
+        top_limit = sound.limits.top_limit;
         admitted_limit = omega (arith, admitted);
         calls_limit = omega (arith, calls);
         epoch_limit = omega (arith, epoch);

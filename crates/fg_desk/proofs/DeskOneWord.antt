@@ -5,6 +5,7 @@ use Rattle.std.proofs.lemmas.Option.{none-some, same_Some}
 use Rattle.std.proofs.lemmas.Simd.{length-replicate}
 use Rattle.std.specs.List.{filter_map}
 use Rattle.std.specs.Option.{option_or}
+use Rattle.std.specs.FinMap.{get, remove}
 use Rattle.std.specs.Simd.Lanes.{zip2}
 use Rattle.fg_words.specs.declared.Word.{Word}
 use Rattle.fg_words.specs.Word.{HasRoom, word_xor, word_sum}
@@ -14,10 +15,13 @@ use Rattle.fg_peel.specs.Equation.{Equation, Keeps, Agree, IsSettled, slots, oth
 use Rattle.fg_peel.specs.Peeling.{Step, CanFollow, ArePeeled, after_step, given_word, end_of}
 use Rattle.fg_peel.specs.Slots.{IsMissing}
 use Rattle.fg_peel.specs.Laws.{PeelingsAppend, PeelingsTakeWords}
-use Rattle.fg_desk.proofs.DeskSums.{other_element, slots_differ, sum_split}
-use Rattle.fg_window.proofs.Options.{has_value}
-use Rattle.fg_desk.proofs.Peelings.{end_keeps}
-use Rattle.fg_desk.proofs.SettledWords.{sum_at-agree}
+use Rattle.fg_peel.proofs.Lists.{others-element}
+use Rattle.fg_peel.proofs.Slots.{slots_distinct}
+use Rattle.fg_peel.proofs.Sums.{sum_at-agree, sum_at-split}
+use Rattle.fg_peel.proofs.Options.{has_value, or_first}
+use Rattle.fg_peel.proofs.Maps.{beside_removed}
+use Rattle.fg_window.specs.Words.{Words}
+use Rattle.fg_peel.proofs.Peelings.{end_of-keeps}
 
 -- The later words have one more, or the same word anew.
 pub record IsWith (position : ℕ) (word : Word) (now later : ℕ → Option Word) : Type 0 where
@@ -48,6 +52,17 @@ or_itself : (one other : Option Word) → ((w : Word) → one ≡ Some w → oth
 or_itself None other keeps = refl
 or_itself (Some w) other keeps = keeps w refl
 
+-- Words with one more, before other words of which that position's goes.
+pub with_removed :
+    (position : ℕ) (word : Word) (now later : ℕ → Option Word) (others : Words) → IsWith position word now later
+    → IsWith position word (λ q. option_or (now q) (get others q)) (λ q. option_or (later q) (get (remove others position) q))
+with_removed position word now later others is = record {
+  here = λ q here. or_first (later q) (get (remove others position) q) word (is.here q here);
+  beside = λ q beside.
+      (ap (λ (o : Option Word). option_or o (get (remove others position) q)) (is.beside q beside)
+      ∙ ap (option_or (now q)) (beside_removed others position q beside));
+}
+
 -- A peeling stays one where a word becomes known at a position at which it has no other one.
 module _
     (take : PeelingsTakeWords) (equations : List Equation) (known more now later : ℕ → Option Word) (position : ℕ) (word : Word)
@@ -66,7 +81,7 @@ module _
       sym first ∙ sym second)
       (λ beside.
       same_Some one other
-      (sym (end_keeps known equations peeled.0 peeled.1 q one (sym (received.beside q beside) ∙ is)) ∙ found))
+      (sym (end_of-keeps known equations peeled.0 peeled.1 q one (sym (received.beside q beside) ∙ is)) ∙ found))
       (cases_eq q position)
 
   pub peeled_with_known : ArePeeled equations more later
@@ -81,7 +96,7 @@ module _
       (λ beside.
       added.beside q beside
       ∙ ap (λ (f : ℕ → Option Word). f q) peeled.2
-      ∙ or_itself (known q) (end_of known peeled.0 q) (end_keeps known equations peeled.0 peeled.1 q)
+      ∙ or_itself (known q) (end_of known peeled.0 q) (end_of-keeps known equations peeled.0 peeled.1 q)
       ∙ sym (r.1 q ∙ ap (λ (o : Option Word). option_or o (end_of known peeled.0 q)) (received.beside q beside)))
       (cases_eq q position) in
       (rest, r.0, λ i q. same q i)
@@ -130,7 +145,7 @@ module _
 
   same_rest : sum_at later (others slot (slots equation)) ≡ rest
   same_rest = sum_at-agree later now (others slot (slots equation))
-      (λ q c. added.beside q (other_element slot (slots equation) q c).1)
+      (λ q c. added.beside q (others-element slot (slots equation) q c).1)
 
   rest_room : HasRoom rest
   rest_room =
@@ -150,6 +165,6 @@ module _
         (λ here. has_value (later q) word (added.here q here))
         (λ beside. subst (λ (o : Option Word). IsSome o) (sym (added.beside q beside)) (missing.2 q c beside))
         (cases_eq q slot),
-    sym (sum_split commutes associates later slot word (added.here slot refl) (slots equation) (slots_differ equation some_offset) missing.0
+    sym (sum_at-split later slot word (added.here slot refl) (slots equation) (slots_distinct equation some_offset) missing.0
         ∙ ap (word_xor word) same_rest ∙ sums),
   )

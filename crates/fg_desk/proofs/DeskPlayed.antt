@@ -8,6 +8,7 @@ use Rattle.std.specs.FinMap.{get, empty, get-empty, same_map, nat_cmp-IsAntisymm
 use Rattle.std.specs.FinSet.{contains}
 use Rattle.fg_words.specs.declared.Word.{Word}
 use Rattle.fg_peel.specs.Laws.{FoundKeepsSolutions, PeelingsAppend, PeelingsKeepWords, SolutionsKeepPeelings}
+use Rattle.fg_peel.proofs.Options.{chosen}
 use Rattle.fg_desk.specs.declared.reply.Outcome.{Outcome}
 use Rattle.fg_desk.specs.declared.reply.Outcome.TheVariants.{Repaired, Inconsistent}
 use Rattle.fg_desk.specs.State.{live_equations}
@@ -23,7 +24,6 @@ use Rattle.fg_desk.specs.Window.{IsRecovered, Closes, without_found}
 use Rattle.fg_desk.proofs.Advancing.{none_solved}
 use Rattle.fg_desk.proofs.DeskPlays.{played, with_found, repaired_play, repaired_sound, received_play, received_sound}
 use Rattle.fg_desk.proofs.DeskWords.{shown_in, received_ahead, words_unfound}
-use Rattle.fg_window.proofs.Options.{chosen}
 use Rattle.fg_window.proofs.Choices.{if-less, if-not_less}
 
 -- Where each kept word was received, no position is bare, whatever was solved.

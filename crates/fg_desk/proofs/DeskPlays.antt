@@ -11,16 +11,18 @@ use Rattle.fg_words.specs.Word.{HasRoom}
 use Rattle.fg_peel.specs.Equation.{AreMedia, IsComplete}
 use Rattle.fg_peel.specs.Peeling.{Step, ArePeeled, end_of}
 use Rattle.fg_peel.specs.Laws.{FoundKeepsSolutions, PeelingsAppend, PeelingsKeepWords, SolutionsKeepPeelings}
+use Rattle.fg_peel.proofs.Options.{none_has_no_value, passed_over}
+use Rattle.fg_peel.proofs.Maps.{nothing_in_empty}
 use Rattle.fg_desk.specs.declared.reply.Outcome.{Outcome}
 use Rattle.fg_desk.specs.declared.reply.Outcome.TheVariants.{Repaired, Inconsistent}
-use Rattle.fg_desk.specs.State.{Top, Live, Words, known, live_equations}
+use Rattle.fg_desk.specs.State.{Live, Words, known, live_equations}
 use Rattle.fg_desk.specs.Admission.{kept_count}
 use Rattle.fg_desk.specs.Facts.{Holds}
 use Rattle.fg_desk.specs.Contents.{epoch_after, kept_shown}
 use Rattle.fg_desk.specs.Solution.{IsSolution}
 use Rattle.fg_desk.specs.Play.{IsPlay}
 use Rattle.fg_desk.specs.Laws.{SolvedStaysPeeled}
-use Rattle.fg_desk.specs.Inside.{Parts, AreSound, SettledComeOut, state_of}
+use Rattle.fg_desk.specs.Inside.{AreLimited, Parts, AreSound, SettledComeOut, state_of}
 use Rattle.fg_window.specs.Row.{RowState, row_received, row_known, row_words, IsRow, Advances}
 use Rattle.fg_window.specs.Lines.{LinesState, no_lines}
 use Rattle.fg_desk.specs.Window.{IsRecovered, Keeps, without_found}
@@ -28,7 +30,6 @@ use Rattle.fg_desk.proofs.Advancing.{unsolved_below, known_below as known_in_new
 use Rattle.fg_desk.proofs.DeskRecovers.{desk_solution, desk_solvable, all_peeled}
 use Rattle.fg_desk.proofs.DeskWords.{shown_in, known_unsolved, words_unfound, received_ahead, found_is_word, words_in_play}
 use Rattle.fg_desk.proofs.Equations.{live_at}
-use Rattle.fg_window.proofs.Options.{none_has_no_value, nothing_in_empty, passed_over}
 use Rattle.fg_desk.proofs.Orderly.{orderly_from_holds, known_below}
 use Rattle.fg_desk.proofs.Plays.{words_are_media}
 use Rattle.fg_window.proofs.Choices.{if-not_less}
@@ -45,16 +46,6 @@ played parts outcome new left = record parts {
 
 abbrev pub with_found : Parts → Words → RowState
 with_found parts cached = record parts.row { cached = cached }
-
--- What is within its limits in a desk.
-pub record AreLimited (parts : Parts) : Type 0 where
-  pub depth_limit : parts.depth ≤ 1000
-  pub reach : parts.row.reach ≡ parts.depth + 100
-  pub mark_limit : parts.row.mark < 2 ^ 61 + 200
-  pub top_limit : (top : Top) → parts.top ≡ Some top → top.position < 2 ^ 61 + 2 ^ 16
-  pub admitted_limit : parts.admitted ≤ parts.calls
-  pub calls_limit : parts.calls ≤ 2 ^ 62
-  pub epoch_limit : parts.epoch ≤ parts.calls
 
 -- The parity words of the live equations have room.
 abbrev pub HaveRoom : Parts → Type 0
@@ -77,19 +68,13 @@ pub sound_from :
     → HaveRoom parts → StandBeside parts → AreSound parts
 sound_from parts limits facts cached solved peeled settled rooms beside = record {
   facts = facts;
-  depth_limit = limits.depth_limit;
-  reach = limits.reach;
+  limits = limits;
   cached = cached;
   solved = solved;
   peeled = peeled;
   settled = settled;
   rooms = rooms;
   beside = beside;
-  mark_limit = limits.mark_limit;
-  top_limit = limits.top_limit;
-  admitted_limit = limits.admitted_limit;
-  calls_limit = limits.calls_limit;
-  epoch_limit = limits.epoch_limit;
 }
 
 -- Without solved and found words a desk is sound.
@@ -114,16 +99,15 @@ module _
       (outcome : Outcome) → parts.row.mark < 2 ^ 61 → parts.calls < 2 ^ 62 → count ≤ 100 → new.mark ≡ parts.row.mark + count
       → new.reach ≡ parts.row.reach → AreLimited (played parts outcome new left)
   limited outcome mark calls most mark_is reach_is =
-      let reach = sound.reach in
-      let admitted = sound.admitted_limit in
+      let admitted = sound.limits.admitted_limit in
       record {
-        depth_limit = sound.depth_limit;
-        reach = reach_is ∙ reach;
+        depth_limit = sound.limits.depth_limit;
+        reach_is = reach_is ∙ sound.limits.reach_is;
         mark_limit = omega (arith, mark, most, mark_is);
-        top_limit = sound.top_limit;
+        top_limit = sound.limits.top_limit;
         admitted_limit = omega (arith, admitted);
         calls_limit = omega (arith, calls);
-        epoch_limit = epoch_rises outcome parts.epoch parts.calls sound.epoch_limit;
+        epoch_limit = epoch_rises outcome parts.epoch parts.calls sound.limits.epoch_limit;
       }
 
   module _ (advances : Advances count (with_found parts cached) new) (most : count ≤ 100)

@@ -2,29 +2,29 @@
 use Rattle.std.proofs.Common.{◌≡◌, ◌≢◌, ◌+◌, ◌<◌, ◌≤◌, ◌^◌, ◌==◌, ℕ, Bool, true, false, ltb, cond, Option, Some, None, IsSome, sym, ap, subst, ◌∙◌, ⊎_elim, arith, eq-eqb, ne_eqb}
 use Rattle.std.proofs.lemmas.Bool.{cases_eq, cond-true, cond-false}
 use Rattle.std.proofs.lemmas.Option.{none-some, same_Some}
-use Rattle.std.specs.Cmp.{unsigned_tied, nat_cmp_total}
-use Rattle.std.specs.FinMap.{FinMap, get, remove, empty, get-remove, get-empty, same_map, nat_cmp-IsAntisymmetric}
-use Rattle.std.specs.Option.{option_or}
-use Rattle.std.specs.Ordering.{nat_cmp, eq_by_cmp}
+use Rattle.std.specs.Cmp.{nat_cmp_total}
+use Rattle.std.specs.FinMap.{FinMap, get, remove, empty, get-empty, same_map, nat_cmp-IsAntisymmetric}
+use Rattle.std.specs.Ordering.{nat_cmp}
 use Rattle.fg_words.specs.declared.Word.{Word}
 use Rattle.fg_words.specs.Word.{IsMedia}
 use Rattle.fg_peel.specs.Equation.{AreMedia}
 use Rattle.fg_peel.specs.Laws.{PeelingsTakeWords}
-use Rattle.fg_desk.specs.State.{State, Top, Live, Words, known, live_equations}
+use Rattle.fg_peel.proofs.Options.{or_first, or_second, some_and, none_has_no_value}
+use Rattle.fg_peel.proofs.Maps.{beside_inserted, removed, beside_removed}
+use Rattle.fg_desk.specs.State.{State, Top, Live, known, live_equations}
 use Rattle.fg_desk.specs.Admission.{farther, with_media}
 use Rattle.fg_desk.specs.Contents.{GivesWay}
 use Rattle.fg_desk.specs.Facts.{Holds}
-use Rattle.fg_desk.specs.Inside.{Parts, AreSound, state_of, contents_of, raised}
+use Rattle.fg_desk.specs.Inside.{AreLimited, Parts, AreSound, state_of, contents_of, raised}
 use Rattle.fg_window.specs.Row.{RowState, row_received, row_known, row_words, receives}
 use Rattle.fg_window.specs.Lines.{LinesState, Reopens}
 use Rattle.fg_desk.specs.Window.{MakesWay, without_cached, without_found}
 use Rattle.fg_desk.proofs.AdmissionsAdd.{known_with_media}
-use Rattle.fg_desk.proofs.DeskOneWord.{IsWith, words_stay, peeled_with_known}
-use Rattle.fg_desk.proofs.DeskPlays.{AreLimited, StandBeside, sound_from}
+use Rattle.fg_desk.proofs.DeskOneWord.{IsWith, with_removed, words_stay, peeled_with_known}
+use Rattle.fg_desk.proofs.DeskPlays.{StandBeside, sound_from}
 use Rattle.fg_desk.proofs.DeskWays.{Agrees, with_row, sound_without_cached, sound_without_all, agrees_uncached, agrees_unfound}
-use Rattle.fg_desk.proofs.DeskWords.{or_first, or_second, or_neither, received_ahead}
+use Rattle.fg_desk.proofs.DeskWords.{or_neither, received_ahead}
 use Rattle.fg_desk.proofs.Opened.{with_media_holds}
-use Rattle.fg_window.proofs.Options.{some_and, none_has_no_value, beside_inserted}
 use Rattle.fg_desk.proofs.SettledWords.{settled_keeps}
 
 -- The parts after the call.
@@ -55,37 +55,27 @@ pub raised_within : (epoch calls : ℕ) (answer : Bool) → epoch ≤ calls → 
 raised_within epoch calls true limit = omega (arith, limit)
 raised_within epoch calls false limit = omega (arith, limit)
 
--- What a map has after a removal.
-pub removed_here : (m : Words) (k q : ℕ) → q ≡ k → get (remove m k) q ≡ None
-removed_here m k q same =
-    get-remove nat_cmp_total m k q
-    ∙ cond-true (eq_by_cmp nat_cmp q k) None (get m q) (unsigned_tied q k ∙ eq-eqb q k same)
-
-pub removed_beside : (m : Words) (k q : ℕ) → q ≢ k → get (remove m k) q ≡ get m q
-removed_beside m k q other =
-    get-remove nat_cmp_total m k q
-    ∙ cond-false (eq_by_cmp nat_cmp q k) None (get m q) (unsigned_tied q k ∙ ne_eqb q k other)
-
+-- Nothing is removed from an empty map.
 nothing_removed : (k : ℕ) → remove (empty {X = Word} {R = nat_cmp}) k ≡ empty
 nothing_removed k = same_map nat_cmp_total nat_cmp-IsAntisymmetric (remove (empty {X = Word} {R = nat_cmp}) k) empty
     (λ q. ⊎_elim
-    (λ here. removed_here empty k q here ∙ sym (get-empty nat_cmp q))
-    (λ beside. removed_beside empty k q beside)
+    (λ here. removed empty k q here ∙ sym (get-empty nat_cmp q))
+    (λ beside. beside_removed empty k q beside)
     (cases_eq q k))
 
 module _
     (parts : Parts) (sound : AreSound parts) (position seq : ℕ) (word : Word) (ahead : parts.row.mark ≤ position)
-    (near : position < parts.row.mark + parts.depth) (none : get parts.row.media position ≡ None) (media : IsMedia word)
+    (near : position < parts.row.mark + parts.playout.depth) (none : get parts.row.media position ≡ None) (media : IsMedia word)
     (limit : position < 2 ^ 61 + 2 ^ 16) (calls : parts.calls < 2 ^ 62) (take : PeelingsTakeWords) (epoch : ℕ)
     (epoch_limit : epoch ≤ parts.calls + 1) (agrees : Agrees position word (row_words parts.row)) where
   limited : AreLimited (taken parts position seq word parts.row parts.lines epoch)
   limited =
-      let admitted = sound.admitted_limit in
+      let admitted = sound.limits.admitted_limit in
       record {
-        depth_limit = sound.depth_limit;
-        reach = sound.reach;
-        mark_limit = sound.mark_limit;
-        top_limit = farther_within (2 ^ 61 + 2 ^ 16) position seq parts.top limit sound.top_limit;
+        depth_limit = sound.limits.depth_limit;
+        reach_is = sound.limits.reach_is;
+        mark_limit = sound.limits.mark_limit;
+        top_limit = farther_within (2 ^ 61 + 2 ^ 16) position seq parts.top limit sound.limits.top_limit;
         admitted_limit = omega (arith, admitted);
         calls_limit = omega (arith, calls);
         epoch_limit = epoch_limit;
@@ -106,40 +96,26 @@ module _
   }
 
   known_is : IsWith position word (row_known parts.row) (row_known (receives parts.row position word))
-  known_is = record {
-    here = λ q here.
-        or_first (row_received (receives parts.row position word) q) (get (remove parts.row.solved position) q) word
-        (received_is.here q here);
-    beside = λ q beside.
-        (ap (λ (o : Option Word). option_or o (get (remove parts.row.solved position) q)) (received_is.beside q beside)
-        ∙ ap (option_or (row_received parts.row q)) (removed_beside parts.row.solved position q beside));
-  }
+  known_is = with_removed position word (row_received parts.row) (row_received (receives parts.row position word)) parts.row.solved received_is
 
   words_are : IsWith position word (row_words parts.row) (row_words (receives parts.row position word))
-  words_are = record {
-    here = λ q here.
-        or_first (row_known (receives parts.row position word) q) (get (remove parts.row.cached position) q) word
-        (known_is.here q here);
-    beside = λ q beside.
-        (ap (λ (o : Option Word). option_or o (get (remove parts.row.cached position) q)) (known_is.beside q beside)
-        ∙ ap (option_or (row_known parts.row q)) (removed_beside parts.row.cached position q beside));
-  }
+  words_are = with_removed position word (row_known parts.row) (row_known (receives parts.row position word)) parts.row.cached known_is
 
   unknown : known (state_of parts) position ≡ None
   unknown = received_ahead parts.row position ahead ∙ none
 
   cached_media : AreMedia (get (remove parts.row.cached position))
   cached_media q found is = ⊎_elim
-      (λ here. absurd (none-some found (sym (removed_here parts.row.cached position q here) ∙ is)))
-      (λ beside. sound.cached q found (sym (removed_beside parts.row.cached position q beside) ∙ is))
+      (λ here. absurd (none-some found (sym (removed parts.row.cached position q here) ∙ is)))
+      (λ beside. sound.cached q found (sym (beside_removed parts.row.cached position q beside) ∙ is))
       (cases_eq q position)
 
   solved_beside : StandBeside (taken parts position seq word parts.row parts.lines epoch)
   solved_beside q some = ⊎_elim
       (λ here.
-      absurd (none_has_no_value (get (remove parts.row.solved position) q) (removed_here parts.row.solved position q here) some))
+      absurd (none_has_no_value (get (remove parts.row.solved position) q) (removed parts.row.solved position q here) some))
       (λ beside.
-      let was = sound.beside q (subst (λ (o : Option Word). IsSome o) (removed_beside parts.row.solved position q beside) some) in
+      let was = sound.beside q (subst (λ (o : Option Word). IsSome o) (beside_removed parts.row.solved position q beside) some) in
       (was.0, beside_inserted parts.row.media position word q beside ∙ was.1))
       (cases_eq q position)
 
@@ -164,7 +140,7 @@ module _
     (none : get parts.row.media position ≡ None) where
   -- Whatever way is made, the desk is sound then.
   pub takes_sound :
-      position < parts.row.mark + parts.depth → IsMedia word → position < 2 ^ 61 + 2 ^ 16 → parts.calls < 2 ^ 62
+      position < parts.row.mark + parts.playout.depth → IsMedia word → position < 2 ^ 61 + 2 ^ 16 → parts.calls < 2 ^ 62
       → PeelingsTakeWords → (answer : Bool) (between : RowState) (left : LinesState) (epoch : ℕ) → epoch ≤ parts.calls + 1
       → MakesWay answer position word parts.row between parts.lines left
       → AreSound (taken parts position seq word between left epoch)

@@ -23,7 +23,7 @@ pub are_in_row : (parts : Parts) → AreSound parts → AreInRow parts.row parts
 are_in_row parts sound serial live is =
     let k = sound.facts.live serial live is in
     let near = k.near in
-    let reach = sound.reach in
+    let reach = sound.limits.reach_is in
     record {
       shape = k.shape;
       near = λ slot c. (let last = (slot_is_near live.equation slot k.shape c).last in omega (arith, last, near, reach));

@@ -5,14 +5,14 @@ use Rattle.std.specs.FinMap.{get, empty, get-empty}
 use Rattle.std.specs.Ordering.{nat_cmp}
 use Rattle.fg_words.specs.declared.Word.{Word}
 use Rattle.fg_peel.specs.Equation.{AreMedia, Keeps, IsComplete}
+use Rattle.fg_peel.proofs.Options.{or_second, some_and, none_has_no_value}
 use Rattle.fg_desk.specs.State.{Live, Words}
 use Rattle.fg_desk.specs.Inside.{Parts, AreSound, SettledComeOut}
 use Rattle.fg_window.specs.Row.{RowState, row_received, row_known, row_words}
 use Rattle.fg_window.specs.Lines.{LinesState, Reopens}
 use Rattle.fg_desk.specs.Window.{MakesWay, without_cached, without_found}
-use Rattle.fg_desk.proofs.DeskPlays.{AreLimited, ComeByPeeling, StandBeside, sound_from}
-use Rattle.fg_desk.proofs.DeskWords.{or_second, known_unsolved, words_uncached, words_unfound, words_keep, words_keep_received}
-use Rattle.fg_window.proofs.Options.{some_and, none_has_no_value}
+use Rattle.fg_desk.proofs.DeskPlays.{ComeByPeeling, StandBeside, sound_from}
+use Rattle.fg_desk.proofs.DeskWords.{known_unsolved, words_uncached, words_unfound, words_keep, words_keep_received}
 use Rattle.fg_desk.proofs.SettledWords.{settled_back}
 
 -- Where nothing is solved, nothing is withdrawn.
@@ -54,17 +54,6 @@ module _
       settled_back (row_words (with_others parts solved cached)) (row_words parts.row) live.equation fewer complete
       (sound.settled serial live is r.0)
 
-  limited : AreLimited (with_row parts (with_others parts solved cached) lines_then)
-  limited = record {
-    depth_limit = sound.depth_limit;
-    reach = sound.reach;
-    mark_limit = sound.mark_limit;
-    top_limit = sound.top_limit;
-    admitted_limit = sound.admitted_limit;
-    calls_limit = sound.calls_limit;
-    epoch_limit = sound.epoch_limit;
-  }
-
   pub sound_reopened :
       AreMedia (get cached) → ComeByPeeling parts (row_known (with_others parts solved cached))
       → ComeByPeeling parts (row_words (with_others parts solved cached))
@@ -72,7 +61,7 @@ module _
       → AreSound (with_row parts (with_others parts solved cached) left)
   sound_reopened media known words beside =
       subst (λ (l : LinesState). AreSound (with_row parts (with_others parts solved cached) l)) lines_are
-      (sound_from (with_row parts (with_others parts solved cached) lines_then) limited sound.facts media known words
+      (sound_from (with_row parts (with_others parts solved cached) lines_then) sound.limits sound.facts media known words
       still_settled sound.rooms beside)
 
 module _ (parts : Parts) (sound : AreSound parts) where

@@ -9,13 +9,13 @@ use Rattle.std.specs.FinSet.{contains}
 use Rattle.fg_words.specs.declared.Word.{Word}
 use Rattle.fg_words.specs.Word.{IsMedia}
 use Rattle.fg_peel.specs.Equation.{AreMedia, Keeps}
+use Rattle.fg_peel.proofs.Options.{none_or_some, has_value, or_first, or_second}
 use Rattle.fg_desk.specs.State.{State, known}
 use Rattle.fg_desk.specs.Facts.{Holds}
 use Rattle.fg_desk.specs.Contents.{kept_shown}
 use Rattle.fg_desk.specs.Play.{Shown}
 use Rattle.fg_desk.specs.TrayPlaces.{row_kept_from}
 use Rattle.fg_window.specs.Row.{RowState, row_received, row_known, row_words, IsRow}
-use Rattle.fg_window.proofs.Options.{none_or_some, has_value}
 use Rattle.fg_window.proofs.Choices.{if-less, if-not_less}
 
 pub or_none : (o : Option Word) → option_or o None ≡ o
@@ -47,12 +47,6 @@ shown_is_kept row first count ahead within =
     (none_or_some (get row.solved q))))
 
 -- The first of two words, and the second where there is no first.
-pub or_first : (one other : Option Word) (word : Word) → one ≡ Some word → option_or one other ≡ Some word
-or_first one other word is = ap (λ (o : Option Word). option_or o other) is
-
-pub or_second : (one other : Option Word) → one ≡ None → option_or one other ≡ other
-or_second one other none = ap (λ (o : Option Word). option_or o other) none
-
 pub or_cases : (one other : Option Word) (word : Word) → option_or one other ≡ Some word
     → (one ≡ Some word) ⊎ ((one ≡ None) × (other ≡ Some word))
 or_cases None other word is = inr (refl, is)

@@ -3,8 +3,8 @@ use Rattle.std.proofs.Common.{◌≡◌, ℕ, Some, subst}
 use Rattle.std.specs.List.{Contains}
 use Rattle.std.specs.FinMap.{get, entries}
 use Rattle.fg_peel.specs.Equation.{Equation}
-use Rattle.fg_window.proofs.Entries.{get_of_entry, entry_of_get}
-use Rattle.fg_window.proofs.Lists.{Contains-map, Contains-from_map}
+use Rattle.fg_peel.proofs.Maps.{get_of_entry, entry_of_get}
+use Rattle.fg_peel.proofs.Lists.{Contains-map, Contains-from_map}
 use Rattle.fg_desk.specs.State.{State, Live, live_equations}
 use Rattle.fg_desk.specs.Laws.{LiveStandUnderSerials}
 

@@ -28,7 +28,7 @@ flush_ends old new (play ∷ following ∷ plays) highest window is steps =
     let more : old.mark ≤ step.highest = step.more in
     let same : step.highest ≡ highest = one_highest old step.highest highest step.highest_is is in
     let mark = step.plays.mark in
-    let kept : steps.0.window ≡ old.window = ap (λ (s : State). s.window) step.plays.rest in
+    let kept : steps.0.playout.window ≡ old.playout.window = ap (λ (s : State). s.playout.window) step.plays.rest in
     let next = steps.0 in
     let step' = steps.2.1 in
     let after : ℕ = step'.highest in
@@ -36,6 +36,6 @@ flush_ends old new (play ∷ following ∷ plays) highest window is steps =
     let more' : next.mark ≤ after = step'.more in
     let rest : length (following ∷ plays) ≤ after + 1 - next.mark =
     flush_ends next new (following ∷ plays) after (omega (arith, window, kept)) step'.highest_is steps.2 in
-    let least : 1 ≤ min old.window (step.highest + 1 - old.mark) = omega (arith, window, more) in
+    let least : 1 ≤ min old.playout.window (step.highest + 1 - old.mark) = omega (arith, window, more) in
     let counted : length (play ∷ following ∷ plays) ≡ length (following ∷ plays) + 1 = omega arith in
     omega (arith, rest, falls, more', mark, least, counted, same, more)

@@ -1,6 +1,7 @@
 -- Later datagrams change nothing of earlier ones, and plays follow one another.
 use Rattle.std.proofs.Common.{◌≡◌, ◌+◌, ◌++◌, ℕ, List, [], ◌∷◌, length, Option, Some, None, refl, sym, ap, subst, ◌∙◌, append_assoc}
 use Rattle.fg_words.specs.declared.Word.{Word}
+use Rattle.fg_peel.proofs.Options.{some_and}
 use Rattle.fg_desk.specs.declared.reply.Reply.{Reply}
 use Rattle.fg_desk.specs.declared.reply.Reply.TheVariants.{Admitted}
 use Rattle.fg_desk.specs.State.{State, opening}
@@ -8,7 +9,6 @@ use Rattle.fg_desk.specs.Admission.{Parity, IsAfterMedia, IsAfterParity, IsLeast
 use Rattle.fg_desk.specs.Play.{Play, IsPlay}
 use Rattle.fg_desk.specs.Run.{Arrival, carries, protects, refused, ArePlaysDue, Takes, TakesAll, IsFlush}
 use Rattle.fg_desk.specs.Laws.{LaterChangesNothing, AreInSuccession, PlaysFollow}
-use Rattle.fg_window.proofs.Options.{some_and}
 
 pub later_changes_nothing : LaterChangesNothing
 later_changes_nothing old new [] later plays replies takes =
@@ -57,7 +57,7 @@ spans_append first middle last (play ∷ one) other a b =
 due_spans : (old : State) (seq : ℕ) (plays : List Play) (new : State) → ArePlaysDue old seq plays new → Spans old.mark plays new.mark
 due_spans old seq [] new is = spans_none old.mark new.mark (ap (λ (s : State). s.mark) is.1)
 due_spans old seq (play ∷ plays) new is =
-    spans_play old.window old play is.1.0 plays new.mark is.1.1 (due_spans is.1.0 seq plays new is.1.2)
+    spans_play old.playout.window old play is.1.0 plays new.mark is.1.1 (due_spans is.1.0 seq plays new is.1.2)
 
 pub media_keeps_mark : (old new : State) (seq : ℕ) (word : Word) (reply : Reply) → IsAfterMedia old seq word reply new → new.mark ≡ old.mark
 media_keeps_mark old new seq word Admitted after =
@@ -101,8 +101,8 @@ flush_spans old [] new is = spans_none old.mark new.mark (ap (λ (s : State). s.
 flush_spans old (play ∷ plays) new is = spans_play _ old play is.0 plays new.mark is.1.plays (flush_spans is.0 plays new is.2)
 
 pub plays_follow : PlaysFollow
-plays_follow window depth arrivals plays replies run =
-    let spans = spans_append (opening window depth).mark run.filled.mark run.empty.mark run.taken run.flushed
-    (all_spans (opening window depth) arrivals run.taken replies run.filled run.takes)
+plays_follow playout arrivals plays replies run =
+    let spans = spans_append (opening playout).mark run.filled.mark run.empty.mark run.taken run.flushed
+    (all_spans (opening playout) arrivals run.taken replies run.filled run.takes)
     (flush_spans run.filled run.flushed run.empty run.flush) in
     subst (λ (ps : List Play). AreInSuccession 0 ps) (sym run.plays_are) spans.follow

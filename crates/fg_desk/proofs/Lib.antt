@@ -16,7 +16,6 @@ pub mod DeskPlayed
 pub mod DeskPlays
 pub mod DeskReceives
 pub mod DeskRecovers
-pub mod DeskSums
 pub mod DeskWays
 pub mod DeskWords
 pub mod Equations
@@ -34,10 +33,10 @@ pub mod Orderly
 pub mod OrderlyAdmissions
 pub mod Parities
 pub mod Peeled
-pub mod Peelings
 pub mod PlainRuns
 pub mod PlayKeeps
 pub mod PlayOutcomes
+pub mod PlayedOn
 pub mod Plays
 pub mod Reaching
 pub mod Replies

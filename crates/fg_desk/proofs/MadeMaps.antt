@@ -5,9 +5,9 @@ use Rattle.std.proofs.lemmas.Option.{none-some, same_Some}
 use Rattle.std.specs.List.{Contains}
 use Rattle.std.specs.Ordering.{nat_cmp}
 use Rattle.std.specs.FinMap.{FinMap, get, entries, insert, empty, retain_keys, get-empty, get-retain_keys, nat_cmp-IsAntisymmetric}
-use Rattle.fg_window.proofs.Lists.{Contains-cases, Contains-nil, Contains-map}
-use Rattle.fg_window.proofs.Options.{none_or_some, inserted, beside_inserted}
-use Rattle.fg_window.proofs.Entries.{entry_of_get}
+use Rattle.fg_peel.proofs.Lists.{Contains-cases, Contains-nil, Contains-map}
+use Rattle.fg_peel.proofs.Options.{none_or_some}
+use Rattle.fg_peel.proofs.Maps.{inserted, beside_inserted, entry_of_get}
 use Rattle.fg_desk.proofs.Decided.{IsDecided}
 
 -- All numbers of a list lie below a limit.

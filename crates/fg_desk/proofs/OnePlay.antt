@@ -6,12 +6,12 @@ use Rattle.std.specs.Cmp.{nat_cmp_total}
 use Rattle.std.specs.FinMap.{FinMap, get, same_map, nat_cmp-IsAntisymmetric}
 use Rattle.fg_words.specs.declared.Word.{Word}
 use Rattle.fg_peel.specs.Laws.{Uniqueness}
+use Rattle.fg_peel.proofs.Options.{same_options}
 use Rattle.fg_desk.specs.declared.reply.Outcome.{Outcome}
 use Rattle.fg_desk.specs.declared.reply.Outcome.TheVariants.{Repaired, Inconsistent}
 use Rattle.fg_desk.specs.State.{State, Live, Words, known, live_equations}
 use Rattle.fg_desk.specs.Admission.{kept_count, counted}
 use Rattle.fg_desk.specs.Play.{Play, Shown, Decides, Survives, IsPlay, IsFlushStep, shown_at, nothing_shown}
-use Rattle.fg_window.proofs.Options.{same_options}
 use Rattle.fg_desk.proofs.Orderly.{IsOrderly, admissible}
 use Rattle.fg_desk.proofs.Peeled.{solution_to_peel}
 use Rattle.fg_desk.proofs.Flushing.{one_highest}
@@ -116,13 +116,13 @@ module _
 module _
     (unique : Uniqueness) (old : State) (orderly : IsOrderly old) (play play' : Play) (new new' : State)
     (a : IsFlushStep old play new) (b : IsFlushStep old play' new') where
-  same_plays : IsPlay (min old.window (a.highest + 1 - old.mark)) old play' new'
+  same_plays : IsPlay (min old.playout.window (a.highest + 1 - old.mark)) old play' new'
   same_plays =
-      subst (λ (h : ℕ). IsPlay (min old.window (h + 1 - old.mark)) old play' new')
+      subst (λ (h : ℕ). IsPlay (min old.playout.window (h + 1 - old.mark)) old play' new')
       (one_highest old b.highest a.highest b.highest_is a.highest_is) b.plays
 
   pub one_flush_step : play ≡ play'
-  one_flush_step = one_play unique (min old.window (a.highest + 1 - old.mark)) old orderly play play' new new' a.plays same_plays
+  one_flush_step = one_play unique (min old.playout.window (a.highest + 1 - old.mark)) old orderly play play' new new' a.plays same_plays
 
   pub one_state_after_step : new ≡ new'
-  one_state_after_step = one_state_after unique (min old.window (a.highest + 1 - old.mark)) old orderly play play' new new' a.plays same_plays
+  one_state_after_step = one_state_after unique (min old.playout.window (a.highest + 1 - old.mark)) old orderly play play' new new' a.plays same_plays

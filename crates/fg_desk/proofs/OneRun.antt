@@ -54,11 +54,11 @@ one_after_parity old parity Admitted new new' a b = at (position_on old parity.b
 one_after_parity old parity reply new new' a b = a ∙ sym b
 
 -- The two ends of plays and a reply, or of plays, are the same, and orderly.
-record SameStep (plays plays' : List Play) (reply reply' : Option Reply) (new new' : State) : Type 0 where
+pub record SameStep (plays plays' : List Play) (reply reply' : Option Reply) (new new' : State) : Type 0 where
   play : plays ≡ plays'
   answer : reply ≡ reply'
-  state : new ≡ new'
-  orderly : IsOrderly new
+  pub state : new ≡ new'
+  pub orderly : IsOrderly new
 
 record SamePlays (plays plays' : List Play) (new new' : State) : Type 0 where
   play : plays ≡ plays'
@@ -78,12 +78,12 @@ module _ (unique : Uniqueness) where
   one_due old seq (play ∷ plays) [] new new' orderly a b = absurd (b.0 a.0)
   one_due old seq (play ∷ plays) (play' ∷ plays') new new' orderly a b =
       let next = a.1.0 in
-      let state : next ≡ b.1.0 = one_state_after unique old.window old orderly play play' next b.1.0 a.1.1 b.1.1 in
+      let state : next ≡ b.1.0 = one_state_after unique old.playout.window old orderly play play' next b.1.0 a.1.1 b.1.1 in
       let rest : SamePlays plays plays' new new' =
-      one_due next seq plays plays' new new' (orderly_after_play old.window old play next a.1.1 orderly) a.1.2
+      one_due next seq plays plays' new new' (orderly_after_play old.playout.window old play next a.1.1 orderly) a.1.2
       (subst (λ (s : State). ArePlaysDue s seq plays' new') (sym state) b.1.2) in
       record {
-        play = same_cons play play' plays plays' (one_play unique old.window old orderly play play' next b.1.0 a.1.1 b.1.1) rest.play;
+        play = same_cons play play' plays plays' (one_play unique old.playout.window old orderly play play' next b.1.0 a.1.1 b.1.1) rest.play;
         state = rest.state;
         orderly = rest.orderly;
       }
@@ -114,7 +114,7 @@ module _ (unique : Uniqueness) where
         orderly = orderly_after_parity old new parity reply orderly some_offset a.reply_is a.after;
       }
 
-  one_taking :
+  pub one_taking :
       (old : State) (arrival : Arrival) (plays plays' : List Play) (reply reply' : Option Reply) (new new' : State) → IsOrderly old
       → IsRead arrival → Takes old arrival plays reply new → Takes old arrival plays' reply' new'
       → SameStep plays plays' reply reply' new new'
@@ -177,9 +177,9 @@ module _ (unique : Uniqueness) where
       (subst (λ (s : State). IsFlush s plays' new') (sym state) b.2))
 
   pub one_run : OneRun
-  one_run window depth arrivals plays plays' replies replies' read a b =
-      let taken = one_taking_all (opening window depth) arrivals a.taken b.taken replies replies' a.filled b.filled
-      (orderly_opening window depth) read a.takes b.takes in
+  one_run playout arrivals plays plays' replies replies' read a b =
+      let taken = one_taking_all (opening playout) arrivals a.taken b.taken replies replies' a.filled b.filled
+      (orderly_opening playout) read a.takes b.takes in
       let flushed : a.flushed ≡ b.flushed = one_flush a.filled a.flushed b.flushed a.empty b.empty taken.orderly a.flush
       (subst (λ (s : State). IsFlush s b.flushed b.empty) (sym taken.state) b.flush) in
       (a.plays_are ∙ (λ i. taken.play i ++ flushed i) ∙ sym b.plays_are, taken.answers)

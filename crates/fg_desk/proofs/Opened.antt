@@ -6,16 +6,17 @@ use Rattle.std.specs.FinMap.{get, insert, empty}
 use Rattle.fg_words.specs.declared.Word.{Word}
 use Rattle.fg_words.specs.Word.{IsMedia}
 use Rattle.fg_unwrap.specs.Position.{position_of}
+use Rattle.fg_peel.proofs.Options.{none_or_some, some_and, some_and_from}
+use Rattle.fg_peel.proofs.Maps.{nothing_in_empty, inserted, beside_inserted}
 use Rattle.fg_desk.specs.declared.reply.Reply.{Reply}
 use Rattle.fg_desk.specs.declared.reply.Reply.TheVariants.{Admitted, Late}
 use Rattle.fg_desk.specs.State.{State, Top, Words}
 use Rattle.fg_desk.specs.Admission.{IsDue, IsReplyAt, IsMediaReply, IsAfterMedia, position_on, farther, with_media, counted}
 use Rattle.fg_desk.specs.Facts.{Holds, IsReceived}
 use Rattle.fg_desk.specs.Laws.{OpeningHolds, MediaKeeps}
-use Rattle.fg_window.proofs.Options.{none_or_some, some_and, some_and_from, nothing_in_empty, inserted, beside_inserted}
 
 pub opening_holds : OpeningHolds
-opening_holds window depth one most fits = record {
+opening_holds playout one most fits = record {
   window = (one, most);
   depth = fits;
   kept = λ p w is. absurd (nothing_in_empty p w is);
@@ -36,18 +37,9 @@ renewed_holds :
 renewed_holds old top media calls holds received opened = record {
   window = holds.window;
   depth = holds.depth;
-  kept = λ p w is. (let k = holds.kept p w is in record { media = k.media; below = k.below; near = k.near });
+  kept = holds.kept;
   media = λ p w is. (let k = received p w is in record { media = k.media; ahead = k.ahead; near = k.near });
-  live = λ s l is. (let k = holds.live s l is in
-      record {
-        shape = k.shape;
-        base = k.base;
-        reaches = k.reaches;
-        near = k.near;
-        based = k.based;
-        numbered = k.numbered;
-        placed = k.placed;
-      });
+  live = holds.live;
   apart = holds.apart;
   unopened = λ none. (let o = opened none in let u = holds.unopened o.0 in (u.0, o.1, u.2, u.3));
 }
@@ -96,11 +88,11 @@ module _ (old : State) (seq : ℕ) where
 
   not_due_yet :
       (top : Top) (position : ℕ) → old.top ≡ Some top → position_of top.position top.seq seq ≡ Some position
-      → ¬ IsDue old seq → position < old.mark + old.depth
+      → ¬ IsDue old seq → position < old.mark + old.playout.depth
   not_due_yet top position is at not_due = ⊎_elim
       (λ near. near)
       (λ far. absurd (not_due (some_and_from old.top _ top is (some_and_from (position_of top.position top.seq seq) _ position at far))))
-      (cases_lt position (old.mark + old.depth))
+      (cases_lt position (old.mark + old.playout.depth))
 
 -- The reply at a position that is told.
 pub media_reply_at :

@@ -5,11 +5,12 @@ use Rattle.std.specs.List.{Contains}
 use Rattle.std.specs.FinMap.{get}
 use Rattle.fg_words.specs.declared.Word.{Word}
 use Rattle.fg_words.specs.Word.{IsMedia}
+use Rattle.fg_shape.specs.Playout.{Playout}
 use Rattle.fg_peel.specs.Equation.{Equation, slots, AreAdmissible}
+use Rattle.fg_peel.proofs.Maps.{nothing_in_empty}
 use Rattle.fg_desk.specs.State.{State, Live, known, live_equations, opening}
 use Rattle.fg_desk.specs.Admission.{HaveSameSlots}
 use Rattle.fg_desk.specs.Facts.{Holds}
-use Rattle.fg_window.proofs.Options.{nothing_in_empty}
 use Rattle.fg_desk.proofs.Equations.{serial_of}
 
 pub record IsOrderly (desk : State) : Type 0 where
@@ -23,8 +24,8 @@ pub record IsOrderly (desk : State) : Type 0 where
       (serial serial' : ℕ) (one other : Live) → get desk.equations serial ≡ Some one
       → get desk.equations serial' ≡ Some other → serial ≢ serial' → ¬ HaveSameSlots one.equation other.equation
 
-pub orderly_opening : (window depth : ℕ) → IsOrderly (opening window depth)
-orderly_opening window depth = record {
+pub orderly_opening : (playout : Playout) → IsOrderly (opening playout)
+orderly_opening playout = record {
   kept = λ p w is. absurd (nothing_in_empty p w is);
   media = λ p w is. absurd (nothing_in_empty p w is);
   some_offset = λ s l is. absurd (nothing_in_empty s l is);

@@ -7,11 +7,12 @@ use Rattle.std.specs.FinMap.{get}
 use Rattle.fg_words.specs.declared.Word.{Word}
 use Rattle.fg_words.specs.Word.{IsMedia}
 use Rattle.fg_peel.specs.Equation.{Equation, slots}
+use Rattle.fg_peel.proofs.Options.{some_and}
+use Rattle.fg_peel.proofs.Maps.{inserted, beside_inserted}
 use Rattle.fg_desk.specs.declared.reply.Reply.{Reply}
 use Rattle.fg_desk.specs.declared.reply.Reply.TheVariants.{Admitted}
 use Rattle.fg_desk.specs.State.{State, Live}
 use Rattle.fg_desk.specs.Admission.{Parity, HaveSameSlots, HasTwin, IsLate, IsLeastFree, IsAfterMedia, IsAfterParity, IsParityReply, position_on, with_media, with_equation, equation_at, counted}
-use Rattle.fg_window.proofs.Options.{some_and, inserted, beside_inserted}
 use Rattle.fg_desk.proofs.Added.{added_or_old, apart_with_added, flip_slots, no_twin_apart}
 use Rattle.fg_desk.proofs.Orderly.{IsOrderly}
 use Rattle.fg_desk.proofs.Parities.{is_admitted, based_unless_late}

@@ -8,6 +8,7 @@ use Rattle.std.specs.FinMap.{get}
 use Rattle.fg_shape.specs.Shape.{IsShape}
 use Rattle.fg_unwrap.specs.Position.{position_of}
 use Rattle.fg_peel.specs.Equation.{Equation, slots}
+use Rattle.fg_peel.proofs.Options.{none_or_some, some_and, chosen, has_value}
 use Rattle.fg_desk.specs.declared.reply.Reply.{Reply}
 use Rattle.fg_desk.specs.declared.reply.Reply.TheVariants.{Admitted, NotStarted, BeforeStart}
 use Rattle.fg_desk.specs.State.{State, Top, Live, last_slot}
@@ -15,7 +16,6 @@ use Rattle.fg_desk.specs.Contents.{HasRoom}
 use Rattle.fg_desk.specs.Admission.{Parity, IsLate, IsAhead, IsTimely, HasTwin, IsFree, IsLeastFree, IsEquationReply, IsParityReply, IsAfterParity, position_on, equation_at, with_equation, live_limit, kept_count}
 use Rattle.fg_desk.specs.Facts.{Holds, IsLive, AreApart}
 use Rattle.fg_desk.specs.Laws.{ParityKeeps}
-use Rattle.fg_window.proofs.Options.{none_or_some, some_and, chosen, has_value}
 use Rattle.fg_desk.proofs.Added.{added, added_or_old, apart_with_added, flip_slots, no_twin_apart}
 use Rattle.fg_desk.proofs.Opened.{counted_holds, position_after}
 use Rattle.fg_window.proofs.Places.{free_place}
@@ -44,11 +44,11 @@ reaches_unless_late old equation not_late = ⊎_elim
     (cases_lt (last_slot equation) old.mark)
 
 near_unless_ahead :
-    (old : State) (equation : Equation) → ¬ IsAhead old equation → last_slot equation < old.mark + old.depth + kept_count
+    (old : State) (equation : Equation) → ¬ IsAhead old equation → last_slot equation < old.mark + old.playout.depth + kept_count
 near_unless_ahead old equation not_ahead = ⊎_elim
     (λ near. near)
     (λ far. absurd (not_ahead far))
-    (cases_lt (last_slot equation) (old.mark + old.depth + kept_count))
+    (cases_lt (last_slot equation) (old.mark + old.playout.depth + kept_count))
 
 -- What is said of an admitted equation.
 pub record IsNew (old : State) (place : ℕ) (equation : Equation) : Type 0 where

@@ -10,10 +10,10 @@ use Rattle.fg_peel.specs.Equation.{Keeps}
 use Rattle.fg_peel.specs.Peeling.{Step, IsPeeling, after_step, given_word}
 use Rattle.fg_peel.specs.Laws.{Uniqueness}
 use Rattle.fg_peel.specs.Solution.{IsSolution as Solves}
+use Rattle.fg_peel.proofs.Options.{value_of}
 use Rattle.fg_desk.specs.State.{State, known, live_equations}
 use Rattle.fg_desk.specs.Solution.{InClosure, IsSolution, given, derived}
 use Rattle.fg_desk.specs.Laws.{ClosureIsPeelings, SolutionsArePeelings, StepsAreAhead, OneSolution}
-use Rattle.fg_window.proofs.Options.{value_of}
 use Rattle.fg_desk.proofs.Orderly.{IsOrderly, orderly_from_holds, known_base, admissible}
 
 pub closure_to_peel : (desk : State) (position : ℕ) → InClosure desk position → Follows (known desk) (live_equations desk) position

@@ -4,6 +4,7 @@ use Rattle.std.specs.List.{All}
 use Rattle.std.proofs.lemmas.List.{append-nil, length-map, map-append, take_more}
 use Rattle.std.proofs.lemmas.List.Elements.{All-push}
 use Rattle.fg_words.specs.declared.Word.{Word}
+use Rattle.fg_shape.specs.Playout.{Playout}
 use Rattle.fg_desk.specs.declared.reply.Reply.{Reply}
 use Rattle.fg_desk.specs.declared.run.Datagram.{Datagram}
 use Rattle.fg_desk.specs.declared.run.ShownPlay.{ShownPlay}
@@ -32,26 +33,26 @@ pub record HavePlayedSo (old : State) (seq : ℕ) (before : List ShownPlay) (new
   pub due : List Play
   pub added : map play_of plays ≡ map play_of before ++ due
   pub played : HavePlayed old seq due new
-  pub window : new.window ≡ old.window
+  pub playout : new.playout ≡ old.playout
 
 pub none_played : (old : State) (seq : ℕ) (before : List ShownPlay) → HavePlayedSo old seq before old before
 none_played old seq before = record {
   due = [];
   added = sym (append-nil (map play_of before));
   played = refl;
-  window = refl;
+  playout = refl;
 }
 
 pub one_more_played :
     (old between new : State) (seq : ℕ) (before plays plays' : List ShownPlay) (copy : ShownPlay) (play : Play)
     → PlaysDueJoin → HavePlayedSo old seq before between plays → IsDue between seq
-    → IsPlay between.window between play new → play_of copy ≡ play → plays' ≡ plays ++ copy ∷ []
+    → IsPlay between.playout.window between play new → play_of copy ≡ play → plays' ≡ plays ++ copy ∷ []
     → HavePlayedSo old seq before new plays'
 one_more_played old between new seq before plays plays' copy play join so due is copied more = record {
   due = so.due ++ play ∷ [];
   added = added_more before plays plays' copy so.due play so.added copied more;
   played = join old between new seq so.due (play ∷ []) so.played (due, (new, is, refl));
-  window = ap (λ (s : State). s.window) is.rest ∙ so.window;
+  playout = ap (λ (s : State). s.playout) is.rest ∙ so.playout;
 }
 
 -- A play moves the mark nearer to its limit.
@@ -63,14 +64,14 @@ pub record HaveFlushedSo (old : State) (before : List ShownPlay) (new : State) (
   pub flushed : List Play
   pub added : map play_of plays ≡ map play_of before ++ flushed
   pub steps : AreFlushSteps old flushed new
-  pub window : new.window ≡ old.window
+  pub playout : new.playout ≡ old.playout
 
 pub none_flushed : (old : State) (before : List ShownPlay) → HaveFlushedSo old before old before
 none_flushed old before = record {
   flushed = [];
   added = sym (append-nil (map play_of before));
   steps = refl;
-  window = refl;
+  playout = refl;
 }
 
 pub one_more_flushed :
@@ -81,12 +82,12 @@ one_more_flushed old between new before plays plays' copy play join so step copi
   flushed = so.flushed ++ play ∷ [];
   added = added_more before plays plays' copy so.flushed play so.added copied more;
   steps = join old between new so.flushed (play ∷ []) so.steps (new, step, refl);
-  window = ap (λ (s : State). s.window) step.plays.rest ∙ so.window;
+  playout = ap (λ (s : State). s.playout) step.plays.rest ∙ so.playout;
 }
 
 -- A flush step moves the mark nearer to its limit.
 pub step_nearer :
-    (limit : ℕ) (old new : State) (play : Play) → IsFlushStep old play new → 1 ≤ old.window → old.mark < limit
+    (limit : ℕ) (old new : State) (play : Play) → IsFlushStep old play new → 1 ≤ old.playout.window → old.mark < limit
     → limit - new.mark < limit - old.mark
 step_nearer limit old new play step some room =
     let more : old.mark ≤ step.highest = step.more in
@@ -94,33 +95,33 @@ step_nearer limit old new play step some room =
     omega (arith, more, is, some, room)
 
 -- What is taken so far of some datagrams.
-pub record HaveTakenSo (width deep : ℕ) (datagrams : List Datagram) (new : State) (plays : List ShownPlay) (replies : List (Option Reply)) : Type 0 where
-  pub takes : TakesAll (opening width deep) (map arrival_of datagrams) (map play_of plays) replies new
+pub record HaveTakenSo (playout : Playout) (datagrams : List Datagram) (new : State) (plays : List ShownPlay) (replies : List (Option Reply)) : Type 0 where
+  pub takes : TakesAll (opening playout) (map arrival_of datagrams) (map play_of plays) replies new
   pub read : All IsRead (map arrival_of datagrams)
-  pub window : new.window ≡ width
+  pub same : new.playout ≡ playout
 
 pub one_more_taken :
-    (window depth : ℕ) (datagrams datagrams' : List Datagram) (datagram : Datagram) (between new : State)
+    (playout : Playout) (datagrams datagrams' : List Datagram) (datagram : Datagram) (between new : State)
     (plays plays' : List ShownPlay) (due : List Play) (replies replies' : List (Option Reply)) (reply : Option Reply)
-    → TakingsJoin → HaveTakenSo window depth datagrams between plays replies
+    → TakingsJoin → HaveTakenSo playout datagrams between plays replies
     → datagrams' ≡ datagrams ++ datagram ∷ [] → Takes between (arrival_of datagram) due reply new
     → IsRead (arrival_of datagram) → map play_of plays' ≡ map play_of plays ++ due
-    → replies' ≡ replies ++ reply ∷ [] → new.window ≡ between.window
-    → HaveTakenSo window depth datagrams' new plays' replies'
-one_more_taken window depth datagrams datagrams' datagram between new plays plays' due replies replies' reply join so more takes read added told same =
+    → replies' ≡ replies ++ reply ∷ [] → new.playout ≡ between.playout
+    → HaveTakenSo playout datagrams' new plays' replies'
+one_more_taken playout datagrams datagrams' datagram between new plays plays' due replies replies' reply join so more takes read added told same =
     let arrivals : map arrival_of datagrams' ≡ map arrival_of datagrams ++ arrival_of datagram ∷ [] =
     ap (λ (ds : List Datagram). map arrival_of ds) more ∙ map-append arrival_of datagrams (datagram ∷ []) in
     let one : TakesAll between (arrival_of datagram ∷ []) due (reply ∷ []) new =
     (due, [], new, sym (append-nil due), takes, (refl, refl, refl)) in
-    let joined = join (opening window depth) between new (map arrival_of datagrams) (arrival_of datagram ∷ []) (map play_of plays) due replies (reply ∷ []) so.takes one in
+    let joined = join (opening playout) between new (map arrival_of datagrams) (arrival_of datagram ∷ []) (map play_of plays) due replies (reply ∷ []) so.takes one in
     record {
       takes =
-          subst (λ (arrivals : List Arrival). TakesAll (opening window depth) arrivals (map play_of plays') replies' new) (sym arrivals)
-          (subst (λ (ps : List Play). TakesAll (opening window depth) (map arrival_of datagrams ++ arrival_of datagram ∷ []) ps replies' new) (sym added)
-          (subst (λ (rs : List (Option Reply)). TakesAll (opening window depth) (map arrival_of datagrams ++ arrival_of datagram ∷ []) (map play_of plays ++ due) rs new) (sym told) joined));
+          subst (λ (arrivals : List Arrival). TakesAll (opening playout) arrivals (map play_of plays') replies' new) (sym arrivals)
+          (subst (λ (ps : List Play). TakesAll (opening playout) (map arrival_of datagrams ++ arrival_of datagram ∷ []) ps replies' new) (sym added)
+          (subst (λ (rs : List (Option Reply)). TakesAll (opening playout) (map arrival_of datagrams ++ arrival_of datagram ∷ []) (map play_of plays ++ due) rs new) (sym told) joined));
       read = subst (λ (arrivals : List Arrival). All IsRead arrivals) (sym arrivals)
           (All-push IsRead (map arrival_of datagrams) (arrival_of datagram) so.read read);
-      window = same ∙ so.window;
+      same = same ∙ so.same;
     }
 
 -- There are no more arrivals than datagrams.

@@ -5,23 +5,24 @@ use Rattle.std.specs.List.{Contains}
 use Rattle.std.specs.FinMap.{get, empty}
 use Rattle.fg_words.specs.declared.Word.{Word}
 use Rattle.fg_peel.specs.Equation.{Equation}
+use Rattle.fg_peel.proofs.Options.{value_of}
+use Rattle.fg_peel.proofs.Maps.{nothing_in_empty}
 use Rattle.fg_desk.specs.State.{State, Live, Words, known, live_equations}
 use Rattle.fg_desk.specs.Solution.{InClosure, given, derived}
 use Rattle.fg_desk.specs.Play.{Play, IsPlay, IsFlushStep}
 use Rattle.fg_desk.specs.Facts.{Holds, IsKept, IsReceived, IsLive}
 use Rattle.fg_desk.specs.Laws.{PlayKeeps, FlushStepKeeps, ClosureGainsNothing}
-use Rattle.fg_window.proofs.Options.{value_of, nothing_in_empty}
 use Rattle.fg_desk.proofs.Equations.{serial_of}
 use Rattle.fg_desk.proofs.Orderly.{orderly_from_holds, known_below, known_ahead}
 use Rattle.fg_desk.proofs.Opened.{counted_holds}
 use Rattle.fg_desk.proofs.Plays.{mark_rises, kept_near, kept_is_media, received_before, followed_before}
 
 module _ (count : ℕ) (old : State) (play : Play) (new : State) (plays : IsPlay count old play new) (holds : Holds old) where
-  same_window : new.window ≡ old.window
-  same_window = ap (λ (s : State). s.window) plays.rest
+  same_window : new.playout.window ≡ old.playout.window
+  same_window = ap (λ (s : State). s.playout.window) plays.rest
 
-  same_depth : new.depth ≡ old.depth
-  same_depth = ap (λ (s : State). s.depth) plays.rest
+  same_depth : new.playout.depth ≡ old.playout.depth
+  same_depth = ap (λ (s : State). s.playout.depth) plays.rest
 
   same_top : new.top ≡ old.top
   same_top = ap (λ (s : State). s.top) plays.rest

@@ -11,9 +11,9 @@ use Rattle.fg_desk.specs.declared.reply.Outcome.TheVariants.{Repaired, Inconsist
 use Rattle.fg_desk.specs.State.{State, Live, Words, last_slot}
 use Rattle.fg_desk.specs.Admission.{kept_count, counted}
 use Rattle.fg_desk.specs.Play.{Play, Shown, Decides, Survives, IsPlay, HasMore, IsFlushStep, shown_at, nothing_shown}
-use Rattle.fg_desk.specs.Existence.{SolutionsAreDecided, PlayHasOutcome, FlushHasOutcome}
+use Rattle.fg_desk.specs.Existence.{PeelingLaws, SolutionsAreDecided, PlayHasOutcome, FlushHasOutcome}
 use Rattle.fg_desk.proofs.Decided.{IsDecided, decided_both, decided_if, decided_as, decided_all, decided_less, decided_most}
-use Rattle.fg_desk.proofs.DecidedSolutions.{PeelingLaws, decided_some, highest_or_none, solution_or_none}
+use Rattle.fg_desk.proofs.DecidedSolutions.{decided_some, highest_or_none, solution_or_none}
 use Rattle.fg_desk.proofs.MadeMaps.{made_where, left_from, filtered}
 use Rattle.fg_desk.proofs.Orderly.{IsOrderly, orderly_from_holds}
 
@@ -108,7 +108,7 @@ module _ (laws : PeelingLaws) (desk : State) (orderly : IsOrderly desk) where
       let most = h.1.greatest more.0 more.1 in
       omega (arith, below, least, most)))
       (λ more.
-      let o = play_outcomes (min desk.window (h.0 + 1 - desk.mark)) in
+      let o = play_outcomes (min desk.playout.window (h.0 + 1 - desk.mark)) in
       inl (record { play = o.play; new = o.new; step = record { highest = h.0; highest_is = h.1; more = more; plays = o.plays } }))
       (cases_lt h.0 desk.mark))
       (λ none. inr (λ more. none more.0 more.1))

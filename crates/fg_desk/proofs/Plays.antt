@@ -6,13 +6,13 @@ use Rattle.std.specs.FinMap.{get}
 use Rattle.fg_words.specs.declared.Word.{Word}
 use Rattle.fg_words.specs.Word.{IsMedia}
 use Rattle.fg_peel.specs.Equation.{Equation}
+use Rattle.fg_peel.proofs.Options.{none_or_some, value_of, has_value, chosen, passed_over}
 use Rattle.fg_desk.specs.declared.reply.Outcome.{Outcome}
 use Rattle.fg_desk.specs.declared.reply.Outcome.TheVariants.{Repaired, Inconsistent}
 use Rattle.fg_desk.specs.State.{State, known, live_equations}
 use Rattle.fg_desk.specs.Admission.{kept_count}
 use Rattle.fg_desk.specs.Solution.{InClosure, given, derived}
 use Rattle.fg_desk.specs.Play.{Play, Decides, IsPlay}
-use Rattle.fg_window.proofs.Options.{none_or_some, value_of, has_value, chosen, passed_over}
 use Rattle.fg_desk.proofs.Equations.{serial_of, live_at}
 use Rattle.fg_desk.proofs.Orderly.{IsOrderly, known_below, known_ahead, known_media}
 

@@ -2,6 +2,7 @@
 use Rattle.std.proofs.Common.{◌≡◌, ◌+◌, ◌-◌, ◌≤◌, ◌++◌, ℕ, min, List, [], ◌∷◌, length, Option, Some, None, sym, ap, subst, ◌∙◌, arith}
 use Rattle.std.proofs.lemmas.List.Elements.{All-nil, All-cons, All-append}
 use Rattle.fg_words.specs.declared.Word.{Word}
+use Rattle.fg_peel.proofs.Options.{some_and}
 use Rattle.fg_desk.specs.declared.reply.Reply.{Reply}
 use Rattle.fg_desk.specs.declared.reply.Reply.TheVariants.{Admitted}
 use Rattle.fg_desk.specs.State.{State}
@@ -9,7 +10,6 @@ use Rattle.fg_desk.specs.Admission.{Parity, IsAfterMedia, IsAfterParity, IsLeast
 use Rattle.fg_desk.specs.Play.{Play, IsPlay}
 use Rattle.fg_desk.specs.Run.{Arrival, carries, protects, refused, Takes}
 use Rattle.fg_desk.specs.Laws.{HavePlayed, Reach, played_count, PlaysReachTheMark, DuePlaysReachTheMark, FlushStepsReachTheMark, EachGetsAReply}
-use Rattle.fg_window.proofs.Options.{some_and}
 use Rattle.fg_desk.proofs.Following.{media_keeps_mark, parity_keeps_mark}
 use Rattle.fg_desk.proofs.Joining.{plays_due_end}
 
@@ -46,14 +46,14 @@ reach_append old between new one other a b =
 reach_same : (old new new' : State) (plays : List Play) → new'.mark ≡ new.mark → Reach old plays new → Reach old plays new'
 reach_same old new new' plays same reach = let ends = reach.0 in (omega (arith, same, ends), reach.1)
 
-play_keeps_window : (count : ℕ) (old : State) (play : Play) (new : State) → IsPlay count old play new → new.window ≡ old.window
-play_keeps_window count old play new is = ap (λ (s : State). s.window) is.rest
+play_keeps_window : (count : ℕ) (old : State) (play : Play) (new : State) → IsPlay count old play new → new.playout.window ≡ old.playout.window
+play_keeps_window count old play new is = ap (λ (s : State). s.playout.window) is.rest
 
 pub due_reach : DuePlaysReachTheMark
 due_reach old new seq [] some played = reach_none old new (ap (λ (s : State). s.mark) played)
 due_reach old new seq (play ∷ plays) some played =
-    let window = play_keeps_window old.window old play played.1.0 played.1.1 in
-    reach_play old.window old play played.1.0 plays new some played.1.1
+    let window = play_keeps_window old.playout.window old play played.1.0 played.1.1 in
+    reach_play old.playout.window old play played.1.0 plays new some played.1.1
     (due_reach played.1.0 new seq plays (omega (arith, some, window)) played.1.2)
 
 pub steps_reach : FlushStepsReachTheMark
@@ -61,30 +61,30 @@ steps_reach old new [] some steps = reach_none old new (ap (λ (s : State). s.ma
 steps_reach old new (play ∷ plays) some steps =
     let step = steps.1 in
     let more : old.mark ≤ step.highest = step.more in
-    let window = play_keeps_window (min old.window (step.highest + 1 - old.mark)) old play steps.0 step.plays in
-    reach_play (min old.window (step.highest + 1 - old.mark)) old play steps.0 plays new (omega (arith, some, more)) step.plays
+    let window = play_keeps_window (min old.playout.window (step.highest + 1 - old.mark)) old play steps.0 step.plays in
+    reach_play (min old.playout.window (step.highest + 1 - old.mark)) old play steps.0 plays new (omega (arith, some, more)) step.plays
     (steps_reach steps.0 new plays (omega (arith, some, window)) steps.2)
 
-media_keeps_window : (old new : State) (seq : ℕ) (word : Word) (reply : Reply) → IsAfterMedia old seq word reply new → new.window ≡ old.window
+media_keeps_window : (old new : State) (seq : ℕ) (word : Word) (reply : Reply) → IsAfterMedia old seq word reply new → new.playout.window ≡ old.playout.window
 media_keeps_window old new seq word Admitted after =
-    let a = some_and (position_on old seq) (λ p. new ≡ with_media old seq p word) after in ap (λ (s : State). s.window) a.2
-media_keeps_window old new seq word reply after = ap (λ (s : State). s.window) after
+    let a = some_and (position_on old seq) (λ p. new ≡ with_media old seq p word) after in ap (λ (s : State). s.playout.window) a.2
+media_keeps_window old new seq word reply after = ap (λ (s : State). s.playout.window) after
 
-parity_keeps_window : (old new : State) (parity : Parity) (reply : Reply) → IsAfterParity old parity reply new → new.window ≡ old.window
+parity_keeps_window : (old new : State) (parity : Parity) (reply : Reply) → IsAfterParity old parity reply new → new.playout.window ≡ old.playout.window
 parity_keeps_window old new parity Admitted after =
     let a = some_and (position_on old parity.base)
     (λ position. (place : ℕ) × IsLeastFree old.equations place × (new ≡ with_equation old place (equation_at position parity))) after in
-    ap (λ (s : State). s.window) a.2.2
-parity_keeps_window old new parity reply after = ap (λ (s : State). s.window) after
+    ap (λ (s : State). s.playout.window) a.2.2
+parity_keeps_window old new parity reply after = ap (λ (s : State). s.playout.window) after
 
-due_keep_window : (old : State) (seq : ℕ) (plays : List Play) (new : State) → HavePlayed old seq plays new → new.window ≡ old.window
-due_keep_window old seq [] new played = ap (λ (s : State). s.window) played
+due_keep_window : (old : State) (seq : ℕ) (plays : List Play) (new : State) → HavePlayed old seq plays new → new.playout.window ≡ old.playout.window
+due_keep_window old seq [] new played = ap (λ (s : State). s.playout.window) played
 due_keep_window old seq (play ∷ plays) new played =
-    due_keep_window played.1.0 seq plays new played.1.2 ∙ play_keeps_window old.window old play played.1.0 played.1.1
+    due_keep_window played.1.0 seq plays new played.1.2 ∙ play_keeps_window old.playout.window old play played.1.0 played.1.1
 
 taking_reaches :
-    (old : State) (arrival : Arrival) (plays : List Play) (reply : Option Reply) (new : State) → 1 ≤ old.window
-    → Takes old arrival plays reply new → Reach old plays new × (new.window ≡ old.window)
+    (old : State) (arrival : Arrival) (plays : List Play) (reply : Option Reply) (new : State) → 1 ≤ old.playout.window
+    → Takes old arrival plays reply new → Reach old plays new × (new.playout.window ≡ old.playout.window)
 taking_reaches old (carries seq word) plays None new some takes = absurd takes
 taking_reaches old (carries seq word) plays (Some reply) new some takes =
     let due = takes.0 in
@@ -99,7 +99,7 @@ taking_reaches old (protects stream parity) plays (Some reply) new some takes = 
 )
 taking_reaches old (refused stream) plays None new some takes = (
   subst (λ (ps : List Play). Reach old ps new) (sym takes.0) (reach_none old new (ap (λ (s : State). s.mark) takes.1)),
-  ap (λ (s : State). s.window) takes.1,
+  ap (λ (s : State). s.playout.window) takes.1,
 )
 taking_reaches old (refused stream) plays (Some reply) new some takes = absurd takes
 

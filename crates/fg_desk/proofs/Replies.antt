@@ -6,11 +6,11 @@ use Rattle.std.specs.FinMap.{get}
 use Rattle.fg_words.specs.declared.Word.{Word}
 use Rattle.fg_unwrap.specs.Position.{position_of}
 use Rattle.fg_peel.specs.Equation.{Equation}
+use Rattle.fg_peel.proofs.Options.{some_and}
 use Rattle.fg_desk.specs.declared.reply.Reply.{Reply}
 use Rattle.fg_desk.specs.declared.reply.Reply.TheVariants.{Admitted, Duplicate, Conflict, Late, NotStarted, BeforeStart, Ahead, Crowded}
 use Rattle.fg_desk.specs.State.{State, Top, Live}
 use Rattle.fg_desk.specs.Admission.{Parity, IsReplyAt, IsMediaReply, IsEquationReply, IsParityReply, HasTwin, equation_at}
-use Rattle.fg_window.proofs.Options.{some_and}
 use Rattle.fg_desk.proofs.Orderly.{IsOrderly}
 
 module _ (desk : State) (position : ℕ) (word : Word) where

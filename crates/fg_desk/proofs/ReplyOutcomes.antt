@@ -8,13 +8,13 @@ use Rattle.std.specs.FinMap.{get, entries, len}
 use Rattle.fg_words.specs.declared.Word.{Word}
 use Rattle.fg_unwrap.specs.Position.{position_of}
 use Rattle.fg_peel.specs.Equation.{Equation, slots}
+use Rattle.fg_peel.proofs.Options.{none_or_some, some_and_from, none_has_no_value, has_value}
+use Rattle.fg_peel.proofs.Maps.{get_of_entry, entry_of_get}
 use Rattle.fg_desk.specs.declared.reply.Reply.{Reply}
 use Rattle.fg_desk.specs.declared.reply.Reply.TheVariants.{Admitted, Duplicate, Conflict, Late, NotStarted, BeforeStart, Ahead, Crowded}
 use Rattle.fg_desk.specs.State.{State, Top, Live, last_slot}
 use Rattle.fg_desk.specs.Admission.{Parity, IsReplyAt, IsMediaReply, AdmitsMedia, IsLate, IsFree, IsLeastFree, HaveSameSlots, HasTwin, IsEquationReply, IsParityReply, AdmitsParity, counted, position_on, with_media, with_equation, equation_at, live_limit, kept_count}
 use Rattle.fg_desk.specs.Existence.{MediaHasOutcome, ParityHasOutcome}
-use Rattle.fg_window.proofs.Options.{none_or_some, some_and_from, none_has_no_value, has_value}
-use Rattle.fg_window.proofs.Entries.{get_of_entry, entry_of_get}
 use Rattle.fg_window.proofs.Places.{free_place}
 use Rattle.fg_desk.proofs.Decided.{IsDecided, decided_both, decided_either, decided_as, decided_all, decided_any, least_of, decided_words, decided_less, decided_most}
 use Rattle.fg_desk.proofs.Opened.{position_at_first, position_after}
@@ -26,7 +26,7 @@ pub record MediaOutcome (old : State) (seq : ℕ) (word : Word) : Type 0 where
   pub reply : Reply
   pub new : State
   pub admits : AdmitsMedia old seq word reply new
-  pub window : new.window ≡ old.window
+  pub window : new.playout.window ≡ old.playout.window
 
 module _ (old : State) (seq : ℕ) (word : Word) where
   reply_at : (position : ℕ) → (reply : Reply) × IsReplyAt old position word reply
@@ -99,7 +99,7 @@ pub record ParityOutcome (old : State) (parity : Parity) : Type 0 where
   pub reply : Reply
   pub new : State
   pub admits : AdmitsParity old parity reply new
-  pub window : new.window ≡ old.window
+  pub window : new.playout.window ≡ old.playout.window
 
 decided_same_slots : (one other : Equation) → IsDecided (HaveSameSlots one other)
 decided_same_slots one other =
@@ -154,7 +154,7 @@ module _ (old : State) (equation : Equation) where
       (λ full. (Crowded, ((not_late, not_ahead), no_twin, full)))
       (cases_lt (len old.equations) live_limit))
       decided_twin)
-      (decided_most (old.mark + old.depth + kept_count) (last_slot equation)))
+      (decided_most (old.mark + old.playout.depth + kept_count) (last_slot equation)))
       decided_late
 
 decided_free : (old : State) (place : ℕ) → IsDecided (IsFree old.equations place)

@@ -6,7 +6,9 @@ use Rattle.std.proofs.lemmas.List.Elements.{All-head, All-tail}
 use Rattle.std.specs.List.{All, Contains}
 use Rattle.std.specs.FinMap.{get}
 use Rattle.fg_words.specs.declared.Word.{Word}
+use Rattle.fg_shape.specs.Playout.{Playout}
 use Rattle.fg_peel.specs.Equation.{Equation, slots}
+use Rattle.fg_peel.proofs.Options.{value_of, some_and}
 use Rattle.fg_desk.specs.declared.reply.Reply.{Reply}
 use Rattle.fg_desk.specs.State.{State, Top, opening}
 use Rattle.fg_desk.specs.Admission.{IsDue, kept_count}
@@ -15,7 +17,6 @@ use Rattle.fg_desk.specs.Play.{Play, IsFlushStep}
 use Rattle.fg_desk.specs.Run.{Arrival, carries, protects, refused, Takes, TakesAll}
 use Rattle.fg_desk.specs.Facts.{Holds}
 use Rattle.fg_desk.specs.Laws.{AreFlushSteps, IsRead, HavePlayed, RunsStayWithin, FlushesStayWithin}
-use Rattle.fg_window.proofs.Options.{value_of, some_and}
 use Rattle.fg_desk.proofs.Equations.{serial_of}
 use Rattle.fg_desk.proofs.Orderly.{known_ahead}
 use Rattle.fg_window.proofs.SlotRange.{slot_is_near}
@@ -45,7 +46,7 @@ reached_played deep most old seq (play ∷ plays) new r played =
     let next = played.1.0 in
     reached_played deep most next seq plays new
     (record {
-      holds = play_keeps old.window old next play r.holds (due_has_top old seq played.0) played.1.1;
+      holds = play_keeps old.playout.window old next play r.holds (due_has_top old seq played.0) played.1.1;
       within = within_play deep most old seq play next r.within played.0 played.1.1;
     })
     played.1.2
@@ -108,22 +109,22 @@ reached_all deep limit most old (arrival ∷ arrivals) plays (reply ∷ replies)
     (All-tail IsRead arrival arrivals read) takes.5
 
 reached_run :
-    (window depth : ℕ) (arrivals : List Arrival) (plays : List Play) (replies : List (Option Reply)) (new : State)
-    → 1 ≤ window → window ≤ 100 → window ≤ depth → All IsRead arrivals → length arrivals < 2 ^ 44
-    → TakesAll (opening window depth) arrivals plays replies new → IsReachedBelow depth (length arrivals) new
-reached_run window depth arrivals plays replies new one most fits read few takes =
-    reached_all depth (length arrivals) 0 (opening window depth) arrivals plays replies new few (omega arith)
-    (record { holds = opening_holds window depth one most fits; within = within_opening window depth one fits }) read takes
+    (playout : Playout) (arrivals : List Arrival) (plays : List Play) (replies : List (Option Reply)) (new : State)
+    → 1 ≤ playout.window → playout.window ≤ 100 → playout.window ≤ playout.depth → All IsRead arrivals → length arrivals < 2 ^ 44
+    → TakesAll (opening playout) arrivals plays replies new → IsReachedBelow playout.depth (length arrivals) new
+reached_run playout arrivals plays replies new one most fits read few takes =
+    reached_all playout.depth (length arrivals) 0 (opening playout) arrivals plays replies new few (omega arith)
+    (record { holds = opening_holds playout one most fits; within = within_opening playout one fits }) read takes
 
 pub runs_stay_within : RunsStayWithin
-runs_stay_within window depth seq arrivals plays due replies taken new one most fits read few takes played =
-    let b = reached_run window depth arrivals plays replies taken one most fits read few takes in
+runs_stay_within playout seq arrivals plays due replies taken new one most fits read few takes played =
+    let b = reached_run playout arrivals plays replies taken one most fits read few takes in
     let below = b.few in
-    let r = reached_played depth b.most taken seq due new (reached_next depth b.most taken b.reached) played in
-    (r.holds, room_within depth b.most new (omega (arith, below, few)) r.within)
+    let r = reached_played playout.depth b.most taken seq due new (reached_next playout.depth b.most taken b.reached) played in
+    (r.holds, room_within playout.depth b.most new (omega (arith, below, few)) r.within)
 
 -- What follows lies less than 100 positions past the depth.
-followed_is_near : (desk : State) → Holds desk → (position : ℕ) → InClosure desk position → position < desk.mark + desk.depth + kept_count
+followed_is_near : (desk : State) → Holds desk → (position : ℕ) → InClosure desk position → position < desk.mark + desk.playout.depth + kept_count
 followed_is_near desk holds position (given some) = ⊎_elim
     (λ below. omega (arith, below))
     (λ ahead.
@@ -151,16 +152,16 @@ flushing_step :
     (top : Option Top) (most end : ℕ) (old : State) (play : Play) (next : State) → IsFlushing top most end old
     → IsFlushStep old play next → IsFlushing top most end next
 flushing_step top most end old play next f step =
-    let count = min old.window (step.highest + 1 - old.mark) in
+    let count = min old.playout.window (step.highest + 1 - old.mark) in
     let some = f.holds.window.0 in
     let more : old.mark ≤ step.highest = step.more in
     let below : step.highest < end = f.inside step.highest step.highest_is.inside in
-    let mark : next.mark ≡ old.mark + min old.window (step.highest + 1 - old.mark) = step.plays.mark in
+    let mark : next.mark ≡ old.mark + min old.playout.window (step.highest + 1 - old.mark) = step.plays.mark in
     let calls = f.calls in
     let counted : next.calls ≡ old.calls + 1 = ap (λ (s : State). s.calls) step.plays.rest in
     record {
       holds = step_holds old next play f.holds step;
-      inside = λ p follows. f.inside p (followed_before (min old.window (step.highest + 1 - old.mark)) old play next step.plays p follows);
+      inside = λ p follows. f.inside p (followed_before (min old.playout.window (step.highest + 1 - old.mark)) old play next step.plays p follows);
       mark = omega (arith, mark, more, below);
       top_is = ap (λ (s : State). s.top) step.plays.rest ∙ f.top_is;
       calls = omega (arith, counted, calls, mark, some, more);
@@ -174,13 +175,13 @@ flushing_steps top most end old (play ∷ plays) new f steps =
     flushing_steps top most end steps.0 plays new (flushing_step top most end old play steps.0 f steps.1) steps.2
 
 pub flushes_stay_within : FlushesStayWithin
-flushes_stay_within window depth arrivals plays flushed replies filled new one most fits deep read few takes steps =
-    let b = reached_run window depth arrivals plays replies filled one most fits read few takes in
+flushes_stay_within playout arrivals plays flushed replies filled new one most fits deep read few takes steps =
+    let b = reached_run playout arrivals plays replies filled one most fits read few takes in
     let below = b.few in
     let w = b.reached.within in
     let mark = w.mark in
     let is = w.depth_is in
-    let f = flushing_steps filled.top b.most (filled.mark + filled.depth + kept_count) filled flushed new
+    let f = flushing_steps filled.top b.most (filled.mark + filled.playout.depth + kept_count) filled flushed new
     (record {
       holds = b.reached.holds;
       inside = followed_is_near filled b.reached.holds;

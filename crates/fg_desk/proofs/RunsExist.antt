@@ -4,6 +4,8 @@ use Rattle.std.proofs.lemmas.Option.{none-some, same_Some}
 use Rattle.std.proofs.lemmas.List.Elements.{All-head, All-tail}
 use Rattle.std.specs.List.{All}
 use Rattle.fg_unwrap.specs.Position.{position_of}
+use Rattle.fg_shape.specs.Playout.{Playout}
+use Rattle.fg_peel.proofs.Options.{none_or_some, some_and}
 use Rattle.fg_desk.specs.declared.reply.Reply.{Reply}
 use Rattle.fg_desk.specs.State.{State, Top, opening}
 use Rattle.fg_desk.specs.Admission.{IsDue}
@@ -12,10 +14,9 @@ use Rattle.fg_desk.specs.Play.{Play, IsPlay}
 use Rattle.fg_desk.specs.Run.{Arrival, carries, protects, refused, ArePlaysDue, Takes, TakesAll, IsFlush}
 use Rattle.fg_desk.specs.Laws.{IsRead}
 use Rattle.fg_desk.specs.Facts.{Holds}
-use Rattle.fg_desk.specs.Existence.{PlaysDueExist, FlushExists, TakingsExist, RunsExist}
-use Rattle.fg_window.proofs.Options.{none_or_some, some_and}
+use Rattle.fg_desk.specs.Existence.{PeelingLaws, PlaysDueExist, FlushExists, TakingsExist, RunsExist}
 use Rattle.fg_desk.proofs.Decided.{IsDecided, decided_most}
-use Rattle.fg_desk.proofs.DecidedSolutions.{PeelingLaws, closure_limit}
+use Rattle.fg_desk.proofs.DecidedSolutions.{closure_limit}
 use Rattle.fg_desk.proofs.Orderly.{IsOrderly, orderly_from_holds, orderly_opening}
 use Rattle.fg_desk.proofs.OrderlyAdmissions.{orderly_after_media, orderly_after_parity}
 use Rattle.fg_desk.proofs.Plays.{orderly_after_play, followed_before}
@@ -28,14 +29,14 @@ decided_and (Some x) P each = each x
 
 decided_due : (desk : State) (seq : ℕ) → IsDecided (IsDue desk seq)
 decided_due desk seq =
-    let IsFar : ℕ → Type 0 = λ position. desk.mark + desk.depth ≤ position in
+    let IsFar : ℕ → Type 0 = λ position. desk.mark + desk.playout.depth ≤ position in
     decided_and desk.top (λ top. IsSomeAnd (position_of top.position top.seq seq) IsFar)
-    (λ top. decided_and (position_of top.position top.seq seq) IsFar (λ position. decided_most (desk.mark + desk.depth) position))
+    (λ top. decided_and (position_of top.position top.seq seq) IsFar (λ position. decided_most (desk.mark + desk.playout.depth) position))
 
 -- What a run needs of a desk.
 record IsReady (desk : State) : Type 0 where
   orderly : IsOrderly desk
-  window : 1 ≤ desk.window
+  window : 1 ≤ desk.playout.window
 
 -- A datagram of this sequence number lies less than this far past the mark.
 abbrev LiesWithin : ℕ → State → ℕ → Type 0
@@ -109,7 +110,7 @@ none_due old seq ready none = record { plays = []; new = old; are_due = (none, r
 ready_after_play : (count : ℕ) (old : State) (play : Play) (new : State) → IsPlay count old play new → IsReady old → IsReady new
 ready_after_play count old play new plays ready =
     let some = ready.window in
-    let same : new.window ≡ old.window = ap (λ (s : State). s.window) plays.rest in
+    let same : new.playout.window ≡ old.playout.window = ap (λ (s : State). s.playout.window) plays.rest in
     record { orderly = orderly_after_play count old play new plays ready.orderly; window = omega (arith, some, same) }
 
 module _ (laws : PeelingLaws) where
@@ -117,10 +118,10 @@ module _ (laws : PeelingLaws) where
   due_exist zero old seq ready within = none_due old seq ready (not_due_within old seq within)
   due_exist (suc distance) old seq ready within = ⊎_elim
       (λ due.
-      let o = play_outcomes laws old ready.orderly old.window in
+      let o = play_outcomes laws old ready.orderly old.playout.window in
       let some = ready.window in
-      let mark : o.new.mark ≡ old.mark + old.window = o.plays.mark in
-      let rest = due_exist distance o.new seq (ready_after_play old.window old o.play o.new o.plays ready)
+      let mark : o.new.mark ≡ old.mark + old.playout.window = o.plays.mark in
+      let rest = due_exist distance o.new seq (ready_after_play old.playout.window old o.play o.new o.plays ready)
       (λ top position is at.
       let less = within top position (sym (ap (λ (s : State). s.top) o.plays.rest) ∙ is) at in
       omega (arith, less, mark, some)) in
@@ -192,10 +193,10 @@ module _ (laws : PeelingLaws) where
   flush_exist (suc left) old ready inside = ⊎_elim
       (λ s.
       let step = s.step in
-      let count : ℕ = min old.window (step.highest + 1 - old.mark) in
+      let count : ℕ = min old.playout.window (step.highest + 1 - old.mark) in
       let some = ready.window in
       let more : old.mark ≤ step.highest = step.more in
-      let mark : s.new.mark ≡ old.mark + min old.window (step.highest + 1 - old.mark) = step.plays.mark in
+      let mark : s.new.mark ≡ old.mark + min old.playout.window (step.highest + 1 - old.mark) = step.plays.mark in
       let rest = flush_exist left s.new (ready_after_play count old s.play s.new step.plays ready)
       (λ p follows.
       let less = inside p (followed_before count old s.play s.new step.plays p follows) in
@@ -212,8 +213,8 @@ module _ (laws : PeelingLaws) where
   ready_from_holds : (desk : State) → Holds desk → IsReady desk
   ready_from_holds desk holds = record { orderly = orderly_from_holds desk holds; window = holds.window.0 }
 
-  ready_opening : (window depth : ℕ) → 1 ≤ window → IsReady (opening window depth)
-  ready_opening window depth some = record { orderly = orderly_opening window depth; window = some }
+  ready_opening : (playout : Playout) → 1 ≤ playout.window → IsReady (opening playout)
+  ready_opening playout some = record { orderly = orderly_opening playout; window = some }
 
   pub plays_due_exist : PlaysDueExist
   plays_due_exist old seq holds =
@@ -223,13 +224,13 @@ module _ (laws : PeelingLaws) where
   flush_exists old holds = let f = flushed old (ready_from_holds old holds) in (f.plays, f.new, f.flush)
 
   pub takings_exist : TakingsExist
-  takings_exist window depth arrivals some read =
-      let all = all_taken (opening window depth) arrivals (ready_opening window depth some) read in
+  takings_exist playout arrivals some read =
+      let all = all_taken (opening playout) arrivals (ready_opening playout some) read in
       (all.plays, all.replies, all.new, all.takes)
 
   pub runs_exist : RunsExist
-  runs_exist window depth arrivals some read =
-      let all = all_taken (opening window depth) arrivals (ready_opening window depth some) read in
+  runs_exist playout arrivals some read =
+      let all = all_taken (opening playout) arrivals (ready_opening playout some) read in
       let f = flushed all.new all.ready in (
         all.plays ++ f.plays,
         all.replies,

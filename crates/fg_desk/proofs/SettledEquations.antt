@@ -13,12 +13,12 @@ use Rattle.fg_peel.specs.Closure.{InClosure, given, derived}
 use Rattle.fg_peel.specs.Solution.{IsSolution}
 use Rattle.fg_peel.specs.Peeling.{Step, CanFollow, EndsPeeling, end_of}
 use Rattle.fg_peel.specs.Laws.{AddsSettled, PeelingsTakeEquations, PeelingsKeepWords}
+use Rattle.fg_peel.proofs.Lists.{Contains-nil, Contains-map, Contains-from_map}
+use Rattle.fg_peel.proofs.Options.{value_of, has_value}
 use Rattle.fg_desk.specs.State.{State, Live, opening}
 use Rattle.fg_window.specs.Lines.{LinesState, AreOpen, live_of}
 use Rattle.fg_desk.specs.Window.{EachSettled, equations_in}
 use Rattle.fg_desk.proofs.Equations.{serial_of, live_at}
-use Rattle.fg_window.proofs.Lists.{Contains-nil, Contains-map, Contains-from_map}
-use Rattle.fg_window.proofs.Options.{value_of, has_value}
 
 -- No step follows of an equation that is complete already.
 no_step_of_complete :
@@ -67,7 +67,7 @@ ends_of_none known = ([], record { peeling = tt; no_more = λ step can. Contains
 
 -- A desk of which these are the live equations.
 abbrev pub desk_of : LinesState → State
-desk_of lines = record (opening 0 0) { equations = lines.live }
+desk_of lines = record (opening (record { window = 0; depth = 0 })) { equations = lines.live }
 
 pub serial_in : (lines : LinesState) (equation : Equation) → Contains (equations_in lines) equation
     → (serial : ℕ) × (live : Live) × (get lines.live serial ≡ Some live) × (live.equation ≡ equation)

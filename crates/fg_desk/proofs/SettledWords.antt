@@ -1,25 +1,10 @@
 -- Settled equations where the words change.
-use Rattle.std.proofs.Common.{◌≡◌, ℕ, List, [], ◌∷◌, Option, IsSome, refl, sym, ap, subst, ◌∙◌}
-use Rattle.std.specs.List.{Contains, filter_map, cons_option}
+use Rattle.std.proofs.Common.{◌≡◌, ℕ, Option, IsSome, sym, subst, ◌∙◌}
+use Rattle.std.specs.List.{Contains}
 use Rattle.fg_words.specs.declared.Word.{Word}
-use Rattle.fg_words.specs.Word.{word_sum}
-use Rattle.fg_peel.specs.Equation.{Equation, Keeps, IsComplete, IsSettled, slots, sum_at}
-use Rattle.fg_window.proofs.Lists.{Contains-here, Contains-there}
-use Rattle.fg_window.proofs.Options.{value_of, has_value}
-
-filter_map-agree :
-    (one other : ℕ → Option Word) (xs : List ℕ) → ((q : ℕ) → Contains xs q → one q ≡ other q)
-    → filter_map one xs ≡ filter_map other xs
-filter_map-agree one other [] same = refl
-filter_map-agree one other (x ∷ xs) same =
-    ap (λ (o : Option Word). cons_option o (filter_map one xs)) (same x (Contains-here x xs))
-    ∙ ap (cons_option (other x)) (filter_map-agree one other xs (λ q c. same q (Contains-there x xs q c)))
-
--- Where the words at its positions are the same, so is a sum.
-pub sum_at-agree :
-    (one other : ℕ → Option Word) (xs : List ℕ) → ((q : ℕ) → Contains xs q → one q ≡ other q)
-    → sum_at one xs ≡ sum_at other xs
-sum_at-agree one other xs same = ap word_sum (filter_map-agree one other xs same)
+use Rattle.fg_peel.specs.Equation.{Equation, Keeps, IsComplete, IsSettled, slots}
+use Rattle.fg_peel.proofs.Options.{value_of, has_value}
+use Rattle.fg_peel.proofs.Sums.{sum_at-agree}
 
 -- Where the words at its slots are the same, an equation stays settled.
 pub settled_where_same :

@@ -8,6 +8,7 @@ use Rattle.fg_words.specs.declared.Word.{Word}
 use Rattle.fg_peel.specs.Equation.{Equation, slots, Keeps}
 use Rattle.fg_peel.specs.Peeling.{end_of}
 use Rattle.fg_peel.specs.Laws.{PeelingsKeepWords, SolutionsKeepPeelings, PeelingsOutlivePlays, ReachesPast, IsPlayed}
+use Rattle.fg_peel.proofs.Options.{value_of, has_value}
 use Rattle.fg_desk.specs.declared.reply.Outcome.{Outcome}
 use Rattle.fg_desk.specs.declared.reply.Outcome.TheVariants.{Repaired}
 use Rattle.fg_desk.specs.State.{State, known, live_equations}
@@ -16,7 +17,6 @@ use Rattle.fg_desk.specs.Solution.{IsSolution}
 use Rattle.fg_desk.specs.Play.{Play, Decides, IsPlay}
 use Rattle.fg_desk.specs.Facts.{Holds}
 use Rattle.fg_desk.specs.Laws.{SolvedStaysPeeled}
-use Rattle.fg_window.proofs.Options.{value_of, has_value}
 use Rattle.fg_desk.proofs.Equations.{serial_of, live_at}
 use Rattle.fg_desk.proofs.Orderly.{orderly_from_holds, known_below, known_ahead, admissible}
 use Rattle.fg_desk.proofs.Peeled.{solution_to_peel}

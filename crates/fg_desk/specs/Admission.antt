@@ -26,7 +26,7 @@ position_on desk seq =
 abbrev pub IsDue : State → ℕ → Type 0
 IsDue desk seq =
     IsSomeAnd desk.top (λ top.
-    IsSomeAnd (position_of top.position top.seq seq) (λ position. desk.mark + desk.depth ≤ position))
+    IsSomeAnd (position_of top.position top.seq seq) (λ position. desk.mark + desk.playout.depth ≤ position))
 
 -- The reply to a word that comes for a position: the first of these rules that applies. The position is played; the
 -- same word is there; another word is there; and else it is admitted.
@@ -81,7 +81,7 @@ IsLate desk equation =
 
 -- It reaches too far: its last slot is 100 positions past the depth, or farther.
 abbrev pub IsAhead : State → Equation → Type 0
-IsAhead desk equation = desk.mark + desk.depth + kept_count ≤ last_slot equation
+IsAhead desk equation = desk.mark + desk.playout.depth + kept_count ≤ last_slot equation
 
 -- Two equations have the same base and shape.
 abbrev pub HaveSameSlots : Equation → Equation → Type 0

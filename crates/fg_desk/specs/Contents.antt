@@ -7,6 +7,7 @@ use Rattle.std.specs.FinMap as map
 use Rattle.std.specs.FinMap.{get, insert, remove}
 use Rattle.std.specs.FinSet.{FinSet, contains, empty}
 use Rattle.fg_words.specs.declared.Word.{Word}
+use Rattle.fg_shape.specs.Playout.{Playout}
 use Rattle.fg_peel.specs.declared.row.Missing.TheVariants.{One}
 use Rattle.fg_peel.specs.Equation.{Equation}
 use Rattle.fg_peel.specs.Peeling.{ArePeeled, given_word}
@@ -33,9 +34,9 @@ pub record Contents : Type 0 where
   pub epoch : ℕ
 
 -- A desk at first.
-abbrev pub opened : ℕ → ℕ → Contents
-opened window depth =
-    record { state = opening window depth; solved = map.empty; bare = empty; repaired = empty; epoch = 0 }
+abbrev pub opened : Playout → Contents
+opened playout =
+    record { state = opening playout; solved = map.empty; bare = empty; repaired = empty; epoch = 0 }
 
 -- The limits within which a desk may change.
 pub record HasRoom (desk : State) : Type 0 where

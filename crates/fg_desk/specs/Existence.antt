@@ -2,6 +2,8 @@
 use Rattle.std.specs.Prelude.{◌⊎◌, ◌≤◌, ℕ, List, Option}
 use Rattle.std.specs.List.{All}
 use Rattle.fg_words.specs.declared.Word.{Word}
+use Rattle.fg_shape.specs.Playout.{Playout}
+use Rattle.fg_peel.specs.Laws.{MaximalPeelingExists, MaximalPeelingsEndAtClosure, MaximalPeelingsAreTested, SoundWhereSolvable}
 use Rattle.fg_desk.specs.declared.reply.Reply.{Reply}
 use Rattle.fg_desk.specs.State.{State, opening}
 use Rattle.fg_desk.specs.Solution.{IsSolution}
@@ -10,6 +12,14 @@ use Rattle.fg_desk.specs.Play.{Play, IsPlay, Flushes}
 use Rattle.fg_desk.specs.Run.{Arrival, ArePlaysDue, TakesAll, IsFlush, IsRun}
 use Rattle.fg_desk.specs.Facts.{Holds}
 use Rattle.fg_desk.specs.Laws.{IsRead}
+
+-- What of the laws of peelings this rests on: there is a maximal one, it ends at the closure, whether it is sound can be
+-- told, and it is exactly where there is a solution.
+pub record PeelingLaws : Type 0 where
+  pub exists : MaximalPeelingExists
+  pub filled : MaximalPeelingsEndAtClosure
+  pub tested : MaximalPeelingsAreTested
+  pub solvable : SoundWhereSolvable
 
 -- Each desk has a solution, or it has none.
 abbrev pub SolutionsAreDecided : Type 0
@@ -44,12 +54,12 @@ FlushExists = (old : State) → Holds old → (plays : List Play) × (new : Stat
 -- Datagrams are taken by a new desk, whatever they are.
 abbrev pub TakingsExist : Type 0
 TakingsExist =
-    (window depth : ℕ) (arrivals : List Arrival) → 1 ≤ window → All IsRead arrivals
+    (playout : Playout) (arrivals : List Arrival) → 1 ≤ playout.window → All IsRead arrivals
     → (plays : List Play) × (replies : List (Option Reply)) × (new : State)
-    × TakesAll (opening window depth) arrivals plays replies new
+    × TakesAll (opening playout) arrivals plays replies new
 
 -- Every flow has a run, at every depth and at every window of one position or more.
 abbrev pub RunsExist : Type 0
 RunsExist =
-    (window depth : ℕ) (arrivals : List Arrival) → 1 ≤ window → All IsRead arrivals
-    → (plays : List Play) × (replies : List (Option Reply)) × IsRun window depth arrivals plays replies
+    (playout : Playout) (arrivals : List Arrival) → 1 ≤ playout.window → All IsRead arrivals
+    → (plays : List Play) × (replies : List (Option Reply)) × IsRun playout arrivals plays replies

@@ -8,6 +8,7 @@ use Rattle.std.specs.FinMap.{get}
 use Rattle.std.specs.FinSet as set
 use Rattle.fg_words.specs.Word.{HasRoom}
 use Rattle.fg_shape.specs.Shape.{slots_of}
+use Rattle.fg_shape.specs.Playout.{Playout}
 use Rattle.fg_peel.specs.Equation.{AreMedia, IsSettled}
 use Rattle.fg_peel.specs.Peeling.{ArePeeled}
 use Rattle.fg_desk.specs.State.{State, Top, Live, Words, known, live_equations}
@@ -22,28 +23,28 @@ use Rattle.fg_window.specs.LinesInside.{live_code}
 abbrev pub top_code : Coded Top
 top_code = code_by (ℕ × ℕ) (coded× coded_ℕ coded_ℕ) (λ t. (t.position, t.seq)) (λ p. record { position = p.0; seq = p.1 }) (λ _. refl)
 
+abbrev pub playout_code : Coded Playout
+playout_code = code_by (ℕ × ℕ) (coded× coded_ℕ coded_ℕ) (λ p. (p.window, p.depth)) (λ p. record { window = p.0; depth = p.1 }) (λ _. refl)
+
 abbrev pub contents_code : Coded Contents
 contents_code =
-    code_by (ℕ × (ℕ × (Option Top × (ℕ × (Words × (Words × (map.FinMap nat_cmp Live × (ℕ × (ℕ × (Words × (set.FinSet nat_cmp × (set.FinSet nat_cmp × ℕ))))))))))))
-    (coded× coded_ℕ (coded× coded_ℕ (coded× (coded_option top_code) (coded× coded_ℕ (coded× words_code (coded× words_code
+    code_by (Playout × (Option Top × (ℕ × (Words × (Words × (map.FinMap nat_cmp Live × (ℕ × (ℕ × (Words × (set.FinSet nat_cmp × (set.FinSet nat_cmp × ℕ)))))))))))
+    (coded× playout_code (coded× (coded_option top_code) (coded× coded_ℕ (coded× words_code (coded× words_code
     (coded× (map.code coded_ℕ live_code) (coded× coded_ℕ (coded× coded_ℕ (coded× words_code
-    (coded× (set.code coded_ℕ) (coded× (set.code coded_ℕ) coded_ℕ))))))))))))
+    (coded× (set.code coded_ℕ) (coded× (set.code coded_ℕ) coded_ℕ)))))))))))
     (λ c. (
-      c.state.window,
+      c.state.playout,
       (
-        c.state.depth,
+        c.state.top,
         (
-          c.state.top,
+          c.state.mark,
           (
-            c.state.mark,
+            c.state.kept,
             (
-              c.state.kept,
+              c.state.media,
               (
-                c.state.media,
-                (
-                  c.state.equations,
-                  (c.state.admitted, (c.state.calls, (c.solved, (c.bare, (c.repaired, c.epoch))))),
-                ),
+                c.state.equations,
+                (c.state.admitted, (c.state.calls, (c.solved, (c.bare, (c.repaired, c.epoch))))),
               ),
             ),
           ),
@@ -52,27 +53,25 @@ contents_code =
     ))
     (λ p. record {
       state = record {
-        window = p.0;
-        depth = p.1.0;
-        top = p.1.1.0;
-        mark = p.1.1.1.0;
-        kept = p.1.1.1.1.0;
-        media = p.1.1.1.1.1.0;
-        equations = p.1.1.1.1.1.1.0;
-        admitted = p.1.1.1.1.1.1.1.0;
-        calls = p.1.1.1.1.1.1.1.1.0;
+        playout = p.0;
+        top = p.1.0;
+        mark = p.1.1.0;
+        kept = p.1.1.1.0;
+        media = p.1.1.1.1.0;
+        equations = p.1.1.1.1.1.0;
+        admitted = p.1.1.1.1.1.1.0;
+        calls = p.1.1.1.1.1.1.1.0;
       };
-      solved = p.1.1.1.1.1.1.1.1.1.0;
-      bare = p.1.1.1.1.1.1.1.1.1.1.0;
-      repaired = p.1.1.1.1.1.1.1.1.1.1.1.0;
-      epoch = p.1.1.1.1.1.1.1.1.1.1.1.1;
+      solved = p.1.1.1.1.1.1.1.1.0;
+      bare = p.1.1.1.1.1.1.1.1.1.0;
+      repaired = p.1.1.1.1.1.1.1.1.1.1.0;
+      epoch = p.1.1.1.1.1.1.1.1.1.1.1;
     })
     (λ _. refl)
 
 -- The parts of a desk.
 pub record Parts : Type 0 where
-  pub window : ℕ
-  pub depth : ℕ
+  pub playout : Playout
   pub top : Option Top
   pub row : RowState
   pub lines : LinesState
@@ -83,8 +82,7 @@ pub record Parts : Type 0 where
 -- The state that they make.
 abbrev pub state_of : Parts → State
 state_of parts = record {
-  window = parts.window;
-  depth = parts.depth;
+  playout = parts.playout;
   top = parts.top;
   mark = parts.row.mark;
   kept = parts.row.kept;
@@ -109,11 +107,24 @@ SettledComeOut parts =
     (serial : ℕ) (live : Live) → get parts.lines.live serial ≡ Some live
     → IsTrue (set.contains parts.lines.settled serial) → IsSettled (row_words parts.row) live.equation
 
+-- What keeps numbers within their limits, whatever words and equations there are.
+pub record IsLimited (playout : Playout) (reach mark : ℕ) (top : Option Top) (admitted calls epoch : ℕ) : Type 0 where
+  pub depth_limit : playout.depth ≤ 1000
+  pub reach_is : reach ≡ playout.depth + 100
+  pub mark_limit : mark < 2 ^ 61 + 200
+  pub top_limit : (farthest : Top) → top ≡ Some farthest → farthest.position < 2 ^ 61 + 2 ^ 16
+  pub admitted_limit : admitted ≤ calls
+  pub calls_limit : calls ≤ 2 ^ 62
+  pub epoch_limit : epoch ≤ calls
+
+abbrev pub AreLimited : Parts → Type 0
+AreLimited parts =
+    IsLimited parts.playout parts.row.reach parts.row.mark parts.top parts.admitted parts.calls parts.epoch
+
 -- What holds of the parts between calls.
 pub record AreSound (parts : Parts) : Type 0 where
   pub facts : Holds (state_of parts)
-  pub depth_limit : parts.depth ≤ 1000
-  pub reach : parts.row.reach ≡ parts.depth + 100
+  pub limits : AreLimited parts
   -- Words that were found and not told are media words. Those that were solved need not be.
   pub cached : AreMedia (get parts.row.cached)
   -- What was solved, and all that was found, come from peelings of the words received and kept.
@@ -127,11 +138,6 @@ pub record AreSound (parts : Parts) : Type 0 where
   -- So an equation comes out once it has given a word.
   pub rooms :
       (serial : ℕ) (live : Live) → get parts.lines.live serial ≡ Some live → HasRoom live.equation.parity
-  pub mark_limit : parts.row.mark < 2 ^ 61 + 200
-  pub top_limit : (top : Top) → parts.top ≡ Some top → top.position < 2 ^ 61 + 2 ^ 16
-  pub admitted_limit : parts.admitted ≤ parts.calls
-  pub calls_limit : parts.calls ≤ 2 ^ 62
-  pub epoch_limit : parts.epoch ≤ parts.calls
 
 -- The epoch after a call that withdrew solved words, or did not.
 abbrev pub raised : ℕ → Bool → ℕ

@@ -5,6 +5,7 @@ use Rattle.std.specs.FinMap.{get}
 use Rattle.fg_words.specs.declared.Word.{Word}
 use Rattle.fg_words.specs.Word.{IsMedia}
 use Rattle.fg_shape.specs.Shape.{IsShape}
+use Rattle.fg_shape.specs.Playout.{Playout}
 use Rattle.fg_peel.specs.Equation.{Equation}
 use Rattle.fg_peel.specs.Peeling.{Step, IsPeeling, end_of}
 use Rattle.fg_peel.specs.Closure as peel
@@ -18,7 +19,7 @@ use Rattle.fg_desk.specs.Contents.{HasRoom}
 use Rattle.fg_desk.specs.Solution.{InClosure, IsSolution}
 use Rattle.fg_desk.specs.Admission.{Parity, AdmitsMedia, AdmitsParity, IsDue, position_on, equation_at}
 use Rattle.fg_desk.specs.Play.{Play, Shown, IsPlay, IsFlushStep, IsHighest, HasMore, Flushes}
-use Rattle.fg_desk.specs.declared.run.Stream.{Stream}
+use Rattle.fg_shape.specs.declared.kind.Kind.{Kind}
 use Rattle.fg_desk.specs.Run.{Arrival, carries, protects, refused, came_by, is_counted, count_of, ArePlaysDue, TakesAll, IsFlush, IsRun}
 use Rattle.fg_desk.specs.Facts.{Holds}
 
@@ -33,7 +34,8 @@ LiveStandUnderSerials =
 
 abbrev pub OpeningHolds : Type 0
 OpeningHolds =
-    (window depth : ℕ) → 1 ≤ window → window ≤ 100 → window ≤ depth → Holds (opening window depth)
+    (playout : Playout) → 1 ≤ playout.window → playout.window ≤ 100 → playout.window ≤ playout.depth
+    → Holds (opening playout)
 
 abbrev pub MediaKeeps : Type 0
 MediaKeeps =
@@ -109,7 +111,7 @@ AreFlushSteps old (play ∷ plays) new = (next : State) × IsFlushStep old play 
 -- A flush ends: there are no more steps than positions up to the highest that follows.
 abbrev pub FlushEnds : Type 0
 FlushEnds =
-    (old new : State) (plays : List Play) (highest : ℕ) → 1 ≤ old.window → IsHighest old highest
+    (old new : State) (plays : List Play) (highest : ℕ) → 1 ≤ old.playout.window → IsHighest old highest
     → AreFlushSteps old plays new → length plays ≤ highest + 1 - old.mark
 
 -- A flush is steps after which nothing that follows is left to be shown.
@@ -152,7 +154,7 @@ TakingsJoin =
 abbrev pub HavePlayed : State → ℕ → List Play → State → Type 0
 HavePlayed old seq [] new = new ≡ old
 HavePlayed old seq (play ∷ plays) new =
-    IsDue old seq × ((next : State) × IsPlay old.window old play next × HavePlayed next seq plays new)
+    IsDue old seq × ((next : State) × IsPlay old.playout.window old play next × HavePlayed next seq plays new)
 
 abbrev pub PlaysDueJoin : Type 0
 PlaysDueJoin =
@@ -178,8 +180,8 @@ AreInSuccession first (play ∷ plays) = (play.first ≡ first) × AreInSuccessi
 -- So each position is shown or missing once, in order and without holes.
 abbrev pub PlaysFollow : Type 0
 PlaysFollow =
-    (window depth : ℕ) (arrivals : List Arrival) (plays : List Play) (replies : List (Option Reply))
-    → IsRun window depth arrivals plays replies → AreInSuccession 0 plays
+    (playout : Playout) (arrivals : List Arrival) (plays : List Play) (replies : List (Option Reply))
+    → IsRun playout arrivals plays replies → AreInSuccession 0 plays
 
 -- Datagrams as the readers give them: media words, and shapes that are read.
 abbrev pub IsRead : Arrival → Type 0
@@ -191,35 +193,37 @@ IsRead (refused stream) = ⊤
 -- datagram, and between the plays before it.
 abbrev pub RunsStayWithin : Type 0
 RunsStayWithin =
-    (window depth seq : ℕ) (arrivals : List Arrival) (plays due : List Play) (replies : List (Option Reply))
+    (playout : Playout) (seq : ℕ) (arrivals : List Arrival) (plays due : List Play) (replies : List (Option Reply))
     (taken new : State)
-    → 1 ≤ window → window ≤ 100 → window ≤ depth → All IsRead arrivals → length arrivals < 2 ^ 44
-    → TakesAll (opening window depth) arrivals plays replies taken → HavePlayed taken seq due new
+    → 1 ≤ playout.window → playout.window ≤ 100 → playout.window ≤ playout.depth → All IsRead arrivals
+    → length arrivals < 2 ^ 44
+    → TakesAll (opening playout) arrivals plays replies taken → HavePlayed taken seq due new
     → Holds new × HasRoom new
 
 -- And so they do between the steps of its flush.
 abbrev pub FlushesStayWithin : Type 0
 FlushesStayWithin =
-    (window depth : ℕ) (arrivals : List Arrival) (plays flushed : List Play) (replies : List (Option Reply))
+    (playout : Playout) (arrivals : List Arrival) (plays flushed : List Play) (replies : List (Option Reply))
     (filled new : State)
-    → 1 ≤ window → window ≤ 100 → window ≤ depth → depth ≤ 1000 → All IsRead arrivals → length arrivals < 2 ^ 44
-    → TakesAll (opening window depth) arrivals plays replies filled → AreFlushSteps filled flushed new
+    → 1 ≤ playout.window → playout.window ≤ 100 → playout.window ≤ playout.depth → playout.depth ≤ 1000
+    → All IsRead arrivals → length arrivals < 2 ^ 44
+    → TakesAll (opening playout) arrivals plays replies filled → AreFlushSteps filled flushed new
     → Holds new × HasRoom new
 
 -- A flow has one run: two of the same datagrams are the same.
 abbrev pub OneRun : Type 0
 OneRun =
-    (window depth : ℕ) (arrivals : List Arrival) (plays plays' : List Play) (replies replies' : List (Option Reply))
-    → All IsRead arrivals → IsRun window depth arrivals plays replies → IsRun window depth arrivals plays' replies'
+    (playout : Playout) (arrivals : List Arrival) (plays plays' : List Play) (replies replies' : List (Option Reply))
+    → All IsRead arrivals → IsRun playout arrivals plays replies → IsRun playout arrivals plays' replies'
     → (plays ≡ plays') × (replies ≡ replies')
 
 -- The same datagrams taken by a new desk give the same plays, the same replies and the same desk.
 abbrev pub OneTaking : Type 0
 OneTaking =
-    (window depth : ℕ) (arrivals : List Arrival) (plays plays' : List Play) (replies replies' : List (Option Reply))
+    (playout : Playout) (arrivals : List Arrival) (plays plays' : List Play) (replies replies' : List (Option Reply))
     (new new' : State)
-    → All IsRead arrivals → TakesAll (opening window depth) arrivals plays replies new
-    → TakesAll (opening window depth) arrivals plays' replies' new'
+    → All IsRead arrivals → TakesAll (opening playout) arrivals plays replies new
+    → TakesAll (opening playout) arrivals plays' replies' new'
     → (plays ≡ plays') × (replies ≡ replies') × (new ≡ new')
 
 -- A call has one outcome: the reply or the play, and the desk after it.
@@ -265,27 +269,27 @@ FlushStepsShowOneList =
 -- The plays of a run's first datagrams come first in it.
 abbrev pub TakenPlaysComeFirst : Type 0
 TakenPlaysComeFirst =
-    (window depth : ℕ) (earlier later : List Arrival) (before plays : List Play) (first replies : List (Option Reply))
+    (playout : Playout) (earlier later : List Arrival) (before plays : List Play) (first replies : List (Option Reply))
     (taken : State)
-    → All IsRead earlier → TakesAll (opening window depth) earlier before first taken
-    → IsRun window depth (earlier ++ later) plays replies → (after : List Play) × (plays ≡ before ++ after)
+    → All IsRead earlier → TakesAll (opening playout) earlier before first taken
+    → IsRun playout (earlier ++ later) plays replies → (after : List Play) × (plays ≡ before ++ after)
 
 -- Then come those that are due before the next datagram.
 abbrev pub DuePlaysComeNext : Type 0
 DuePlaysComeNext =
-    (window depth seq : ℕ) (word : Word) (earlier later : List Arrival) (before due plays : List Play)
+    (playout : Playout) (seq : ℕ) (word : Word) (earlier later : List Arrival) (before due plays : List Play)
     (first replies : List (Option Reply)) (taken now : State)
-    → All IsRead earlier → TakesAll (opening window depth) earlier before first taken → HavePlayed taken seq due now
-    → IsRun window depth (earlier ++ carries seq word ∷ later) plays replies
+    → All IsRead earlier → TakesAll (opening playout) earlier before first taken → HavePlayed taken seq due now
+    → IsRun playout (earlier ++ carries seq word ∷ later) plays replies
     → (after : List Play) × (plays ≡ before ++ (due ++ after))
 
 -- After the last datagram come the steps of the flush.
 abbrev pub FlushStepsComeNext : Type 0
 FlushStepsComeNext =
-    (window depth : ℕ) (arrivals : List Arrival) (before flushed plays : List Play) (first replies : List (Option Reply))
+    (playout : Playout) (arrivals : List Arrival) (before flushed plays : List Play) (first replies : List (Option Reply))
     (taken now : State)
-    → All IsRead arrivals → TakesAll (opening window depth) arrivals before first taken
-    → AreFlushSteps taken flushed now → IsRun window depth arrivals plays replies
+    → All IsRead arrivals → TakesAll (opening playout) arrivals before first taken
+    → AreFlushSteps taken flushed now → IsRun playout arrivals plays replies
     → (after : List Play) × (plays ≡ before ++ (flushed ++ after))
 
 -- How many positions plays show, with those that are missing.
@@ -301,16 +305,16 @@ Reach old plays new =
 abbrev pub PlaysReachTheMark : Type 0
 PlaysReachTheMark =
     (old new : State) (arrivals : List Arrival) (plays : List Play) (replies : List (Option Reply))
-    → 1 ≤ old.window → TakesAll old arrivals plays replies new → Reach old plays new
+    → 1 ≤ old.playout.window → TakesAll old arrivals plays replies new → Reach old plays new
 
 abbrev pub DuePlaysReachTheMark : Type 0
 DuePlaysReachTheMark =
     (old new : State) (seq : ℕ) (plays : List Play)
-    → 1 ≤ old.window → HavePlayed old seq plays new → Reach old plays new
+    → 1 ≤ old.playout.window → HavePlayed old seq plays new → Reach old plays new
 
 abbrev pub FlushStepsReachTheMark : Type 0
 FlushStepsReachTheMark =
-    (old new : State) (plays : List Play) → 1 ≤ old.window → AreFlushSteps old plays new → Reach old plays new
+    (old new : State) (plays : List Play) → 1 ≤ old.playout.window → AreFlushSteps old plays new → Reach old plays new
 
 -- Each datagram gets a reply, or none where its reader refused it.
 abbrev pub EachGetsAReply : Type 0
@@ -321,13 +325,13 @@ EachGetsAReply =
 -- Those are counted that came by the stream and got the reply.
 abbrev pub CountsAreOfReplies : Type 0
 CountsAreOfReplies =
-    (stream : Stream) (reply answer : Option Reply) (arrival : Arrival)
+    (stream : Kind) (reply answer : Option Reply) (arrival : Arrival)
     → IsTrue (is_counted stream reply arrival answer) ↔ ((came_by arrival ≡ stream) × (answer ≡ reply))
 
 -- One more datagram adds one to the count of its reply and stream, and nothing to another.
 abbrev pub CountsAdd : Type 0
 CountsAdd =
-    (stream : Stream) (reply answer : Option Reply) (arrivals : List Arrival) (arrival : Arrival)
+    (stream : Kind) (reply answer : Option Reply) (arrivals : List Arrival) (arrival : Arrival)
     (answers : List (Option Reply))
     → length arrivals ≡ length answers
     → count_of stream reply (arrivals ++ arrival ∷ []) (answers ++ answer ∷ [])
@@ -336,5 +340,29 @@ CountsAdd =
 -- No count is more than the datagrams.
 abbrev pub CountsStayWithin : Type 0
 CountsStayWithin =
-    (stream : Stream) (reply : Option Reply) (arrivals : List Arrival) (answers : List (Option Reply))
+    (stream : Kind) (reply : Option Reply) (arrivals : List Arrival) (answers : List (Option Reply))
     → count_of stream reply arrivals answers ≤ length arrivals
+
+-- Laws that go together
+
+-- The facts hold of a new desk, and every call keeps them.
+pub record FactsAreKept : Type 0 where
+  pub opening : OpeningHolds
+  pub media : MediaKeeps
+  pub parity : ParityKeeps
+  pub play : PlayKeeps
+  pub flush : FlushStepKeeps
+
+-- A call has one outcome.
+pub record OneOutcome : Type 0 where
+  pub media : MediaIsOne
+  pub parity : ParityIsOne
+  pub play : PlayIsOne
+  pub flush : FlushIsOne
+
+-- A flush ends.
+pub record FlushesEnd : Type 0 where
+  pub gains : ClosureGainsNothing
+  pub ends : FlushEnds
+  pub joined : FlushStepsJoin
+  pub nothing_left : FlushStepsEnd

@@ -7,6 +7,7 @@ pub mod Inside
 pub mod Laws
 pub mod Parts
 pub mod Play
+pub mod PlayedOn
 pub mod Run
 pub mod Shown
 pub mod Solution

@@ -11,8 +11,7 @@ top_of farthest = record { position = farthest.position; seq = farthest.seq }
 
 abbrev pub parts_of : Inside → Parts
 parts_of a = record {
-  window = a.window;
-  depth = a.depth;
+  playout = record { window = a.window; depth = a.depth };
   top = option_map top_of a.top;
   row = a.row;
   lines = a.lines;

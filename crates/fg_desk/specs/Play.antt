@@ -69,7 +69,7 @@ pub record IsFlushStep (old : State) (play : Play) (new : State) : Type 0 where
   pub highest : ℕ
   pub highest_is : IsHighest old highest
   pub more : old.mark ≤ highest
-  pub plays : IsPlay (min old.window (highest + 1 - old.mark)) old play new
+  pub plays : IsPlay (min old.playout.window (highest + 1 - old.mark)) old play new
 
 -- A call of a flush step: a step where one is defined, and else the desk is as it was.
 abbrev pub Flushes : State → Option Play → State → Type 0

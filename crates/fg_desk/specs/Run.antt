@@ -1,10 +1,11 @@
 -- A flow's run over datagrams that are read. This project's own. It knows no worker, and no words found before a play.
 use Rattle.std.specs.Prelude.{◌≡◌, ◌==◌, ◌+◌, ◌++◌, ◌&&◌, ℕ, Bool, List, [], ◌∷◌, Option, Some, None, if◌then◌else◌}
 use Rattle.fg_words.specs.declared.Word.{Word}
+use Rattle.fg_shape.specs.Playout.{Playout}
 use Rattle.fg_desk.specs.declared.reply.Reply.{Reply}
 use Rattle.fg_desk.specs.declared.reply.Reply.TheVariants.{Admitted, Duplicate, Conflict, Late, NotStarted, BeforeStart, Ahead, Crowded}
-use Rattle.fg_desk.specs.declared.run.Stream.{Stream}
-use Rattle.fg_desk.specs.declared.run.Stream.TheVariants.{Media, Column, Row}
+use Rattle.fg_shape.specs.declared.kind.Kind.{Kind}
+use Rattle.fg_shape.specs.declared.kind.Kind.TheVariants.{Media, Column, Row}
 use Rattle.fg_desk.specs.State.{State, opening}
 use Rattle.fg_desk.specs.Admission.{Parity, AdmitsMedia, AdmitsParity, IsDue}
 use Rattle.fg_desk.specs.Play.{Play, IsPlay, IsFlushStep, HasMore}
@@ -13,11 +14,11 @@ use Rattle.fg_desk.specs.Play.{Play, IsPlay, IsFlushStep, HasMore}
 -- reader refused.
 pub data Arrival : Type 0 where
   carries : ℕ → Word → Arrival
-  protects : Stream → Parity → Arrival
-  refused : Stream → Arrival
+  protects : Kind → Parity → Arrival
+  refused : Kind → Arrival
 
 -- The stream that an arrival came by.
-abbrev pub came_by : Arrival → Stream
+abbrev pub came_by : Arrival → Kind
 came_by (carries seq word) = Media
 came_by (protects stream parity) = stream
 came_by (refused stream) = stream
@@ -26,7 +27,7 @@ came_by (refused stream) = stream
 abbrev pub ArePlaysDue : State → ℕ → List Play → State → Type 0
 ArePlaysDue old seq [] new = (¬ IsDue old seq) × (new ≡ old)
 ArePlaysDue old seq (play ∷ plays) new =
-    IsDue old seq × ((next : State) × IsPlay old.window old play next × ArePlaysDue next seq plays new)
+    IsDue old seq × ((next : State) × IsPlay old.playout.window old play next × ArePlaysDue next seq plays new)
 
 -- What one datagram does: the plays before it, and the reply to it. A refused one does nothing and gets none. A parity
 -- datagram plays nothing.
@@ -54,21 +55,21 @@ IsFlush old (play ∷ plays) new = (next : State) × IsFlushStep old play next �
 
 -- A flow's run: from the opening desk its datagrams are taken, and then the desk is flushed. Its results are the plays,
 -- and the reply to each datagram, none where its reader refused it.
-pub record IsRun (window depth : ℕ) (arrivals : List Arrival) (plays : List Play) (replies : List (Option Reply)) : Type 0 where
+pub record IsRun (playout : Playout) (arrivals : List Arrival) (plays : List Play) (replies : List (Option Reply)) : Type 0 where
   pub taken : List Play
   pub flushed : List Play
   pub filled : State
   pub empty : State
-  pub takes : TakesAll (opening window depth) arrivals taken replies filled
+  pub takes : TakesAll (opening playout) arrivals taken replies filled
   pub flush : IsFlush filled flushed empty
   pub plays_are : plays ≡ taken ++ flushed
 
 -- The replies of a run are counted. Streams and replies are told apart by their numbers, in the order in which they are
 -- declared; no reply comes last.
-abbrev pub stream_number : Stream → ℕ
-stream_number Media = 0
-stream_number Column = 1
-stream_number Row = 2
+abbrev pub kind_number : Kind → ℕ
+kind_number Media = 0
+kind_number Column = 1
+kind_number Row = 2
 
 abbrev pub reply_number : Option Reply → ℕ
 reply_number (Some Admitted) = 0
@@ -82,12 +83,12 @@ reply_number (Some Crowded) = 7
 reply_number None = 8
 
 -- An arrival that was answered so came by this stream, and got this reply.
-abbrev pub is_counted : Stream → Option Reply → Arrival → Option Reply → Bool
+abbrev pub is_counted : Kind → Option Reply → Arrival → Option Reply → Bool
 is_counted stream reply arrival answer =
-    (stream_number (came_by arrival) == stream_number stream) && (reply_number answer == reply_number reply)
+    (kind_number (came_by arrival) == kind_number stream) && (reply_number answer == reply_number reply)
 
 -- How many arrivals came by this stream and got this reply. With no reply: how many their reader refused.
-abbrev pub count_of : Stream → Option Reply → List Arrival → List (Option Reply) → ℕ
+abbrev pub count_of : Kind → Option Reply → List Arrival → List (Option Reply) → ℕ
 count_of stream reply [] answers = 0
 count_of stream reply (arrival ∷ arrivals) [] = 0
 count_of stream reply (arrival ∷ arrivals) (answer ∷ answers) =

@@ -4,6 +4,7 @@ use Rattle.std.specs.Prelude.{ℕ, List, map, Option, None}
 use Rattle.std.specs.Ordering.{nat_cmp}
 use Rattle.std.specs.FinMap.{FinMap, entries, empty}
 use Rattle.fg_words.specs.declared.Word.{Word}
+use Rattle.fg_shape.specs.Playout.{Playout}
 use Rattle.fg_peel.specs.Equation.{Equation}
 pub use Rattle.fg_window.specs.Words.{Words, words_around}
 pub use Rattle.fg_window.specs.Live.{Live, last_slot}
@@ -15,8 +16,7 @@ pub record Top : Type 0 where
 
 pub record State : Type 0 where
   -- How many positions a play closes, and how far past the mark a datagram makes one due.
-  pub window : ℕ
-  pub depth : ℕ
+  pub playout : Playout
   pub top : Option Top
   -- The first position that isn't played yet.
   pub mark : ℕ
@@ -33,10 +33,9 @@ pub record State : Type 0 where
   pub calls : ℕ
 
 -- The desk at first.
-abbrev pub opening : ℕ → ℕ → State
-opening window depth = record {
-  window = window;
-  depth = depth;
+abbrev pub opening : Playout → State
+opening playout = record {
+  playout = playout;
   top = None;
   mark = 0;
   kept = empty;

@@ -95,7 +95,7 @@ impl Desk {
     pub fn new(alloc: Global, window: u32, depth: u32) -> Result<Desk, AllocError>
         requires window { (1 ≤ window) × (window ≤ 100) }
         requires depth { (window ≤ depth) × (depth ≤ 1000) }
-        ensures { IfOk result (λ desk. desk ≡ opened window depth) }
+        ensures { IfOk result (λ desk. desk ≡ opened (record { window = window; depth = depth })) }
     {
         Ok(Desk {
             window,
@@ -313,8 +313,8 @@ impl Desk {
     pub fn play(&mut self, tray: &mut Tray) -> Played
         requires room { HasRoom self.old.state }
         requires started { IsSome self.old.state.top }
-        requires tray { self.old.state.window ≤ tray.old.window }
-        ensures play { IsPlay self.old.state.window self.old.state
+        requires tray { self.old.state.playout.window ≤ tray.old.window }
+        ensures play { IsPlay self.old.state.playout.window self.old.state
             (record { first = result.first; shown = tray.new.shown; outcome = result.verdict })
             self.new.state }
         ensures count { result.count ≡ length tray.new.shown }
@@ -332,12 +332,12 @@ impl Desk {
     pub fn play_in_place(&mut self) -> Played
         requires room { HasRoom self.old.state }
         requires started { IsSome self.old.state.top }
-        ensures play { IsPlay self.old.state.window self.old.state (record {
+        ensures play { IsPlay self.old.state.playout.window self.old.state (record {
           first = result.first;
           shown = kept_from self.new result.first result.count;
           outcome = result.verdict;
         }) self.new.state }
-        ensures count { result.count ≡ self.old.state.window }
+        ensures count { result.count ≡ self.old.state.playout.window }
         ensures changes { ChangesInPlay result.verdict self.old self.new }
     {
         found_words_may_be_known();
@@ -360,7 +360,7 @@ impl Desk {
     /// where none is left to be played: then the tray is as it was.
     pub fn flush_step(&mut self, tray: &mut Tray) -> Option<Played>
         requires room { HasRoom self.old.state }
-        requires tray { self.old.state.window ≤ tray.old.window }
+        requires tray { self.old.state.playout.window ≤ tray.old.window }
         ensures flushes { Flushes self.old.state (option_map (λ played. record {
           first = played.first;
           shown = tray.new.shown;
@@ -389,7 +389,7 @@ impl Desk {
           outcome = played.verdict;
         }) result) self.new.state }
         ensures some { IfSome result (λ played. (1 ≤ played.count)
-            × (played.count ≤ self.old.state.window)
+            × (played.count ≤ self.old.state.playout.window)
             × ChangesInPlay played.verdict self.old self.new) }
         ensures none { IfNone result (self.new ≡ record self.old { state = self.new.state }) }
     {
@@ -437,7 +437,7 @@ impl Desk {
     /// Takes a word in at a position that has none.
     fn take(&mut self, position: u64, seq: u16, share: Shared)
         requires ahead { self.old.state.mark ≤ position }
-        requires near { position < self.old.state.mark + self.old.state.depth }
+        requires near { position < self.old.state.mark + self.old.state.playout.depth }
         requires none { get self.old.state.media position ≡ None }
         requires media { IsMedia share }
         requires limit { position < 2 ^ 61 + 2 ^ 16 }

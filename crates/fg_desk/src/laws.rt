@@ -1,16 +1,17 @@
 //! The laws that show the definitions of a desk to be right. Each is the contract of a function that
 //! does nothing, or only calls laws of `fg_peel`.
 
-ghost use Rattle.fg_desk.specs.Laws.{LiveStandUnderSerials, OpeningHolds, MediaKeeps, ParityKeeps, PlayKeeps, FlushStepKeeps, MediaAdds, ParityAdds};
+ghost use Rattle.fg_desk.specs.Laws.{LiveStandUnderSerials, FactsAreKept, MediaAdds, ParityAdds};
 ghost use Rattle.fg_desk.specs.Laws.{ClosureIsPeelings, SolutionsArePeelings, StepsAreAhead, OneSolution};
-ghost use Rattle.fg_desk.specs.Laws.{ClosureGainsNothing, FlushEnds, FlushStepsJoin, FlushStepsEnd, SolvedStaysPeeled};
+ghost use Rattle.fg_desk.specs.Laws.{FlushesEnd, SolvedStaysPeeled};
 ghost use Rattle.fg_desk.specs.Laws.{LaterChangesNothing, TakingsJoin, PlaysDueJoin, PlaysDueEnd, PlaysFollow, RunsStayWithin, FlushesStayWithin, OneRun};
-ghost use Rattle.fg_desk.specs.Laws.{MediaIsOne, ParityIsOne, PlayIsOne, FlushIsOne};
+ghost use Rattle.fg_desk.specs.Laws.{OneOutcome};
 ghost use Rattle.fg_desk.specs.Laws.{PlaysShowOneList, FlushStepsShowOneList};
 ghost use Rattle.fg_desk.specs.Laws.{OneTaking, TakenPlaysComeFirst, DuePlaysComeNext, FlushStepsComeNext};
 ghost use Rattle.fg_desk.specs.Laws.{PlaysReachTheMark, DuePlaysReachTheMark, FlushStepsReachTheMark};
 ghost use Rattle.fg_desk.specs.Laws.{EachGetsAReply, CountsAreOfReplies, CountsAdd, CountsStayWithin};
-ghost use Rattle.fg_desk.specs.Existence.{SolutionsAreDecided, MediaHasOutcome, ParityHasOutcome, PlayHasOutcome, FlushHasOutcome};
+ghost use Rattle.fg_desk.specs.Existence.{PeelingLaws, SolutionsAreDecided, MediaHasOutcome, ParityHasOutcome, PlayHasOutcome, FlushHasOutcome};
+ghost use Rattle.fg_desk.specs.PlayedOn.{PlaysAreTheRuns, DesksMakeThePlays, OneListOfDesks};
 ghost use Rattle.fg_desk.specs.Existence.{PlaysDueExist, FlushExists, TakingsExist, RunsExist};
 
 use fg_peel::laws::{
@@ -24,11 +25,7 @@ pub fn live_equations()
 
 /// The facts hold of a new desk, and every call keeps them.
 pub fn facts_are_kept()
-    ensures opening { OpeningHolds }
-    ensures media { MediaKeeps }
-    ensures parity { ParityKeeps }
-    ensures play { PlayKeeps }
-    ensures flush { FlushStepKeeps }
+    ensures { FactsAreKept }
 {}
 
 /// What is admitted is known or live from then on, and nothing else changes in what is known and live.
@@ -55,10 +52,7 @@ pub fn one_solution()
 /// After a play nothing follows that did not follow before it. So a flush ends, and then nothing is
 /// left to be shown.
 pub fn flushes_end()
-    ensures gains { ClosureGainsNothing }
-    ensures ends { FlushEnds }
-    ensures joined { FlushStepsJoin }
-    ensures nothing_left { FlushStepsEnd }
+    ensures { FlushesEnd }
 {}
 
 /// What a peeling found before a repaired play is, past the new mark, found by a peeling after it, with
@@ -94,10 +88,7 @@ pub fn runs_stay_within()
 
 /// A call has one outcome: its reply or its play, and the desk after it, follow from the desk before it.
 pub fn one_outcome()
-    ensures media { MediaIsOne }
-    ensures parity { ParityIsOne }
-    ensures play { PlayIsOne }
-    ensures flush { FlushIsOne }
+    ensures { OneOutcome }
 {
     uniqueness();
 }
@@ -110,13 +101,20 @@ pub fn one_list_is_shown()
     uniqueness();
 }
 
-/// Whether a desk has a solution can be told.
-pub fn solutions_are_decided()
-    ensures { SolutionsAreDecided }
+/// What of the laws of `fg_peel` those of what exists rest on.
+fn peelings_are_told()
+    ensures { PeelingLaws }
 {
     peelings_fill_the_closure();
     maximal_peelings_are_tested();
     confluence();
+}
+
+/// Whether a desk has a solution can be told.
+pub fn solutions_are_decided()
+    ensures { SolutionsAreDecided }
+{
+    peelings_are_told();
 }
 
 /// A call has an outcome: a reply or a play, and a desk after it.
@@ -126,9 +124,7 @@ pub fn outcomes_exist()
     ensures play { PlayHasOutcome }
     ensures flush { FlushHasOutcome }
 {
-    peelings_fill_the_closure();
-    maximal_peelings_are_tested();
-    confluence();
+    peelings_are_told();
 }
 
 /// The plays that are due before a datagram come to an end, and so does a flush.
@@ -136,32 +132,35 @@ pub fn plays_come_to_an_end()
     ensures due { PlaysDueExist }
     ensures flush { FlushExists }
 {
-    peelings_fill_the_closure();
-    maximal_peelings_are_tested();
-    confluence();
+    peelings_are_told();
 }
 
 /// A new desk takes all datagrams that are read.
 pub fn takings_exist()
     ensures { TakingsExist }
 {
-    peelings_fill_the_closure();
-    maximal_peelings_are_tested();
-    confluence();
+    peelings_are_told();
 }
 
 /// A flow has a run, whatever its datagrams.
 pub fn runs_exist()
     ensures { RunsExist }
 {
-    peelings_fill_the_closure();
-    maximal_peelings_are_tested();
-    confluence();
+    peelings_are_told();
 }
 
 /// A flow has one run: two of the same datagrams are the same.
 pub fn one_run()
     ensures { OneRun }
+{
+    uniqueness();
+}
+
+/// Each play of a run is made on a desk, and another run of the same datagrams makes it on the same one.
+pub fn one_list_of_desks()
+    ensures plays { PlaysAreTheRuns }
+    ensures desks { DesksMakeThePlays }
+    ensures one { OneListOfDesks }
 {
     uniqueness();
 }

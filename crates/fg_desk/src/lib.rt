@@ -12,5 +12,5 @@ mod window;
 
 pub use desk::{Desk, Played};
 pub use reply::{Outcome, Reply};
-pub use run::{Datagram, FlowRun, ShownPlay, ShownWord, Stream, run_flow};
+pub use run::{Datagram, FlowRun, ShownPlay, ShownWord, run_flow};
 pub use tray::Tray;

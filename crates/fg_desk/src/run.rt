@@ -14,20 +14,9 @@ use crate::desk::{Desk, Played};
 use crate::laws::{flushes_end, runs_join, runs_stay_within};
 use crate::reply::{Outcome, Reply};
 use crate::tray::Tray;
-use fg_shape::{Shape, shape_ok};
+use fg_shape::{Kind, Shape, shape_ok};
 use fg_words::Word;
 use std::alloc::{AllocError, Global};
-
-/// The streams of a flow (SMPTE ST 2022-1).
-#[derive(Clone, Copy, Debug, PartialEq, Eq)]
-pub enum Stream {
-    /// Media datagrams.
-    Media,
-    /// Parity datagrams over columns.
-    Column,
-    /// Parity datagrams over rows.
-    Row,
-}
 
 /// A datagram as its reader gives it.
 #[derive(Clone, Copy)]
@@ -42,7 +31,7 @@ pub enum Datagram {
     /// A parity datagram.
     Parity {
         /// The stream that it came by.
-        stream: Stream,
+        stream: Kind,
         /// The sequence number of its base.
         base: u16,
         /// Its shape.
@@ -51,7 +40,7 @@ pub enum Datagram {
         word: Word,
     },
     /// A datagram of this stream that its reader refused.
-    Refused(Stream),
+    Refused(Kind),
 }
 
 impl Datagram {
@@ -67,11 +56,11 @@ impl Datagram {
     }
 
     /// The stream that it came by.
-    pub fn came_by(&self) -> Stream
+    pub fn came_by(&self) -> Kind
         ensures { result ≡ came_by (arrival_of self.now) }
     {
         match self {
-            Datagram::Media { .. } => Stream::Media,
+            Datagram::Media { .. } => Kind::Media,
             Datagram::Parity { stream, .. } => *stream,
             Datagram::Refused(stream) => *stream,
         }
@@ -110,7 +99,7 @@ pub struct FlowRun {
 impl FlowRun {
     /// How many of the datagrams that were run came by this stream and got this reply; with no reply,
     /// how many their reader refused.
-    pub fn count(&self, datagrams: &[Datagram], stream: Stream, reply: Option<Reply>) -> u64
+    pub fn count(&self, datagrams: &[Datagram], stream: Kind, reply: Option<Reply>) -> u64
         ensures { result
             ≡ count_of stream reply (map arrival_of datagrams.now) self.now.replies.items }
     {
@@ -127,7 +116,7 @@ impl FlowRun {
 fn is_counted(
     datagram: &Datagram,
     answer: Option<Reply>,
-    stream: Stream,
+    stream: Kind,
     reply: Option<Reply>,
 ) -> bool
     ensures { result ≡ is_counted stream reply (arrival_of datagram.now) answer }
@@ -149,7 +138,7 @@ pub fn run_flow(
     requires given { All IsGiven datagrams.now }
     requires limit { length datagrams.now < 2 ^ 44 }
     ensures { IfOk result (λ run.
-        IsRun window depth (map arrival_of datagrams.now) (map play_of run.plays.items)
+        IsRun (record { window = window; depth = depth }) (map arrival_of datagrams.now) (map play_of run.plays.items)
         run.replies.items) }
 {
     runs_join();
@@ -175,13 +164,13 @@ fn take(
     datagram: &Datagram,
 ) -> Result<Option<Reply>, AllocError>
     requires within { StaysWithin desk.old.state }
-    requires tray { desk.old.state.window ≤ tray.old.window }
+    requires tray { desk.old.state.playout.window ≤ tray.old.window }
     requires given { IsGiven datagram.now }
     ensures takes { IfOk result (λ reply. (due : List Play)
         × (map play_of plays.new.items ≡ map play_of plays.old.items ++ due)
         × Takes desk.old.state (arrival_of datagram.now) due reply desk.new.state) }
     ensures read { IfOk result (λ _. IsRead (arrival_of datagram.now)) }
-    ensures window { IfOk result (λ _. desk.new.state.window ≡ desk.old.state.window) }
+    ensures playout { IfOk result (λ _. desk.new.state.playout ≡ desk.old.state.playout) }
     ensures tray { tray.new.window ≡ tray.old.window }
 {
     match *datagram {
@@ -212,13 +201,13 @@ fn play_due(
     seq: u16,
 ) -> Result<(), AllocError>
     requires within { StaysWithin desk.old.state }
-    requires tray { desk.old.state.window ≤ tray.old.window }
+    requires tray { desk.old.state.playout.window ≤ tray.old.window }
     ensures plays { IfOk result (λ _. (due : List Play)
         × (map play_of plays.new.items ≡ map play_of plays.old.items ++ due)
         × ArePlaysDue desk.old.state seq due desk.new.state) }
     ensures none_due { IfOk result (λ _. ¬ IsDue desk.new.state seq) }
     ensures room { IfOk result (λ _. HasRoom desk.new.state) }
-    ensures window { IfOk result (λ _. desk.new.state.window ≡ desk.old.state.window) }
+    ensures playout { IfOk result (λ _. desk.new.state.playout ≡ desk.old.state.playout) }
     ensures tray { tray.new.window ≡ tray.old.window }
 {
     runs_join();
@@ -237,7 +226,7 @@ fn flush(
     plays: &mut Vec<ShownPlay>,
 ) -> Result<(), AllocError>
     requires within { FlushesWithin desk.old.state }
-    requires tray { desk.old.state.window ≤ tray.old.window }
+    requires tray { desk.old.state.playout.window ≤ tray.old.window }
     ensures { IfOk result (λ _. (flushed : List Play) × (empty : State)
         × (map play_of plays.new.items ≡ map play_of plays.old.items ++ flushed)
         × IsFlush desk.old.state flushed empty) }

@@ -8,14 +8,14 @@ use Rattle.fg_shape.specs.Laws.{LayoutsAreRead}
 use Rattle.fg_rtp.specs.Laws.{WrittenIsRead as MediaWrittenIsRead}
 use Rattle.fg_fechead.specs.Laws.{WrittenIsRead as ParityWrittenIsRead}
 use Rattle.fg_trace.specs.Trace.{Record}
-use Rattle.fg_flows.specs.declared.Kind.{Kind}
-use Rattle.fg_flows.specs.declared.Kind.TheVariants as kind
-use Rattle.fg_flows.specs.Flows.{port_of}
+use Rattle.fg_shape.specs.declared.kind.Kind.{Kind}
+use Rattle.fg_shape.specs.declared.kind.Kind.TheVariants as kind
+use Rattle.fg_shape.specs.Kind.{port_of}
 use Rattle.fg_desk.specs.Run.{Arrival, carries}
 use Rattle.fg_encode.specs.Ends.{column_bases, columns_ending, row_bases, rows_ending}
 use Rattle.fg_encode.specs.Encoding.{column_record, encoding, records_at, row_record, sequence_of, word_at}
 use Rattle.fg_encode.specs.Payloads.{ArePayloads}
-use Rattle.fg_repair.specs.Flow.{Arrives, is_of, records_of}
+use Rattle.fg_results.specs.Flow.{Arrives, is_of, records_of}
 use Rattle.fg_drill.specs.Thinned.{without}
 use Rattle.fg_drill.specs.True.{AreInFull}
 use Rattle.fg_drill.proofs.Reading.{column_arrival, column_can_arrive, media_can_arrive, row_arrival, row_can_arrive}

@@ -6,6 +6,7 @@ use Rattle.std.proofs.lemmas.Bool.{cases_lt}
 use Rattle.std.proofs.lemmas.List.{get_or_past, take-append-le, take_all}
 use Rattle.std.proofs.lemmas.List.Elements.{All-head, All-tail}
 use Rattle.std.proofs.lemmas.List.Sums.{sum_by-cons}
+use Rattle.fg_shape.specs.Playout.{Playout}
 use Rattle.fg_words.specs.declared.Word.{Word}
 use Rattle.fg_shape.specs.declared.encoding.Settings.{Settings}
 use Rattle.fg_rtp.specs.MediaDatagram.{payload_of}
@@ -15,7 +16,7 @@ use Rattle.fg_desk.specs.Play.{Play, Shown, nothing_shown}
 use Rattle.fg_desk.specs.Run.{Arrival}
 use Rattle.fg_encode.specs.Encoding.{payload_at, word_at}
 use Rattle.fg_report.specs.declared.flow_sum.FlowSum.{FlowSum}
-use Rattle.fg_repair.specs.Flow.{Arrives, FlowResult, IsFlowResult, all_shown, is_inconsistent, lane_of, records_of, shown_payload}
+use Rattle.fg_results.specs.Flow.{Arrives, FlowResult, IsFlowResult, all_shown, is_inconsistent, lane_of, records_of, shown_payload}
 use Rattle.fg_drill.specs.ComesBack.{CanComeBack, stream_of}
 use Rattle.fg_drill.specs.Repaired.{ArrivalsPeel, Peels, is_shown, stream_shown}
 use Rattle.fg_drill.specs.Sent.{ArriveOneWay, FewArrive, SentRecordsAreTrue, SentWordsAreMedia, words_sent}
@@ -119,42 +120,39 @@ all_is_shown payloads plays all =
     sym (ap (λ (b : Bool). cond b (payload_at payloads slot) []) (all slot below)) ∙ ap g start))
 
 module _
-    (window depth : ℕ) (settings : Settings) (payloads : List (List ℕ)) (lost : ℕ → Bool) (can : CanComeBack window depth settings payloads lost)
+    (playout : Playout) (settings : Settings) (payloads : List (List ℕ)) (lost : ℕ → Bool) (can : CanComeBack playout settings payloads lost)
     (media : SentWordsAreMedia) (records : SentRecordsAreTrue) (few : FewArrive) where
   pub sent_true :
       (arrivals : List Arrival) → AllZip (Arrives settings.port) (records_of settings.port (thinned settings lost payloads)) arrivals
-      → AreSentTrue window depth settings.seq (words_sent settings payloads) arrivals
+      → AreSentTrue playout settings.seq (words_sent settings payloads) arrivals
   sent_true arrivals arrive =
       let count = few settings payloads lost arrivals can.can can.whole arrive in
       let limit = can.limit in
       record {
-        some_window = can.some_window;
-        window_limit = can.window_limit;
-        window_within = can.window_within;
-        depth_limit = can.depth_limit;
+        fits = can.fits;
         media = media settings payloads can.can can.whole;
         arrive = records settings payloads lost arrivals can.can can.whole can.few arrive;
         few = omega arith;
       }
 
-  module _ (result : FlowResult) (is : IsFlowResult window depth (thinned settings lost payloads) settings.port result) where
+  module _ (result : FlowResult) (is : IsFlowResult playout (thinned settings lost payloads) settings.port result) where
     pub nothing_inconsistent : TrueRunsAreRepaired → result.sum.inconsistent ≡ 0
     nothing_inconsistent law =
         ap (λ (sum : FlowSum). sum.inconsistent) is.sum
-        ∙ none_inconsistent is.plays (law window depth settings.seq (words_sent settings payloads) is.arrivals is.plays is.replies (sent_true is.arrivals is.arrive) is.run)
+        ∙ none_inconsistent is.plays (law playout settings.seq (words_sent settings payloads) is.arrivals is.plays is.replies (sent_true is.arrivals is.arrive) is.run)
 
     pub what_is_shown : TrueRunsShowTheTruth → result.lane ≡ stream_shown payloads is.plays
     what_is_shown law =
         is.lane
         ∙ lane_is_shown settings payloads is.plays
-        (law window depth settings.seq (words_sent settings payloads) is.arrivals is.plays is.replies (sent_true is.arrivals is.arrive) is.run)
+        (law playout settings.seq (words_sent settings payloads) is.arrivals is.plays is.replies (sent_true is.arrivals is.arrive) is.run)
 
     pub all_comes_back :
         TrueRunsShowTheTruth → PeeledSlotsAreShown → ArriveOneWay
-        → Peels window depth settings.port (thinned settings lost payloads) (length payloads) → result.lane ≡ stream_of payloads
+        → Peels playout settings.port (thinned settings lost payloads) (length payloads) → result.lane ≡ stream_of payloads
     all_comes_back truth law one_way peels =
         let same : peels.0 ≡ is.arrivals = one_way settings.port (thinned settings lost payloads) peels.0 is.arrivals peels.1 is.arrive in
-        let peel : ArrivalsPeel window depth is.arrivals (length payloads) = subst (λ (arrivals : List Arrival). ArrivalsPeel window depth arrivals (length payloads)) same peels.2 in
+        let peel : ArrivalsPeel playout is.arrivals (length payloads) = subst (λ (arrivals : List Arrival). ArrivalsPeel playout arrivals (length payloads)) same peels.2 in
         what_is_shown truth
         ∙ all_is_shown payloads is.plays
-        (law window depth settings.seq (length payloads) (words_sent settings payloads) is.arrivals is.plays is.replies (sent_true is.arrivals is.arrive) is.run peel)
+        (law playout settings.seq (length payloads) (words_sent settings payloads) is.arrivals is.plays is.replies (sent_true is.arrivals is.arrive) is.run peel)

@@ -14,7 +14,7 @@ use Rattle.fg_shape.specs.Laws.{NumbersItsSlots}
 use Rattle.fg_encode.specs.Encoding.{column_record, encoding, records_at, row_record}
 use Rattle.fg_encode.specs.Ends.{columns_ending, rows_ending}
 use Rattle.fg_encode.specs.Laws.{ColumnsAreTheLayouts, RowsAreTheLayouts}
-use Rattle.fg_drill.specs.Few.{MayLose}
+use Rattle.fg_shape.specs.Losses.{MayLose}
 use Rattle.fg_drill.specs.Thinned.{AreFew, is_lost, media_number}
 
 bool_cases : (b : Bool) → (b ≡ true) ⊎ (b ≡ false)

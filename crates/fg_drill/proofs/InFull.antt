@@ -7,6 +7,7 @@ use Rattle.std.proofs.lemmas.List.{append-nil, length_push}
 use Rattle.std.proofs.lemmas.List.Elements.{All-nil, All-push}
 use Rattle.std.specs.List.{All}
 use Rattle.std.specs.FinMap.{get}
+use Rattle.fg_shape.specs.Playout.{Playout}
 use Rattle.fg_words.specs.declared.Word.{Word}
 use Rattle.fg_peel.specs.Laws.{TruthIsSolvable, SolutionsAreTrue}
 use Rattle.fg_desk.specs.declared.reply.Reply.{Reply}
@@ -87,18 +88,18 @@ slot_is_next :
 slot_is_next seq slot number None word is turn next = turn
 slot_is_next seq slot number (Some before) word is turn next = omega (arith, is, turn.0, turn.1, next)
 
-module _ (window depth : ℕ) (arrivals : List Arrival) where
+module _ (playout : Playout) (arrivals : List Arrival) where
   -- A play of the run closes the slot, on a desk where it is in the closure.
   abbrev IsPeeled : ℕ → Type 0
   IsPeeled slot =
-      (desk : State) × (play : Play) × MakesPlay window depth arrivals desk play × Closes play slot × InClosure desk slot
+      (desk : State) × (play : Play) × MakesPlay playout arrivals desk play × Closes play slot × InClosure desk slot
 
   abbrev ArePeeled : ℕ → ℕ → Type 0
   ArePeeled next mark = (slot : ℕ) → slot < next → slot < mark → IsPeeled slot
 
   play_peels :
       (count next : ℕ) (old : State) (play : Play) (new : State) → IsPlay count old play new
-      → MakesPlay window depth arrivals old play → AllReceived next old → ArePeeled next old.mark → ArePeeled next new.mark
+      → MakesPlay playout arrivals old play → AllReceived next old → ArePeeled next old.mark → ArePeeled next new.mark
   play_peels count next old play new is makes all peeled = λ slot below played. ⊎_elim
       (λ (before : slot < old.mark). peeled slot below before)
       (λ (ahead : old.mark ≤ slot).
@@ -122,30 +123,30 @@ module _ (window depth : ℕ) (arrivals : List Arrival) where
     due_peel :
         (earlier later : List Arrival) (number : ℕ) (word : Word) (taken : List Play) (first : List (Option Reply))
         (filled : State) (next : ℕ) (before : List Play) (now : State) (plays : List Play) (new : State)
-        → arrivals ≡ earlier ++ carries number word ∷ later → TakesAll (opening window depth) earlier taken first filled
+        → arrivals ≡ earlier ++ carries number word ∷ later → TakesAll (opening playout) earlier taken first filled
         → HavePlayed filled number before now → ArePlaysDue now number plays new → IsUpTo next now → IsUpTo next new
     due_peel earlier later number word taken first filled next before now [] new arrivals_are takes played are up =
         subst (IsUpTo next) (sym are.1) up
     due_peel earlier later number word taken first filled next before now (play ∷ plays) new arrivals_are takes played are up =
         let then = are.1.0 in
-        let same : now.window ≡ window =
+        let same : now.playout.window ≡ playout.window =
         played_keep_window filled number before now played
-        ∙ takings_keep_window (opening window depth) earlier taken first filled takes in
-        let makes : MakesPlay window depth arrivals now play =
+        ∙ takings_keep_window (opening playout) earlier taken first filled takes in
+        let makes : MakesPlay playout arrivals now play =
         due earlier later number word taken before first filled then arrivals_are takes played are.0
         (subst (λ (n : ℕ). IsPlay n now play then) same are.1.1) in
         due_peel earlier later number word taken first filled next (before ++ play ∷ []) then plays new arrivals_are takes
         (due_join filled now then number before (play ∷ []) played (are.0, (then, are.1.1, refl)))
         are.1.2
         (record {
-          received = play_keeps_received now.window next now play then are.1.1 up.received;
-          peeled = play_peels now.window next now play then are.1.1 makes up.received up.peeled;
+          received = play_keeps_received now.playout.window next now play then are.1.1 up.received;
+          peeled = play_peels now.playout.window next now play then are.1.1 makes up.received up.peeled;
         })
 
     flush_peels :
         (count : ℕ) (taken : List Play) (replies : List (Option Reply)) (filled : State) (before : List Play) (now : State)
         (plays : List Play) (new : State)
-        → TakesAll (opening window depth) arrivals taken replies filled → AreFlushSteps filled before now
+        → TakesAll (opening playout) arrivals taken replies filled → AreFlushSteps filled before now
         → IsFlush now plays new → IsUpTo count now → (slot : ℕ) → slot < count → IsPeeled slot
     flush_peels count taken replies filled before now [] new takes steps flush up slot below = ⊎_elim
         (λ (played : slot < now.mark). up.peeled slot below played)
@@ -154,8 +155,8 @@ module _ (window depth : ℕ) (arrivals : List Arrival) where
     flush_peels count taken replies filled before now (play ∷ plays) new takes steps flush up slot below =
         let then = flush.0 in
         let step = flush.1 in
-        let shown = min now.window (step.highest + 1 - now.mark) in
-        let makes : MakesPlay window depth arrivals now play = flushed taken before replies filled then takes steps step in
+        let shown = min now.playout.window (step.highest + 1 - now.mark) in
+        let makes : MakesPlay playout arrivals now play = flushed taken before replies filled then takes steps step in
         flush_peels count taken replies filled (before ++ play ∷ []) then plays new takes
         (steps_join filled now then before (play ∷ []) steps (then, step, refl)) flush.2
         (record {
@@ -167,14 +168,14 @@ module _ (window depth : ℕ) (arrivals : List Arrival) where
     module _
         (stand : LiveStandUnderSerials) (peelings : SolutionsArePeelings) (solvable : TruthIsSolvable) (found : SolutionsAreTrue)
         (media_adds : MediaAdds) (parity_adds : ParityAdds) (within : RunsStayWithin) (join : TakingsJoin)
-        (seq count : ℕ) (truth : ℕ → Option Word) (sent : AreSentTrue window depth seq truth arrivals) where
+        (seq count : ℕ) (truth : ℕ → Option Word) (sent : AreSentTrue playout seq truth arrivals) where
       -- One datagram more.
       one_more :
           (earlier later : List Arrival) (arrival : Arrival) (before plays : List Play) (first : List (Option Reply))
           (reply : Option Reply) (taken new : State) (last : Option ℕ) (slot : ℕ)
           → arrivals ≡ earlier ++ arrival ∷ later
           → ((number : ℕ) (due : List Play) (now : State) → HavePlayed taken number due now → Holds now)
-          → TakesAll (opening window depth) earlier before first taken → LeavesTruth truth seq last taken
+          → TakesAll (opening playout) earlier before first taken → LeavesTruth truth seq last taken
           → IsTrueArrival seq truth slot arrival → ComesInTurn last slot arrival
           → AreInFull seq count (next_slot last) (arrival ∷ later) → IsUpTo (next_slot last) taken
           → Takes taken arrival plays reply new
@@ -222,7 +223,7 @@ module _ (window depth : ℕ) (arrivals : List Arrival) where
           (earlier later : List Arrival) (before plays : List Play) (first replies : List (Option Reply)) (taken new : State)
           (last : Option ℕ)
           → arrivals ≡ earlier ++ later → All IsRead earlier → length earlier + length later < 2 ^ 44
-          → TakesAll (opening window depth) earlier before first taken → LeavesTruth truth seq last taken
+          → TakesAll (opening playout) earlier before first taken → LeavesTruth truth seq last taken
           → AreTrueArrivals seq truth last later → AreInFull seq count (next_slot last) later
           → IsUpTo (next_slot last) taken → TakesAll taken later plays replies new → IsUpTo count new
       all_taken earlier [] before plays first replies taken new last arrivals_are read few so is are full up takes =
@@ -231,8 +232,8 @@ module _ (window depth : ℕ) (arrivals : List Arrival) where
       all_taken earlier (arrival ∷ later) before plays first (reply ∷ replies) taken new last arrivals_are read few so is are full up takes =
           let holds : (number : ℕ) (due : List Play) (now : State) → HavePlayed taken number due now → Holds now =
           λ number due now played.
-          (within window depth number earlier before due first taken now
-          sent.some_window sent.window_limit sent.window_within read (omega (arith, few)) so played).0 in
+          (within playout number earlier before due first taken now
+          sent.fits.window.0 sent.fits.window.1 sent.fits.depth.0 read (omega (arith, few)) so played).0 in
           let one = is_taken_truly stand peelings solvable found media_adds parity_adds truth sent.media seq
           last are.0 taken arrival takes.0 reply takes.2 holds is are.1 are.2 takes.4 in
           let more = one_more earlier later arrival before takes.0 first reply taken takes.2 last are.0 arrivals_are holds so is
@@ -243,17 +244,17 @@ module _ (window depth : ℕ) (arrivals : List Arrival) where
           (arrivals_are ∙ sym (append_assoc earlier (arrival ∷ []) later))
           (All-push IsRead earlier arrival read (is_read seq truth are.0 arrival sent.media are.1))
           (omega (arith, few, long))
-          (join (opening window depth) taken takes.2 earlier (arrival ∷ []) before takes.0 first (reply ∷ []) so
+          (join (opening playout) taken takes.2 earlier (arrival ∷ []) before takes.0 first (reply ∷ []) so
           (takes.0, [], takes.2, sym (append-nil takes.0), takes.4, (refl, refl, refl)))
           one.leaves are.3 more.1 more.0 takes.5
 
       all_peel :
-          AreInFull seq count 0 arrivals → (plays : List Play) (replies : List (Option Reply)) → IsRun window depth arrivals plays replies
-          → ArrivalsPeel window depth arrivals count
+          AreInFull seq count 0 arrivals → (plays : List Play) (replies : List (Option Reply)) → IsRun playout arrivals plays replies
+          → ArrivalsPeel playout arrivals count
       all_peel full plays replies run =
           let few = sent.few in
-          let up = all_taken [] arrivals [] run.taken [] replies (opening window depth) run.filled None refl
-          (All-nil IsRead) (omega (arith, few)) (refl, refl, refl) (opening_is_true window depth seq truth stand)
+          let up = all_taken [] arrivals [] run.taken [] replies (opening playout) run.filled None refl
+          (All-nil IsRead) (omega (arith, few)) (refl, refl, refl) (opening_is_true playout seq truth stand)
           sent.arrive full
           (record { received = λ slot ahead below. absurd (omega (arith, below)); peeled = λ slot below past. absurd (omega (arith, below)) })
           run.takes in
@@ -262,7 +263,7 @@ module _ (window depth : ℕ) (arrivals : List Arrival) where
 pub full_arrivals_peel :
     RunsExist → PlaysDueJoin → FlushStepsJoin → LiveStandUnderSerials → SolutionsArePeelings → TruthIsSolvable → SolutionsAreTrue
     → MediaAdds → ParityAdds → RunsStayWithin → TakingsJoin → FullArrivalsPeel
-full_arrivals_peel exist due_join steps_join stand peelings solvable found media_adds parity_adds within join window depth seq count truth arrivals sent full =
-    let run = exist window depth arrivals sent.some_window (all_are_read seq truth None arrivals sent.media sent.arrive) in
-    all_peel window depth arrivals due_join steps_join stand peelings solvable found media_adds parity_adds within join seq count truth sent
+full_arrivals_peel exist due_join steps_join stand peelings solvable found media_adds parity_adds within join playout seq count truth arrivals sent full =
+    let run = exist playout arrivals sent.fits.window.0 (all_are_read seq truth None arrivals sent.media sent.arrive) in
+    all_peel playout arrivals due_join steps_join stand peelings solvable found media_adds parity_adds within join seq count truth sent
     full run.0 run.1 run.2

@@ -22,3 +22,9 @@ pub mod Turns
 pub mod WholeTraces
 pub mod WithoutLemmas
 pub mod Written
+pub mod Drills
+pub mod DrillsBack
+pub mod Repairs
+pub mod Samples
+pub mod DrillReading
+pub mod PartLemmas

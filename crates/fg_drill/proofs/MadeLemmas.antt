@@ -1,5 +1,5 @@
 -- Made packets: how long they are, how they begin, and how they go on.
-use Rattle.std.proofs.Common.{◌≡◌, ℕ, zero, suc, ◌+◌, ◌*◌, ◌-◌, ◌<◌, ◌≤◌, List, [], ◌∷◌, ◌++◌, length, map, get_or, drop, take, refl, sym, ap, ◌∙◌, arith, add-one, add-zero, zero-add, suc-add, mul-suc, append-nil, length-append, length-drop, append_assoc, set, w32}
+use Rattle.std.proofs.Common.{◌≡◌, ℕ, zero, suc, ◌+◌, ◌*◌, ◌-◌, ◌<◌, ◌≤◌, None, List, [], ◌∷◌, ◌++◌, length, map, get_or, drop, take, refl, sym, ap, ◌∙◌, arith, add-one, add-zero, zero-add, suc-add, mul-suc, append-nil, length-append, length-drop, append_assoc, set, w32}
 use Rattle.std.specs.Int.{to_le_bytes}
 use Rattle.std.specs.List.{flat_map, range_with_len}
 use Rattle.std.proofs.lemmas.List.FromFn.{length-map-range_with_len, length-range_with_len}
@@ -10,7 +10,7 @@ use Rattle.rand_core.specs.Steps.{fill_via_u32, word_bytes}
 use Rattle.rand_pcg.specs.Lcg.{Lcg, advance, next, next_state, state_after}
 use Rattle.rand_pcg.specs.Pcg.{multiplier_64, pcg32}
 use Rattle.fg_ts.specs.Packets.{ArePackets}
-use Rattle.fg_encode.specs.Stream.{payload_of, IsCut, Whole}
+use Rattle.fg_encode.specs.Stream.{payload_of, IsCut}
 use Rattle.fg_drill.specs.Made.{generator_of, made_packet, made_packets, made_stream}
 
 -- A jump of so many steps and then one is a jump of one more.
@@ -257,7 +257,7 @@ payload_packets bytes n i all below =
     }
 
 packets_cut : (bytes : List ℕ) (n max : ℕ) → ArePackets bytes (7 * n) → length bytes ≤ max
-    → (length (map (payload_of 7 bytes) (range_with_len 0 n)) ≡ n) × IsCut 7 max bytes (map (payload_of 7 bytes) (range_with_len 0 n)) Whole
+    → (length (map (payload_of 7 bytes) (range_with_len 0 n)) ≡ n) × IsCut 7 max bytes (map (payload_of 7 bytes) (range_with_len 0 n)) None
 packets_cut bytes n max all most =
     let payloads = map (payload_of 7 bytes) (range_with_len 0 n) in
     let count : length payloads ≡ n = length-map-range_with_len (payload_of 7 bytes) 0 n in
@@ -282,6 +282,6 @@ packets_cut bytes n max all most =
 
 pub made_cut : (seed datagrams max : ℕ) → length (made_stream seed datagrams) ≤ max
     → (length (map (payload_of 7 (made_stream seed datagrams)) (range_with_len 0 datagrams)) ≡ datagrams)
-    × IsCut 7 max (made_stream seed datagrams) (map (payload_of 7 (made_stream seed datagrams)) (range_with_len 0 datagrams)) Whole
+    × IsCut 7 max (made_stream seed datagrams) (map (payload_of 7 (made_stream seed datagrams)) (range_with_len 0 datagrams)) None
 made_cut seed datagrams max most =
     packets_cut (made_stream seed datagrams) datagrams max (are_packets (generator_of seed 54) 0 (7 * datagrams)) most

@@ -4,11 +4,11 @@ use Rattle.std.specs.List.{AllZip}
 use Rattle.fg_rtp.specs.Laws.{ReadsOneWay as MediaReadsOneWay}
 use Rattle.fg_fechead.specs.Laws.{ReadsOneWay as ParityReadsOneWay}
 use Rattle.fg_trace.specs.Trace.{Record}
-use Rattle.fg_flows.specs.declared.Kind.{Kind}
-use Rattle.fg_flows.specs.declared.Kind.TheVariants as kind
-use Rattle.fg_flows.specs.Flows.{port_of}
+use Rattle.fg_shape.specs.declared.kind.Kind.{Kind}
+use Rattle.fg_shape.specs.declared.kind.Kind.TheVariants as kind
+use Rattle.fg_shape.specs.Kind.{port_of}
 use Rattle.fg_desk.specs.Run.{Arrival, carries, protects, refused}
-use Rattle.fg_repair.specs.Flow.{Arrives, IsReadAs}
+use Rattle.fg_results.specs.Flow.{Arrives, IsReadAs}
 use Rattle.fg_drill.proofs.Reading.{on_column, on_media, on_row, read_as_column, read_as_media, read_as_row}
 
 module _ (media : MediaReadsOneWay) (parity : ParityReadsOneWay) where

@@ -1,5 +1,5 @@
 -- Which payloads of a stream are acceptable, as a test; and so the longest front of them.
-use Rattle.std.proofs.Common.{◌≡◌, ◌⊎◌, inl, inr, ⊎_elim, ℕ, zero, suc, ◌+◌, ◌-◌, ◌*◌, ◌/◌, ◌%◌, ◌<◌, ◌≤◌, ◌==◌, ◌&&◌, Bool, true, false, cond, not, nat_lt, List, [], ◌∷◌, ◌++◌, length, map, slice_index, refl, sym, ap, subst, ◌∙◌, arith, add-zero, append-nil, zero-add}
+use Rattle.std.proofs.Common.{◌≡◌, ◌⊎◌, inl, inr, ⊎_elim, ℕ, zero, suc, ◌+◌, ◌-◌, ◌*◌, ◌/◌, ◌%◌, ◌<◌, ◌≤◌, ◌==◌, ◌&&◌, Bool, true, false, cond, not, nat_lt, None, Some, List, [], ◌∷◌, ◌++◌, length, map, slice_index, refl, sym, ap, subst, ◌∙◌, arith, add-zero, append-nil, zero-add}
 use Rattle.std.specs.List.{list_all, range_with_len, take_while}
 use Rattle.std.proofs.Math.Nat.{mul-le-mul_right}
 use Rattle.std.proofs.lemmas.Bool.{cases_lt}
@@ -8,8 +8,11 @@ use Rattle.std.proofs.lemmas.List.{map-append}
 use Rattle.std.proofs.lemmas.List.FromFn.{length-map-range_with_len}
 use Rattle.std.proofs.lemmas.List.Sums.{take_while-cons}
 use Rattle.fg_ts.specs.Packets.{ArePackets, HasLength, IsFirstUnsynced}
-use Rattle.fg_encode.specs.Stream.{payload_of, HasPayload, IsPastLimit, IsAcceptable, AreFirst, IsCut, StreamEnding, EndsAt, Whole, TooLong, Ragged, NoSync}
+use Rattle.fg_ts.specs.declared.TsFault.TheVariants.{Ragged, NoSync}
+use Rattle.fg_encode.specs.declared.stream.StreamFault.TheVariants.{NotTransport, TooLong}
+use Rattle.fg_encode.specs.Stream.{payload_of, HasPayload, IsPastLimit, IsAcceptable, AreFirst, IsCut, StreamEnding, EndsAt}
 use Rattle.fg_drill.specs.Payloads.{are_packets, is_past_limit, is_acceptable, payloads_of}
+use Rattle.fg_encode.proofs.CutLemmas.{refused}
 
 pub bool_cases : (b : Bool) → (b ≡ true) ⊎ (b ≡ false)
 bool_cases true = inl refl
@@ -162,11 +165,11 @@ accepts_or_ends packets max bytes i =
     let past = is_past_limit packets max bytes i in
     let payload = payload_of packets bytes i in
     elim (bool_cases there) [
-      | inr failed ↦ inr (first_false there (not past && are_packets payload) failed, (Whole, le_from (188 * packets * i) (length bytes) failed))
+      | inr failed ↦ inr (first_false there (not past && are_packets payload) failed, (None, le_from (188 * packets * i) (length bytes) failed))
       | inl passed ↦
           let has : HasPayload packets bytes i = lt_from (188 * packets * i) (length bytes) passed in
           elim (bool_cases past) [
-            | inl over ↦ inr (second_false there (not past && are_packets payload) passed (first_false (not past) (are_packets payload) (ap not over)), (TooLong (188 * packets * i), (has, past_is packets max bytes i over, refl)))
+            | inl over ↦ inr (second_false there (not past && are_packets payload) passed (first_false (not past) (are_packets payload) (ap not over)), (Some (TooLong (188 * packets * i)), (has, past_is packets max bytes i over, refl)))
             | inr under ↦
                 let within : IsPastLimit packets max bytes i → ⊥ = λ h. let a : true ≡ false = sym (is_past packets max bytes i h) ∙ under in cc in
                 elim (bool_cases (are_packets payload)) [
@@ -177,8 +180,8 @@ accepts_or_ends packets max bytes i =
                   | inr failed ↦
                       let refused = second_false there (not past && are_packets payload) passed (second_false (not past) (are_packets payload) (ap not under) failed) in
                       elim (not_packets payload failed) [
-                        | inl ragged ↦ inr (refused, (Ragged (length bytes), (has, within, (refl, ragged), refl)))
-                        | inr w ↦ inr (refused, (NoSync (packets * i + w.1.0), (has, within, (w.1.0, (w.0, w.1.1), refl))))
+                        | inl ragged ↦ inr (refused, (Some (NotTransport (Ragged (length bytes))), (has, within, (refl, ragged), refl)))
+                        | inr w ↦ inr (refused, (Some (NotTransport (NoSync (packets * i + w.1.0))), (has, within, (w.1.0, (w.0, w.1.1), refl))))
                       ]
                 ]
           ]
@@ -226,16 +229,9 @@ first_payloads packets max bytes payloads some h =
     ∙ map-append f (range_with_len 0 n) (take_while p (range_with_len (0 + n) (length bytes - n)))
     ∙ ap (λ t. t ++ map f (take_while p (range_with_len (0 + n) (length bytes - n)))) (sym h.cut)
 
-not_both : (packets max : ℕ) (bytes : List ℕ) (i : ℕ) (end : StreamEnding) → EndsAt end packets max bytes i → IsAcceptable packets max bytes i → ⊥
-not_both packets max bytes i Whole h k = omega (arith, h, k.there)
-not_both packets max bytes i (TooLong n) h k = k.within h.1
-not_both packets max bytes i (Ragged n) h k = h.2.1 k.whole.0 k.whole.1.whole
-not_both packets max bytes i (NoSync n) h k =
-    let first = h.2.1.1 in first.unsynced (k.whole.1.synced h.2.0 (omega (arith, first.within, k.whole.1.whole)))
-
 refuses : (packets max : ℕ) (bytes : List ℕ) (i : ℕ) (end : StreamEnding) → EndsAt end packets max bytes i → is_acceptable packets max bytes i ≡ false
 refuses packets max bytes i end h = elim (accepts_or_ends packets max bytes i) [
-  | inl w ↦ absurd (not_both packets max bytes i end h w.1)
+  | inl w ↦ absurd (refused end packets max bytes i h w.1)
   | inr w ↦ w.0
 ]
 

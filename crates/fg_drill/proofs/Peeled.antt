@@ -2,6 +2,7 @@
 use Rattle.std.proofs.Common.{◌≡◌, ◌+◌, ◌-◌, ◌++◌, ℕ, min, true, List, [], ◌∷◌, get_or, Option, Some, None, is_some, refl, sym, ap, subst, ◌∙◌, arith, append_assoc}
 use Rattle.std.proofs.lemmas.List.{get_or_append_left, length-append}
 use Rattle.std.specs.List.{All}
+use Rattle.fg_shape.specs.Playout.{Playout}
 use Rattle.fg_words.specs.declared.Word.{Word}
 use Rattle.fg_desk.specs.declared.reply.Reply.{Reply}
 use Rattle.fg_desk.specs.declared.reply.Reply.TheVariants.{Admitted}
@@ -21,51 +22,51 @@ use Rattle.fg_drill.proofs.TrueShown.{shows_at, of_one}
 
 -- Nothing changes the window.
 
-play_keeps_window : (count : ℕ) (old : State) (play : Play) (new : State) → IsPlay count old play new → new.window ≡ old.window
-play_keeps_window count old play new is = ap (λ (s : State). s.window) is.rest
+play_keeps_window : (count : ℕ) (old : State) (play : Play) (new : State) → IsPlay count old play new → new.playout.window ≡ old.playout.window
+play_keeps_window count old play new is = ap (λ (s : State). s.playout.window) is.rest
 
 due_keep_window :
-    (old : State) (seq : ℕ) (plays : List Play) (new : State) → ArePlaysDue old seq plays new → new.window ≡ old.window
-due_keep_window old seq [] new are = ap (λ (s : State). s.window) are.1
+    (old : State) (seq : ℕ) (plays : List Play) (new : State) → ArePlaysDue old seq plays new → new.playout.window ≡ old.playout.window
+due_keep_window old seq [] new are = ap (λ (s : State). s.playout.window) are.1
 due_keep_window old seq (play ∷ plays) new are =
-    due_keep_window are.1.0 seq plays new are.1.2 ∙ play_keeps_window old.window old play are.1.0 are.1.1
+    due_keep_window are.1.0 seq plays new are.1.2 ∙ play_keeps_window old.playout.window old play are.1.0 are.1.1
 
 pub played_keep_window :
-    (old : State) (seq : ℕ) (plays : List Play) (new : State) → HavePlayed old seq plays new → new.window ≡ old.window
-played_keep_window old seq [] new played = ap (λ (s : State). s.window) played
+    (old : State) (seq : ℕ) (plays : List Play) (new : State) → HavePlayed old seq plays new → new.playout.window ≡ old.playout.window
+played_keep_window old seq [] new played = ap (λ (s : State). s.playout.window) played
 played_keep_window old seq (play ∷ plays) new played =
-    played_keep_window played.1.0 seq plays new played.1.2 ∙ play_keeps_window old.window old play played.1.0 played.1.1
+    played_keep_window played.1.0 seq plays new played.1.2 ∙ play_keeps_window old.playout.window old play played.1.0 played.1.1
 
 media_keeps_window :
-    (old new : State) (seq : ℕ) (word : Word) (reply : Reply) → IsAfterMedia old seq word reply new → new.window ≡ old.window
+    (old new : State) (seq : ℕ) (word : Word) (reply : Reply) → IsAfterMedia old seq word reply new → new.playout.window ≡ old.playout.window
 media_keeps_window old new seq word Admitted after =
-    ap (λ (s : State). s.window) (some_and (position_on old seq) (λ p. new ≡ with_media old seq p word) after).2
-media_keeps_window old new seq word reply after = ap (λ (s : State). s.window) after
+    ap (λ (s : State). s.playout.window) (some_and (position_on old seq) (λ p. new ≡ with_media old seq p word) after).2
+media_keeps_window old new seq word reply after = ap (λ (s : State). s.playout.window) after
 
 parity_keeps_window :
-    (old new : State) (parity : Parity) (reply : Reply) → IsAfterParity old parity reply new → new.window ≡ old.window
+    (old new : State) (parity : Parity) (reply : Reply) → IsAfterParity old parity reply new → new.playout.window ≡ old.playout.window
 parity_keeps_window old new parity Admitted after =
     let a = some_and (position_on old parity.base)
     (λ position. (place : ℕ) × IsLeastFree old.equations place × (new ≡ with_equation old place (equation_at position parity))) after in
-    ap (λ (s : State). s.window) a.2.2
-parity_keeps_window old new parity reply after = ap (λ (s : State). s.window) after
+    ap (λ (s : State). s.playout.window) a.2.2
+parity_keeps_window old new parity reply after = ap (λ (s : State). s.playout.window) after
 
 taking_keeps_window :
     (old : State) (arrival : Arrival) (plays : List Play) (reply : Option Reply) (new : State)
-    → Takes old arrival plays reply new → new.window ≡ old.window
+    → Takes old arrival plays reply new → new.playout.window ≡ old.playout.window
 taking_keeps_window old (carries seq word) plays None new takes = absurd takes
 taking_keeps_window old (carries seq word) plays (Some reply) new takes =
     media_keeps_window takes.0 new seq word reply takes.2.after ∙ due_keep_window old seq plays takes.0 takes.1
 taking_keeps_window old (protects stream parity) plays None new takes = absurd takes
 taking_keeps_window old (protects stream parity) plays (Some reply) new takes =
     parity_keeps_window old new parity reply takes.1.after
-taking_keeps_window old (refused stream) plays None new takes = ap (λ (s : State). s.window) takes.1
+taking_keeps_window old (refused stream) plays None new takes = ap (λ (s : State). s.playout.window) takes.1
 taking_keeps_window old (refused stream) plays (Some reply) new takes = absurd takes
 
 pub takings_keep_window :
     (old : State) (arrivals : List Arrival) (plays : List Play) (replies : List (Option Reply)) (new : State)
-    → TakesAll old arrivals plays replies new → new.window ≡ old.window
-takings_keep_window old [] plays replies new takes = ap (λ (s : State). s.window) takes.2
+    → TakesAll old arrivals plays replies new → new.playout.window ≡ old.playout.window
+takings_keep_window old [] plays replies new takes = ap (λ (s : State). s.playout.window) takes.2
 takings_keep_window old (arrival ∷ arrivals) plays [] new takes = absurd takes
 takings_keep_window old (arrival ∷ arrivals) plays (reply ∷ replies) new takes =
     takings_keep_window takes.2 arrivals takes.1 replies new takes.5
@@ -95,33 +96,33 @@ placed_so plays taken before after play is =
 
 module _
     (due_join : PlaysDueJoin) (steps_join : FlushStepsJoin) (due_next : DuePlaysComeNext) (steps_next : FlushStepsComeNext)
-    (window depth : ℕ) (arrivals : List Arrival) (read : All IsRead arrivals) (plays : List Play)
-    (replies : List (Option Reply)) (run : IsRun window depth arrivals plays replies) where
-  made_is_among : (desk : State) (play : Play) → MakesPlay window depth arrivals desk play → IsAmong plays desk play
+    (playout : Playout) (arrivals : List Arrival) (read : All IsRead arrivals) (plays : List Play)
+    (replies : List (Option Reply)) (run : IsRun playout arrivals plays replies) where
+  made_is_among : (desk : State) (play : Play) → MakesPlay playout arrivals desk play → IsAmong plays desk play
   made_is_among desk play (due earlier later seq word taken before first filled next arrivals_are takes played is_due is) =
-      let same : desk.window ≡ window =
-      played_keep_window filled seq before desk played ∙ takings_keep_window (opening window depth) earlier taken first filled takes in
+      let same : desk.playout.window ≡ playout.window =
+      played_keep_window filled seq before desk played ∙ takings_keep_window (opening playout) earlier taken first filled takes in
       let joined = due_join filled desk next seq before (play ∷ []) played
       (is_due, (next, subst (λ (n : ℕ). IsPlay n desk play next) (sym same) is, refl)) in
-      let placed = due_next window depth seq word earlier later taken (before ++ play ∷ []) plays first replies filled next
+      let placed = due_next playout seq word earlier later taken (before ++ play ∷ []) plays first replies filled next
       (front_is_read earlier (carries seq word ∷ later) (subst (All IsRead) arrivals_are read)) takes joined
-      (subst (λ (all : List Arrival). IsRun window depth all plays replies) arrivals_are run) in
+      (subst (λ (all : List Arrival). IsRun playout all plays replies) arrivals_are run) in
       record {
         before = taken ++ before;
         after = placed.0;
         placed = placed_so plays taken before placed.0 play placed.1;
-        count = window;
+        count = playout.window;
         next = next;
         is = is;
       }
   made_is_among desk play (flushed taken before first filled next takes steps step) =
-      let placed = steps_next window depth arrivals taken (before ++ play ∷ []) plays first replies filled next read takes
+      let placed = steps_next playout arrivals taken (before ++ play ∷ []) plays first replies filled next read takes
       (steps_join filled desk next before (play ∷ []) steps (next, step, refl)) run in
       record {
         before = taken ++ before;
         after = placed.0;
         placed = placed_so plays taken before placed.0 play placed.1;
-        count = min desk.window (step.highest + 1 - desk.mark);
+        count = min desk.playout.window (step.highest + 1 - desk.mark);
         next = next;
         is = step.plays;
       }
@@ -143,14 +144,14 @@ closed_is_shown count desk play next slot is repaired closes inside =
 pub peeled_are_shown :
     PlaysDueJoin → FlushStepsJoin → DuePlaysComeNext → FlushStepsComeNext → PlaysFollow → TrueRunsAreRepaired
     → PeeledSlotsAreShown
-peeled_are_shown due_join steps_join due_next steps_next follow repaired window depth seq count truth arrivals plays replies sent run peel slot below =
+peeled_are_shown due_join steps_join due_next steps_next follow repaired playout seq count truth arrivals plays replies sent run peel slot below =
     let p = peel slot below in
     let desk : State = p.0 in
     let play : Play = p.1 in
-    let among = made_is_among due_join steps_join due_next steps_next window depth arrivals
+    let among = made_is_among due_join steps_join due_next steps_next playout arrivals
     (all_are_read seq truth None arrivals sent.media sent.arrive) plays replies run desk play p.2 in
-    let all = repaired window depth seq truth arrivals plays replies sent run in
-    let follows = follow window depth arrivals plays replies run in
+    let all = repaired playout seq truth arrivals plays replies sent run in
+    let follows = follow playout arrivals plays replies run in
     let at = shows_at among.before among.after play 0 slot
     (subst (λ (ps : List Play). AreInSuccession 0 ps) among.placed follows) p.3.0 p.3.1 in
     let from_first : slot ≡ slot - 0 = omega arith in

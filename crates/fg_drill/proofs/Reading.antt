@@ -11,15 +11,14 @@ use Rattle.fg_rtp.specs.Laws.{WrittenIsRead as MediaWrittenIsRead}
 use Rattle.fg_fechead.specs.declared.Parity.{Parity as ParityRead}
 use Rattle.fg_fechead.specs.ParityDatagram.{IsParityDatagram, parity_bytes}
 use Rattle.fg_fechead.specs.Laws.{WrittenIsRead as ParityWrittenIsRead}
-use Rattle.fg_flows.specs.declared.Kind.{Kind}
-use Rattle.fg_flows.specs.declared.Kind.TheVariants as kind
-use Rattle.fg_flows.specs.Flows.{port_of}
-use Rattle.fg_desk.specs.declared.run.Stream.TheVariants as stream
+use Rattle.fg_shape.specs.declared.kind.Kind.{Kind}
+use Rattle.fg_shape.specs.declared.kind.Kind.TheVariants as kind
+use Rattle.fg_shape.specs.Kind.{port_of}
 use Rattle.fg_desk.specs.Run.{Arrival, carries, protects, refused}
 use Rattle.fg_encode.specs.Encoding.{bits_before, column_record, column_shape, longest, media_record, parity_at, row_record, row_shape, sequence_of, timestamp_of, word_at}
 use Rattle.fg_encode.specs.Ends.{columns_before, rows_before}
 use Rattle.fg_encode.specs.Payloads.{ArePayloads}
-use Rattle.fg_repair.specs.Flow.{Arrives, IsReadAs, parity_of}
+use Rattle.fg_results.specs.Flow.{Arrives, IsReadAs, parity_of}
 use Rattle.fg_drill.proofs.Written.{low_bytes, parity_can_be_written, sum_len, sum_room, sum_ts, time_is_small, word_is_media}
 
 -- The kind of a port
@@ -53,7 +52,7 @@ read_as_media bytes seq ssrc word is one (refused by) read = absurd (read.1 seq 
 
 pub read_as_column :
     (bytes : List ℕ) (p : ParityRead) → IsParityDatagram bytes p → ((other : ParityRead) → IsParityDatagram bytes other → p ≡ other)
-    → (a : Arrival) → IsReadAs kind.Column bytes a → a ≡ protects stream.Column (parity_of p)
+    → (a : Arrival) → IsReadAs kind.Column bytes a → a ≡ protects kind.Column (parity_of p)
 read_as_column bytes p is one (carries seq word) read = absurd read
 read_as_column bytes p is one (protects by parity) read =
     let same : parity ≡ parity_of p = read.1.2 ∙ ap parity_of (sym (one read.1.0 read.1.1)) in
@@ -62,7 +61,7 @@ read_as_column bytes p is one (refused by) read = absurd (read.1 p is)
 
 pub read_as_row :
     (bytes : List ℕ) (p : ParityRead) → IsParityDatagram bytes p → ((other : ParityRead) → IsParityDatagram bytes other → p ≡ other)
-    → (a : Arrival) → IsReadAs kind.Row bytes a → a ≡ protects stream.Row (parity_of p)
+    → (a : Arrival) → IsReadAs kind.Row bytes a → a ≡ protects kind.Row (parity_of p)
 read_as_row bytes p is one (carries seq word) read = absurd read
 read_as_row bytes p is one (protects by parity) read =
     let same : parity ≡ parity_of p = read.1.2 ∙ ap parity_of (sym (one read.1.0 read.1.1)) in
@@ -126,10 +125,10 @@ module _ (settings : Settings) (payloads : List (List ℕ)) (most : settings.pac
 
   -- What a column and a row arrive as.
   abbrev pub column_arrival : ℕ → Arrival
-  column_arrival base = protects stream.Column (parity_of (parity_at settings payloads base (column_shape settings.layout) false))
+  column_arrival base = protects kind.Column (parity_of (parity_at settings payloads base (column_shape settings.layout) false))
 
   abbrev pub row_arrival : ℕ → Arrival
-  row_arrival base = protects stream.Row (parity_of (parity_at settings payloads base (row_shape settings.layout) true))
+  row_arrival base = protects kind.Row (parity_of (parity_at settings payloads base (row_shape settings.layout) true))
 
   pub column_can_arrive :
       ParityWrittenIsRead → (slot base : ℕ) → IsShape settings.layout.l settings.layout.d → base < length payloads

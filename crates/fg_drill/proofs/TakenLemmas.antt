@@ -1,48 +1,31 @@
 -- Where a source of a thinned encoding stands, as payloads are taken and sent.
-use Rattle.std.proofs.Common.{◌≡◌, ◌⊎◌, inl, inr, ⊎_elim, ℕ, zero, suc, ◌+◌, ◌-◌, ◌*◌, ◌≤◌, Bool, true, false, Option, None, Some, IfSome, List, [], ◌∷◌, ◌++◌, length, map, take, drop, refl, sym, ap, subst, ◌∙◌, arith, add-one, zero-add, append_assoc, append-nil, length-append}
+use Rattle.std.proofs.Common.{◌≡◌, ◌⊎◌, inl, inr, ⊎_elim, ℕ, suc, ◌+◌, ◌-◌, ◌*◌, ◌≤◌, Bool, true, false, Option, None, Some, IfSome, List, [], ◌∷◌, ◌++◌, length, take, drop, refl, sym, ap, subst, ◌∙◌, arith, zero-add, append_assoc, append-nil, length-append}
 use Rattle.std.specs.Option.{option_map}
-use Rattle.std.specs.List.{concat, flat_map, range_with_len}
+use Rattle.std.specs.List.{concat, flat_map}
 use Rattle.std.specs.Io.KnownBytes.{IsAtEnd, prepend_known}
 use Rattle.std.proofs.Math.Nat.{mul-suc}
-use Rattle.std.proofs.Math.Seq.{take-add, drop-append-add}
+use Rattle.std.proofs.Math.Seq.{drop-append-add}
 use Rattle.std.proofs.lemmas.Grind.{flat_map-append}
 use Rattle.std.proofs.lemmas.List.{take-append-drop, take_all, drop-append-le, drop_all, length-drop}
-use Rattle.std.proofs.lemmas.List.Folds.{concat-append}
-use Rattle.std.proofs.lemmas.List.FromFn.{map-range_with_len_more}
 use Rattle.fg_io.specs.Source.{Gives}
 use Rattle.fg_ts.specs.Packets.{ArePackets}
 use Rattle.fg_trace.specs.Trace.{Record, magic, spelling, trace_of}
-use Rattle.fg_encode.specs.Encoder.{CanEncode, EncoderState, StandsAfter}
+use Rattle.fg_encode.specs.Encoder.{EncoderState, StandsAfter}
+use Rattle.fg_shape.specs.Settings.{CanEncode}
 use Rattle.fg_encode.specs.Encoding.{encoding, records_at}
 use Rattle.fg_encode.specs.Laws.{OneMoreAdds}
-use Rattle.fg_encode.specs.Reading.{IsStreamReadFor, ReadsAsFar, ReadsLittle, ending_told as kept_ending_told}
-use Rattle.fg_encode.specs.Stream.{StreamEnding, payload_of, AreFirst, IsCut, Whole, Ragged, NoSync, TooLong as PastLimit}
-use Rattle.fg_encode.specs.StreamReader.{Answer, StreamState, IsEnding, IsPlaced, KeepsEnding, StandsAfter as ReaderStands}
+use Rattle.fg_encode.specs.Reading.{IsStreamReadFor, ReadsAsFar, ReadsLittle}
+use Rattle.fg_encode.specs.Stream.{StreamEnding, AreFirst, IsCut}
+use Rattle.fg_encode.specs.StreamReader.{StreamState, IsPlaced, StandsAfter as ReaderStands}
 use Rattle.fg_shape.specs.declared.encoding.Settings.{Settings}
 use Rattle.fg_shape.specs.declared.encoding.Losses.{Losses}
-use Rattle.fg_ts.specs.declared.TsFault.TheVariants.{Ragged as RaggedPayload, NoSync as UnsyncedPayload}
-use Rattle.fg_drill.specs.declared.thinned.StreamFault.{StreamFault}
-use Rattle.fg_drill.specs.declared.thinned.StreamFault.TheVariants.{NotTransport, TooLong}
 use Rattle.fg_drill.specs.PayloadLaws.{CutPayloads, FirstPayloads}
 use Rattle.fg_drill.specs.Payloads.{payloads_of}
-use Rattle.fg_drill.specs.Sending.{SenderState, CanGoOn, IsUnderWay, answer_of, given_of, trace_so_far}
+use Rattle.fg_drill.specs.Sending.{SenderState, CanGoOn, IsUnderWay, given_of, trace_so_far}
 use Rattle.fg_drill.specs.Thinned.{is_lost, thinned, without}
 use Rattle.fg_drill.specs.ThinnedSource.{EndsFor, ending_told, whole_stream, thinned_trace}
+use Rattle.fg_encode.proofs.StreamPayloadLemmas.{joined}
 use Rattle.fg_drill.proofs.WithoutLemmas.{without-append, without_same}
-
--- The first payloads, one after another, are the first bytes.
-joined : (packets : ℕ) (bytes : List ℕ) (n : ℕ) → concat (map (payload_of packets bytes) (range_with_len 0 n)) ≡ take (188 * packets * n) bytes
-joined packets bytes zero = let none : 188 * packets * zero ≡ 0 = omega arith in ap (λ k. take k bytes) (sym none)
-joined packets bytes (suc n) =
-    let f = payload_of packets bytes in
-    let size : ℕ = 188 * packets in
-    ap (λ k. concat (map f (range_with_len 0 k))) (sym (add-one n))
-    ∙ ap concat (map-range_with_len_more f 0 n n (zero-add n))
-    ∙ concat-append (map f (range_with_len 0 n)) (f n ∷ [])
-    ∙ ap (λ (l : List ℕ). l ++ concat (f n ∷ [])) (joined packets bytes n)
-    ∙ ap (λ (l : List ℕ). take (size * n) bytes ++ l) (append-nil (f n))
-    ∙ sym (take-add (size * n) size bytes)
-    ∙ ap (λ k. take k bytes) (sym (mul-suc size n))
 
 -- Payloads, what is held after them, and the rest of a source that told its bytes, are the bytes.
 whole_is : (reader : StreamState) (bytes rest : List ℕ) (payloads : List (List ℕ)) → AreFirst reader.packets reader.max bytes payloads
@@ -132,12 +115,12 @@ goes_on new old_place taken encoder after payloads there packets place (inl whol
 
 -- Nothing was answered, so nothing was sent.
 pub no_payload :
-    (old new : StreamState) (sender : SenderState) (payloads : List (List ℕ)) (told now_told : Bool) (fault now_fault : Option StreamFault) (left rest : Option (List ℕ))
+    (old new : StreamState) (sender : SenderState) (payloads : List (List ℕ)) (told now_told : Bool) (fault now_fault : StreamEnding) (left rest : Option (List ℕ))
     → IsUnderWay old sender payloads told fault left → told ≡ false → sender.held ≡ []
     → ReaderStands new (whole_stream payloads old.held left) rest payloads
     → new.payload ≡ [] → new.packets ≡ old.packets → new.max ≡ old.max → new.place ≡ old.place + length new.payload
     → (old.ended ≡ true → (new.ended ≡ true) × (new.payload ++ new.held ≡ old.held))
-    → (now_told ≡ true → new.kept ≡ Some (answer_of now_fault)) → (now_told ≡ false → (new.kept ≡ None) × (now_fault ≡ None))
+    → (now_told ≡ true → new.kept ≡ Some now_fault) → (now_told ≡ false → (new.kept ≡ None) × (now_fault ≡ None))
     → ReadsLittle new → IsUnderWay new sender payloads now_told now_fault rest
 no_payload old new sender payloads told now_told fault now_fault left rest h unended empty stands none packets max place ended says quiet little =
     let still : new.place ≡ old.place = omega (arith, place, ap length none) in
@@ -176,7 +159,7 @@ trace_sent sender after payloads payload number held settings losses adds =
 
 -- A payload was answered and sent.
 pub payload_sent :
-    (old new : StreamState) (sender after : SenderState) (payloads : List (List ℕ)) (told : Bool) (fault : Option StreamFault) (left rest : Option (List ℕ)) (count : ℕ)
+    (old new : StreamState) (sender after : SenderState) (payloads : List (List ℕ)) (told : Bool) (fault : StreamEnding) (left rest : Option (List ℕ)) (count : ℕ)
     → IsUnderWay old sender payloads told fault left → told ≡ false
     → ReaderStands new (whole_stream payloads old.held left) rest (payloads ++ new.payload ∷ [])
     → new.packets ≡ old.packets → new.max ≡ old.max → new.place ≡ old.place + length new.payload → ReadsLittle new → new.kept ≡ None
@@ -223,7 +206,7 @@ none_given sender after payloads payload number empty held settings losses adds 
 
 -- Some of what is held was given.
 pub after_give :
-    (reader : StreamState) (sender : SenderState) (payloads : List (List ℕ)) (told : Bool) (fault : Option StreamFault) (rest : Option (List ℕ)) (count : ℕ)
+    (reader : StreamState) (sender : SenderState) (payloads : List (List ℕ)) (told : Bool) (fault : StreamEnding) (rest : Option (List ℕ)) (count : ℕ)
     → IsUnderWay reader sender payloads told fault rest → IsUnderWay reader (record sender { held = drop count sender.held }) payloads told fault rest
 after_give reader sender payloads told fault rest count h = record {
   stands = h.stands;
@@ -284,58 +267,44 @@ given_front reader sender payloads (Some bytes) count fits packets cut held few 
 
 -- What was given is the front of what was left.
 pub gives_front :
-    (reader : StreamState) (sender : SenderState) (payloads : List (List ℕ)) (told : Bool) (fault : Option StreamFault) (rest : Option (List ℕ)) (count : ℕ)
+    (reader : StreamState) (sender : SenderState) (payloads : List (List ℕ)) (told : Bool) (fault : StreamEnding) (rest : Option (List ℕ)) (count : ℕ)
     → IsUnderWay reader sender payloads told fault rest → count ≤ length sender.held → FirstPayloads → OneMoreAdds
     → Gives (left_of reader sender payloads rest) (take count sender.held) (left_of reader (record sender { held = drop count sender.held }) payloads rest)
 gives_front reader sender payloads told fault rest count h few firsts adds =
     given_front reader sender payloads (whole_stream payloads reader.held rest) count h.fits h.packets h.stands.cut h.held few firsts adds
 
--- An answer that ends the stream says so of the payloads that are a function of its bytes.
-ending_for : (fault : Option StreamFault) (packets max : ℕ) (bytes : List ℕ) (payloads : List (List ℕ)) → 1 ≤ packets → CutPayloads
-    → IsEnding (answer_of fault) packets max bytes payloads → EndsFor fault packets max bytes × (payloads_of packets max bytes ≡ payloads)
-ending_for None packets max bytes payloads some cuts h =
-    let same = cuts packets max bytes payloads Whole some h in (subst (λ t. IsCut packets max bytes t Whole) (sym same) h, same)
-ending_for (Some (TooLong n)) packets max bytes payloads some cuts h =
-    let same = cuts packets max bytes payloads (PastLimit n) some h in (subst (λ t. IsCut packets max bytes t (PastLimit n)) (sym same) h, same)
-ending_for (Some (NotTransport (RaggedPayload n))) packets max bytes payloads some cuts h =
-    let same = cuts packets max bytes payloads (Ragged n) some h in (subst (λ t. IsCut packets max bytes t (Ragged n)) (sym same) h, same)
-ending_for (Some (NotTransport (UnsyncedPayload k))) packets max bytes payloads some cuts h =
-    let same = cuts packets max bytes payloads (NoSync k) some h in (subst (λ t. IsCut packets max bytes t (NoSync k)) (sym same) h, same)
-
-kept_ending : (reader : StreamState) (answer : Answer) (stream : Option (List ℕ)) (payloads : List (List ℕ)) → reader.kept ≡ Some answer → KeepsEnding reader stream payloads
-    → IfSome stream (λ bytes. IsEnding answer reader.packets reader.max bytes payloads)
-kept_ending reader answer stream payloads kept h =
-    subst (λ (k : Option Answer). IfSome k (λ a. IfSome stream (λ bytes. IsEnding a reader.packets reader.max bytes payloads))) kept h
-
-told_for : (reader : StreamState) (packets : ℕ) (fault : Option StreamFault) (stream : Option (List ℕ)) (payloads : List (List ℕ)) → reader.packets ≡ packets → 1 ≤ packets → CutPayloads
-    → IfSome stream (λ bytes. IsEnding (answer_of fault) reader.packets reader.max bytes payloads)
+-- An ending says so of the payloads that are a function of the stream's bytes.
+told_for : (reader : StreamState) (packets : ℕ) (fault : StreamEnding) (stream : Option (List ℕ)) (payloads : List (List ℕ)) → reader.packets ≡ packets → 1 ≤ packets → CutPayloads
+    → IfSome stream (λ bytes. IsCut reader.packets reader.max bytes payloads fault)
     → IfSome stream (λ bytes. EndsFor fault packets reader.max bytes × (payloads_of packets reader.max bytes ≡ payloads))
 told_for reader packets fault None payloads same some cuts h = tt
 told_for reader packets fault (Some bytes) payloads same some cuts h =
-    ending_for fault packets reader.max bytes payloads some cuts (subst (λ n. IsEnding (answer_of fault) n reader.max bytes payloads) same h)
+    let cut : IsCut packets reader.max bytes payloads fault = subst (λ n. IsCut n reader.max bytes payloads fault) same h in
+    let is = cuts packets reader.max bytes payloads fault some cut in
+    (subst (λ t. IsCut packets reader.max bytes t fault) (sym is) cut, is)
 
 -- Once the end is told, the stream ends so, and its payloads are those that were taken.
 ends_told :
-    (reader : StreamState) (sender : SenderState) (payloads : List (List ℕ)) (told : Bool) (fault : Option StreamFault) (rest : Option (List ℕ))
+    (reader : StreamState) (sender : SenderState) (payloads : List (List ℕ)) (told : Bool) (fault : StreamEnding) (rest : Option (List ℕ))
     → CutPayloads → IsUnderWay reader sender payloads told fault rest → told ≡ true
     → IfSome (whole_stream payloads reader.held rest) (λ bytes. EndsFor fault sender.encoder.settings.packets reader.max bytes × (payloads_of sender.encoder.settings.packets reader.max bytes ≡ payloads))
 ends_told reader sender payloads told fault rest cuts h is =
     told_for reader sender.encoder.settings.packets fault (whole_stream payloads reader.held rest) payloads h.packets h.fits.packets.0 cuts
-    (kept_ending reader (answer_of fault) (whole_stream payloads reader.held rest) payloads (h.told_all is).1 h.stands.ending)
+    (subst (λ (k : Option StreamEnding). IfSome k (λ e. IfSome (whole_stream payloads reader.held rest) (λ bytes. IsCut reader.packets reader.max bytes payloads e))) (h.told_all is).1 h.stands.ending)
 
-fault_of : (stream : Option (List ℕ)) (fault : Option StreamFault) (packets max : ℕ) (payloads : List (List ℕ))
+fault_of : (stream : Option (List ℕ)) (fault : StreamEnding) (packets max : ℕ) (payloads : List (List ℕ))
     → IfSome stream (λ bytes. EndsFor fault packets max bytes × (payloads_of packets max bytes ≡ payloads)) → IfSome stream (λ bytes. EndsFor fault packets max bytes)
 fault_of None fault packets max payloads h = tt
 fault_of (Some bytes) fault packets max payloads h = h.0
 
 pub ends_for :
-    (reader : StreamState) (sender : SenderState) (payloads : List (List ℕ)) (told : Bool) (fault : Option StreamFault) (rest : Option (List ℕ))
+    (reader : StreamState) (sender : SenderState) (payloads : List (List ℕ)) (told : Bool) (fault : StreamEnding) (rest : Option (List ℕ))
     → CutPayloads → IsUnderWay reader sender payloads told fault rest → told ≡ true
     → IfSome (whole_stream payloads reader.held rest) (λ bytes. EndsFor fault sender.encoder.settings.packets reader.max bytes)
 ends_for reader sender payloads told fault rest cuts h is =
     fault_of (whole_stream payloads reader.held rest) fault sender.encoder.settings.packets reader.max payloads (ends_told reader sender payloads told fault rest cuts h is)
 
-given_all : (settings : Settings) (losses : Losses) (max given : ℕ) (stream : Option (List ℕ)) (fault : Option StreamFault) (payloads : List (List ℕ))
+given_all : (settings : Settings) (losses : Losses) (max given : ℕ) (stream : Option (List ℕ)) (fault : StreamEnding) (payloads : List (List ℕ))
     → IfSome stream (λ bytes. EndsFor fault settings.packets max bytes × (payloads_of settings.packets max bytes ≡ payloads)) → length (trace_of (thinned settings (is_lost losses) payloads)) ≤ given
     → IsAtEnd (option_map (λ bytes. drop given (thinned_trace settings losses max bytes)) stream)
 given_all settings losses max given None fault payloads h most = tt
@@ -344,7 +313,7 @@ given_all settings losses max given (Some bytes) fault payloads h most =
 
 -- And nothing is left.
 pub at_end :
-    (reader : StreamState) (sender : SenderState) (payloads : List (List ℕ)) (told : Bool) (fault : Option StreamFault) (rest : Option (List ℕ))
+    (reader : StreamState) (sender : SenderState) (payloads : List (List ℕ)) (told : Bool) (fault : StreamEnding) (rest : Option (List ℕ))
     → CutPayloads → IsUnderWay reader sender payloads told fault rest → told ≡ true → IsAtEnd (left_of reader sender payloads rest)
 at_end reader sender payloads told fault rest cuts h is =
     given_all sender.encoder.settings sender.losses reader.max (given_of sender payloads) (whole_stream payloads reader.held rest) fault payloads (ends_told reader sender payloads told fault rest cuts h is)
@@ -379,26 +348,18 @@ same_left settings settings' losses losses' max max' given given' stream stream'
     ∙ ap (λ t. option_map (λ bytes. drop given (thinned_trace settings losses max bytes)) t) e)
 
 -- How far the stream was read: as far as the ending needs that was told.
-fault_told : (fault : Option StreamFault) → kept_ending_told (Some (answer_of fault)) ≡ ending_told true fault
-fault_told None = refl
-fault_told (Some (TooLong n)) = refl
-fault_told (Some (NotTransport (RaggedPayload n))) = refl
-fault_told (Some (NotTransport (UnsyncedPayload k))) = refl
-
-same_told :
-    (told : Bool) (fault : Option StreamFault) (kept : Option Answer) → (told ≡ true → kept ≡ Some (answer_of fault))
-    → (told ≡ false → kept ≡ None) → kept_ending_told kept ≡ ending_told told fault
-same_told true fault kept says quiet = ap kept_ending_told (says refl) ∙ fault_told fault
-same_told false fault kept says quiet = ap kept_ending_told (quiet refl)
+same_told : (told : Bool) (fault : StreamEnding) (kept : Option StreamEnding) → (told ≡ true → kept ≡ Some fault) → (told ≡ false → kept ≡ None) → kept ≡ ending_told told fault
+same_told true fault kept says quiet = says refl
+same_told false fault kept says quiet = quiet refl
 
 read_first :
     (reader : StreamState) (first rest : Option (List ℕ)) (payloads : List (List ℕ)) → ReadsAsFar → ReaderStands reader first rest payloads
-    → ReadsLittle reader → IfSome first (λ bytes. IsStreamReadFor reader.max (kept_ending_told reader.kept) bytes rest)
+    → ReadsLittle reader → IfSome first (λ bytes. IsStreamReadFor reader.max reader.kept bytes rest)
 read_first reader None rest payloads reads stands little = tt
 read_first reader (Some bytes) rest payloads reads stands little = reads reader bytes rest payloads stands little
 
 pub read_for :
-    (reader : StreamState) (sender : SenderState) (payloads : List (List ℕ)) (told : Bool) (fault : Option StreamFault) (rest : Option (List ℕ))
+    (reader : StreamState) (sender : SenderState) (payloads : List (List ℕ)) (told : Bool) (fault : StreamEnding) (rest : Option (List ℕ))
     → ReadsAsFar → IsUnderWay reader sender payloads told fault rest
     → IfSome (whole_stream payloads reader.held rest) (λ bytes. IsStreamReadFor reader.max (ending_told told fault) bytes rest)
 read_for reader sender payloads told fault rest reads h =

@@ -3,7 +3,7 @@ use Rattle.std.proofs.Common.{ℕ, ◌+◌, ◌≤◌, ◌^◌, Bool, true, fals
 use Rattle.std.specs.List.{AllByRecursion, flat_map}
 use Rattle.fg_trace.specs.Laws.{SpelledIsRead}
 use Rattle.fg_trace.specs.Trace.{Record, Fits, magic, spelling, trace_of, IsTrace, Ended}
-use Rattle.fg_encode.specs.Encoder.{CanEncode}
+use Rattle.fg_shape.specs.Settings.{CanEncode}
 use Rattle.fg_encode.specs.Encoding.{encoding}
 use Rattle.fg_encode.specs.Laws.{CutsArePayloads, RecordsFit, TracesAreShort}
 use Rattle.fg_encode.specs.Payloads.{ArePayloads, total_length}

@@ -6,6 +6,7 @@ use Rattle.std.proofs.lemmas.List.Elements.{All-nil, All-cons, All-append, All-p
 use Rattle.std.specs.List.{All}
 use Rattle.std.specs.Ordering.{nat_cmp}
 use Rattle.std.specs.FinMap.{get-empty}
+use Rattle.fg_shape.specs.Playout.{Playout}
 use Rattle.fg_words.specs.declared.Word.{Word}
 use Rattle.fg_peel.specs.Equation.{AreMedia}
 use Rattle.fg_peel.specs.Laws.{TruthIsSolvable, SolutionsAreTrue}
@@ -41,16 +42,16 @@ all_are_read seq truth last (arrival ∷ arrivals) media are =
 
 -- Nothing is there at first.
 pub opening_is_true :
-    (window depth seq : ℕ) (truth : ℕ → Option Word) → LiveStandUnderSerials
-    → LeavesTruth truth seq None (opening window depth)
-opening_is_true window depth seq truth stand =
-    let nothing : (position : ℕ) → known (opening window depth) position ≡ None =
-    λ position. known_ahead (opening window depth) position (omega arith) ∙ get-empty {X = Word} nat_cmp position in
+    (playout : Playout) (seq : ℕ) (truth : ℕ → Option Word) → LiveStandUnderSerials
+    → LeavesTruth truth seq None (opening playout)
+opening_is_true playout seq truth stand =
+    let nothing : (position : ℕ) → known (opening playout) position ≡ None =
+    λ position. known_ahead (opening playout) position (omega arith) ∙ get-empty {X = Word} nat_cmp position in
     record {
       window = record {
         known_true = λ p w is_known. absurd (none-some w (sym (nothing p) ∙ is_known));
         settled = λ e listed.
-            let r = (stand (opening window depth) e).0 listed in
+            let r = (stand (opening playout) e).0 listed in
             absurd (none-some r.1 (sym (get-empty {X = Live} nat_cmp r.0) ∙ r.2));
       };
       top = record { top = refl; mark = omega arith; unknown = λ p past ahead. nothing p };
@@ -59,8 +60,8 @@ opening_is_true window depth seq truth stand =
 module _
     (stand : LiveStandUnderSerials) (peelings : SolutionsArePeelings) (solvable : TruthIsSolvable) (found : SolutionsAreTrue)
     (media_adds : MediaAdds) (parity_adds : ParityAdds) (flush_keeps : FlushStepKeeps) (within : RunsStayWithin)
-    (join : TakingsJoin) (window depth seq : ℕ) (truth : ℕ → Option Word) (arrivals : List Arrival)
-    (sent : AreSentTrue window depth seq truth arrivals) where
+    (join : TakingsJoin) (playout : Playout) (seq : ℕ) (truth : ℕ → Option Word) (arrivals : List Arrival)
+    (sent : AreSentTrue playout seq truth arrivals) where
   -- What the datagrams so far leave.
   record AreTakenTruly (plays : List Play) (new : State) : Type 0 where
     made : All (IsTruePlay truth) plays
@@ -71,11 +72,11 @@ module _
       (earlier later : List Arrival) (before plays : List Play) (first replies : List (Option Reply)) (taken new : State)
       (last : Option ℕ)
       → All IsRead earlier → length earlier + length later < 2 ^ 44
-      → TakesAll (opening window depth) earlier before first taken → LeavesTruth truth seq last taken
+      → TakesAll (opening playout) earlier before first taken → LeavesTruth truth seq last taken
       → AreTrueArrivals seq truth last later → TakesAll taken later plays replies new → AreTakenTruly plays new
   all_are_taken_truly earlier [] before plays first replies taken new last read few so is are takes =
-      let stays = within window depth 0 earlier before [] first taken taken
-      sent.some_window sent.window_limit sent.window_within read (omega (arith, few)) so refl in
+      let stays = within playout 0 earlier before [] first taken taken
+      sent.fits.window.0 sent.fits.window.1 sent.fits.depth.0 read (omega (arith, few)) so refl in
       record {
         made = subst (All (IsTruePlay truth)) (sym takes.0) (All-nil (IsTruePlay truth));
         holds = subst Holds (sym takes.2) stays.0;
@@ -86,15 +87,15 @@ module _
       let one = is_taken_truly stand peelings solvable found media_adds parity_adds truth sent.media seq
       last are.0 taken arrival takes.0 reply takes.2
       (λ number due now played.
-      (within window depth number earlier before due first taken now
-      sent.some_window sent.window_limit sent.window_within read (omega (arith, few)) so played).0)
+      (within playout number earlier before due first taken now
+      sent.fits.window.0 sent.fits.window.1 sent.fits.depth.0 read (omega (arith, few)) so played).0)
       is are.1 are.2 takes.4 in
       let long = length_push earlier arrival in
       let rest = all_are_taken_truly (earlier ++ arrival ∷ []) later (before ++ takes.0) takes.1 (first ++ reply ∷ []) replies
       takes.2 new (last_after last are.0 arrival)
       (All-push IsRead earlier arrival read (is_read seq truth are.0 arrival sent.media are.1))
       (omega (arith, few, long))
-      (join (opening window depth) taken takes.2 earlier (arrival ∷ []) before takes.0 first (reply ∷ []) so
+      (join (opening playout) taken takes.2 earlier (arrival ∷ []) before takes.0 first (reply ∷ []) so
       (takes.0, [], takes.2, sym (append-nil takes.0), takes.4, (refl, refl, refl)))
       one.leaves are.3 takes.5 in
       record {
@@ -109,19 +110,19 @@ module _
       → All (IsTruePlay truth) plays
   flush_is_true old [] new holds is flush = All-nil (IsTruePlay truth)
   flush_is_true old (play ∷ plays) new holds is flush =
-      let count = min old.window (flush.1.highest + 1 - old.mark) in
+      let count = min old.playout.window (flush.1.highest + 1 - old.mark) in
       All-cons (IsTruePlay truth) play plays
       (play_is_true stand peelings solvable found truth sent.media count old play flush.0 holds is flush.1.plays)
       (flush_is_true flush.0 plays new (flush_keeps old flush.0 (Some play) holds flush.1)
       (true_after_play stand peelings solvable found truth sent.media count old play flush.0 holds is flush.1.plays) flush.2)
 
   run_is_true :
-      (plays : List Play) (replies : List (Option Reply)) → IsRun window depth arrivals plays replies
+      (plays : List Play) (replies : List (Option Reply)) → IsRun playout arrivals plays replies
       → All (IsTruePlay truth) plays
   run_is_true plays replies run =
       let few = sent.few in
-      let all = all_are_taken_truly [] arrivals [] run.taken [] replies (opening window depth) run.filled None
-      (All-nil IsRead) (omega (arith, few)) (refl, refl, refl) (opening_is_true window depth seq truth stand)
+      let all = all_are_taken_truly [] arrivals [] run.taken [] replies (opening playout) run.filled None
+      (All-nil IsRead) (omega (arith, few)) (refl, refl, refl) (opening_is_true playout seq truth stand)
       sent.arrive run.takes in
       subst (All (IsTruePlay truth)) (sym run.plays_are)
       (All-append (IsTruePlay truth) run.taken run.flushed all.made
@@ -130,14 +131,14 @@ module _
 -- All plays of runs of true datagrams are true.
 abbrev pub TrueRunsAreTrue : Type 0
 TrueRunsAreTrue =
-    (window depth seq : ℕ) (truth : ℕ → Option Word) (arrivals : List Arrival) (plays : List Play)
+    (playout : Playout) (seq : ℕ) (truth : ℕ → Option Word) (arrivals : List Arrival) (plays : List Play)
     (replies : List (Option Reply))
-    → AreSentTrue window depth seq truth arrivals → IsRun window depth arrivals plays replies
+    → AreSentTrue playout seq truth arrivals → IsRun playout arrivals plays replies
     → All (IsTruePlay truth) plays
 
 pub true_runs_are_true :
     LiveStandUnderSerials → SolutionsArePeelings → TruthIsSolvable → SolutionsAreTrue → MediaAdds → ParityAdds
     → FlushStepKeeps → RunsStayWithin → TakingsJoin → TrueRunsAreTrue
-true_runs_are_true stand peelings solvable found media_adds parity_adds flush_keeps within join window depth seq truth arrivals plays replies sent run =
-    run_is_true stand peelings solvable found media_adds parity_adds flush_keeps within join window depth seq truth arrivals
+true_runs_are_true stand peelings solvable found media_adds parity_adds flush_keeps within join playout seq truth arrivals plays replies sent run =
+    run_is_true stand peelings solvable found media_adds parity_adds flush_keeps within join playout seq truth arrivals
     sent plays replies run

@@ -9,7 +9,7 @@ use Rattle.fg_words.specs.declared.Word.{Word}
 use Rattle.fg_desk.specs.declared.reply.Outcome.TheVariants.{Repaired}
 use Rattle.fg_desk.specs.Play.{Play, Shown, nothing_shown}
 use Rattle.fg_desk.specs.Laws.{AreInSuccession, PlaysFollow}
-use Rattle.fg_repair.specs.Flow.{all_shown}
+use Rattle.fg_results.specs.Flow.{all_shown}
 use Rattle.fg_drill.specs.TrueLaws.{TrueRunsAreRepaired, TrueRunsShowTheTruth, NothingElseIsShown}
 use Rattle.fg_drill.proofs.TrueDesks.{IsTruePlay}
 use Rattle.fg_drill.proofs.TrueRuns.{TrueRunsAreTrue}
@@ -39,9 +39,9 @@ not_some None not = refl
 not_some (Some x) not = absurd (not x refl)
 
 pub nothing_else : TrueRunsShowTheTruth → NothingElseIsShown
-nothing_else truly window depth seq truth arrivals plays replies sent run slot none =
+nothing_else truly playout seq truth arrivals plays replies sent run slot none =
     not_some (get_or (all_shown plays) slot nothing_shown).word
-    (λ word shown. none-some word (sym none ∙ truly window depth seq truth arrivals plays replies sent run slot word shown))
+    (λ word shown. none-some word (sym none ∙ truly playout seq truth arrivals plays replies sent run slot word shown))
 
 -- A play of plays in succession shows its slots at their positions.
 pub record ShowsAt (plays : List Play) (play : Play) (first slot : ℕ) : Type 0 where
@@ -76,13 +76,13 @@ of_one P [] after play all = All-head P play after all
 of_one P (other ∷ before) after play all = of_one P before after play (All-tail P other (before ++ play ∷ after) all)
 
 pub runs_are_repaired : TrueRunsAreTrue → TrueRunsAreRepaired
-runs_are_repaired all window depth seq truth arrivals plays replies sent run =
+runs_are_repaired all playout seq truth arrivals plays replies sent run =
     All-weaker (IsTruePlay truth) (λ (play : Play). play.outcome ≡ Repaired) (λ play is. is.repaired) plays
-    (all window depth seq truth arrivals plays replies sent run)
+    (all playout seq truth arrivals plays replies sent run)
 
 pub runs_show_the_truth : TrueRunsAreTrue → PlaysFollow → TrueRunsShowTheTruth
-runs_show_the_truth all follow window depth seq truth arrivals plays replies sent run slot word shown =
+runs_show_the_truth all follow playout seq truth arrivals plays replies sent run slot word shown =
     let from_first : slot ≡ 0 + slot = omega arith in
     ap truth from_first
-    ∙ shown_is_true truth plays 0 (follow window depth arrivals plays replies run)
-    (all window depth seq truth arrivals plays replies sent run) slot word shown
+    ∙ shown_is_true truth plays 0 (follow playout arrivals plays replies run)
+    (all playout seq truth arrivals plays replies sent run) slot word shown

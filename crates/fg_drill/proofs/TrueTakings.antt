@@ -11,7 +11,7 @@ use Rattle.fg_peel.specs.Equation.{Equation, AreMedia, IsSettled}
 use Rattle.fg_peel.specs.Laws.{TruthIsSolvable, SolutionsAreTrue}
 use Rattle.fg_desk.specs.declared.reply.Reply.{Reply}
 use Rattle.fg_desk.specs.declared.reply.Reply.TheVariants.{Admitted, Duplicate, Conflict, Late, NotStarted, BeforeStart, Ahead, Crowded}
-use Rattle.fg_desk.specs.declared.run.Stream.{Stream}
+use Rattle.fg_shape.specs.declared.kind.Kind.{Kind}
 use Rattle.fg_desk.specs.State.{State, Top, known}
 use Rattle.fg_desk.specs.Admission.{Parity, IsDue, IsReplyAt, IsMediaReply, IsLeastFree, AdmitsMedia, AdmitsParity, position_on, farther, counted, with_media, with_equation, equation_at}
 use Rattle.fg_desk.specs.Play.{Play, IsPlay}
@@ -71,10 +71,10 @@ topped_position desk seq slot (Some before) reach = position_is seq before slot 
 
 topped_due :
     (desk : State) (seq slot : ℕ) (last : Option ℕ) → InReach last slot → IsDue (topped desk seq last) (number_of seq slot)
-    → desk.mark + desk.depth ≤ slot
+    → desk.mark + desk.playout.depth ≤ slot
 topped_due desk seq slot None reach due = absurd due
 topped_due desk seq slot (Some before) reach due =
-    subst (λ (o : Option ℕ). IsSomeAnd o (λ position. desk.mark + desk.depth ≤ position))
+    subst (λ (o : Option ℕ). IsSomeAnd o (λ position. desk.mark + desk.playout.depth ≤ position))
     (position_is seq before slot reach.0 reach.1) due
 
 admitted_at :
@@ -113,7 +113,7 @@ module _ (seq slot : ℕ) (last : Option ℕ) (limit : ℕ) (desk : State) (is :
       ap (λ (t : Option Top). position_on (record desk { top = t }) (number_of seq slot)) is.top
       ∙ topped_position desk seq slot last reach
 
-  due_is_far : InReach last slot → IsDue desk (number_of seq slot) → desk.mark + desk.depth ≤ slot
+  due_is_far : InReach last slot → IsDue desk (number_of seq slot) → desk.mark + desk.playout.depth ≤ slot
   due_is_far reach due =
       topped_due desk seq slot last reach
       (subst (λ (t : Option Top). IsDue (record desk { top = t }) (number_of seq slot)) is.top due)
@@ -169,7 +169,7 @@ module _ (truth : ℕ → Option Word) where
       }
 
   parity_reaches :
-      (seq slot : ℕ) (last : Option ℕ) (stream : Stream) (parity : Parity) (is : IsTrueParity seq truth slot parity)
+      (seq slot : ℕ) (last : Option ℕ) (stream : Kind) (parity : Parity) (is : IsTrueParity seq truth slot parity)
       → ComesInTurn last slot (protects stream parity) → InReach last is.base
   parity_reaches seq slot None stream parity is turn = absurd turn
   parity_reaches seq slot (Some before) stream parity is turn =
@@ -205,7 +205,7 @@ module _ (truth : ℕ → Option Word) where
       })
 
   parity_leaves_truth :
-      (old new : State) (seq slot : ℕ) (last : Option ℕ) (stream : Stream) (parity : Parity) (reply : Reply) → ParityAdds
+      (old new : State) (seq slot : ℕ) (last : Option ℕ) (stream : Kind) (parity : Parity) (reply : Reply) → ParityAdds
       → Holds old → LeavesTruth seq last old → IsTrueParity seq truth slot parity
       → ComesInTurn last slot (protects stream parity) → AdmitsParity old parity reply new → LeavesTruth seq last new
   parity_leaves_truth old new seq slot last stream parity Admitted adds holds is true_parity turn admits =
@@ -250,7 +250,7 @@ module _
   play_leaves_top :
       (last : Option ℕ) (slot : ℕ) (old : State) (play : Play) (new : State) → Holds old → IsTrueWindow truth old
       → IsTrueTop seq last slot old → InReach last slot → IsDue old (number_of seq slot)
-      → IsPlay old.window old play new → IsTrueTop seq last slot new
+      → IsPlay old.playout.window old play new → IsTrueTop seq last slot new
   play_leaves_top last slot old play new holds is top reach due plays =
       let far = due_is_far seq slot last slot old top reach due in
       let mark = plays.mark in
@@ -261,7 +261,7 @@ module _
         unknown = λ p past beyond. none_or_not (known new p)
             (λ w is_known. none-some w
             (sym (top.unknown p past (omega (arith, mark, beyond)))
-            ∙ received_before stand peelings solvable found truth media old.window old play new holds is plays p w beyond is_known));
+            ∙ received_before stand peelings solvable found truth media old.playout.window old play new holds is plays p w beyond is_known));
       }
 
   pub due_plays_are_true :
@@ -277,11 +277,11 @@ module _
       let rest : ArePlayedTrue seq truth last slot plays new =
       due_plays_are_true last slot next plays new
       (λ more now played. stays (play ∷ more) now (due.0, (next, due.1.1, played)))
-      (true_after_play stand peelings solvable found truth media old.window old play next holds is due.1.1)
+      (true_after_play stand peelings solvable found truth media old.playout.window old play next holds is due.1.1)
       (play_leaves_top last slot old play next holds is top reach due.0 due.1.1) reach due.1.2 in
       record {
         made = All-cons (IsTruePlay truth) play plays
-            (play_is_true stand peelings solvable found truth media old.window old play next holds is due.1.1) rest.made;
+            (play_is_true stand peelings solvable found truth media old.playout.window old play next holds is due.1.1) rest.made;
         holds = rest.holds;
         window = rest.window;
         top = rest.top;

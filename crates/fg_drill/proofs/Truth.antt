@@ -11,7 +11,7 @@ use Rattle.fg_shape.specs.declared.Shape.{Shape}
 use Rattle.fg_shape.specs.declared.encoding.Settings.{Settings}
 use Rattle.fg_shape.specs.Shape.{slots_of, IsShape}
 use Rattle.fg_encode.specs.Encoding.{parity_at, word_at}
-use Rattle.fg_repair.specs.Flow.{parity_of}
+use Rattle.fg_results.specs.Flow.{parity_of}
 use Rattle.fg_drill.specs.Sent.{words_sent}
 use Rattle.fg_drill.specs.True.{IsTrueParity}
 

@@ -12,14 +12,14 @@ use Rattle.fg_shape.specs.Laws.{LayoutsAreRead}
 use Rattle.fg_rtp.specs.Laws.{WrittenIsRead as MediaWrittenIsRead}
 use Rattle.fg_fechead.specs.Laws.{WrittenIsRead as ParityWrittenIsRead}
 use Rattle.fg_trace.specs.Trace.{Record}
-use Rattle.fg_desk.specs.declared.run.Stream.{Stream}
-use Rattle.fg_desk.specs.declared.run.Stream.TheVariants as stream
+use Rattle.fg_shape.specs.declared.kind.Kind.{Kind}
+use Rattle.fg_shape.specs.declared.kind.Kind.TheVariants as kind
 use Rattle.fg_desk.specs.Admission.{Parity}
 use Rattle.fg_desk.specs.Run.{Arrival, carries, protects}
 use Rattle.fg_encode.specs.Ends.{column_bases, columns_before, columns_ending, row_bases, rows_before, rows_ending}
 use Rattle.fg_encode.specs.Encoding.{column_record, column_shape, media_record, parity_at, records_at, row_record, row_shape, sequence_of, word_at}
 use Rattle.fg_encode.specs.Payloads.{ArePayloads}
-use Rattle.fg_repair.specs.Flow.{Arrives, is_of, parity_of, records_of}
+use Rattle.fg_results.specs.Flow.{Arrives, is_of, parity_of, records_of}
 use Rattle.fg_drill.specs.Sent.{words_sent}
 use Rattle.fg_drill.specs.Thinned.{AreFew, media_number, without}
 use Rattle.fg_drill.specs.True.{AreTrueArrivals, ComesInTurn, IsTrueArrival, IsTrueParity, last_after}
@@ -128,7 +128,7 @@ module _ (settings : Settings) (payloads : List (List ℕ)) (lost : ℕ → Bool
   abbrev ArrivesTrue : (ℕ → Record) → ℕ → ℕ → Type 0
   ArrivesTrue record_of slot base =
       (a : Arrival) → Arrives settings.port (record_of base) a
-      → (by : Stream) × (parity : Parity) × (a ≡ protects by parity)
+      → (by : Kind) × (parity : Parity) × (a ≡ protects by parity)
       × IsTrueParity settings.seq (words_sent settings payloads) slot parity
 
   parities_more :
@@ -158,7 +158,7 @@ module _ (settings : Settings) (payloads : List (List ℕ)) (lost : ℕ → Bool
         (λ base passes a arrives.
         let ends : base + (settings.layout.d - 1) * settings.layout.l ≡ slot = eqb-true (base + (settings.layout.d - 1) * settings.layout.l) slot passes in
         let read = (shapes settings.layout).0 in (
-          stream.Column,
+          kind.Column,
           parity_of (parity_at settings payloads base (column_shape settings.layout) false),
           column_arrives settings payloads most are law slot base read (omega arith) a arrives,
           parity_is_true settings payloads base (column_shape settings.layout) false slot read ends below,
@@ -173,7 +173,7 @@ module _ (settings : Settings) (payloads : List (List ℕ)) (lost : ℕ → Bool
         (λ base passes a arrives.
         let ends : base + (settings.layout.l - 1) ≡ slot = eqb-true (base + (settings.layout.l - 1)) slot passes in
         let read = (shapes settings.layout).1 in (
-          stream.Row,
+          kind.Row,
           parity_of (parity_at settings payloads base (row_shape settings.layout) true),
           row_arrives settings payloads most are law slot base read (omega arith) a arrives,
           parity_is_true settings payloads base (row_shape settings.layout) true slot read (omega arith) below,

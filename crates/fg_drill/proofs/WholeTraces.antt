@@ -5,7 +5,7 @@ use Rattle.fg_trace.specs.Laws.{OneTrace, SpelledIsRead}
 use Rattle.fg_trace.specs.Trace.{Record, Ended, IsTrace}
 use Rattle.fg_encode.specs.Encoding.{encoding}
 use Rattle.fg_encode.specs.Laws.{RecordsFit}
-use Rattle.fg_repair.specs.Flow.{Arrives, IsFlowResult, records_of}
+use Rattle.fg_results.specs.Flow.{Arrives, IsFlowResult, records_of}
 use Rattle.fg_drill.specs.ComesBack.{EncodingComesBack, NothingIsInconsistent, NothingLostIsAll, NothingLostIsFew, NothingLostPeels, PeelingBringsAllBack, ThinnedTraceComesBack, ThinnedTraceIsRead, WhatIsShownComesBack}
 use Rattle.fg_drill.specs.Sent.{AllRecordsArrive, FewArrive, SentRecordsAreTrue, SentWordsAreMedia, words_sent}
 use Rattle.fg_drill.specs.Thinned.{media_number, thinned}
@@ -26,28 +26,28 @@ pub nothing_is_all : NothingLostIsAll
 nothing_is_all settings payloads lost none = all_kept lost 0 (encoding settings payloads) none
 
 pub nothing_lost_peels : SentWordsAreMedia → SentRecordsAreTrue → FewArrive → AllRecordsArrive → FullArrivalsPeel → NothingLostPeels
-nothing_lost_peels media records few arrive peel window depth settings payloads lost can none =
+nothing_lost_peels media records few arrive peel playout settings payloads lost can none =
     let all = arrive settings payloads can.can can.whole in
     let zip = subst (λ (rs : List Record). AllZip (Arrives settings.port) (records_of settings.port rs) all.0)
     (sym (nothing_is_all settings payloads lost none)) all.1 in (
       all.0,
       zip,
-      peel window depth settings.seq (length payloads) (words_sent settings payloads) all.0
-          (sent_true window depth settings payloads lost can media records few all.0 zip) all.2,
+      peel playout settings.seq (length payloads) (words_sent settings payloads) all.0
+          (sent_true playout settings payloads lost can media records few all.0 zip) all.2,
     )
 
 pub encoding_comes_back : NothingLostPeels → PeelingBringsAllBack → EncodingComesBack
-encoding_comes_back peels whole window depth settings payloads result can is =
+encoding_comes_back peels whole playout settings payloads result can is =
     let lost : ℕ → Bool = λ _. false in
-    whole window depth settings payloads lost result can
-    (subst (λ (rs : List Record). IsFlowResult window depth rs settings.port result)
+    whole playout settings payloads lost result can
+    (subst (λ (rs : List Record). IsFlowResult playout rs settings.port result)
     (sym (nothing_is_all settings payloads lost (λ _. refl))) is)
-    (peels window depth settings payloads lost can (λ _. refl))
+    (peels playout settings payloads lost can (λ _. refl))
 
 -- Traces
 
 pub trace_is_read : RecordsFit → SpelledIsRead → OneTrace → ThinnedTraceIsRead
-trace_is_read fit read one window depth max flows bytes settings payloads lost is =
+trace_is_read fit read one playout max flows bytes settings payloads lost is =
     let sent : List Record = thinned settings lost payloads in
     let within = is.within in
     let fits = fits_without lost 0 (encoding settings payloads) (fit settings payloads is.can.can is.can.whole is.can.limit) in
@@ -58,13 +58,13 @@ trace_is_read fit read one window depth max flows bytes settings payloads lost i
 
 pub trace_comes_back :
     ThinnedTraceIsRead → NothingIsInconsistent → WhatIsShownComesBack → PeelingBringsAllBack → ThinnedTraceComesBack
-trace_comes_back read consistent shown whole window depth max flows bytes settings payloads lost records end result is trace flow =
-    let same = ((read window depth max flows bytes settings payloads lost is).1 records end trace).0 in
-    let result_is : IsFlowResult window depth (thinned settings lost payloads) settings.port result =
-    subst (λ (rs : List Record). IsFlowResult window depth rs settings.port result) same flow in
+trace_comes_back read consistent shown whole playout max flows bytes settings payloads lost records end result is trace flow =
+    let same = ((read playout max flows bytes settings payloads lost is).1 records end trace).0 in
+    let result_is : IsFlowResult playout (thinned settings lost payloads) settings.port result =
+    subst (λ (rs : List Record). IsFlowResult playout rs settings.port result) same flow in
     record {
       is = result_is;
-      consistent = consistent window depth settings payloads lost result is.can result_is;
-      shown = shown window depth settings payloads lost result is.can result_is;
-      peels = whole window depth settings payloads lost result is.can result_is;
+      consistent = consistent playout settings payloads lost result is.can result_is;
+      shown = shown playout settings payloads lost result is.can result_is;
+      peels = whole playout settings payloads lost result is.can result_is;
     }

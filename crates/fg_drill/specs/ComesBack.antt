@@ -1,13 +1,14 @@
 -- What comes back of a thinned encoding that is repaired. This project's own.
 use Rattle.std.specs.Prelude.{◌≡◌, ◌≤◌, ◌^◌, ℕ, Bool, false, List, length}
 use Rattle.std.specs.List.{Contains, flat_map}
+use Rattle.fg_shape.specs.Playout.{Playout, PlayoutFits}
 use Rattle.fg_shape.specs.declared.layouts.Layout.{Layout}
 use Rattle.fg_shape.specs.declared.encoding.Settings.{Settings}
 use Rattle.fg_trace.specs.Trace.{Record, Ending, Ended, IsTrace, trace_of}
-use Rattle.fg_encode.specs.Encoder.{CanEncode}
+use Rattle.fg_shape.specs.Settings.{CanEncode}
 use Rattle.fg_encode.specs.Encoding.{encoding}
 use Rattle.fg_encode.specs.Payloads.{total_length, ArePayloads}
-use Rattle.fg_repair.specs.Flow.{FlowResult, IsFlowResult}
+use Rattle.fg_results.specs.Flow.{FlowResult, IsFlowResult}
 use Rattle.fg_drill.specs.Repaired.{Peels, stream_shown}
 use Rattle.fg_drill.specs.Thinned.{AreFew, thinned}
 
@@ -15,59 +16,56 @@ use Rattle.fg_drill.specs.Thinned.{AreFew, thinned}
 abbrev pub stream_of : List (List ℕ) → List ℕ
 stream_of payloads = flat_map (λ payload. payload) payloads
 
--- Payloads that are encoded, what is lost of them, and the window and depth with which the rest is repaired, all within
+-- Payloads that are encoded, what is lost of them, and the playout with which the rest is repaired, all within
 -- the limits.
 pub record CanComeBack
-    (window depth : ℕ) (settings : Settings) (payloads : List (List ℕ)) (lost : ℕ → Bool) : Type 0 where
+    (playout : Playout) (settings : Settings) (payloads : List (List ℕ)) (lost : ℕ → Bool) : Type 0 where
   pub can : CanEncode settings
   pub whole : ArePayloads settings.packets payloads
   pub few : AreFew settings.layout (length payloads) lost
   pub limit : total_length payloads ≤ 2 ^ 40
-  pub some_window : 1 ≤ window
-  pub window_limit : window ≤ 100
-  pub window_within : window ≤ depth
-  pub depth_limit : depth ≤ 1000
+  pub fits : PlayoutFits playout
 
 -- A repair of a thinned encoding has no inconsistent play.
 abbrev pub NothingIsInconsistent : Type 0
 NothingIsInconsistent =
-    (window depth : ℕ) (settings : Settings) (payloads : List (List ℕ)) (lost : ℕ → Bool) (result : FlowResult)
-    → CanComeBack window depth settings payloads lost
-    → IsFlowResult window depth (thinned settings lost payloads) settings.port result → result.sum.inconsistent ≡ 0
+    (playout : Playout) (settings : Settings) (payloads : List (List ℕ)) (lost : ℕ → Bool) (result : FlowResult)
+    → CanComeBack playout settings payloads lost
+    → IsFlowResult playout (thinned settings lost payloads) settings.port result → result.sum.inconsistent ≡ 0
 
 -- Its lane is the stream without the slots that no play shows.
 abbrev pub WhatIsShownComesBack : Type 0
 WhatIsShownComesBack =
-    (window depth : ℕ) (settings : Settings) (payloads : List (List ℕ)) (lost : ℕ → Bool) (result : FlowResult)
-    → CanComeBack window depth settings payloads lost
-    → (is : IsFlowResult window depth (thinned settings lost payloads) settings.port result)
+    (playout : Playout) (settings : Settings) (payloads : List (List ℕ)) (lost : ℕ → Bool) (result : FlowResult)
+    → CanComeBack playout settings payloads lost
+    → (is : IsFlowResult playout (thinned settings lost payloads) settings.port result)
     → result.lane ≡ stream_shown payloads is.plays
 
 -- It is the whole stream where the thinned encoding peels.
 abbrev pub PeelingBringsAllBack : Type 0
 PeelingBringsAllBack =
-    (window depth : ℕ) (settings : Settings) (payloads : List (List ℕ)) (lost : ℕ → Bool) (result : FlowResult)
-    → CanComeBack window depth settings payloads lost
-    → IsFlowResult window depth (thinned settings lost payloads) settings.port result
-    → Peels window depth settings.port (thinned settings lost payloads) (length payloads)
+    (playout : Playout) (settings : Settings) (payloads : List (List ℕ)) (lost : ℕ → Bool) (result : FlowResult)
+    → CanComeBack playout settings payloads lost
+    → IsFlowResult playout (thinned settings lost payloads) settings.port result
+    → Peels playout settings.port (thinned settings lost payloads) (length payloads)
     → result.lane ≡ stream_of payloads
 
 -- What comes back of a thinned encoding, as one fact of its flow's result.
 pub record FlowComesBack
-    (window depth : ℕ) (settings : Settings) (payloads : List (List ℕ)) (lost : ℕ → Bool) (result : FlowResult)
+    (playout : Playout) (settings : Settings) (payloads : List (List ℕ)) (lost : ℕ → Bool) (result : FlowResult)
     : Type 0 where
-  pub is : IsFlowResult window depth (thinned settings lost payloads) settings.port result
+  pub is : IsFlowResult playout (thinned settings lost payloads) settings.port result
   pub consistent : result.sum.inconsistent ≡ 0
   pub shown : result.lane ≡ stream_shown payloads is.plays
   pub peels :
-      Peels window depth settings.port (thinned settings lost payloads) (length payloads) → result.lane ≡ stream_of payloads
+      Peels playout settings.port (thinned settings lost payloads) (length payloads) → result.lane ≡ stream_of payloads
 
 -- The bytes are exactly the trace of a thinned encoding, within the limit on their number, and its flow is one of those that
 -- are repaired.
 pub record IsThinnedTrace
-    (window depth : ℕ) (flows : List ℕ) (max : ℕ) (bytes : List ℕ) (settings : Settings) (payloads : List (List ℕ))
+    (playout : Playout) (flows : List ℕ) (max : ℕ) (bytes : List ℕ) (settings : Settings) (payloads : List (List ℕ))
     (lost : ℕ → Bool) : Type 0 where
-  pub can : CanComeBack window depth settings payloads lost
+  pub can : CanComeBack playout settings payloads lost
   pub flow : Contains flows settings.port
   pub spelled : bytes ≡ trace_of (thinned settings lost payloads)
   pub within : length bytes ≤ max
@@ -75,8 +73,8 @@ pub record IsThinnedTrace
 -- It is read as the records of the thinned encoding, and as nothing else.
 abbrev pub ThinnedTraceIsRead : Type 0
 ThinnedTraceIsRead =
-    (window depth max : ℕ) (flows bytes : List ℕ) (settings : Settings) (payloads : List (List ℕ)) (lost : ℕ → Bool)
-    → IsThinnedTrace window depth flows max bytes settings payloads lost
+    (playout : Playout) (max : ℕ) (flows bytes : List ℕ) (settings : Settings) (payloads : List (List ℕ)) (lost : ℕ → Bool)
+    → IsThinnedTrace playout flows max bytes settings payloads lost
     → IsTrace bytes max (thinned settings lost payloads) Ended
     × ((records : List Record) (end : Ending) → IsTrace bytes max records end
     → (records ≡ thinned settings lost payloads) × (end ≡ Ended))
@@ -84,22 +82,22 @@ ThinnedTraceIsRead =
 -- So what its records give the flow comes back.
 abbrev pub ThinnedTraceComesBack : Type 0
 ThinnedTraceComesBack =
-    (window depth max : ℕ) (flows bytes : List ℕ) (settings : Settings) (payloads : List (List ℕ)) (lost : ℕ → Bool)
+    (playout : Playout) (max : ℕ) (flows bytes : List ℕ) (settings : Settings) (payloads : List (List ℕ)) (lost : ℕ → Bool)
     (records : List Record) (end : Ending) (result : FlowResult)
-    → IsThinnedTrace window depth flows max bytes settings payloads lost → IsTrace bytes max records end
-    → IsFlowResult window depth records settings.port result → FlowComesBack window depth settings payloads lost result
+    → IsThinnedTrace playout flows max bytes settings payloads lost → IsTrace bytes max records end
+    → IsFlowResult playout records settings.port result → FlowComesBack playout settings payloads lost result
 
 -- No loss at all is few losses.
 abbrev pub NothingLostIsFew : Type 0
 NothingLostIsFew =
     (layout : Layout) (count : ℕ) (lost : ℕ → Bool) → ((number : ℕ) → lost number ≡ false) → AreFew layout count lost
 
--- An encoding of which nothing was left out peels, at every window and depth.
+-- An encoding of which nothing was left out peels, at every playout.
 abbrev pub NothingLostPeels : Type 0
 NothingLostPeels =
-    (window depth : ℕ) (settings : Settings) (payloads : List (List ℕ)) (lost : ℕ → Bool)
-    → CanComeBack window depth settings payloads lost → ((number : ℕ) → lost number ≡ false)
-    → Peels window depth settings.port (thinned settings lost payloads) (length payloads)
+    (playout : Playout) (settings : Settings) (payloads : List (List ℕ)) (lost : ℕ → Bool)
+    → CanComeBack playout settings payloads lost → ((number : ℕ) → lost number ≡ false)
+    → Peels playout settings.port (thinned settings lost payloads) (length payloads)
 
 -- What is sent of it is all of it.
 abbrev pub NothingLostIsAll : Type 0
@@ -110,6 +108,6 @@ NothingLostIsAll =
 -- So a repair of a whole encoding gives the whole stream.
 abbrev pub EncodingComesBack : Type 0
 EncodingComesBack =
-    (window depth : ℕ) (settings : Settings) (payloads : List (List ℕ)) (result : FlowResult)
-    → CanComeBack window depth settings payloads (λ _. false)
-    → IsFlowResult window depth (encoding settings payloads) settings.port result → result.lane ≡ stream_of payloads
+    (playout : Playout) (settings : Settings) (payloads : List (List ℕ)) (result : FlowResult)
+    → CanComeBack playout settings payloads (λ _. false)
+    → IsFlowResult playout (encoding settings payloads) settings.port result → result.lane ≡ stream_of payloads

@@ -1,20 +1,13 @@
 -- Which losses are few: this project's own. And how many records an encoding has.
-use Rattle.std.specs.Prelude.{◌≡◌, ◌≤◌, ◌⊎◌, ℕ, List, length}
-use Rattle.std.specs.List.{All}
+use Rattle.std.specs.Prelude.{◌≡◌, ℕ, List, length}
 use Rattle.fg_shape.specs.declared.layouts.Layout.{Layout}
 use Rattle.fg_shape.specs.declared.encoding.Losses.{Losses}
+use Rattle.fg_shape.specs.Losses.{MayLose}
 use Rattle.fg_shape.specs.declared.encoding.Settings.{Settings}
 use Rattle.fg_encode.specs.Encoding.{encoding}
 use Rattle.fg_drill.specs.Thinned.{AreFew, is_lost, media_number}
 
--- The losses that may be asked for: at most 24,000 numbers; or each second record, or fewer, and at most 1,000 numbers.
--- The first record's is never among them.
-pub record MayLose (losses : Losses) : Type 0 where
-  pub numbers : All (λ number. 1 ≤ number) losses.drops
-  pub few :
-      ((losses.every ≡ 0) × (length losses.drops ≤ 24000)) ⊎ ((2 ≤ losses.every) × (length losses.drops ≤ 1000))
-
--- Such losses are few, in each layout.
+-- Losses that may be asked for are few, in each layout.
 abbrev pub LossesAreFew : Type 0
 LossesAreFew =
     (layout : Layout) (losses : Losses) (count : ℕ) → MayLose losses → AreFew layout count (is_lost losses)

@@ -1,13 +1,13 @@
 -- The stream of a seed: this project's own. Its packets are those of ISO/IEC 13818-1, and its draws are the words of PCG32
 -- (O'Neill, "PCG: a family of simple fast space-efficient statistically good algorithms for random number generation").
-use Rattle.std.specs.Prelude.{◌≡◌, ℕ, ◌+◌, ◌*◌, ◌%◌, ◌≤◌, List, ◌∷◌, length, map}
+use Rattle.std.specs.Prelude.{◌≡◌, ℕ, ◌+◌, ◌*◌, ◌%◌, ◌≤◌, None, List, ◌∷◌, length, map}
 use Rattle.std.specs.Int.{w32, to_le_bytes}
 use Rattle.std.specs.List.{flat_map, range_with_len}
 use Rattle.rand_core.specs.Steps.{word_bytes}
 use Rattle.rand_pcg.specs.Lcg.{Lcg, advance, increment_of, started}
 use Rattle.rand_pcg.specs.Pcg.{multiplier_64, pcg32}
 use Rattle.fg_ts.specs.Packets.{ArePackets}
-use Rattle.fg_encode.specs.Stream.{payload_of, IsCut, Whole}
+use Rattle.fg_encode.specs.Stream.{payload_of, IsCut}
 
 -- The generator of a seed that draws from this one of PCG32's streams.
 abbrev pub generator_of : ℕ → ℕ → Lcg
@@ -36,4 +36,4 @@ abbrev pub MadeIsCut : Type 0
 MadeIsCut =
     (seed datagrams max : ℕ) → length (made_stream seed datagrams) ≤ max
     → let payloads = map (payload_of 7 (made_stream seed datagrams)) (range_with_len 0 datagrams) in
-    (length payloads ≡ datagrams) × IsCut 7 max (made_stream seed datagrams) payloads Whole
+    (length payloads ≡ datagrams) × IsCut 7 max (made_stream seed datagrams) payloads None

@@ -1,6 +1,7 @@
 -- What a repair of a thinned encoding gives. This project's own.
 use Rattle.std.specs.Prelude.{◌≡◌, ◌+◌, ◌<◌, ◌≤◌, ◌++◌, ℕ, Bool, List, [], ◌∷◌, length, slice_index_or, Option, if◌then◌else◌}
 use Rattle.std.specs.List.{AllZip, flat_map, range_with_len}
+use Rattle.fg_shape.specs.Playout.{Playout}
 use Rattle.fg_words.specs.declared.Word.{Word}
 use Rattle.fg_trace.specs.Trace.{Record}
 use Rattle.fg_desk.specs.declared.reply.Reply.{Reply}
@@ -11,7 +12,7 @@ use Rattle.fg_desk.specs.Play.{Play, IsPlay, IsFlushStep, nothing_shown}
 use Rattle.fg_desk.specs.Run.{Arrival, carries, TakesAll}
 use Rattle.fg_desk.specs.Laws.{HavePlayed, AreFlushSteps}
 use Rattle.fg_encode.specs.Encoding.{payload_at}
-use Rattle.fg_repair.specs.Flow.{Arrives, records_of, all_shown, shows_word}
+use Rattle.fg_results.specs.Flow.{Arrives, records_of, all_shown, shows_word}
 
 -- Some play shows a word at the slot. The slots of an encoding are the positions of its flow.
 abbrev pub is_shown : List Play → ℕ → Bool
@@ -23,17 +24,17 @@ stream_shown payloads plays =
     flat_map (λ slot. if is_shown plays slot then payload_at payloads slot else []) (range_with_len 0 (length payloads))
 
 -- The run of these arrivals makes this play on this desk: before an arrival that makes it due, or in its flush.
-pub data MakesPlay (window depth : ℕ) (arrivals : List Arrival) (desk : State) (play : Play) : Type 0 where
+pub data MakesPlay (playout : Playout) (arrivals : List Arrival) (desk : State) (play : Play) : Type 0 where
   due :
       (earlier later : List Arrival) (seq : ℕ) (word : Word) (plays before : List Play) (replies : List (Option Reply))
       (taken next : State)
-      → arrivals ≡ earlier ++ carries seq word ∷ later → TakesAll (opening window depth) earlier plays replies taken
-      → HavePlayed taken seq before desk → IsDue desk seq → IsPlay window desk play next
-      → MakesPlay window depth arrivals desk play
+      → arrivals ≡ earlier ++ carries seq word ∷ later → TakesAll (opening playout) earlier plays replies taken
+      → HavePlayed taken seq before desk → IsDue desk seq → IsPlay playout.window desk play next
+      → MakesPlay playout arrivals desk play
   flushed :
       (plays before : List Play) (replies : List (Option Reply)) (filled next : State)
-      → TakesAll (opening window depth) arrivals plays replies filled → AreFlushSteps filled before desk
-      → IsFlushStep desk play next → MakesPlay window depth arrivals desk play
+      → TakesAll (opening playout) arrivals plays replies filled → AreFlushSteps filled before desk
+      → IsFlushStep desk play next → MakesPlay playout arrivals desk play
 
 -- The play closes the slot.
 abbrev pub Closes : Play → ℕ → Type 0
@@ -41,13 +42,13 @@ Closes play slot = (play.first ≤ slot) × (slot < play.first + length play.sho
 
 -- Arrivals of so many slots peel: each slot is closed by some play, and is in the closure of the desk on which that play
 -- is made.
-abbrev pub ArrivalsPeel : ℕ → ℕ → List Arrival → ℕ → Type 0
-ArrivalsPeel window depth arrivals count =
+abbrev pub ArrivalsPeel : Playout → List Arrival → ℕ → Type 0
+ArrivalsPeel playout arrivals count =
     (slot : ℕ) → slot < count → (desk : State) × (play : Play)
-    × MakesPlay window depth arrivals desk play × Closes play slot × InClosure desk slot
+    × MakesPlay playout arrivals desk play × Closes play slot × InClosure desk slot
 
 -- The records of a flow do, as they are read.
-abbrev pub Peels : ℕ → ℕ → ℕ → List Record → ℕ → Type 0
-Peels window depth flow records count =
+abbrev pub Peels : Playout → ℕ → List Record → ℕ → Type 0
+Peels playout flow records count =
     (arrivals : List Arrival) × AllZip (Arrives flow) (records_of flow records) arrivals
-    × ArrivalsPeel window depth arrivals count
+    × ArrivalsPeel playout arrivals count

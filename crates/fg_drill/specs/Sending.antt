@@ -1,18 +1,16 @@
 -- What contracts see of the parts of a source of thinned encodings, and what they keep. No public contract cites it.
-use Rattle.std.specs.Prelude.{◌≡◌, ◌-◌, ◌*◌, ◌≤◌, ◌⊎◌, ◌^◌, ℕ, Bool, true, false, Option, None, Some, Ok, Err, List, [], ◌++◌, length}
+use Rattle.std.specs.Prelude.{◌≡◌, ◌-◌, ◌*◌, ◌≤◌, ◌⊎◌, ◌^◌, ℕ, Bool, true, false, Option, None, Some, List, [], ◌++◌, length}
 use Rattle.std.specs.Io.KnownBytes.{IsAtEnd}
 use Rattle.fg_shape.specs.declared.encoding.Losses.{Losses}
 use Rattle.fg_trace.specs.Trace.{trace_of}
-use Rattle.fg_encode.specs.declared.stream.StreamStep.TheVariants.{End}
-use Rattle.fg_encode.specs.declared.stream.StreamFault.TheVariants.{NotTransport as NotPackets, TooLong as PastLimit}
-use Rattle.fg_encode.specs.Encoder.{CanEncode, EncoderState, StandsAfter}
+use Rattle.fg_encode.specs.Encoder.{EncoderState, StandsAfter}
+use Rattle.fg_shape.specs.Settings.{CanEncode}
 use Rattle.fg_encode.specs.Encoding.{encoding}
 use Rattle.fg_encode.specs.Reading.{ReadsLittle}
-use Rattle.fg_encode.specs.StreamReader.{Answer, StreamState, StandsAfter as ReaderStands}
-use Rattle.fg_drill.specs.declared.thinned.StreamFault.{StreamFault}
-use Rattle.fg_drill.specs.declared.thinned.StreamFault.TheVariants.{NotTransport, TooLong}
+use Rattle.fg_encode.specs.Stream.{LeavesNothing, StreamEnding}
+use Rattle.fg_encode.specs.StreamReader.{StreamState, StandsAfter as ReaderStands}
 use Rattle.fg_drill.specs.Thinned.{is_lost, thinned}
-use Rattle.fg_drill.specs.ThinnedSource.{LeavesNothing, whole_stream}
+use Rattle.fg_drill.specs.ThinnedSource.{whole_stream}
 
 -- The encoder; which records are lost; the number of the next record; and the bytes that are still to be given.
 pub record SenderState : Type 0 where
@@ -29,12 +27,6 @@ trace_so_far sender payloads = trace_of (thinned sender.encoder.settings (is_los
 abbrev pub given_of : SenderState → List (List ℕ) → ℕ
 given_of sender payloads = length (trace_so_far sender payloads) - length sender.held
 
--- The reader's answer of which this fault is told.
-abbrev pub answer_of : Option StreamFault → Answer
-answer_of None = Ok End
-answer_of (Some (NotTransport fault)) = Err (NotPackets fault)
-answer_of (Some (TooLong n)) = Err (PastLimit n)
-
 -- The encoder can take the next payload; or the last one was a shorter one, and nothing is left.
 abbrev pub CanGoOn : StreamState → EncoderState → List (List ℕ) → Type 0
 CanGoOn reader encoder payloads =
@@ -42,9 +34,9 @@ CanGoOn reader encoder payloads =
     ⊎ ((reader.ended ≡ true) × (reader.held ≡ []))
 
 -- What was taken of a stream was sent: the reader stands after these payloads, of a source that has `rest` left, and what the
--- sender holds ends the trace so far. Once the stream's end is told, nothing is held and the reader keeps its answer.
+-- sender holds ends the trace so far. Once the stream's end is told, nothing is held and the reader keeps it.
 pub record IsUnderWay
-    (reader : StreamState) (sender : SenderState) (payloads : List (List ℕ)) (told : Bool) (fault : Option StreamFault)
+    (reader : StreamState) (sender : SenderState) (payloads : List (List ℕ)) (told : Bool) (fault : StreamEnding)
     (rest : Option (List ℕ)) : Type 0 where
   pub stands : ReaderStands reader (whole_stream payloads reader.held rest) rest payloads
   pub fits : CanEncode sender.encoder.settings
@@ -55,9 +47,9 @@ pub record IsUnderWay
   pub counted : sender.number ≤ reader.place
   pub goes_on : CanGoOn reader sender.encoder payloads
   pub held : (gone : List ℕ) × (trace_so_far sender payloads ≡ gone ++ sender.held)
-  pub told_all : told ≡ true → (sender.held ≡ []) × (reader.kept ≡ Some (answer_of fault))
+  pub told_all : told ≡ true → (sender.held ≡ []) × (reader.kept ≡ Some fault)
   pub untold : told ≡ false → (reader.kept ≡ None) × (fault ≡ None)
 
 -- Where a told ending leaves nothing, the source is at its end.
-abbrev pub IsReadOut : Bool → Option StreamFault → Option (List ℕ) → Type 0
+abbrev pub IsReadOut : Bool → StreamEnding → Option (List ℕ) → Type 0
 IsReadOut told fault rest = told ≡ true → LeavesNothing fault → IsAtEnd rest

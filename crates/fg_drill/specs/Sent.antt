@@ -6,10 +6,10 @@ use Rattle.fg_shape.specs.declared.encoding.Settings.{Settings}
 use Rattle.fg_trace.specs.Trace.{Record}
 use Rattle.fg_peel.specs.Equation.{AreMedia}
 use Rattle.fg_desk.specs.Run.{Arrival}
-use Rattle.fg_encode.specs.Encoder.{CanEncode}
+use Rattle.fg_shape.specs.Settings.{CanEncode}
 use Rattle.fg_encode.specs.Encoding.{encoding, word_at}
 use Rattle.fg_encode.specs.Payloads.{total_length, ArePayloads}
-use Rattle.fg_repair.specs.Flow.{Arrives, records_of}
+use Rattle.fg_results.specs.Flow.{Arrives, records_of}
 use Rattle.fg_drill.specs.Thinned.{AreFew, thinned}
 use Rattle.fg_drill.specs.True.{AreInFull, AreTrueArrivals}
 

@@ -5,11 +5,8 @@ use Rattle.std.specs.List.{concat}
 use Rattle.std.specs.Io.KnownBytes.{prepend_known}
 use Rattle.fg_shape.specs.declared.encoding.Losses.{Losses}
 use Rattle.fg_shape.specs.declared.encoding.Settings.{Settings}
-use Rattle.fg_ts.specs.declared.TsFault.TheVariants.{Ragged as RaggedPayload, NoSync as UnsyncedPayload}
 use Rattle.fg_trace.specs.Trace.{trace_of}
-use Rattle.fg_encode.specs.Stream.{StreamEnding, IsCut, Whole, Ragged, NoSync, TooLong as PastLimit}
-use Rattle.fg_drill.specs.declared.thinned.StreamFault.{StreamFault}
-use Rattle.fg_drill.specs.declared.thinned.StreamFault.TheVariants.{NotTransport, TooLong}
+use Rattle.fg_encode.specs.Stream.{StreamEnding, IsCut}
 use Rattle.fg_drill.specs.Payloads.{payloads_of}
 use Rattle.fg_drill.specs.Thinned.{is_lost, thinned}
 
@@ -32,7 +29,7 @@ pub record ThinnedState (Inner : Type 0) : Type 0 where
   pub stream : Option (List ℕ)
   pub given : ℕ
   pub told : Bool
-  pub fault : Option StreamFault
+  pub fault : StreamEnding
 
 -- What no read changes of it.
 pub record ThinnedFixed (Fixed : Type 0) : Type 0 where
@@ -71,25 +68,11 @@ pub record GoesOn {Inner : Type 0} (old new : ThinnedState Inner) : Type 0 where
   pub given : old.given ≤ new.given
   pub told : old.told ≡ true → new.told ≡ true
 
--- The stream of these bytes ends so: with its last payload, or early.
-abbrev pub EndsFor : Option StreamFault → ℕ → ℕ → List ℕ → Type 0
-EndsFor None packets max bytes = IsCut packets max bytes (payloads_of packets max bytes) Whole
-EndsFor (Some (TooLong n)) packets max bytes = IsCut packets max bytes (payloads_of packets max bytes) (PastLimit n)
-EndsFor (Some (NotTransport (RaggedPayload n))) packets max bytes =
-    IsCut packets max bytes (payloads_of packets max bytes) (Ragged n)
-EndsFor (Some (NotTransport (UnsyncedPayload k))) packets max bytes =
-    IsCut packets max bytes (payloads_of packets max bytes) (NoSync k)
+-- The stream of these bytes ends so.
+abbrev pub EndsFor : StreamEnding → ℕ → ℕ → List ℕ → Type 0
+EndsFor ending packets max bytes = IsCut packets max bytes (payloads_of packets max bytes) ending
 
 -- The ending that was told, once a read has told one.
-abbrev pub ending_told : Bool → Option StreamFault → Option StreamEnding
-ending_told false fault = None
-ending_told true None = Some Whole
-ending_told true (Some (TooLong n)) = Some (PastLimit n)
-ending_told true (Some (NotTransport (RaggedPayload n))) = Some (Ragged n)
-ending_told true (Some (NotTransport (UnsyncedPayload k))) = Some (NoSync k)
-
--- Such an ending is found where the stream has no byte left.
-abbrev pub LeavesNothing : Option StreamFault → Type 0
-LeavesNothing None = Unit {0}
-LeavesNothing (Some (NotTransport (RaggedPayload n))) = Unit {0}
-LeavesNothing _ = ⊥
+abbrev pub ending_told : Bool → StreamEnding → Option StreamEnding
+ending_told false ending = None
+ending_told true ending = Some ending

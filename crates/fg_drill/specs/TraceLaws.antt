@@ -3,7 +3,7 @@ use Rattle.std.specs.Prelude.{◌≤◌, ◌^◌, ℕ, Bool, List}
 use Rattle.fg_shape.specs.declared.encoding.Losses.{Losses}
 use Rattle.fg_shape.specs.declared.encoding.Settings.{Settings}
 use Rattle.fg_trace.specs.Trace.{IsTrace, Ended, trace_of}
-use Rattle.fg_encode.specs.Encoder.{CanEncode}
+use Rattle.fg_shape.specs.Settings.{CanEncode}
 use Rattle.fg_encode.specs.Payloads.{ArePayloads, total_length}
 use Rattle.fg_drill.specs.Payloads.{payloads_of}
 use Rattle.fg_drill.specs.Thinned.{is_lost, thinned}

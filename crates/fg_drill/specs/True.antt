@@ -1,5 +1,6 @@
 -- True datagrams: all that arrives is right, though some of what was sent may be missing. This project's own.
 use Rattle.std.specs.Prelude.{◌≡◌, ◌+◌, ◌<◌, ◌≤◌, ◌%◌, ◌^◌, ℕ, ⊤, List, [], ◌∷◌, length, Option, Some, None, IsSomeAnd, MatchOption}
+use Rattle.fg_shape.specs.Playout.{Playout, PlayoutFits}
 use Rattle.fg_words.specs.declared.Word.{Word}
 use Rattle.fg_shape.specs.Shape.{IsShape}
 use Rattle.fg_peel.specs.Equation.{AreMedia, IsSettled}
@@ -57,12 +58,9 @@ AreInFull seq count next (carries number word ∷ arrivals) =
 AreInFull seq count next (protects stream parity ∷ arrivals) = AreInFull seq count next arrivals
 AreInFull seq count next (refused stream ∷ arrivals) = AreInFull seq count next arrivals
 
--- True datagrams of one flow, and a window and depth for them. The true words are media words.
-pub record AreSentTrue (window depth seq : ℕ) (truth : ℕ → Option Word) (arrivals : List Arrival) : Type 0 where
-  pub some_window : 1 ≤ window
-  pub window_limit : window ≤ 100
-  pub window_within : window ≤ depth
-  pub depth_limit : depth ≤ 1000
+-- True datagrams of one flow, and a playout for them. The true words are media words.
+pub record AreSentTrue (playout : Playout) (seq : ℕ) (truth : ℕ → Option Word) (arrivals : List Arrival) : Type 0 where
+  pub fits : PlayoutFits playout
   pub media : AreMedia truth
   pub arrive : AreTrueArrivals seq truth None arrivals
   pub few : length arrivals < 2 ^ 44

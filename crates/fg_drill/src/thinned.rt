@@ -4,9 +4,10 @@ ghost use Rattle.std.specs.Option.{option_map};
 ghost use Rattle.std.specs.Io.KnownBytes.{IsAtEnd};
 ghost use Rattle.fg_io.specs.Faults.{CountsFault};
 ghost use Rattle.fg_io.specs.Source.{Gives};
-ghost use Rattle.fg_encode.specs.Encoder.{CanEncode};
+ghost use Rattle.fg_shape.specs.Settings.{CanEncode};
 ghost use Rattle.fg_encode.specs.Reading.{IsStreamReadFor};
-ghost use Rattle.fg_drill.specs.ThinnedSource.{EndsFor, GoesOn, LeavesNothing, ThinnedFixed, ending_told, fixed_of, thinned_trace, trace_left};
+ghost use Rattle.fg_encode.specs.Stream.{LeavesNothing};
+ghost use Rattle.fg_drill.specs.ThinnedSource.{EndsFor, GoesOn, ThinnedFixed, ending_told, fixed_of, thinned_trace, trace_left};
 
 mod history;
 mod lost;
@@ -16,24 +17,13 @@ mod taking;
 
 use crate::laws::payloads::{first_payloads_are_taken_first, payloads_are_the_cut};
 use fg_encode::laws::a_payload_more_adds_its_records;
+pub use fg_encode::stream::StreamFault;
 use fg_encode::stream::read_as_far_as_needed;
 use fg_io::{Failed, Source};
 use fg_shape::{Losses, Settings};
-use fg_ts::TsFault;
 use std::alloc::{AllocError, Global};
 use std::marker::Model;
 use taking::{Taking, fill};
-
-/// Why a stream ended early.
-#[derive(Clone, Copy, Debug, PartialEq, Eq)]
-pub enum StreamFault {
-    /// The next payload isn't whole transport packets. `Ragged` has the length of the whole stream, and `NoSync` the number of
-    /// the packet in the whole stream, counted from 0.
-    NotTransport(TsFault),
-    /// The stream has more bytes than it may, and the next payload isn't whole within the limit. The place is that of the
-    /// payload's first byte.
-    TooLong(u64),
-}
 
 /// Reads a stream from another source, and gives the trace of its thinned encoding: of the records that it is sent as, those that
 /// aren't lost. It holds no whole stream, and takes memory only where it is made.
@@ -213,8 +203,10 @@ impl<S: Source> Source for Thinned<S> {
         if into.is_empty() {
             return Ok(0);
         }
-        fill(&mut self.taking, &mut self.inner)?;
-        Ok(self.taking.sender.give(into))
+        match fill(&mut self.taking, &mut self.inner) {
+            Ok(()) => Ok(self.taking.sender.give(into)),
+            Err(_) => Err(Failed),
+        }
     }
 }
 

@@ -6,6 +6,9 @@ use Rattle.std.proofs.lemmas.List.{take-append-le, get_or_append_left}
 use Rattle.std.proofs.Math.Nat.{mul-le-mul_right}
 use Rattle.fg_words.specs.declared.Word.{Word}
 use Rattle.fg_words.specs.Word.{transport_word, word_sum}
+use Rattle.fg_shape.specs.declared.kind.Kind.{Kind}
+use Rattle.fg_shape.specs.declared.kind.Kind.TheVariants.{Column, Row}
+use Rattle.fg_shape.specs.Kind.{port_of}
 use Rattle.fg_shape.specs.declared.Shape.{Shape}
 use Rattle.fg_shape.specs.declared.encoding.Settings.{Settings}
 use Rattle.fg_shape.specs.Shape.{slots_of}
@@ -37,10 +40,10 @@ parity_later settings payloads more base shape row within =
     ap (λ (l : List Word). (let p : Parity = record { base = sequence_of settings base; shape = shape; row = row; word = word_sum l } in p))
     (slots_same (word_at settings (payloads ++ more)) (word_at settings payloads) base shape.offset shape.na (λ j jn. word_later settings payloads more (base + j * shape.offset) (within j jn)))
 
-parity_record_later : (settings : Settings) (payloads more : List (List ℕ)) (slot above number : ℕ) (shape : Shape) (row : Bool) (base : ℕ) → slot < length payloads → ((j : ℕ) → j < shape.na → base + j * shape.offset < length payloads) →
-    parity_record settings (payloads ++ more) slot above number shape row base ≡ parity_record settings payloads slot above number shape row base
-parity_record_later settings payloads more slot above number shape row base within all =
-    let made : ℕ → Parity → ℕ → Record = λ b p n. record { time = time_of settings b; port = settings.port + above; datagram = parity_bytes (number % 2 ^ 16) (timestamp_of settings b) p n } in
+parity_record_later : (settings : Settings) (payloads more : List (List ℕ)) (slot : ℕ) (kind : Kind) (number : ℕ) (shape : Shape) (row : Bool) (base : ℕ) → slot < length payloads → ((j : ℕ) → j < shape.na → base + j * shape.offset < length payloads) →
+    parity_record settings (payloads ++ more) slot kind number shape row base ≡ parity_record settings payloads slot kind number shape row base
+parity_record_later settings payloads more slot kind number shape row base within all =
+    let made : ℕ → Parity → ℕ → Record = λ b p n. record { time = time_of settings b; port = port_of settings.port kind; datagram = parity_bytes (number % 2 ^ 16) (timestamp_of settings b) p n } in
     ap (λ (b : ℕ). made b (parity_at settings (payloads ++ more) base shape row) (longest (payloads ++ more) (slots_of base shape.offset shape.na))) (bits_later payloads more slot (omega arith))
     ∙ ap (λ (p : Parity). made (bits_before payloads slot) p (longest (payloads ++ more) (slots_of base shape.offset shape.na))) (parity_later settings payloads more base shape row all)
     ∙ ap (λ (n : ℕ). made (bits_before payloads slot) (parity_at settings payloads base shape row) n)
@@ -53,7 +56,7 @@ columns_later settings payloads more slot within =
     map_filter_same (column_record settings (payloads ++ more) slot) (column_record settings payloads slot) (λ base. eqb (base + (layout.d - 1) * layout.l) slot) (column_bases layout (slot + 1))
     (λ base passes.
     let end = eqb-true (base + (layout.d - 1) * layout.l) slot passes in
-    parity_record_later settings payloads more slot 2 (columns_before layout slot) (column_shape layout) false base within
+    parity_record_later settings payloads more slot Column (columns_before layout slot) (column_shape layout) false base within
     (λ j jd. let near : j ≤ layout.d - 1 = omega arith in omega (arith, mul-le-mul_right layout.l near)))
 
 rows_later : (settings : Settings) (payloads more : List (List ℕ)) (slot : ℕ) → slot < length payloads →
@@ -66,7 +69,7 @@ rows_later settings payloads more slot within =
     let g = row_record settings payloads slot in
     let sent : map f ends ≡ map g ends = map_filter_same f g q (row_bases layout (slot + 1)) (λ base passes.
     let end = eqb-true (base + (layout.l - 1)) slot passes in
-    parity_record_later settings payloads more slot 4 (rows_before layout slot) (row_shape layout) true base within (λ j jd. omega arith)) in
+    parity_record_later settings payloads more slot Row (rows_before layout slot) (row_shape layout) true base within (λ j jd. omega arith)) in
     ⊎_elim
     (λ (on : layout.rows ≡ true).
     ap (λ (b : Bool). map f (if b then ends else [])) on ∙ sent ∙ ap (λ (b : Bool). map g (if b then ends else [])) (sym on))

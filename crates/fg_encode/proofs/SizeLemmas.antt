@@ -6,6 +6,9 @@ use Rattle.std.proofs.lemmas.Bool.{cases_lt}
 use Rattle.std.proofs.lemmas.List.{get_or_past, length-take, take_all}
 use Rattle.std.proofs.lemmas.List.Concat.{flat_map-append}
 use Rattle.std.proofs.lemmas.List.Sums.{sum_by-take-le, sum_by_more}
+use Rattle.fg_shape.specs.declared.kind.Kind.{Kind}
+use Rattle.fg_shape.specs.declared.kind.Kind.TheVariants.{Media, Column, Row}
+use Rattle.fg_shape.specs.Kind.{port_of}
 use Rattle.fg_shape.specs.declared.Shape.{Shape}
 use Rattle.fg_shape.specs.declared.layouts.Layout.{Layout}
 use Rattle.fg_shape.specs.declared.encoding.Settings.{Settings}
@@ -17,7 +20,7 @@ use Rattle.fg_fechead.specs.FecHeader.{header_of}
 use Rattle.fg_fechead.specs.ParityDatagram.{parity_bytes}
 use Rattle.fg_trace.specs.Trace.{magic, spelling, trace_of, Fits, Record}
 use Rattle.fg_encode.specs.Ends.{columns_before, columns_ending, rows_before, rows_ending}
-use Rattle.fg_encode.specs.Encoder.{CanEncode}
+use Rattle.fg_shape.specs.Settings.{CanEncode}
 use Rattle.fg_encode.specs.Encoding.{bits_before, column_record, column_shape, encoding, longest, media_record, parity_at, parity_record, payload_at, records_at, row_record, row_shape, sequence_of, timestamp_of, word_at}
 use Rattle.fg_encode.specs.Payloads.{total_length, ArePayloads}
 use Rattle.fg_encode.specs.Laws.{ColumnsAreTheLayouts, RowsAreTheLayouts}
@@ -100,13 +103,13 @@ parity_length seq ts parity size =
     let front = take size parity.word.bytes in
     omega (arith, length-append (plain_header 96 seq ts 0) (fec ++ front), length-append fec front, plain_length 96 seq ts 0, header_length parity, length-take size parity.word.bytes)
 
-parity_record_length : (settings : Settings) (payloads : List (List ℕ)) (slot above number : ℕ) (shape : Shape) (row : Bool) (base size : ℕ) → ((s : ℕ) → length (payload_at payloads s) ≤ size)
-    → length (parity_record settings payloads slot above number shape row base).datagram ≤ 28 + size
-parity_record_length settings payloads slot above number shape row base size most =
+parity_record_length : (settings : Settings) (payloads : List (List ℕ)) (slot : ℕ) (kind : Kind) (number : ℕ) (shape : Shape) (row : Bool) (base size : ℕ) → ((s : ℕ) → length (payload_at payloads s) ≤ size)
+    → length (parity_record settings payloads slot kind number shape row base).datagram ≤ 28 + size
+parity_record_length settings payloads slot kind number shape row base size most =
     let long = longest payloads (slots_of base shape.offset shape.na) in
     let short = longest_at_most payloads size (slots_of base shape.offset shape.na) most in
     let made = parity_length (number % 2 ^ 16) (timestamp_of settings (bits_before payloads slot)) (parity_at settings payloads base shape row) long in
-    at_most (length (parity_record settings payloads slot above number shape row base).datagram) long size made short
+    at_most (length (parity_record settings payloads slot kind number shape row base).datagram) long size made short
 
 -- What the fields of a record say.
 time_fits : (bits rate : ℕ) → bits ≤ 2 ^ 43 → bits * 1000000 / rate < 2 ^ 64
@@ -122,12 +125,17 @@ media_fits settings payloads slot can limit most = record {
   size = small (length (media_record settings payloads slot).datagram) (length (payload_at payloads slot)) (media_length settings payloads slot) (most slot);
 }
 
-parity_fits : (settings : Settings) (payloads : List (List ℕ)) (slot above number : ℕ) (shape : Shape) (row : Bool) (base : ℕ) → CanEncode settings → total_length payloads ≤ 2 ^ 40 → ((s : ℕ) → length (payload_at payloads s) ≤ 1316) → above ≤ 4
-    → Fits (parity_record settings payloads slot above number shape row base)
-parity_fits settings payloads slot above number shape row base can limit most near = record {
+port_fits : (flow : ℕ) (kind : Kind) → flow ≤ 65531 → port_of flow kind < 2 ^ 16
+port_fits flow Media few = omega (arith, few)
+port_fits flow Column few = omega (arith, few)
+port_fits flow Row few = omega (arith, few)
+
+parity_fits : (settings : Settings) (payloads : List (List ℕ)) (slot : ℕ) (kind : Kind) (number : ℕ) (shape : Shape) (row : Bool) (base : ℕ) → CanEncode settings → total_length payloads ≤ 2 ^ 40 → ((s : ℕ) → length (payload_at payloads s) ≤ 1316)
+    → Fits (parity_record settings payloads slot kind number shape row base)
+parity_fits settings payloads slot kind number shape row base can limit most = record {
   time = time_fits (bits_before payloads slot) settings.rate (bits_at_most payloads slot limit);
-  port = omega (arith, can.port, near);
-  size = smaller (length (parity_record settings payloads slot above number shape row base).datagram) (parity_record_length settings payloads slot above number shape row base 1316 most);
+  port = port_fits settings.port kind can.port;
+  size = smaller (length (parity_record settings payloads slot kind number shape row base).datagram) (parity_record_length settings payloads slot kind number shape row base 1316 most);
 }
 
 all_append : (P : Record → Type 0) (xs ys : List Record) → AllByRecursion P xs → AllByRecursion P ys → AllByRecursion P (xs ++ ys)
@@ -150,8 +158,8 @@ records_fit settings payloads can are limit =
     (λ slot. (
       media_fits settings payloads slot can limit most,
       all_append Fits (map (column_record settings payloads slot) (columns_ending layout slot)) (map (row_record settings payloads slot) (rows_ending layout slot))
-          (all_map Fits (column_record settings payloads slot) (columns_ending layout slot) (λ base. parity_fits settings payloads slot 2 (columns_before layout slot) (column_shape layout) false base can limit most (omega arith)))
-          (all_map Fits (row_record settings payloads slot) (rows_ending layout slot) (λ base. parity_fits settings payloads slot 4 (rows_before layout slot) (row_shape layout) true base can limit most (omega arith))),
+          (all_map Fits (column_record settings payloads slot) (columns_ending layout slot) (λ base. parity_fits settings payloads slot Column (columns_before layout slot) (column_shape layout) false base can limit most))
+          (all_map Fits (row_record settings payloads slot) (rows_ending layout slot) (λ base. parity_fits settings payloads slot Row (rows_before layout slot) (row_shape layout) true base can limit most)),
     ))
 
 -- At most one column ends at a slot, and one row.
@@ -197,8 +205,8 @@ slot_length columns_law rows_law settings payloads size slot most =
     slot_sum (length (flat_map spelling (records_at settings payloads slot))) (length (media_record settings payloads slot).datagram) (length (flat_map spelling columns)) (length (flat_map spelling rows)) (length (payload_at payloads slot)) size
     (three_spelled (media_record settings payloads slot) columns rows)
     (media_length settings payloads slot)
-    (one_spelled (column_record settings payloads slot) (columns_ending layout slot) size (one_column columns_law layout slot) (λ base. parity_record_length settings payloads slot 2 (columns_before layout slot) (column_shape layout) false base size most))
-    (one_spelled (row_record settings payloads slot) (rows_ending layout slot) size (one_row rows_law layout slot) (λ base. parity_record_length settings payloads slot 4 (rows_before layout slot) (row_shape layout) true base size most))
+    (one_spelled (column_record settings payloads slot) (columns_ending layout slot) size (one_column columns_law layout slot) (λ base. parity_record_length settings payloads slot Column (columns_before layout slot) (column_shape layout) false base size most))
+    (one_spelled (row_record settings payloads slot) (rows_ending layout slot) size (one_row rows_law layout slot) (λ base. parity_record_length settings payloads slot Row (rows_before layout slot) (row_shape layout) true base size most))
 
 -- What is sent for the first slots.
 first_slots : ColumnsAreTheLayouts → RowsAreTheLayouts → (settings : Settings) (payloads : List (List ℕ)) (size k : ℕ) → ((s : ℕ) → length (payload_at payloads s) ≤ size) → k ≤ length payloads

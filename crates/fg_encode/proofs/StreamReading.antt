@@ -1,12 +1,12 @@
 -- How far a stream was read where a reader stands in it.
-use Rattle.std.proofs.Common.{◌≡◌, ℕ, ◌+◌, ◌-◌, ◌*◌, ◌≤◌, true, Bool, Option, None, Some, IfSome, Ok, Err, List, [], ◌++◌, length, take, drop, refl, sym, ap, ◌∙◌, arith, length-append, append_assoc}
+use Rattle.std.proofs.Common.{◌≡◌, ℕ, ◌+◌, ◌-◌, ◌*◌, ◌≤◌, true, Bool, Option, None, Some, IfSome, List, [], ◌++◌, length, take, drop, refl, sym, ap, ◌∙◌, arith, length-append, append_assoc}
 use Rattle.std.proofs.Math.Nat.{mul_assoc}
 use Rattle.std.proofs.lemmas.List.{length-take, length-drop, take-append-drop}
-use Rattle.fg_ts.specs.declared.TsFault.TheVariants.{Ragged as RaggedPayload, NoSync as UnsyncedPayload}
-use Rattle.fg_encode.specs.declared.stream.StreamStep.TheVariants.{Payload, End}
-use Rattle.fg_encode.specs.declared.stream.StreamFault.TheVariants.{ReadFault, NotTransport, TooLong as PastLimit}
-use Rattle.fg_encode.specs.Reading.{ReachesForStream, ReadsAsFar, ending_told, most_held}
-use Rattle.fg_encode.specs.StreamReader.{Answer, EndsHere}
+use Rattle.fg_ts.specs.declared.TsFault.TheVariants.{Ragged, NoSync}
+use Rattle.fg_encode.specs.declared.stream.StreamFault.TheVariants.{NotTransport, TooLong}
+use Rattle.fg_encode.specs.Reading.{ReachesForStream, ReadsAsFar, most_held}
+use Rattle.fg_encode.specs.Stream.{StreamEnding}
+use Rattle.fg_encode.specs.StreamReader.{EndsHere}
 use Rattle.fg_encode.proofs.StreamWalks.{placed_here}
 
 -- How many bytes were read: those before the place, and those held. Where some are held, all before the place were there.
@@ -21,24 +21,20 @@ counted place bytes held rest split =
     sym (length-drop place bytes) ∙ ap (λ (l : List ℕ). length l) split ∙ length-append held rest in
     (omega (arith, both, front), λ some. omega (arith, both, front, behind, some))
 
--- The kept answer is reached: these bytes were read, and those are left.
+-- The kept ending is reached: these bytes were read, and those are left.
 module _ (packets max place count : ℕ) (read held rest : List ℕ) (ended : Bool)
     (most : length read ≤ place + length held) (all : 1 ≤ length held → length read ≡ place + length held)
     (placed : 1 ≤ length held → place ≡ 188 * packets * count) (within : place ≤ max) (few : length held ≤ most_held)
     (end : ended ≡ true → rest ≡ []) where
-  reaches :
-      (answer : Answer) → EndsHere answer packets max place held ended
-      → IfSome (ending_told (Some answer)) (λ ending. ReachesForStream max ending read rest)
-  reaches (Ok Payload) here = tt
-  reaches (Ok End) here = end here.1
-  reaches (Err ReadFault) here = tt
-  reaches (Err (PastLimit n)) here =
+  reaches : (ending : StreamEnding) → EndsHere ending packets max place held ended → ReachesForStream max ending read rest
+  reaches None here = end here.1
+  reaches (Some (TooLong n)) here =
       let long = length-take (188 * packets) held in
       let some : 1 ≤ length held = omega (arith, long, here.1, within) in
       let whole = all some in
       omega (arith, long, here.1, whole)
-  reaches (Err (NotTransport (RaggedPayload n))) here = end here.3
-  reaches (Err (NotTransport (UnsyncedPayload k))) here =
+  reaches (Some (NotTransport (Ragged n))) here = end here.3
+  reaches (Some (NotTransport (NoSync k))) here =
       let long = length-take (188 * packets) held in
       let inside = here.1.2.1.within in
       let some : 1 ≤ length held = omega (arith, long, inside) in
@@ -49,10 +45,10 @@ module _ (packets max place count : ℕ) (read held rest : List ℕ) (ended : Bo
       (omega (arith, long, inside, whole, is), omega (arith, whole, few, there, product, is))
 
   kept_reaches :
-      (kept : Option Answer) → IfSome kept (λ answer. EndsHere answer packets max place held ended)
-      → IfSome (ending_told kept) (λ ending. ReachesForStream max ending read rest)
+      (kept : Option StreamEnding) → IfSome kept (λ ending. EndsHere ending packets max place held ended)
+      → IfSome kept (λ ending. ReachesForStream max ending read rest)
   kept_reaches None here = tt
-  kept_reaches (Some answer) here = reaches answer here
+  kept_reaches (Some ending) here = reaches ending here
 
 pub reads_as_far : ReadsAsFar
 reads_as_far reader bytes None payloads stands little = let told : Some (drop reader.place bytes) ≡ None = stands.given in absurd (cc)

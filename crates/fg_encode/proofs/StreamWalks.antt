@@ -1,5 +1,5 @@
 -- Where a reader of a stream stands, as it takes bytes in, answers payloads, and ends.
-use Rattle.std.proofs.Common.{◌≡◌, ◌⊎◌, inl, inr, ⊎_elim, ℕ, suc, ◌+◌, ◌-◌, ◌*◌, ◌/◌, ◌<◌, ◌≤◌, true, min, Option, None, Some, IfSome, Ok, Err, List, [], ◌∷◌, ◌++◌, length, map, take, drop, refl, sym, ap, ◌∙◌, arith, subst, append-nil, length-append, zero-add}
+use Rattle.std.proofs.Common.{◌≡◌, ◌⊎◌, inl, inr, ⊎_elim, ℕ, suc, ◌+◌, ◌-◌, ◌*◌, ◌/◌, ◌<◌, ◌≤◌, true, Bool, min, Option, None, Some, IfSome, Ok, List, [], ◌∷◌, ◌++◌, length, map, take, drop, refl, sym, ap, ◌∙◌, arith, subst, append-nil, length-append, zero-add}
 use Rattle.std.specs.Option.{option_map}
 use Rattle.std.specs.List.{range_with_len}
 use Rattle.std.specs.Io.KnownBytes.{IsAtEnd}
@@ -7,20 +7,20 @@ use Rattle.std.proofs.Math.Nat.{mul-suc, mul_assoc}
 use Rattle.std.proofs.lemmas.Bool.{cases_lt}
 use Rattle.std.proofs.lemmas.List.{take_all, take-append-le, drop-drop, drop-append-le, drop_all, length-take, length-drop, map-append}
 use Rattle.fg_io.specs.Source.{Gives}
-use Rattle.fg_ts.specs.declared.TsFault.TheVariants.{Ragged as RaggedPayload, NoSync as UnsyncedPayload}
+use Rattle.fg_ts.specs.declared.TsFault.TheVariants.{Ragged, NoSync}
 use Rattle.fg_ts.specs.Packets.{ArePackets, FirstFault}
-use Rattle.fg_encode.specs.declared.stream.StreamStep.TheVariants.{Payload, End}
-use Rattle.fg_encode.specs.declared.stream.StreamFault.TheVariants.{ReadFault, NotTransport, TooLong as PastLimit}
-use Rattle.fg_encode.specs.Stream.{payload_of, IsAcceptable, AreFirst}
-use Rattle.fg_encode.specs.StreamReader.{Answer, StreamState, IsEnding, KeepsEnding, IsPlaced, StandsAfter, Walks, EndsHere}
+use Rattle.fg_encode.specs.declared.stream.StreamStep.TheVariants.{End}
+use Rattle.fg_encode.specs.declared.stream.StreamFault.TheVariants.{NotTransport, TooLong}
+use Rattle.fg_encode.specs.Stream.{payload_of, IsAcceptable, AreFirst, IsCut, LeavesNothing, StreamEnding}
+use Rattle.fg_encode.specs.StreamReader.{StreamState, KeepsEnding, IsPlaced, StandsAfter, Walks, EndsHere}
 use Rattle.fg_encode.specs.StreamSteps.{TakesIn, HoldsEnough, Accepts, after_payload}
 use Rattle.fg_encode.proofs.ListLemmas.{range_more}
-use Rattle.fg_encode.proofs.StreamBuffer.{gives_trans}
+use Rattle.fg_io.proofs.SourceLemmas.{Gives-trans}
 
 -- Nothing is kept, so what is kept is right.
 keeps_none : (reader : StreamState) (first : Option (List ℕ)) (payloads : List (List ℕ)) → reader.kept ≡ None → KeepsEnding reader first payloads
 keeps_none reader first payloads none =
-    subst (λ (kept : Option Answer). IfSome kept (λ answer. IfSome first (λ bytes. IsEnding answer reader.packets reader.max bytes payloads))) (sym none) tt
+    subst (λ (kept : Option StreamEnding). IfSome kept (λ ending. IfSome first (λ bytes. IsCut reader.packets reader.max bytes payloads ending))) (sym none) tt
 
 still_placed : (old new : StreamState) (left rest : Option (List ℕ)) (count : ℕ) → IsPlaced old count → TakesIn old left new rest → IsPlaced new count
 still_placed old new left rest count (inl there) k = inl (subst (λ (t : StreamState). t.place ≡ 188 * t.packets * count) (sym k.same) there)
@@ -33,7 +33,7 @@ pub after_taking : (old new : StreamState) (first left rest : Option (List ℕ))
 after_taking old new first left rest payloads h k =
     let place : old.place ≡ new.place = sym (ap (λ (t : StreamState). t.place) k.same) in
     let more : Gives (option_map (drop old.place) first) (old.held ++ k.takes.given) rest =
-    gives_trans (option_map (drop old.place) first) left rest old.held k.takes.given h.given k.takes.gives in
+    Gives-trans (option_map (drop old.place) first) left rest old.held k.takes.given h.given k.takes.gives in
     record {
       cut = subst (λ (t : StreamState). IfSome first (λ bytes. AreFirst t.packets t.max bytes payloads)) (sym k.same) h.cut;
       placed = still_placed old new left rest (length payloads) h.placed k;
@@ -110,7 +110,7 @@ first_after reader bytes rest payloads h placed split end enough k =
     })
 
 -- What is held behind the next payload, of which there is so much.
-behind_next : (size : ℕ) (held : List ℕ) → drop (length (take size held)) held ≡ drop size held
+pub behind_next : (size : ℕ) (held : List ℕ) → drop (length (take size held)) held ≡ drop size held
 behind_next size held =
     let few = length-take size held in
     ⊎_elim
@@ -167,17 +167,15 @@ after_answer reader first left payloads h none enough k =
     }
 
 -- The ending that is here is the stream's, where its bytes are told.
-ends_told : (answer : Answer) (reader : StreamState) (bytes rest : List ℕ) (payloads : List (List ℕ)) → AreFirst reader.packets reader.max bytes payloads → IsPlaced reader (length payloads) → drop reader.place bytes ≡ reader.held ++ rest → (reader.ended ≡ true → rest ≡ []) → HoldsEnough reader → reader.place ≤ reader.max
-    → EndsHere answer reader.packets reader.max reader.place reader.held reader.ended → IsEnding answer reader.packets reader.max bytes payloads
-ends_told (Ok Payload) reader bytes rest payloads h placed split end enough within k = absurd k
-ends_told (Ok End) reader bytes rest payloads h placed split end enough within k =
+ends_told : (ending : StreamEnding) (reader : StreamState) (bytes rest : List ℕ) (payloads : List (List ℕ)) → AreFirst reader.packets reader.max bytes payloads → IsPlaced reader (length payloads) → drop reader.place bytes ≡ reader.held ++ rest → (reader.ended ≡ true → rest ≡ []) → HoldsEnough reader → reader.place ≤ reader.max
+    → EndsHere ending reader.packets reader.max reader.place reader.held reader.ended → IsCut reader.packets reader.max bytes payloads ending
+ends_told None reader bytes rest payloads h placed split end enough within k =
     let long = bytes_from reader.place bytes reader.held rest split in
     let none = ap length k.0 in
     let over = ap length (end k.1) in
     let there : reader.place ≤ 188 * reader.packets * length payloads = ⊎_elim (λ (e : reader.place ≡ 188 * reader.packets * length payloads). omega (arith, e)) (λ p. p.0) placed in
     record { first = h; ends = omega (arith, long, none, over, there) }
-ends_told (Err ReadFault) reader bytes rest payloads h placed split end enough within k = absurd k
-ends_told (Err (PastLimit n)) reader bytes rest payloads h placed split end enough within k =
+ends_told (Some (TooLong n)) reader bytes rest payloads h placed split end enough within k =
     let i = length payloads in
     let few = length-take (188 * reader.packets) reader.held in
     let some : 1 ≤ length reader.held = omega (arith, few, within, k.1) in
@@ -196,7 +194,7 @@ ends_told (Err (PastLimit n)) reader bytes rest payloads h placed split end enou
         k.0 ∙ there,
       );
     }
-ends_told (Err (NotTransport (RaggedPayload n))) reader bytes rest payloads h placed split end enough within k =
+ends_told (Some (NotTransport (Ragged n))) reader bytes rest payloads h placed split end enough within k =
     let i = length payloads in
     let some : 1 ≤ length reader.held = ⊎_elim (λ (none : length reader.held < 1). absurd (k.4.1 0 (omega arith))) (λ (some : 1 ≤ length reader.held). some) (cases_lt (length reader.held) 1) in
     let there : reader.place ≡ 188 * reader.packets * i = placed_here reader i placed some in
@@ -209,11 +207,11 @@ ends_told (Err (NotTransport (RaggedPayload n))) reader bytes rest payloads h pl
       ends = (
         omega (arith, long, some, there),
         λ past. omega (arith, past.past, counted, there, k.0, k.1),
-        subst (λ t. FirstFault (RaggedPayload (length t)) t) (sym is) k.4,
+        subst (λ t. FirstFault (Ragged (length t)) t) (sym is) k.4,
         omega (arith, k.0, long, over, some),
       );
     }
-ends_told (Err (NotTransport (UnsyncedPayload n))) reader bytes rest payloads h placed split end enough within k =
+ends_told (Some (NotTransport (NoSync n))) reader bytes rest payloads h placed split end enough within k =
     let i = length payloads in
     let few = length-take (188 * reader.packets) reader.held in
     let fault = k.1.2 in
@@ -229,36 +227,34 @@ ends_told (Err (NotTransport (UnsyncedPayload n))) reader bytes rest payloads h 
       ends = (
         omega (arith, long, some, there),
         λ past. omega (arith, past.past, counted, there, k.0),
-        (k.1.0, subst (FirstFault (UnsyncedPayload k.1.0)) (sym is) fault, k.1.1 ∙ ap (λ m. m + k.1.0) packets),
+        (k.1.0, subst (FirstFault (NoSync k.1.0)) (sym is) fault, k.1.1 ∙ ap (λ m. m + k.1.0) packets),
       );
     }
 
-ends : (answer : Answer) (reader : StreamState) (first left : Option (List ℕ)) (payloads : List (List ℕ)) → StandsAfter reader first left payloads → HoldsEnough reader → reader.place ≤ reader.max
-    → EndsHere answer reader.packets reader.max reader.place reader.held reader.ended → IfSome first (λ bytes. IsEnding answer reader.packets reader.max bytes payloads)
-ends answer reader None left payloads h enough within k = tt
-ends answer reader (Some bytes) None payloads h enough within k = let told : Some (drop reader.place bytes) ≡ None = h.given in absurd (cc)
-ends answer reader (Some bytes) (Some rest) payloads h enough within k =
+ends : (ending : StreamEnding) (reader : StreamState) (first left : Option (List ℕ)) (payloads : List (List ℕ)) → StandsAfter reader first left payloads → HoldsEnough reader → reader.place ≤ reader.max
+    → EndsHere ending reader.packets reader.max reader.place reader.held reader.ended → IfSome first (λ bytes. IsCut reader.packets reader.max bytes payloads ending)
+ends ending reader None left payloads h enough within k = tt
+ends ending reader (Some bytes) None payloads h enough within k = let told : Some (drop reader.place bytes) ≡ None = h.given in absurd (cc)
+ends ending reader (Some bytes) (Some rest) payloads h enough within k =
     let told : Some (drop reader.place bytes) ≡ Some (reader.held ++ rest) = h.given in
     let split : drop reader.place bytes ≡ reader.held ++ rest = cc in
-    ends_told answer reader bytes rest payloads h.cut h.placed split h.at_end enough within k
+    ends_told ending reader bytes rest payloads h.cut h.placed split h.at_end enough within k
 
--- What is said with an ending.
-says : (answer : Answer) (reader : StreamState) (first left : Option (List ℕ)) (payloads : List (List ℕ)) → EndsHere answer reader.packets reader.max reader.place reader.held reader.ended → StandsAfter reader first left payloads
-    → IfSome first (λ bytes. IsEnding answer reader.packets reader.max bytes payloads) → Walks answer reader first left payloads
-says (Ok Payload) reader first left payloads k h is = absurd k
-says (Ok End) reader first left payloads k h is = (h, is, h.at_end k.1)
-says (Err ReadFault) reader first left payloads k h is = absurd k
-says (Err (PastLimit n)) reader first left payloads k h is = (h, is, tt)
-says (Err (NotTransport (RaggedPayload n))) reader first left payloads k h is = (h, is, h.at_end k.3)
-says (Err (NotTransport (UnsyncedPayload n))) reader first left payloads k h is = (h, is, tt)
+-- An ending that leaves nothing is answered where the source has come to its end.
+over : (ending : StreamEnding) (packets max place : ℕ) (held : List ℕ) (ended : Bool) → EndsHere ending packets max place held ended → LeavesNothing ending → ended ≡ true
+over None packets max place held ended here none = here.1
+over (Some (TooLong n)) packets max place held ended here none = absurd none
+over (Some (NotTransport (Ragged n))) packets max place held ended here none = here.3
+over (Some (NotTransport (NoSync k))) packets max place held ended here none = absurd none
 
 -- What an ending says that is kept.
-pub walks_ending : (reader new : StreamState) (first left : Option (List ℕ)) (payloads : List (List ℕ)) (answer : Answer) → StandsAfter reader first left payloads → HoldsEnough reader → reader.place ≤ reader.max
-    → EndsHere answer reader.packets reader.max reader.place reader.held reader.ended → new ≡ record reader { kept = Some answer } → Walks answer new first left payloads
-walks_ending reader new first left payloads answer h enough within k kept =
-    let is = ends answer reader first left payloads h enough within k in
-    let stands : StandsAfter (record reader { kept = Some answer }) first left payloads = record { cut = h.cut; placed = h.placed; given = h.given; at_end = h.at_end; ending = is } in
-    subst (λ (t : StreamState). Walks answer t first left payloads) (sym kept) (says answer (record reader { kept = Some answer }) first left payloads k stands is)
+pub walks_ending : (reader new : StreamState) (first left : Option (List ℕ)) (payloads : List (List ℕ)) (ending : StreamEnding) → StandsAfter reader first left payloads → HoldsEnough reader → reader.place ≤ reader.max
+    → EndsHere ending reader.packets reader.max reader.place reader.held reader.ended → new ≡ record reader { kept = Some ending } → Walks (Ok (End ending)) new first left payloads
+walks_ending reader new first left payloads ending h enough within k kept =
+    let is = ends ending reader first left payloads h enough within k in
+    let stands : StandsAfter (record reader { kept = Some ending }) first left payloads = record { cut = h.cut; placed = h.placed; given = h.given; at_end = h.at_end; ending = is } in
+    subst (λ (t : StreamState). Walks (Ok (End ending)) t first left payloads) (sym kept)
+    (stands, is, λ none. h.at_end (over ending reader.packets reader.max reader.place reader.held reader.ended k none))
 
 -- What a payload says that was answered.
 pub walks_payload : (reader new : StreamState) (first left : Option (List ℕ)) (payloads : List (List ℕ)) → StandsAfter reader first left payloads → reader.kept ≡ None → HoldsEnough reader → Accepts reader → new ≡ after_payload reader

@@ -5,6 +5,8 @@ use Rattle.std.proofs.lemmas.Bool.{cases_lt}
 use Rattle.std.proofs.Math.Nat.{mul-le-mul_right}
 use Rattle.fg_words.specs.declared.Word.{Word}
 use Rattle.fg_words.specs.Word.{transport_word, HasRoom}
+use Rattle.fg_shape.specs.declared.kind.Kind.TheVariants.{Column, Row}
+use Rattle.fg_shape.specs.Kind.{port_of}
 use Rattle.fg_shape.specs.Layout.{ColumnEnds, RowEnds}
 use Rattle.fg_shape.specs.Shape.{slots_of}
 use Rattle.fg_rtp.specs.MediaDatagram.{media_bytes}
@@ -99,19 +101,19 @@ same_record port t u m n a b p q x y tu mn ab pq xy =
 columns_sent_are : (e : EncoderState) (payloads : List (List ℕ)) (payload : List ℕ) (time ts : ℕ) (columns : List Parity) (d : Parity) → StandsAfter e payloads → length payload ≤ 188 * e.settings.packets
     → time ≡ time_of e.settings (bits_before (with payloads payload) (length payloads)) → ts ≡ timestamp_of e.settings (bits_before (with payloads payload) (length payloads))
     → ColumnsAreUnderWay e.settings (word_at e.settings (with payloads payload)) (length payloads + 1) columns
-    → map (λ base. sent_record (e.settings.port + 2) time e.columns_sent ts (get_or columns (length payloads % e.settings.layout.l) d) (188 * e.settings.packets)) (columns_ending e.settings.layout (length payloads))
+    → map (λ base. sent_record (port_of e.settings.port Column) time e.columns_sent ts (get_or columns (length payloads % e.settings.layout.l) d) (188 * e.settings.packets)) (columns_ending e.settings.layout (length payloads))
     ≡ map (column_record e.settings (with payloads payload) (length payloads)) (columns_ending e.settings.layout (length payloads))
 columns_sent_are e payloads payload time ts columns d stands most timed stamped under =
     let n = length payloads in
     let all = with payloads payload in
     let layout = e.settings.layout in
-    columns_same (λ base. sent_record (e.settings.port + 2) time e.columns_sent ts (get_or columns (n % layout.l) d) (188 * e.settings.packets)) (column_record e.settings all n) layout n
+    columns_same (λ base. sent_record (port_of e.settings.port Column) time e.columns_sent ts (get_or columns (n % layout.l) d) (188 * e.settings.packets)) (column_record e.settings all n) layout n
     (λ base ends.
     let end = column_last layout n base ends in
     let accepted = layout.accepted in
     let tall : 1 * layout.l ≤ (layout.d - 1) * layout.l = mul-le-mul_right layout.l (let some : 1 ≤ layout.d - 1 = omega (arith, accepted.height) in some) in
     let early : base < n = omega (arith, end, tall, accepted.columns) in
-    same_record (e.settings.port + 2) time (time_of e.settings (bits_before all n)) e.columns_sent (columns_before layout n % 2 ^ 16) ts (timestamp_of e.settings (bits_before all n))
+    same_record (port_of e.settings.port Column) time (time_of e.settings (bits_before all n)) e.columns_sent (columns_before layout n % 2 ^ 16) ts (timestamp_of e.settings (bits_before all n))
     (get_or columns (n % layout.l) d) (parity_at e.settings all base (column_shape layout) false) (188 * e.settings.packets) (longest all (slots_of base layout.l layout.d))
     timed stands.columns_sent stamped (column_is_whole e.settings (word_at e.settings all) n base columns d ends under)
     (sym (longest_is_whole (188 * e.settings.packets) base layout.l layout.d payloads payload stands.whole most (omega (arith, accepted.height)) early)))
@@ -119,19 +121,19 @@ columns_sent_are e payloads payload time ts columns d stands most timed stamped 
 rows_sent_are : (e : EncoderState) (payloads : List (List ℕ)) (payload : List ℕ) (time ts : ℕ) (row : Parity) → StandsAfter e payloads → length payload ≤ 188 * e.settings.packets
     → time ≡ time_of e.settings (bits_before (with payloads payload) (length payloads)) → ts ≡ timestamp_of e.settings (bits_before (with payloads payload) (length payloads))
     → (IsTrue e.settings.layout.rows → RowIsUnderWay e.settings (word_at e.settings (with payloads payload)) (length payloads + 1) row)
-    → map (λ (base : ℕ). sent_record (e.settings.port + 4) time e.rows_sent ts row (188 * e.settings.packets)) (rows_ending e.settings.layout (length payloads))
+    → map (λ (base : ℕ). sent_record (port_of e.settings.port Row) time e.rows_sent ts row (188 * e.settings.packets)) (rows_ending e.settings.layout (length payloads))
     ≡ map (row_record e.settings (with payloads payload) (length payloads)) (rows_ending e.settings.layout (length payloads))
 rows_sent_are e payloads payload time ts row stands most timed stamped under =
     let n = length payloads in
     let all = with payloads payload in
     let layout = e.settings.layout in
-    rows_same (λ base. sent_record (e.settings.port + 4) time e.rows_sent ts row (188 * e.settings.packets)) (row_record e.settings all n) layout n
+    rows_same (λ base. sent_record (port_of e.settings.port Row) time e.rows_sent ts row (188 * e.settings.packets)) (row_record e.settings all n) layout n
     (λ base ends.
     let end = row_last layout n base ends in
     let accepted = layout.accepted in
     let wide : 4 ≤ layout.l = accepted.rows_need_four ends.sent in
     let early : base < n = omega arith in
-    same_record (e.settings.port + 4) time (time_of e.settings (bits_before all n)) e.rows_sent (rows_before layout n % 2 ^ 16) ts (timestamp_of e.settings (bits_before all n))
+    same_record (port_of e.settings.port Row) time (time_of e.settings (bits_before all n)) e.rows_sent (rows_before layout n % 2 ^ 16) ts (timestamp_of e.settings (bits_before all n))
     row (parity_at e.settings all base (row_shape layout) true) (188 * e.settings.packets) (longest all (slots_of base 1 layout.l))
     timed stands.rows_sent stamped (row_is_whole e.settings (word_at e.settings all) n base row ends (under ends.sent))
     (sym (longest_is_whole (188 * e.settings.packets) base 1 layout.l payloads payload stands.whole most (omega arith) early)))
@@ -142,8 +144,8 @@ pub batch_is : (e : EncoderState) (payloads : List (List ℕ)) (payload : List �
     → time ≡ time_of e.settings (8 * (188 * e.settings.packets * e.taken)) → ts ≡ timestamp_of e.settings (8 * (188 * e.settings.packets * e.taken)) → seq ≡ sequence_of e.settings slot
     → word ≡ transport_word ts payload
     → one ≡ (record { time = time; port = e.settings.port; datagram = media_bytes seq e.settings.ssrc word }) ∷ []
-    → two ≡ one ++ map (λ base. sent_record (e.settings.port + 2) time e.columns_sent ts (get_or columns (slot % e.settings.layout.l) d) (188 * e.settings.packets)) (columns_ending e.settings.layout slot)
-    → three ≡ two ++ map (λ (base : ℕ). sent_record (e.settings.port + 4) time e.rows_sent ts row (188 * e.settings.packets)) (rows_ending e.settings.layout slot)
+    → two ≡ one ++ map (λ base. sent_record (port_of e.settings.port Column) time e.columns_sent ts (get_or columns (slot % e.settings.layout.l) d) (188 * e.settings.packets)) (columns_ending e.settings.layout slot)
+    → three ≡ two ++ map (λ (base : ℕ). sent_record (port_of e.settings.port Row) time e.rows_sent ts row (188 * e.settings.packets)) (rows_ending e.settings.layout slot)
     → ColumnsAreUnderWay e.settings (word_at e.settings (with payloads payload)) (length payloads + 1) columns
     → (IsTrue e.settings.layout.rows → RowIsUnderWay e.settings (word_at e.settings (with payloads payload)) (length payloads + 1) row)
     → three ≡ records_at e.settings (with payloads payload) (length payloads)
@@ -161,8 +163,8 @@ batch_is e payloads payload slot time ts seq word columns row d one two three st
     let head : media time seq word ≡ media_record e.settings all n =
     ap (λ (t : ℕ). media t seq word) clocked ∙ ap (λ (s : ℕ). media (time_of e.settings (bits_before all n)) s word) number
     ∙ ap (λ (w : Word). media (time_of e.settings (bits_before all n)) (sequence_of e.settings n) w) worded in
-    let down : ℕ → List Record = λ s. map (λ base. sent_record (e.settings.port + 2) time e.columns_sent ts (get_or columns (s % layout.l) d) (188 * e.settings.packets)) (columns_ending layout s) in
-    let across : ℕ → List Record = λ s. map (λ (base : ℕ). sent_record (e.settings.port + 4) time e.rows_sent ts row (188 * e.settings.packets)) (rows_ending layout s) in
+    let down : ℕ → List Record = λ s. map (λ base. sent_record (port_of e.settings.port Column) time e.columns_sent ts (get_or columns (s % layout.l) d) (188 * e.settings.packets)) (columns_ending layout s) in
+    let across : ℕ → List Record = λ s. map (λ (base : ℕ). sent_record (port_of e.settings.port Row) time e.rows_sent ts row (188 * e.settings.packets)) (rows_ending layout s) in
     third
     ∙ ap (λ (l : List Record). l ++ across slot) second
     ∙ ap (λ (l : List Record). (l ++ down slot) ++ across slot) first

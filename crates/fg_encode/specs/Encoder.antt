@@ -1,19 +1,14 @@
 -- What contracts see of an encoder, and where it stands: this project's own rule.
 use Rattle.std.specs.Prelude.{◌≡◌, ◌+◌, ◌*◌, ◌<◌, ◌≤◌, ◌%◌, ◌^◌, ℕ, true, false, IsTrue, List, length, get_or}
+use Rattle.fg_ts.specs.Packets.{packet_length}
 use Rattle.fg_words.specs.declared.Word.{Word}
 use Rattle.fg_shape.specs.declared.encoding.Settings.{Settings}
 use Rattle.fg_shape.specs.Layout.{column_base}
+use Rattle.fg_shape.specs.Settings.{CanEncode}
 use Rattle.fg_shape.specs.Shape.{slots_of}
 use Rattle.fg_fechead.specs.declared.Parity.{Parity}
 use Rattle.fg_encode.specs.Ends.{columns_before, rows_before}
 use Rattle.fg_encode.specs.Encoding.{column_shape, parity_over, payload_at, row_shape, word_at}
-
--- The settings that are encoded with: 1 to 7 packets a datagram, 1 to 10,000,000,000 bits a second, and a port that leaves
--- room for those of the parity.
-pub record CanEncode (settings : Settings) : Type 0 where
-  pub packets : (1 ≤ settings.packets) × (settings.packets ≤ 7)
-  pub rate : (1 ≤ settings.rate) × (settings.rate ≤ 10000000000)
-  pub port : settings.port ≤ 65531
 
 -- The settings; how many payloads were taken; the parities under way, one for each column of a matrix and one for the row;
 -- and how many of either were sent, modulo 65536.
@@ -52,7 +47,7 @@ pub record StandsAfter (encoder : EncoderState) (payloads : List (List ℕ)) : T
   pub fits : CanEncode encoder.settings
   pub taken : encoder.taken ≡ length payloads
   pub whole :
-      (slot : ℕ) → slot < length payloads → length (payload_at payloads slot) ≡ 188 * encoder.settings.packets
+      (slot : ℕ) → slot < length payloads → length (payload_at payloads slot) ≡ packet_length * encoder.settings.packets
   pub width : length encoder.columns ≡ encoder.settings.layout.l
   pub columns :
       ColumnsAreUnderWay encoder.settings (word_at encoder.settings payloads) (length payloads) encoder.columns

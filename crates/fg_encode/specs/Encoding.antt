@@ -1,6 +1,6 @@
 -- The encoding: which timed datagrams a stream is sent as. The stream is cut into payloads, of which payload i is that of
 -- slot i. Media datagrams are those of RFC 3550, RFC 2250 and SMPTE ST 2022-2, parity datagrams those of SMPTE ST 2022-1.
--- The clock, the numbers and the ports are this project's own, but for the port offsets of ST 2022-1.
+-- The clock and the numbers are this project's own.
 use Rattle.std.specs.Prelude.{ℕ, ◌+◌, ◌*◌, ◌/◌, ◌%◌, ◌^◌, Bool, true, false, List, [], ◌∷◌, ◌++◌, length, map, max, take, get_or}
 use Rattle.std.specs.List.{flat_map, range_with_len, sum_by}
 use Rattle.fg_words.specs.declared.Word.{Word}
@@ -8,6 +8,9 @@ use Rattle.fg_words.specs.Word.{transport_word, word_sum}
 use Rattle.fg_shape.specs.declared.Shape.{Shape}
 use Rattle.fg_shape.specs.declared.layouts.Layout.{Layout}
 use Rattle.fg_shape.specs.declared.encoding.Settings.{Settings}
+use Rattle.fg_shape.specs.declared.kind.Kind.{Kind}
+use Rattle.fg_shape.specs.declared.kind.Kind.TheVariants.{Media, Column, Row}
+use Rattle.fg_shape.specs.Kind.{port_of}
 use Rattle.fg_shape.specs.Shape.{slots_of}
 use Rattle.fg_rtp.specs.MediaDatagram.{media_bytes}
 use Rattle.fg_fechead.specs.declared.Parity.{Parity}
@@ -50,7 +53,7 @@ parity_over settings words base shape row slots = record {
 abbrev pub media_record : Settings → List (List ℕ) → ℕ → Record
 media_record settings payloads slot = record {
   time = time_of settings (bits_before payloads slot);
-  port = settings.port;
+  port = port_of settings.port Media;
   datagram = media_bytes (sequence_of settings slot) settings.ssrc (word_at settings payloads slot);
 }
 
@@ -64,12 +67,12 @@ abbrev pub longest : List (List ℕ) → List ℕ → ℕ
 longest payloads [] = 0
 longest payloads (slot ∷ slots) = max (length (payload_at payloads slot)) (longest payloads slots)
 
--- The parity datagram of an equation that ends at this slot, with this number in its stream, so many ports above the
--- media. It has the time and the timestamp of the slot's media datagram.
-abbrev pub parity_record : Settings → List (List ℕ) → ℕ → ℕ → ℕ → Shape → Bool → ℕ → Record
-parity_record settings payloads slot above number shape row base = record {
+-- The parity datagram of an equation that ends at this slot, of this kind and with this number in its stream. It has the time
+-- and the timestamp of the slot's media datagram.
+abbrev pub parity_record : Settings → List (List ℕ) → ℕ → Kind → ℕ → Shape → Bool → ℕ → Record
+parity_record settings payloads slot kind number shape row base = record {
   time = time_of settings (bits_before payloads slot);
-  port = settings.port + above;
+  port = port_of settings.port kind;
   datagram =
       parity_bytes (number % 2 ^ 16) (timestamp_of settings (bits_before payloads slot))
       (parity_at settings payloads base shape row) (longest payloads (slots_of base shape.offset shape.na));
@@ -84,11 +87,11 @@ row_shape layout = record { offset = 1; na = layout.l }
 
 abbrev pub column_record : Settings → List (List ℕ) → ℕ → ℕ → Record
 column_record settings payloads slot =
-    parity_record settings payloads slot 2 (columns_before settings.layout slot) (column_shape settings.layout) false
+    parity_record settings payloads slot Column (columns_before settings.layout slot) (column_shape settings.layout) false
 
 abbrev pub row_record : Settings → List (List ℕ) → ℕ → ℕ → Record
 row_record settings payloads slot =
-    parity_record settings payloads slot 4 (rows_before settings.layout slot) (row_shape settings.layout) true
+    parity_record settings payloads slot Row (rows_before settings.layout slot) (row_shape settings.layout) true
 
 -- What is sent for a slot: its media datagram, then the column that ends there, then the row.
 abbrev pub records_at : Settings → List (List ℕ) → ℕ → List Record

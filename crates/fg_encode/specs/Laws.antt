@@ -1,16 +1,16 @@
 -- Laws of the encoding.
-use Rattle.std.specs.Prelude.{◌≡◌, ◌<◌, ◌≤◌, ◌^◌, ℕ, List, [], ◌∷◌, ◌++◌, length}
+use Rattle.std.specs.Prelude.{◌≡◌, ◌<◌, ◌≤◌, ◌^◌, ℕ, None, List, [], ◌∷◌, ◌++◌, length}
 use Rattle.std.specs.List.{concat, AllByRecursion}
 use Rattle.fg_shape.specs.declared.layouts.Layout.{Layout}
 use Rattle.fg_shape.specs.declared.encoding.Settings.{Settings}
 use Rattle.fg_shape.specs.Layout.{ColumnEnds, RowEnds}
 use Rattle.fg_io.specs.Prefix.{IsPrefix}
 use Rattle.fg_trace.specs.Trace.{trace_of, Fits}
-use Rattle.fg_encode.specs.Encoder.{CanEncode}
+use Rattle.fg_shape.specs.Settings.{CanEncode}
 use Rattle.fg_encode.specs.Ends.{columns_ending, rows_ending}
 use Rattle.fg_encode.specs.Encoding.{encoding, records_at}
 use Rattle.fg_encode.specs.Payloads.{total_length, ArePayloads}
-use Rattle.fg_encode.specs.Stream.{AreFirst, IsCut, Whole}
+use Rattle.fg_encode.specs.Stream.{AreFirst, IsCut}
 
 -- The columns that end at a slot are the one that the layout has there, or none.
 abbrev pub ColumnsAreTheLayouts : Type 0
@@ -64,4 +64,4 @@ CutsArePayloads =
 abbrev pub WholeCutIsAll : Type 0
 WholeCutIsAll =
     (packets max : ℕ) (bytes : List ℕ) (payloads : List (List ℕ))
-    → IsCut packets max bytes payloads Whole → concat payloads ≡ bytes
+    → IsCut packets max bytes payloads None → concat payloads ≡ bytes

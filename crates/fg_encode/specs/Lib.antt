@@ -1,4 +1,6 @@
 pub mod Batch
+pub mod Encode
+pub mod EncodeSteps
 pub mod Encoder
 pub mod Encoding
 pub mod Ends

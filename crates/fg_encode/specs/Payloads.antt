@@ -1,7 +1,7 @@
 -- The payloads that are encoded: whole transport packets (ISO/IEC 13818-1, SMPTE ST 2022-2).
 use Rattle.std.specs.Prelude.{◌≡◌, ◌+◌, ◌*◌, ◌<◌, ◌≤◌, ℕ, List, length}
 use Rattle.std.specs.List.{sum_by}
-use Rattle.fg_ts.specs.Packets.{ArePackets}
+use Rattle.fg_ts.specs.Packets.{ArePackets, packet_length}
 use Rattle.fg_encode.specs.Encoding.{payload_at}
 
 -- How many bytes all payloads have together.
@@ -14,4 +14,4 @@ pub record ArePayloads (packets : ℕ) (payloads : List (List ℕ)) : Type 0 whe
       (slot : ℕ) → slot < length payloads
       → (count : ℕ) × (1 ≤ count) × (count ≤ packets) × ArePackets (payload_at payloads slot) count
   pub full :
-      (slot : ℕ) → slot + 1 < length payloads → length (payload_at payloads slot) ≡ 188 * packets
+      (slot : ℕ) → slot + 1 < length payloads → length (payload_at payloads slot) ≡ packet_length * packets

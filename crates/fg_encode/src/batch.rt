@@ -1,6 +1,6 @@
 //! The datagrams that are sent for one payload.
 ghost use Rattle.std.specs.Prelude.{◌≡◌, ◌+◌, ◌<◌, ◌≤◌, [], ◌∷◌, ◌++◌, IfOk, Some, length, slice_get};
-ghost use Rattle.fg_words.specs.Word.{transport_word};
+ghost use Rattle.fg_words.specs.Word.{transport_word, payload_limit};
 ghost use Rattle.fg_rtp.specs.MediaDatagram.{media_bytes};
 ghost use Rattle.fg_fechead.specs.ParityDatagram.{parity_bytes, CanBeWritten};
 ghost use Rattle.fg_trace.specs.Trace.{Record};
@@ -112,7 +112,7 @@ impl Batch {
         ssrc: u32,
         payload: &[u8],
     )
-        requires { length payload.now ≤ 1316 }
+        requires { length payload.now ≤ payload_limit }
         ensures { self.new ≡ (record {
           time = time;
           port = port;

@@ -1,22 +1,25 @@
 //! The encoder.
 ghost use Rattle.std.specs.Prelude.{◌≡◌, ◌+◌, ◌*◌, ◌<◌, ◌≤◌, ◌^◌, ◌%◌, ℕ, List, [], ◌∷◌, ◌++◌, IfOk, IfSome, length, map, get_or};
 ghost use Rattle.std.specs.Option.{option_to_list};
-ghost use Rattle.fg_ts.specs.Packets.{ArePackets};
+ghost use Rattle.fg_ts.specs.Packets.{ArePackets, packet_length};
+ghost use Rattle.fg_shape.specs.Kind.{port_of};
 ghost use Rattle.fg_shape.specs.Layout.{ColumnEnds, RowEnds};
 ghost use Rattle.fg_fechead.specs.declared.Parity.{Parity};
 ghost use Rattle.fg_fechead.specs.ParityDatagram.{parity_bytes, CanBeWritten};
 ghost use Rattle.fg_trace.specs.Trace.{Record};
 ghost use Rattle.fg_encode.specs.Ends.{columns_ending, rows_ending};
 ghost use Rattle.fg_encode.specs.Encoding.{records_at, time_of, timestamp_of};
-ghost use Rattle.fg_encode.specs.Encoder.{CanEncode, StandsAfter};
+ghost use Rattle.fg_encode.specs.Encoder.{StandsAfter};
+ghost use Rattle.fg_shape.specs.Settings.{CanEncode};
 
 use crate::Batch;
 use crate::clock::{sequence_at, time_after, timestamp_after};
 use crate::laws::ends_are_the_layouts;
 use crate::lines::{add_to_column, add_to_row};
 use fg_fechead::Parity;
-use fg_shape::{Layout, Settings, Shape};
-use fg_words::{PACKET_LENGTH, Word};
+use fg_shape::{Kind, LAST_PORT, Layout, Settings, Shape};
+use fg_ts::PACKET_LENGTH;
+use fg_words::Word;
 use std::alloc::{AllocError, Global};
 use std::marker::Model;
 
@@ -79,11 +82,11 @@ impl Encoder {
     pub fn push(&mut self, payload: &[u8], into: &mut Batch)
         requires stands { (payloads : List (List ℕ)) × StandsAfter self.old payloads }
         requires packets { (k : ℕ) × (1 ≤ k) × (k ≤ self.old.settings.packets) × ArePackets payload.now k }
-        requires limit { 188 * self.old.settings.packets * self.old.taken + length payload.now ≤ 2 ^ 40 }
+        requires limit { packet_length * self.old.settings.packets * self.old.taken + length payload.now ≤ 2 ^ 40 }
         ensures batch { (payloads : List (List ℕ)) → StandsAfter self.old payloads
             → into.new ≡ records_at self.old.settings (payloads ++ payload.now ∷ []) (length payloads) }
         ensures stands { (payloads : List (List ℕ)) → StandsAfter self.old payloads
-            → length payload.now ≡ 188 * self.old.settings.packets
+            → length payload.now ≡ packet_length * self.old.settings.packets
             → StandsAfter self.new (payloads ++ payload.now ∷ []) }
         ensures settings { self.new.settings ≡ self.old.settings }
         ensures taken { self.new.taken ≡ self.old.taken + 1 }
@@ -112,10 +115,10 @@ struct Moment {
 fn next_moment(settings: &Settings, taken: u64) -> Moment
     requires packets { (1 ≤ settings.now.packets) × (settings.now.packets ≤ 7) }
     requires rate { 1 ≤ settings.now.rate }
-    requires limit { 188 * settings.now.packets * taken ≤ 2 ^ 40 }
+    requires limit { packet_length * settings.now.packets * taken ≤ 2 ^ 40 }
     ensures slot { result.slot ≡ taken }
-    ensures time { result.time ≡ time_of settings.now (8 * (188 * settings.now.packets * taken)) }
-    ensures timestamp { result.ts ≡ timestamp_of settings.now (8 * (188 * settings.now.packets * taken)) }
+    ensures time { result.time ≡ time_of settings.now (8 * (packet_length * settings.now.packets * taken)) }
+    ensures timestamp { result.ts ≡ timestamp_of settings.now (8 * (packet_length * settings.now.packets * taken)) }
     ensures limit { taken ≤ 2 ^ 40 }
 {
     let bits = 8 * (PACKET_LENGTH as u64 * u64::from(settings.packets) * taken);
@@ -146,30 +149,30 @@ fn row_ending(layout: &Layout, slot: u64) -> Option<u64>
     layout.ending_at(slot).row
 }
 
-/// Sends a parity, with the next number of its stream.
+/// Sends a parity of this kind, with the next number of its stream.
 fn send(
     parity: &Parity,
     settings: &Settings,
-    above: u16,
+    kind: Kind,
     at: Moment,
     sent: &mut u16,
     into: &mut Batch,
 )
-    requires port { settings.now.port + above ≤ 65535 }
+    requires port { settings.now.port ≤ LAST_PORT }
     requires packets { settings.now.packets ≤ 7 }
-    requires can { CanBeWritten parity.now (188 * settings.now.packets) }
+    requires can { CanBeWritten parity.now (packet_length * settings.now.packets) }
     requires some { 1 ≤ length into.old }
     requires room { length into.old < 3 }
     ensures batch { into.new ≡ into.old ++ (record {
       time = at.time;
-      port = settings.now.port + above;
-      datagram = parity_bytes sent.old at.ts parity.now (188 * settings.now.packets);
+      port = port_of settings.now.port kind;
+      datagram = parity_bytes sent.old at.ts parity.now (packet_length * settings.now.packets);
     }) ∷ [] }
     ensures sent { sent.new ≡ (sent.old + 1) % 2 ^ 16 }
 {
     let size = PACKET_LENGTH as u16 * u16::from(settings.packets);
     let Moment { time, ts, .. } = at;
-    into.put_parity(time, settings.port + above, *sent, ts, parity, size);
+    into.put_parity(time, kind.port(settings.port), *sent, ts, parity, size);
     *sent = sent.wrapping_add(1);
 }
 
@@ -183,16 +186,16 @@ fn send_column(
 )
     requires width { length columns.now ≡ settings.now.layout.l }
     requires limit { at.slot ≤ 2 ^ 60 }
-    requires port { settings.now.port ≤ 65531 }
+    requires port { settings.now.port ≤ LAST_PORT }
     requires packets { settings.now.packets ≤ 7 }
     requires can { (base : ℕ) (d : Parity) → ColumnEnds settings.now.layout at.slot base
-        → CanBeWritten (get_or columns.now (at.slot % settings.now.layout.l) d) (188 * settings.now.packets) }
+        → CanBeWritten (get_or columns.now (at.slot % settings.now.layout.l) d) (packet_length * settings.now.packets) }
     requires some { 1 ≤ length into.old }
     requires room { length into.old < 3 }
     ensures batch { (d : Parity) → into.new ≡ into.old ++ map (λ base. record {
       time = at.time;
-      port = settings.now.port + 2;
-      datagram = parity_bytes sent.old at.ts (get_or columns.now (at.slot % settings.now.layout.l) d) (188 * settings.now.packets);
+      port = port_of settings.now.port Kind.Column;
+      datagram = parity_bytes sent.old at.ts (get_or columns.now (at.slot % settings.now.layout.l) d) (packet_length * settings.now.packets);
     }) (columns_ending settings.now.layout at.slot) }
     ensures sent { sent.new ≡ (sent.old + length (columns_ending settings.now.layout at.slot)) % 2 ^ 16 }
     ensures one { length into.new ≤ length into.old + 1 }
@@ -201,28 +204,28 @@ fn send_column(
     let _number = *sent;
     if column_ending(&settings.layout, at.slot).is_some() {
         let column = (at.slot % u64::from(settings.layout.l)) as usize;
-        send(&columns[column], settings, 2, at, sent, into);
+        send(&columns[column], settings, Kind::Column, at, sent, into);
     }
 }
 
 /// Sends the parity of the row that ends at the slot, if one does.
 fn send_row(row: &Parity, settings: &Settings, at: Moment, sent: &mut u16, into: &mut Batch)
     requires limit { at.slot ≤ 2 ^ 60 }
-    requires port { settings.now.port ≤ 65531 }
+    requires port { settings.now.port ≤ LAST_PORT }
     requires packets { settings.now.packets ≤ 7 }
     requires can { (base : ℕ) → RowEnds settings.now.layout at.slot base
-        → CanBeWritten row.now (188 * settings.now.packets) }
+        → CanBeWritten row.now (packet_length * settings.now.packets) }
     requires some { 1 ≤ length into.old }
     requires room { length into.old < 3 }
     ensures batch { into.new ≡ into.old ++ map (λ base. record {
       time = at.time;
-      port = settings.now.port + 4;
-      datagram = parity_bytes sent.old at.ts row.now (188 * settings.now.packets);
+      port = port_of settings.now.port Kind.Row;
+      datagram = parity_bytes sent.old at.ts row.now (packet_length * settings.now.packets);
     }) (rows_ending settings.now.layout at.slot) }
     ensures sent { sent.new ≡ (sent.old + length (rows_ending settings.now.layout at.slot)) % 2 ^ 16 }
 {
     let _number = *sent;
     if row_ending(&settings.layout, at.slot).is_some() {
-        send(row, settings, 4, at, sent, into);
+        send(row, settings, Kind::Row, at, sent, into);
     }
 }

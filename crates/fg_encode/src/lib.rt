@@ -5,6 +5,7 @@
 mod batch;
 mod clock;
 mod encoder;
+mod encoding;
 pub mod laws;
 mod lines;
 pub mod stream;
@@ -13,3 +14,4 @@ mod tests;
 
 pub use batch::Batch;
 pub use encoder::Encoder;
+pub use encoding::encode;

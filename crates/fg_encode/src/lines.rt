@@ -1,7 +1,7 @@
 //! The parities under way: one for each column, and one for the row.
 ghost use Rattle.std.specs.Prelude.{◌≡◌, ◌+◌, ◌*◌, ◌<◌, ◌≤◌, ◌↔◌, ◌^◌, ◌%◌, ℕ, true, IsTrue, length, get_or};
 ghost use Rattle.fg_words.specs.declared.Word.{Word};
-ghost use Rattle.fg_words.specs.Word.{transport_word, HasRoom};
+ghost use Rattle.fg_words.specs.Word.{transport_word, HasRoom, payload_limit};
 ghost use Rattle.fg_shape.specs.Layout.{column_base};
 ghost use Rattle.fg_encode.specs.Encoder.{ColumnsAreUnderWay, RowIsUnderWay};
 ghost use Rattle.fg_encode.specs.Lines.{added};
@@ -14,7 +14,7 @@ use fg_words::{TRANSPORT_TYPE, Word};
 
 /// Makes the word of a payload with this timestamp.
 fn fill(word: &mut Word, ts: u32, payload: &[u8])
-    requires { length payload.now ≤ 1316 }
+    requires { length payload.now ≤ payload_limit }
     ensures { word.new ≡ transport_word ts payload.now }
 {
     word.pt = TRANSPORT_TYPE;
@@ -35,7 +35,7 @@ fn add(
     ts: u32,
     payload: &[u8],
 )
-    requires { length payload.now ≤ 1316 }
+    requires { length payload.now ≤ payload_limit }
     ensures { parity.new ≡ added parity.old begins
         (record { base = base; shape = shape; row = row; word = transport_word ts payload.now }) }
 {
@@ -67,7 +67,7 @@ pub fn add_to_column(
     ts: u32,
     payload: &[u8],
 )
-    requires payload { length payload.now ≤ 1316 }
+    requires payload { length payload.now ≤ payload_limit }
     requires width { length columns.old ≡ settings.now.layout.l }
     requires limit { slot ≤ 2 ^ 60 }
     ensures { (words : ℕ → Word) → words slot ≡ transport_word ts payload.now → ((s : ℕ) → HasRoom (words s))
@@ -94,7 +94,7 @@ pub fn add_to_column(
 
 /// Adds the payload of a slot, with this timestamp, to the parity under way of the row, where rows are sent.
 pub fn add_to_row(row: &mut Parity, settings: &Settings, slot: u64, ts: u32, payload: &[u8])
-    requires payload { length payload.now ≤ 1316 }
+    requires payload { length payload.now ≤ payload_limit }
     requires limit { slot ≤ 2 ^ 60 }
     ensures { IsTrue settings.now.layout.rows → (words : ℕ → Word) → words slot ≡ transport_word ts payload.now
         → ((s : ℕ) → HasRoom (words s)) → RowIsUnderWay settings.now words slot row.old

@@ -1,6 +1,8 @@
 //! The encoder by example.
 ghost use Rattle.std.specs.Prelude.{◌≡◌, ◌+◌, ◌*◌, ◌<◌, ◌≤◌, List, ℕ, length};
-ghost use Rattle.fg_encode.specs.Encoder.{CanEncode, StandsAfter};
+ghost use Rattle.fg_ts.specs.Packets.{packet_length};
+ghost use Rattle.fg_encode.specs.Encoder.{StandsAfter};
+ghost use Rattle.fg_shape.specs.Settings.{CanEncode};
 
 use crate::{Batch, Encoder};
 use fg_shape::{Layout, Settings};
@@ -63,7 +65,7 @@ fn push(encoder: &mut Encoder, packets: u8, payload: &[u8], batch: &mut Batch)
     requires stands { (payloads : List (List ℕ)) × StandsAfter encoder.old payloads }
     requires packets { (encoder.old.settings.packets ≡ packets) × (packets ≤ 7) }
     requires taken { encoder.old.taken ≤ 1000000 }
-    ensures stands { length payload.now ≡ 188 * packets
+    ensures stands { length payload.now ≡ packet_length * packets
         → (payloads : List (List ℕ)) × StandsAfter encoder.new payloads }
     ensures packets { encoder.new.settings.packets ≡ packets }
     ensures taken { encoder.new.taken ≤ encoder.old.taken + 1 }
@@ -284,22 +286,18 @@ fn moment(
     packets: u8,
     rate: u64,
     slot: u32,
-) -> Result<Option<(u64, u32)>, AllocError>
-    requires packets { (1 ≤ packets) × (packets ≤ 7) }
-    requires rate { (1 ≤ rate) × (rate ≤ 10000000000) }
-    requires slot { slot < 1000 }
-{
+) -> Result<Option<(u64, u32)>, AllocError> {
     let settings = Settings {
         layout,
-        packets,
-        rate,
+        packets: packets.clamp(1, 7),
+        rate: rate.clamp(1, 10_000_000_000),
         port: 5000,
         seq: 0,
         ssrc: 0,
         stamp: 0,
     };
     let mut last = None;
-    for sent in encode(alloc, settings, whole_payloads(slot + 1))?.iter() {
+    for sent in encode(alloc, settings, whole_payloads(slot.min(999) + 1))?.iter() {
         if sent.port == 5000 {
             last = Some((sent.time, sent.ts));
         }
@@ -307,25 +305,20 @@ fn moment(
     Ok(last)
 }
 
-// One bit a second. A packet has 1,504 bits, and seven have 10,528: after 52,640 of them the timestamp has wrapped.
+// One bit a second: a packet has 1,504 bits, and seven have 10,528, of which after 52,640 the timestamp has wrapped. And
+// 10,000 bits a microsecond: 111,111 are a 90,000th of a second.
 #[test]
-fn the_slowest_rate(rt: HostRuntime) -> Result<(), Fail> {
+fn the_slowest_rate_and_the_fastest(rt: HostRuntime) -> Result<(), Fail> {
     let layout = layout(&rt, 4, 4, true, false);
-    let one = moment(rt.alloc(), layout, 1, 1, 2)?;
-    assert_eq!(rt; one, Some((3_008_000_000, 270_720_000)));
-    let seven = moment(rt.alloc(), layout, 7, 1, 5)?;
-    assert_eq!(rt; seven, Some((52_640_000_000, 442_632_704)));
-    Ok(())
-}
-
-// 10,000 bits a microsecond, and 111,111 in a 90,000th of a second.
-#[test]
-fn the_fastest_rate(rt: HostRuntime) -> Result<(), Fail> {
-    let layout = layout(&rt, 4, 4, true, false);
-    let one = moment(rt.alloc(), layout, 1, 10_000_000_000, 7)?;
-    assert_eq!(rt; one, Some((1, 0)));
-    let seven = moment(rt.alloc(), layout, 7, 10_000_000_000, 19)?;
-    assert_eq!(rt; seven, Some((20, 1)));
+    for (packets, rate, slot, wanted) in [
+        (1, 1, 2, (3_008_000_000, 270_720_000)),
+        (7, 1, 5, (52_640_000_000, 442_632_704)),
+        (1, 10_000_000_000, 7, (1, 0)),
+        (7, 10_000_000_000, 19, (20, 1)),
+    ] {
+        let sent = moment(rt.alloc(), layout, packets, rate, slot)?;
+        assert_eq!(rt; sent, Some(wanted));
+    }
     Ok(())
 }
 

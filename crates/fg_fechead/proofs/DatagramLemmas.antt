@@ -11,7 +11,7 @@ use Rattle.fg_words.specs.Word.{HasRoom}
 use Rattle.fg_shape.specs.Shape.{IsShape}
 use Rattle.fg_rtp.specs.Header.{plain_header}
 use Rattle.fg_fechead.specs.declared.Parity.{Parity}
-use Rattle.fg_fechead.specs.FecHeader.{row_bit, header_of, parity_of, IsExtended, IsPlainXor, HasShape}
+use Rattle.fg_fechead.specs.FecHeader.{row_bit, header_of, parity_in, IsExtended, IsPlainXor, HasShape}
 use Rattle.fg_fechead.specs.ParityDatagram.{IsParityDatagram, CanBeWritten, parity_bytes, HasHeaders, IsVersionTwo, HasPayload, header_in}
 
 -- Parities with equal fields are equal.
@@ -57,13 +57,13 @@ length-header_of p (m0 ∷ m1 ∷ m2 ∷ []) ext_bits long = refl
 length-header_of p mask ext_bits long = absurd (omega arith)
 
 -- What a header says is the parity that it was made of.
-parity_of-header_of : (p : Parity) (mask payload : List ℕ) (ext_bits : ℕ) → length mask ≡ 3 → p.base < 2 ^ 16 → p.word.len < 2 ^ 16 → p.word.pt < 2 ^ 7 → p.word.ts < 2 ^ 32 →
-    payload ++ replicate (1316 - length payload) 0 ≡ p.word.bytes → parity_of (header_of p mask ext_bits) payload ≡ p
-parity_of-header_of p (m0 ∷ m1 ∷ m2 ∷ []) payload ext_bits long base len pt ts contents =
-    let q : Parity = parity_of (header_of p (m0 ∷ m1 ∷ m2 ∷ []) ext_bits) payload in
+parity_in-header_of : (p : Parity) (mask payload : List ℕ) (ext_bits : ℕ) → length mask ≡ 3 → p.base < 2 ^ 16 → p.word.len < 2 ^ 16 → p.word.pt < 2 ^ 7 → p.word.ts < 2 ^ 32 →
+    payload ++ replicate (1316 - length payload) 0 ≡ p.word.bytes → parity_in (header_of p mask ext_bits) payload ≡ p
+parity_in-header_of p (m0 ∷ m1 ∷ m2 ∷ []) payload ext_bits long base len pt ts contents =
+    let q : Parity = parity_in (header_of p (m0 ∷ m1 ∷ m2 ∷ []) ext_bits) payload in
     parity-ext q p (from_be_bytes-to_be_bytes_2 p.base base) refl refl (row_bit-back p.row)
     (word-ext q.word p.word (omega arith) (from_be_bytes-to_be_bytes_4 p.word.ts ts) (from_be_bytes-to_be_bytes_2 p.word.len len) contents)
-parity_of-header_of p mask payload ext_bits long base len pt ts contents = absurd (omega arith)
+parity_in-header_of p mask payload ext_bits long base len pt ts contents = absurd (omega arith)
 
 header_of-rules : (p : Parity) (mask : List ℕ) (ext_bits : ℕ) → length mask ≡ 3 → p.word.pt < 2 ^ 7 → IsShape p.shape.offset p.shape.na →
     IsExtended (header_of p mask ext_bits) × IsPlainXor (header_of p mask ext_bits) × HasShape (header_of p mask ext_bits)
@@ -124,13 +124,13 @@ datagram_keeps_rules bytes p d =
     )
 
 -- The parity of a parity datagram is the one that its header and its payload say.
-pub datagram_says_parity : (bytes : List ℕ) (p : Parity) → IsParityDatagram bytes p → parity_of (header_in bytes) (drop 28 bytes) ≡ p
+pub datagram_says_parity : (bytes : List ℕ) (p : Parity) → IsParityDatagram bytes p → parity_in (header_in bytes) (drop 28 bytes) ≡ p
 datagram_says_parity bytes p d =
     let parts = datagram_parts bytes p d in
     let payload : List ℕ = take d.size p.word.bytes in
-    ap (λ (h : List ℕ). parity_of h (drop 28 bytes)) parts.0
-    ∙ ap (λ (l : List ℕ). parity_of (header_of p d.mask d.ext_bits) l) parts.1
-    ∙ parity_of-header_of p d.mask payload d.ext_bits d.mask_size d.base_size d.len_size d.pt_size d.ts_size
+    ap (λ (h : List ℕ). parity_in h (drop 28 bytes)) parts.0
+    ∙ ap (λ (l : List ℕ). parity_in (header_of p d.mask d.ext_bits) l) parts.1
+    ∙ parity_in-header_of p d.mask payload d.ext_bits d.mask_size d.base_size d.len_size d.pt_size d.ts_size
     (padded_front p.word.bytes payload d.size d.room d.payload_limit refl d.padded)
 
 -- Bytes are a parity datagram of at most one parity.
@@ -157,11 +157,11 @@ row_bit-of b x type index = ⊎_elim
     (cases_lt b 64)
 
 -- A header that keeps its rules is the header of the parity that it says.
-header_of-parity_of : (header payload : List ℕ) → ((i : ℕ) → get_or header i 0 < 256) → length header ≡ 16 → IsExtended header → IsPlainXor header →
-    header_of (parity_of header payload) (slice_range header 5 8) (get_or header 15 0) ≡ header
-header_of-parity_of (b0 ∷ b1 ∷ b2 ∷ b3 ∷ b4 ∷ b5 ∷ b6 ∷ b7 ∷ b8 ∷ b9 ∷ b10 ∷ b11 ∷ b12 ∷ b13 ∷ b14 ∷ b15 ∷ []) payload fits long extended plain =
+header_of-parity_in : (header payload : List ℕ) → ((i : ℕ) → get_or header i 0 < 256) → length header ≡ 16 → IsExtended header → IsPlainXor header →
+    header_of (parity_in header payload) (slice_range header 5 8) (get_or header 15 0) ≡ header
+header_of-parity_in (b0 ∷ b1 ∷ b2 ∷ b3 ∷ b4 ∷ b5 ∷ b6 ∷ b7 ∷ b8 ∷ b9 ∷ b10 ∷ b11 ∷ b12 ∷ b13 ∷ b14 ∷ b15 ∷ []) payload fits long extended plain =
     let header : List ℕ = b0 ∷ b1 ∷ b2 ∷ b3 ∷ b4 ∷ b5 ∷ b6 ∷ b7 ∷ b8 ∷ b9 ∷ b10 ∷ b11 ∷ b12 ∷ b13 ∷ b14 ∷ b15 ∷ [] in
-    let p : Parity = parity_of header payload in
+    let p : Parity = parity_in header payload in
     let at_base : List ℕ = b0 ∷ b1 ∷ [] in
     let at_len : List ℕ = b2 ∷ b3 ∷ [] in
     let at_ts : List ℕ = b8 ∷ b9 ∷ b10 ∷ b11 ∷ [] in
@@ -177,11 +177,11 @@ header_of-parity_of (b0 ∷ b1 ∷ b2 ∷ b3 ∷ b4 ∷ b5 ∷ b6 ∷ b7 ∷ b8 
     ∙ ap (λ (b : ℕ). spells at_base at_len b (to_be_bytes w32 p.word.ts) (row_bit p.row)) pt
     ∙ ap (λ (l : List ℕ). spells at_base at_len b4 l (row_bit p.row)) ts
     ∙ ap (λ (b : ℕ). spells at_base at_len b4 at_ts b) row
-header_of-parity_of header payload fits long extended plain = absurd (omega arith)
+header_of-parity_in header payload fits long extended plain = absurd (omega arith)
 
 -- Bytes that keep every rule are a parity datagram, of the parity that their header and payload say.
 pub datagram_of_rules : (bytes : List ℕ) → ((i : ℕ) → get_or bytes i 0 < 256) → HasHeaders bytes → IsVersionTwo bytes → IsExtended (header_in bytes) → IsPlainXor (header_in bytes) → HasShape (header_in bytes) → HasPayload bytes →
-    IsParityDatagram bytes (parity_of (header_in bytes) (drop 28 bytes))
+    IsParityDatagram bytes (parity_in (header_in bytes) (drop 28 bytes))
 datagram_of_rules bytes fits headers two extended plain shape sized =
     let header : List ℕ = header_in bytes in
     let payload : List ℕ = drop 28 bytes in
@@ -201,7 +201,7 @@ datagram_of_rules bytes fits headers two extended plain shape sized =
     let ts1 = range_fits header 8 12 header_fits 1 in
     let ts2 = range_fits header 8 12 header_fits 2 in
     let ts3 = range_fits header 8 12 header_fits 3 in
-    let back = header_of-parity_of header payload header_fits header_long extended plain in
+    let back = header_of-parity_in header payload header_fits header_long extended plain in
     let split : drop 12 bytes ≡ header ++ payload = sym (take-append-drop 16 (drop 12 bytes)) ∙ ap (λ (l : List ℕ). header ++ l) (drop-drop 16 12 bytes) in
     record {
       rtp = rtp;
@@ -223,5 +223,5 @@ datagram_of_rules bytes fits headers two extended plain shape sized =
       spelled =
           sym (take-append-drop 12 bytes) ∙ ap (λ (l : List ℕ). rtp ++ l) split ∙ sym (append_assoc rtp header payload)
           ∙ ap (λ (l : List ℕ). rtp ++ l ++ payload) (sym back)
-          ∙ ap (λ (l : List ℕ). rtp ++ header_of (parity_of header payload) (slice_range header 5 8) (get_or header 15 0) ++ l) (sym (take_at payload tail size refl));
+          ∙ ap (λ (l : List ℕ). rtp ++ header_of (parity_in header payload) (slice_range header 5 8) (get_or header 15 0) ++ l) (sym (take_at payload tail size refl));
     }

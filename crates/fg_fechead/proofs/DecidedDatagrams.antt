@@ -8,7 +8,7 @@ use Rattle.fg_words.proofs.DecisionLemmas.{IsDecided, decided_both, decided_as, 
 use Rattle.fg_shape.specs.Shape.{IsShape}
 use Rattle.fg_rtp.specs.Header.{version}
 use Rattle.fg_fechead.specs.declared.Parity.{Parity}
-use Rattle.fg_fechead.specs.FecHeader.{header_of, parity_of}
+use Rattle.fg_fechead.specs.FecHeader.{header_of, parity_in}
 use Rattle.fg_fechead.specs.ParityDatagram.{IsParityDatagram, header_in}
 use Rattle.fg_fechead.specs.Laws.{ParityIsDecided}
 use Rattle.fg_fechead.proofs.DatagramLemmas.{datagram_parts, datagram_says_parity}
@@ -148,7 +148,7 @@ ext_bits_in p mask ext_bits long = absurd (omega arith)
 
 module _ (bytes : List ℕ) where
   abbrev told : Parity
-  told = parity_of (header_in bytes) (drop 28 bytes)
+  told = parity_in (header_in bytes) (drop 28 bytes)
 
   -- The parts of a datagram are found in its bytes.
   abbrev IsRead : Type 0

@@ -14,9 +14,13 @@ use Rattle.std.specs.Prelude.{◌≡◌, ℕ, ◌+◌, ◌-◌, ◌/◌, ◌%◌
 use Rattle.std.specs.Int.{from_be_bytes, to_be_bytes, w16, w32}
 use Rattle.fg_shape.specs.Shape.{IsShape}
 use Rattle.fg_words.specs.declared.Word.{Word}
-use Rattle.fg_words.specs.Word.{padded_word}
+use Rattle.fg_words.specs.Word.{padded_word, payload_limit}
 use Rattle.fg_fechead.specs.declared.Parity.{Parity}
 use Rattle.fg_fechead.specs.declared.ParityHeader.{ParityHeader}
+
+-- The bytes of the FEC header.
+abbrev pub fec_header_length : ℕ
+fec_header_length = 16
 
 -- D, in its byte.
 abbrev pub row_bit : Bool → ℕ
@@ -31,8 +35,8 @@ header_of parity mask ext_bits =
     ++ row_bit parity.row ∷ parity.shape.offset ∷ parity.shape.na ∷ ext_bits ∷ []
 
 -- The parity of a header and the payload after it. The word's bytes are the payload, padded with zeros.
-abbrev pub parity_of : List ℕ → List ℕ → Parity
-parity_of header payload = record {
+abbrev pub parity_in : List ℕ → List ℕ → Parity
+parity_in header payload = record {
   base = from_be_bytes w16 (slice_range header 0 2);
   shape = record { offset = slice_index header 13; na = slice_index header 14 };
   row = (slice_index header 12 / 64 % 2) == 1;
@@ -40,7 +44,7 @@ parity_of header payload = record {
     pt = slice_index header 4 % 128;
     ts = from_be_bytes w32 (slice_range header 8 12);
     len = from_be_bytes w16 (slice_range header 2 4);
-    bytes = payload ++ replicate (1316 - length payload) 0;
+    bytes = payload ++ replicate (payload_limit - length payload) 0;
   };
 }
 

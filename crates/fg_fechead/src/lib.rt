@@ -2,7 +2,7 @@
 #![tactic(auto)]
 
 ghost use Rattle.std.specs.Prelude.{◌≡◌, ◌≤◌, ◌<◌, ◌+◌, ◌^◌, ◌↔◌, ℕ, List, [], ◌∷◌, ◌++◌, IfErr, IfOk, OnErr, IsErrOf, IsTrue, drop, length, slice_index, take};
-ghost use Rattle.fg_fechead.specs.FecHeader.{header_of, parity_of, parity_from, parity_with, IsPlainXor};
+ghost use Rattle.fg_fechead.specs.FecHeader.{header_of, parity_in, parity_from, parity_with, IsPlainXor};
 ghost use Rattle.fg_fechead.specs.ParityDatagram.{parity_bytes, CanBeWritten, FirstFault, HasHeaders, HasPayload, IsParityDatagram};
 
 pub mod laws;
@@ -36,7 +36,10 @@ const ROW: u8 = 0x40;
 /// The version of RTP (RFC 3550).
 const RTP_VERSION: u8 = 2;
 
-/// What a parity datagram says.
+/// What a parity datagram says, as it stands in its bytes.
+///
+/// A desk takes its base, shape and word, which is the parity that definitions of a desk speak of; and once the base has a
+/// position, that is an equation.
 #[derive(Clone, Copy)]
 pub struct Parity {
     /// The first protected sequence number (SNBase).
@@ -247,7 +250,7 @@ fn payload(bytes: &[u8]) -> &[u8]
 /// What a FEC header says.
 fn fields(header: &[u8]) -> ParityHeader
     requires { 16 ≤ length header.now }
-    ensures { (payload : List ℕ) → parity_with result payload ≡ parity_of header.now payload }
+    ensures { (payload : List ℕ) → parity_with result payload ≡ parity_in header.now payload }
 {
     ParityHeader {
         base: BigEndian::read_u16(&header[0..2]),

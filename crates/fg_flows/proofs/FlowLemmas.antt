@@ -1,13 +1,14 @@
 -- Flows apart, and the map from ports to flows.
-use Rattle.std.proofs.Common.{◌≡◌, ◌≢◌, ℕ, zero, suc, ◌+◌, ◌<◌, ◌≤◌, List, length, get_or, nat_eq, true, false, Option, Some, None, is_some, unwrap_or, IfSome, IfNone, refl, sym, subst, ap, ◌∙◌, arith, ◌⊎◌, inl, inr}
+use Rattle.std.proofs.Common.{◌≡◌, ◌≢◌, ℕ, zero, suc, ◌+◌, ◌<◌, ◌≤◌, List, length, get_or, nat_eq, Bool, true, false, Option, Some, None, is_some, unwrap_or, IfSome, IfNone, refl, sym, subst, ap, ◌∙◌, arith, ◌⊎◌, inl, inr}
 use Rattle.std.specs.HashMap.{get, Updates, IsEmpty}
 use Rattle.std.specs.Map.{lookup}
 use Rattle.std.proofs.lemmas.Bool.{ne_eqb, cases_eq, cases_lt, cases_order}
-use Rattle.fg_flows.specs.declared.Kind.{Kind}
-use Rattle.fg_flows.specs.declared.Kind.TheVariants.{Media, Column, Row}
+use Rattle.fg_shape.specs.declared.kind.Kind.{Kind}
+use Rattle.fg_shape.specs.declared.kind.Kind.TheVariants.{Media, Column, Row}
 use Rattle.fg_flows.specs.declared.FlowFault.{FlowFault}
 use Rattle.fg_flows.specs.declared.FlowFault.TheVariants.{NoFlow, TooMany, Port, Clash}
-use Rattle.fg_flows.specs.Flows.{port_of, IsPortOf, IsFlowPort, SharePort, IsGoodFlow, IsTable, AreGoodBefore, FirstFlowFault}
+use Rattle.fg_flows.specs.Flows.{IsPortOf, SharePort, IsGoodFlow, IsTable, AreGoodBefore, FirstFlowFault}
+use Rattle.fg_shape.specs.Kind.{port_of, IsFlowPort}
 use Rattle.fg_flows.specs.Index.{Owners, IsIndex}
 
 -- the ports of a flow differ by kind
@@ -192,6 +193,18 @@ pub index_grows :
     → IsIndex flows (i + 1) third
 index_grows flows i p owners first second third own index free a b c =
     grown flows i p owners third own index free (adds_flow i p owners first second third a b c)
+
+-- a look-up at an equal port
+pub found_at :
+    (owners : Owners) (p q : ℕ) (b : Bool) → p ≡ q → is_some (get nat_eq owners p) ≡ b
+    → is_some (get nat_eq owners q) ≡ b
+found_at owners p q b same found = subst (λ n. is_some (get nat_eq owners n) ≡ b) same found
+
+-- an entry at an equal port
+pub added_at :
+    (owners new : Owners) (p q : ℕ) (owner : Option (ℕ × Kind)) → p ≡ q → Updates nat_eq owners new p owner
+    → Updates nat_eq owners new q owner
+added_at owners new p q owner same added = subst (λ n. Updates nat_eq owners new n owner) same added
 
 -- what a look-up tells
 pub found_by_index :

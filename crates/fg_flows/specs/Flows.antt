@@ -1,26 +1,15 @@
 -- Which UDP port belongs to which flow.
 use Rattle.std.specs.Prelude.{◌≡◌, ◌+◌, ◌<◌, ◌≤◌, ℕ, List, length, slice_index}
-use Rattle.fg_flows.specs.declared.Kind.{Kind}
-use Rattle.fg_flows.specs.declared.Kind.TheVariants.{Media, Column, Row}
+use Rattle.fg_shape.specs.declared.kind.Kind.{Kind}
+use Rattle.fg_shape.specs.Kind.{IsFlowPort, port_of}
 use Rattle.fg_flows.specs.declared.FlowFault.{FlowFault}
 use Rattle.fg_flows.specs.declared.FlowFault.TheVariants.{NoFlow, TooMany, Port, Clash}
 use Rattle.fg_flows.specs.declared.TableFault.{TableFault}
 use Rattle.fg_flows.specs.declared.TableFault.TheVariants.{Memory, Flow}
 
--- The port of each kind of datagram of a flow: media on the flow's own port, parity of columns two above
--- it, and parity of rows four above it (SMPTE ST 2022-1).
-abbrev pub port_of : ℕ → Kind → ℕ
-port_of flow Media = flow
-port_of flow Column = flow + 2
-port_of flow Row = flow + 4
-
 -- The port is that of this kind of the flow with this number. Flows are listed by their own ports.
 abbrev pub IsPortOf : List ℕ → ℕ → ℕ → Kind → Type 0
 IsPortOf flows port i kind = (i < length flows) × (port_of (slice_index flows i) kind ≡ port)
-
--- A flow's own port, which leaves room for the ports above it.
-abbrev pub IsFlowPort : ℕ → Type 0
-IsFlowPort flow = (1 ≤ flow) × (flow ≤ 65531)
 
 -- The flows i and j have a port in common.
 abbrev pub SharePort : List ℕ → ℕ → ℕ → Type 0

@@ -3,8 +3,8 @@ use Rattle.std.specs.Prelude.{◌≡◌, ◌<◌, ℕ, List, Some, nat_eq, slice
 use Rattle.std.specs.declared.hash.FoldHasher.{FoldHasher}
 use Rattle.std.specs.declared.hash.BuildHasherDefault.{BuildHasherDefault}
 use Rattle.std.specs.HashMap.{get, HashMap}
-use Rattle.fg_flows.specs.declared.Kind.{Kind}
-use Rattle.fg_flows.specs.Flows.{port_of}
+use Rattle.fg_shape.specs.declared.kind.Kind.{Kind}
+use Rattle.fg_shape.specs.Kind.{port_of}
 
 -- a map from ports to flows and kinds
 abbrev pub Owners : Type 0

@@ -1,6 +1,6 @@
 -- Laws of the flows.
 use Rattle.std.specs.Prelude.{◌≡◌, ℕ, List}
-use Rattle.fg_flows.specs.declared.Kind.{Kind}
+use Rattle.fg_shape.specs.declared.kind.Kind.{Kind}
 use Rattle.fg_flows.specs.declared.FlowFault.{FlowFault}
 use Rattle.fg_flows.specs.Flows.{FirstFlowFault, IsPortOf, IsTable}
 

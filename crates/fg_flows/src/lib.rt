@@ -5,6 +5,8 @@ ghost use Rattle.std.specs.Prelude.{◌≡◌, ◌+◌, ◌<◌, ◌↔◌, ℕ,
 ghost use Rattle.fg_flows.specs.Flows.{AreGoodBefore, IsGoodFlow, IsPortOf, IsTable, IsTableFault};
 ghost use Rattle.fg_flows.specs.Index.{IsIndex};
 
+pub use fg_shape::Kind;
+use fg_shape::LAST_PORT;
 use std::alloc::{AllocError, AllocFailed, Global};
 use std::collections::HashMap;
 use std::marker::Model;
@@ -16,20 +18,6 @@ mod tests;
 
 /// The most flows that a table has.
 const MOST_FLOWS: usize = 64;
-
-/// The greatest port that a flow may have, since its parity has the ports two and four above it.
-const LAST_PORT: u16 = 65531;
-
-/// What a flow's port carries (SMPTE ST 2022-1).
-#[derive(Clone, Copy, Debug, PartialEq, Eq)]
-pub enum Kind {
-    /// Media datagrams, on the flow's own port.
-    Media,
-    /// Parity of columns, two ports above.
-    Column,
-    /// Parity of rows, four ports above.
-    Row,
-}
 
 /// Why a list of flows has no table: the first rule that it breaks.
 #[derive(Clone, Copy, Debug, PartialEq, Eq, Error)]
@@ -169,15 +157,14 @@ fn add_flow(
     if port == 0 || port > LAST_PORT {
         return Err(TableFault::Flow(FlowFault::Port(i)));
     }
-    if owners.contains_key(&port)
-        || owners.contains_key(&(port + 2))
-        || owners.contains_key(&(port + 4))
-    {
+    let column = Kind::Column.port(port);
+    let row = Kind::Row.port(port);
+    if owners.contains_key(&port) || owners.contains_key(&column) || owners.contains_key(&row) {
         return Err(TableFault::Flow(FlowFault::Clash(i)));
     }
     owners.insert(port, (i, Kind::Media))?;
-    owners.insert(port + 2, (i, Kind::Column))?;
-    owners.insert(port + 4, (i, Kind::Row))?;
+    owners.insert(column, (i, Kind::Column))?;
+    owners.insert(row, (i, Kind::Row))?;
     Ok(())
 }
 

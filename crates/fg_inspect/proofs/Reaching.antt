@@ -1,17 +1,16 @@
 -- How far the input is read, whatever an inspection comes to.
-use Rattle.std.proofs.Common.{◌≡◌, ◌⊎◌, inl, inr, ℕ, ◌+◌, ◌<◌, ◌≤◌, Option, Result, Ok, Err, List, length, refl, sym, subst, arith}
+use Rattle.std.proofs.Common.{◌≡◌, ◌⊎◌, inl, inr, ℕ, ◌+◌, ◌<◌, ◌≤◌, Option, Result, Ok, Err, List, length, subst, arith}
 use Rattle.std.specs.Prelude.{IsErr}
 use Rattle.std.specs.Io.KnownBytes.{IsAtEnd}
 use Rattle.fg_trace.specs.declared.step.Finish.{Finish}
 use Rattle.fg_trace.specs.declared.step.Finish.TheVariants as finish
-use Rattle.fg_trace.specs.declared.step.TraceFault.{TraceFault}
 use Rattle.fg_trace.specs.declared.step.TraceFault.TheVariants as fault
 use Rattle.fg_trace.specs.Laws.{BeforeIsReadFor, AfterIsReadFor}
 use Rattle.fg_trace.specs.Reader.{ReaderState, Opens}
 use Rattle.fg_trace.specs.Reading.{HasReached, most_held}
-use Rattle.fg_inspect.specs.declared.fault.Fault.{Fault}
-use Rattle.fg_inspect.specs.declared.fault.Fault.TheVariants.{Read, Write, Memory}
-use Rattle.fg_inspect.specs.Steps.{IsReadTo, Stands, answer_to, answer_unopened}
+use Rattle.fg_io.specs.declared.fault.Fault.{Fault}
+use Rattle.fg_io.specs.declared.fault.Fault.TheVariants.{Read, Write, Memory}
+use Rattle.fg_inspect.specs.Steps.{IsReadTo, Stands, answer_to}
 
 -- a fault needs nothing
 pub failed_reached : (came : Result Finish Fault) (reader : ReaderState) (left : Option (List ℕ)) → IsErr came → HasReached (answer_to came) reader left
@@ -28,17 +27,14 @@ pub read_to : AfterIsReadFor → (came : Result Finish Fault) (max : ℕ) (reade
     → HasReached (answer_to came) reader now → IsReadTo max came first now
 read_to law came max reader first now same stands few reached = at_limit reader.max max came first now same (law (answer_to came) reader first now stands.0 stands.1 few reached)
 
--- where the reader found no magic
-unopened_at : BeforeIsReadFor → (max : ℕ) (reader : ReaderState) (first now : Option (List ℕ)) (why : TraceFault) → reader.max ≡ max → Opens (Err why) reader first now → reader.place + length reader.held ≤ reader.max + 1
-    → length reader.held ≤ most_held → ((place : ℕ) → why ≡ fault.NotTrace place → (place < length reader.held) ⊎ IsAtEnd now) → IsReadTo max (answer_unopened why) first now
-unopened_at law max reader first now fault.ReadFault same h few held differs = at_limit reader.max max (Err Read) first now same (law finish.ReadFault reader first now h few tt)
-unopened_at law max reader first now (fault.NotTrace n) same h few held differs =
-    let found : (n < reader.place + length reader.held) ⊎ IsAtEnd now = elim (differs n refl) [ inl short ↦ inl (omega (arith, short)) | inr end ↦ inr end ] in
-    at_limit reader.max max (Ok (finish.NotTrace n)) first now same (law (finish.NotTrace n) reader first now h.0 few (found, omega (arith, h.0.start, held)))
-unopened_at law max reader first now (fault.TooLong n) same h few held differs = absurd h
-unopened_at law max reader first now (fault.Cut n) same h few held differs = absurd h
+-- where the reading of the magic failed
+pub failed_at : BeforeIsReadFor → (max : ℕ) (reader : ReaderState) (first now : Option (List ℕ)) → reader.max ≡ max → Opens (Err fault.ReadFault) reader first now → reader.place + length reader.held ≤ reader.max + 1
+    → IsReadTo max (Err Read) first now
+failed_at law max reader first now same h few = at_limit reader.max max (Err Read) first now same (law finish.ReadFault reader first now h few tt)
 
-pub unopened_read_to : BeforeIsReadFor → (came : Result Finish Fault) (max : ℕ) (reader : ReaderState) (first now : Option (List ℕ)) (why : TraceFault) → came ≡ answer_unopened why → reader.max ≡ max → Opens (Err why) reader first now
-    → reader.place + length reader.held ≤ reader.max + 1 → length reader.held ≤ most_held → ((place : ℕ) → why ≡ fault.NotTrace place → (place < length reader.held) ⊎ IsAtEnd now) → IsReadTo max came first now
-unopened_read_to law came max reader first now why is same h few held differs =
-    subst (λ (r : Result Finish Fault). IsReadTo max r first now) (sym is) (unopened_at law max reader first now why same h few held differs)
+-- where the reader found no magic
+pub differs_at : BeforeIsReadFor → (max : ℕ) (reader : ReaderState) (first now : Option (List ℕ)) (n : ℕ) → reader.max ≡ max → Opens (Err (fault.NotTrace n)) reader first now → reader.place + length reader.held ≤ reader.max + 1
+    → length reader.held ≤ most_held → (n < length reader.held) ⊎ IsAtEnd now → IsReadTo max (Ok (finish.NotTrace n)) first now
+differs_at law max reader first now n same h few held differs =
+    let found : (n < reader.place + length reader.held) ⊎ IsAtEnd now = elim differs [ inl short ↦ inl (omega (arith, short)) | inr end ↦ inr end ] in
+    at_limit reader.max max (Ok (finish.NotTrace n)) first now same (law (finish.NotTrace n) reader first now h.0 few (found, omega (arith, h.0.start, held)))

@@ -9,8 +9,8 @@ use Rattle.fg_fechead.specs.declared.FecFault.TheVariants as fec
 use Rattle.fg_fechead.specs.declared.Parity.{Parity as ParityRead}
 use Rattle.fg_fechead.specs.Laws as fechead
 use Rattle.fg_fechead.specs.ParityDatagram.{FirstFault as FirstFecFault}
-use Rattle.fg_flows.specs.declared.Kind.{Kind}
-use Rattle.fg_flows.specs.declared.Kind.TheVariants as kind
+use Rattle.fg_shape.specs.declared.kind.Kind.{Kind}
+use Rattle.fg_shape.specs.declared.kind.Kind.TheVariants as kind
 use Rattle.fg_flows.specs.Flows.{IsTable}
 use Rattle.fg_flows.specs.Laws.{OneFlowHasAPort}
 use Rattle.fg_inspect.specs.declared.reading.Reading.{Reading}

@@ -10,6 +10,7 @@ use Rattle.fg_trace.specs.declared.step.Step.TheVariants.{Datagram}
 use Rattle.fg_trace.specs.declared.step.TraceFault.{TraceFault}
 use Rattle.fg_trace.specs.declared.step.TraceFault.TheVariants as fault
 use Rattle.fg_trace.specs.Laws.{OneTrace, WalksTheFront}
+use Rattle.fg_trace.proofs.Opening.{few_spelled, stands_still}
 use Rattle.fg_trace.specs.Reader.{Answer, ReaderState, StandsAfter, Walks}
 use Rattle.fg_trace.specs.Trace.{Record, Ending, IsTrace, spelling, trace_of}
 use Rattle.fg_trace.specs.Finish.{finish_of}
@@ -23,14 +24,6 @@ use Rattle.fg_inspect.specs.Text.{line, IsText}
 use Rattle.fg_inspect.proofs.Telling.{told_none, told_more, part_at_line, part_told, told_whole, told_part}
 
 -- Few records
-
-spelled_some : (r : Record) → 1 ≤ length (spelling r)
-spelled_some r = omega arith
-
--- a record is spelled by one byte at least
-few_spelled : (records : List Record) → length records ≤ length (flat_map spelling records)
-few_spelled [] = omega arith
-few_spelled (r ∷ records) = omega (arith, spelled_some r, few_spelled records, length-append (spelling r) (flat_map spelling records))
 
 pub few_told : (flows : List ℕ) (first now : Option (List ℕ)) (reader : ReaderState) (lines : Lines) (before after : Option (List ℕ)) → reader.max ≤ 2 ^ 40 → IsUnderway flows first now reader lines before after → lines.number < 2 ^ 60
 few_told flows first now reader lines before after limit h =
@@ -54,19 +47,13 @@ stands_more : (reader next : ReaderState) (first left now : Option (List ℕ)) (
 stands_more reader next first left now records answer time port size is walks h =
     subst (λ (a : Answer). Walks a next first now records) is (walks records h)
 
-stands_still : (reader : ReaderState) (first now : Option (List ℕ)) (records : List Record) (why : TraceFault) → Walks (Err why) reader first now records → StandsAfter reader first now records
-stands_still reader first now records fault.ReadFault h = h
-stands_still reader first now records (fault.NotTrace n) h = h.0
-stands_still reader first now records (fault.TooLong n) h = h.0
-stands_still reader first now records (fault.Cut n) h = h.0
-
 -- A record
 
 pub underway_more :
     (flows : List ℕ) (first left now : Option (List ℕ)) (reader next : ReaderState) (lines after_line : Lines) (before at after : Option (List ℕ)) (answer : Answer) (time port size : ℕ) (x : Reading)
     → answer ≡ Ok (Datagram time port size) → ((records : List Record) → StandsAfter reader first left records → Walks answer next first now records)
     → IsReading flows port next.payload x → size ≡ length next.payload
-    → Sent at (lines.text.items ++ line lines.number time port size x) after_line.text.items after → after_line.number ≡ lines.number + 1
+    → Sent at (lines.held ++ line lines.number time port size x) after_line.held after → after_line.number ≡ lines.number + 1
     → IsUnderway flows first left reader lines before at → IsUnderway flows first now next after_line before after
 underway_more flows first left now reader next lines after_line before at after answer time port size x is walks read sized sent number h = record {
   records = h.records ++ (record { time = time; port = port; datagram = next.payload }) ∷ [];
@@ -78,7 +65,7 @@ pub part_at_record :
     WalksTheFront → TextOfFront → (flows : List ℕ) → IsTable flows → (first left now : Option (List ℕ)) (reader next : ReaderState) (lines : Lines) (before at after : Option (List ℕ)) (answer : Answer) (time port size : ℕ) (x : Reading)
     → next.max ≡ reader.max → answer ≡ Ok (Datagram time port size) → ((records : List Record) → StandsAfter reader first left records → Walks answer next first now records)
     → IsReading flows port next.payload x → size ≡ length next.payload
-    → GainsPart at (lines.text.items ++ line lines.number time port size x) after
+    → GainsPart at (lines.held ++ line lines.number time port size x) after
     → IsUnderway flows first left reader lines before at → TellsPart flows reader.max first before after
 part_at_record law front flows table first left now reader next lines before at after answer time port size x max is walks read sized part h =
     let r : Record = record { time = time; port = port; datagram = next.payload } in
@@ -117,7 +104,7 @@ told_all flows first left now reader next lines before at end finish max is walk
 pub underway : (flows : List ℕ) (first now : Option (List ℕ)) (reader : ReaderState) (lines : Lines) (written : Option (List ℕ)) → IsNew lines → StandsAfter reader first now [] → IsUnderway flows first now reader lines written written
 underway flows first now reader lines written h stands = record { records = []; stands = stands; told = told_none flows lines written h }
 
-pub tells : (flows : List ℕ) (max : ℕ) (first : Option (List ℕ)) (finish : Finish) (lines : Lines) (before at after : Option (List ℕ)) → HasToldAll flows max first finish lines before at → Gains at lines.text.items after → Tells flows max finish first before after
+pub tells : (flows : List ℕ) (max : ℕ) (first : Option (List ℕ)) (finish : Finish) (lines : Lines) (before at after : Option (List ℕ)) → HasToldAll flows max first finish lines before at → Gains at lines.held after → Tells flows max finish first before after
 tells flows max first finish lines before at after h gained = record {
   records = h.records;
   end = h.end;
@@ -128,7 +115,7 @@ tells flows max first finish lines before at after h gained = record {
   gained = told_whole flows h.records lines before at after h.told gained;
 }
 
-pub tells_part : OneTrace → OneText → (flows : List ℕ) → IsTable flows → (max : ℕ) (first : Option (List ℕ)) (finish : Finish) (lines : Lines) (before at after : Option (List ℕ)) → HasToldAll flows max first finish lines before at → GainsPart at lines.text.items after → TellsPart flows max first before after
+pub tells_part : OneTrace → OneText → (flows : List ℕ) → IsTable flows → (max : ℕ) (first : Option (List ℕ)) (finish : Finish) (lines : Lines) (before at after : Option (List ℕ)) → HasToldAll flows max first finish lines before at → GainsPart at lines.held after → TellsPart flows max first before after
 tells_part trace one flows table max None finish lines before at after h part = tt
 tells_part trace one flows table max (Some bytes) finish lines before at after h part = λ records end text is_trace is.
     let same : records ≡ h.records = (trace bytes max records h.records end h.end is_trace h.of_input).0 in

@@ -7,8 +7,8 @@ use Rattle.fg_rtp.specs.MediaDatagram.{IsMediaDatagram, FirstFault as FirstMedia
 use Rattle.fg_fechead.specs.declared.FecFault.{FecFault}
 use Rattle.fg_fechead.specs.declared.Parity.{Parity as ParityRead}
 use Rattle.fg_fechead.specs.ParityDatagram.{IsParityDatagram, FirstFault as FirstFecFault}
-use Rattle.fg_flows.specs.declared.Kind.{Kind}
-use Rattle.fg_flows.specs.declared.Kind.TheVariants as kind
+use Rattle.fg_shape.specs.declared.kind.Kind.{Kind}
+use Rattle.fg_shape.specs.declared.kind.Kind.TheVariants as kind
 use Rattle.fg_flows.specs.Flows.{IsPortOf}
 use Rattle.fg_inspect.specs.declared.reading.Reading.{Reading}
 use Rattle.fg_inspect.specs.declared.reading.Reading.TheVariants.{Media, NoMedia, Parity, NoParity, Other}

@@ -4,14 +4,12 @@ use Rattle.fg_io.specs.Sent.{Sent}
 use Rattle.fg_io.specs.Sink.{GainsPart}
 use Rattle.fg_trace.specs.declared.step.Finish.{Finish}
 use Rattle.fg_trace.specs.declared.step.Finish.TheVariants as finish
-use Rattle.fg_trace.specs.declared.step.TraceFault.{TraceFault}
-use Rattle.fg_trace.specs.declared.step.TraceFault.TheVariants as trace_fault
 use Rattle.fg_trace.specs.Reader.{ReaderState, StandsAfter}
 use Rattle.fg_trace.specs.Trace.{Record, Ending, IsTrace}
 use Rattle.fg_trace.specs.Finish.{finish_of}
 use Rattle.fg_trace.specs.Reading.{IsReadFor}
-use Rattle.fg_inspect.specs.declared.fault.Fault.{Fault}
-use Rattle.fg_inspect.specs.declared.fault.Fault.TheVariants.{Read, Write, Memory}
+use Rattle.fg_io.specs.declared.fault.Fault.{Fault}
+use Rattle.fg_io.specs.declared.fault.Fault.TheVariants.{Read, Write, Memory}
 use Rattle.fg_inspect.specs.declared.lines.Lines.{Lines}
 use Rattle.fg_inspect.specs.Text.{IsText}
 
@@ -21,11 +19,11 @@ pub record HasTold
   pub text : List ℕ
   pub is_text : IsText flows records text
   pub number : lines.number ≡ length records
-  pub sent : Sent before text lines.text.items after
+  pub sent : Sent before text lines.held after
 
 -- No record is told.
 pub record IsNew (lines : Lines) : Type 0 where
-  pub empty : lines.text.items ≡ []
+  pub empty : lines.held ≡ []
   pub number : lines.number ≡ 0
 
 -- The sink has gained a prefix of the text of any records that begin with these.
@@ -48,11 +46,6 @@ pub record HasToldAll
   pub answer_is : answer ≡ finish_of end
   pub of_input : IfSome first (λ bytes. IsTrace bytes max records end)
   pub told : HasTold flows records lines before after
-
--- The answer where the reader found no magic.
-abbrev pub answer_unopened : TraceFault → Result Finish Fault
-answer_unopened (trace_fault.NotTrace n) = Ok (finish.NotTrace n)
-answer_unopened why = Err Read
 
 -- The answer of an inspection that comes to this.
 abbrev pub answer_to : Result Finish Fault → Finish

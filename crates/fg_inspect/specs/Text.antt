@@ -6,8 +6,8 @@ use Rattle.fg_rtp.specs.declared.media.MediaFault.{MediaFault}
 use Rattle.fg_rtp.specs.declared.media.MediaFault.TheVariants as media
 use Rattle.fg_fechead.specs.declared.FecFault.{FecFault}
 use Rattle.fg_fechead.specs.declared.FecFault.TheVariants as fec
-use Rattle.fg_flows.specs.declared.Kind.{Kind}
-use Rattle.fg_flows.specs.declared.Kind.TheVariants as kind
+use Rattle.fg_shape.specs.declared.kind.Kind.{Kind}
+use Rattle.fg_shape.specs.declared.kind.Kind.TheVariants as kind
 use Rattle.fg_trace.specs.Trace.{Record}
 use Rattle.fg_inspect.specs.declared.reading.Reading.{Reading}
 use Rattle.fg_inspect.specs.declared.reading.Reading.TheVariants.{Media, NoMedia, Parity, NoParity, Other}

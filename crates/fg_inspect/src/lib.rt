@@ -1,7 +1,6 @@
 //! The inspection of a trace: one line of text for each record.
 #![tactic(auto)]
 
-mod fault;
 pub mod laws;
 mod lines;
 mod reading;

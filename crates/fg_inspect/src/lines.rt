@@ -1,30 +1,31 @@
-//! The lines of an inspection: made one after another, held in one buffer, and written in large pieces.
-ghost use Rattle.std.specs.Prelude.{◌≡◌, ◌≢◌, ◌+◌, ◌≤◌, ◌<◌, ◌^◌, ◌++◌, [], Err, IfOk, OnOk, OnErr};
+//! The lines of an inspection, made one after another.
+ghost use Rattle.std.specs.Prelude.{◌≡◌, ◌+◌, ◌<◌, ◌^◌, ◌++◌, [], ◌∷◌, IfOk, OnOk, OnErr};
 ghost use Rattle.std.specs.Fmt.{decimal};
-ghost use Rattle.fg_io.specs.Faults.{CountsFault, CountsFor};
-ghost use Rattle.fg_io.specs.Sink.{Gains, GainsPart};
+ghost use Rattle.fg_io.specs.Faults.{Counts};
+ghost use Rattle.fg_io.specs.Sink.{GainsPart};
 ghost use Rattle.fg_io.specs.Sent.{Sent};
 ghost use Rattle.fg_inspect.specs.Text.{kind_word, media_fault_number, fec_fault_number, reading_text, line};
 
-use crate::fault::Fault;
 use crate::reading::Reading;
 use fg_fechead::FecFault;
 use fg_flows::Kind;
-use fg_io::{Failed, Sink, write_all};
+use fg_io::{Fault, OutputBuffer, Sink};
 use fg_rtp::MediaFault;
 use itoa::Buffer;
 use std::alloc::{AllocError, Global};
 
-/// The text is written once so many bytes of it are held.
-const PIECE: usize = 16_384;
+/// How many bytes of the lines are gathered before they are written.
+const ROOM: usize = 16_384;
 
-/// Room for them and for one more line.
-const ROOM: usize = PIECE + 1_024;
+/// Room for a line.
+const LINE: usize = 256;
 
 /// The lines that are held, and how many were made.
 #[derive(Drop)]
 pub(crate) struct Lines {
-    pub(crate) text: Vec<u8>,
+    // A line is made here.
+    line: Vec<u8>,
+    pub(crate) held: OutputBuffer,
     /// The number of the next record.
     pub(crate) number: u64,
 }
@@ -137,18 +138,19 @@ fn push_line(
 }
 
 impl Lines {
-    /// No lines, with the memory for a piece of them.
+    /// No lines, with the memory to make and to hold them.
     pub(crate) fn new(alloc: Global) -> Result<Lines, AllocError>
-        ensures text { IfOk result (λ lines. lines.text.items ≡ []) }
+        ensures held { IfOk result (λ lines. lines.held ≡ []) }
         ensures number { IfOk result (λ lines. lines.number ≡ 0) }
     {
         Ok(Lines {
-            text: Vec::with_capacity(alloc, ROOM)?,
+            line: Vec::with_capacity(alloc, LINE)?,
+            held: OutputBuffer::new(alloc, ROOM)?,
             number: 0,
         })
     }
 
-    /// Adds the line of the next record, and writes what is held once it is as much as a piece.
+    /// Adds the line of the next record, and writes what is held where there is no more room.
     pub(crate) fn add<K: Sink>(
         &mut self,
         time: u64,
@@ -159,37 +161,18 @@ impl Lines {
     ) -> Result<(), Fault>
         requires { self.old.number < 2 ^ 60 }
         ensures sent { OnOk result (Sent (K.written out.old)
-            (self.old.text.items ++ line self.old.number time port size reading)
-            self.new.text.items (K.written out.new)) }
+            (self.old.held ++ line self.old.number time port size reading)
+            self.new.held (K.written out.new)) }
         ensures part { OnErr result (GainsPart (K.written out.old)
-            (self.old.text.items ++ line self.old.number time port size reading)
+            (self.old.held ++ line self.old.number time port size reading)
             (K.written out.new)) }
         ensures number { OnOk result (self.new.number ≡ self.old.number + 1) }
-        ensures not_read { result ≢ Err Fault.Read }
-        ensures writes { CountsFor Fault.Write result (K.faults out.old) (K.faults out.new) }
+        ensures faults { Counts result [] ((K.faults out.old, K.faults out.new) ∷ []) }
     {
-        push_line(&mut self.text, self.number, time, port, size, reading)?;
-        if self.text.len() >= PIECE {
-            self.write(out)?;
-        }
+        self.line.clear();
+        push_line(&mut self.line, self.number, time, port, size, reading)?;
+        self.held.add(&self.line, out)?;
         self.number += 1;
-        Ok(())
-    }
-
-    /// Writes what is held.
-    pub(crate) fn write<K: Sink>(&mut self, out: &mut K) -> Result<(), Failed>
-        ensures whole { OnOk result (Gains (K.written out.old) self.old.text.items
-            (K.written out.new)) }
-        ensures empty { OnOk result (self.new.text.items ≡ []) }
-        ensures number { self.new.number ≡ self.old.number }
-        ensures part { OnErr result (GainsPart (K.written out.old) self.old.text.items
-            (K.written out.new)) }
-        ensures no_fault { OnOk result (K.faults out.new ≡ K.faults out.old) }
-        ensures counted { OnErr result (CountsFault (K.faults out.old) (K.faults out.new)) }
-        ensures never_falls { K.faults out.old ≤ K.faults out.new }
-    {
-        write_all(out, self.text.as_slice())?;
-        self.text.clear();
         Ok(())
     }
 }

@@ -1,21 +1,20 @@
 //! Walking a trace, and telling its records.
-ghost use Rattle.std.specs.Prelude.{◌≡◌, ◌≢◌, ◌⊎◌, ◌+◌, ◌≤◌, ◌<◌, ◌^◌, ℕ, Option, List, [], length, None, IfOk, IfSome, IfNone, OnErr};
+ghost use Rattle.std.specs.Prelude.{◌≡◌, ◌⊎◌, ◌+◌, ◌≤◌, ◌<◌, ◌^◌, ℕ, Option, List, [], ◌∷◌, length, None, IfOk, IfSome, IfNone, OnErr};
 ghost use Rattle.std.specs.Io.KnownBytes.{IsAtEnd};
-ghost use Rattle.fg_io.specs.Faults.{CountsFault, CountsFor};
+ghost use Rattle.fg_io.specs.Faults.{Counts, CountsFaults};
 ghost use Rattle.fg_flows.specs.Flows.{IsTable};
 ghost use Rattle.fg_trace.specs.Reader.{StandsAfter};
 ghost use Rattle.fg_trace.specs.Trace.{Record, Ending, NotTrace as NoMagic, IsTrace};
 ghost use Rattle.fg_trace.specs.Finish.{IsFault, ReadsAll, finish_of};
 ghost use Rattle.fg_trace.specs.Reading.{HasReached, IsReadFor};
 ghost use Rattle.fg_inspect.specs.Inspect.{Tells, TellsPart};
-ghost use Rattle.fg_inspect.specs.Steps.{HasToldAll, IsNew, IsUnderway, IsReadTo, Stands, answer_to, answer_unopened};
+ghost use Rattle.fg_inspect.specs.Steps.{HasToldAll, IsNew, IsUnderway, IsReadTo, Stands, answer_to};
 
-use crate::fault::Fault;
 use crate::laws::one_text;
 use crate::lines::Lines;
 use crate::reading::read_record;
 use fg_flows::Table;
-use fg_io::{Sink, Source};
+use fg_io::{Fault, Sink, Source};
 use fg_trace::laws::{one_trace, read_as_far_as_needed, walks_on, walks_the_front};
 use fg_trace::{Finish, Reader, Step, TraceFault};
 use std::alloc::Global;
@@ -56,14 +55,8 @@ pub fn inspect<S: Source, K: Sink>(
 
     // A fault of the outside is answered only where it was counted in this call, and with every other answer none was. No
     // count falls.
-    ensures read_fault { result ≡ Finish.ReadFault
-        → CountsFault (S.faults input.old) (S.faults input.new) }
-    ensures write_fault { result ≡ Finish.WriteFault
-        → CountsFault (K.faults out.old) (K.faults out.new) }
-    ensures no_read_fault { result ≢ Finish.ReadFault → S.faults input.new ≡ S.faults input.old }
-    ensures no_write_fault { result ≢ Finish.WriteFault → K.faults out.new ≡ K.faults out.old }
-    ensures input_faults { S.faults input.old ≤ S.faults input.new }
-    ensures out_faults { K.faults out.old ≤ K.faults out.new }
+    ensures faults { CountsFaults (result ≡ Finish.ReadFault) (result ≡ Finish.WriteFault)
+        ((S.faults input.old, S.faults input.new) ∷ []) ((K.faults out.old, K.faults out.new) ∷ []) }
 {
     one_trace();
     match tell_trace(alloc, table, max, input, out) {
@@ -92,25 +85,18 @@ fn tell_trace<S: Source, K: Sink>(
         → IsTrace bytes max [] (NoMagic place) → out.new ≡ out.old) }
     ensures all_read { IfOk result (λ finish. ReadsAll finish → IsAtEnd (S.left input.new)) }
     ensures reached { IsReadTo max result (S.left input.old) (S.left input.new) }
-    ensures reads { CountsFor Fault.Read result (S.faults input.old) (S.faults input.new) }
-    ensures writes { CountsFor Fault.Write result (K.faults out.old) (K.faults out.new) }
+    ensures faults { Counts result ((S.faults input.old, S.faults input.new) ∷ [])
+        ((K.faults out.old, K.faults out.new) ∷ []) }
 {
     read_as_far_as_needed();
     let mut reader = Reader::new(alloc, max)?;
     let mut lines = Lines::new(alloc)?;
     match reader.start(input) {
         Ok(()) => tell_records(&mut lines, table, &mut reader, input, out),
-        Err(fault) => unopened(fault),
-    }
-}
-
-/// The answer where the reader found no magic.
-fn unopened(fault: TraceFault) -> Result<Finish, Fault>
-    ensures { result ≡ answer_unopened fault }
-{
-    match fault {
-        TraceFault::NotTrace(place) => Ok(Finish::NotTrace(place)),
-        TraceFault::ReadFault | TraceFault::Cut(_) | TraceFault::TooLong(_) => Err(Fault::Read),
+        Err(TraceFault::NotTrace(place)) => Ok(Finish::NotTrace(place)),
+        Err(TraceFault::ReadFault) => Err(Fault::Read),
+        Err(TraceFault::Cut(_)) => unreachable!(),
+        Err(TraceFault::TooLong(_)) => unreachable!(),
     }
 }
 
@@ -135,8 +121,8 @@ fn tell_records<S: Source, K: Sink>(
     ensures all_read { IfOk result (λ finish. ReadsAll finish → IsAtEnd (S.left input.new)) }
     ensures reached { (first : Option (List ℕ)) → StandsAfter reader.old first (S.left input.old) []
         → IsReadTo reader.old.max result first (S.left input.new) }
-    ensures reads { CountsFor Fault.Read result (S.faults input.old) (S.faults input.new) }
-    ensures writes { CountsFor Fault.Write result (K.faults out.old) (K.faults out.new) }
+    ensures faults { Counts result ((S.faults input.old, S.faults input.new) ∷ [])
+        ((K.faults out.old, K.faults out.new) ∷ []) }
 {
     one_trace();
     one_text();
@@ -144,7 +130,7 @@ fn tell_records<S: Source, K: Sink>(
     // A table has no port twice.
     let _flows = table.count();
     let finish = tell_all(lines, table, reader, input, out)?;
-    lines.write(out)?;
+    lines.held.flush(out)?;
     Ok(finish)
 }
 
@@ -173,8 +159,8 @@ fn tell_all<S: Source, K: Sink>(
     ensures max { reader.new.max ≡ reader.old.max }
     ensures bounded { reader.new.place + length reader.new.held ≤ reader.new.max + 1 }
     ensures reached { HasReached (answer_to result) reader.new (S.left input.new) }
-    ensures reads { CountsFor Fault.Read result (S.faults input.old) (S.faults input.new) }
-    ensures writes { CountsFor Fault.Write result (K.faults out.old) (K.faults out.new) }
+    ensures faults { Counts result ((S.faults input.old, S.faults input.new) ∷ [])
+        ((K.faults out.old, K.faults out.new) ∷ []) }
 {
     loop {
         if let Some(finish) = tell_next(lines, table, reader, input, out)? {
@@ -215,8 +201,8 @@ fn tell_next<S: Source, K: Sink>(
     ensures max { reader.new.max ≡ reader.old.max }
     ensures place { IfOk result (λ end. IfNone end (reader.old.place < reader.new.place)) }
     ensures within { reader.new.place ≤ reader.new.max }
-    ensures reads { CountsFor Fault.Read result (S.faults input.old) (S.faults input.new) }
-    ensures writes { CountsFor Fault.Write result (K.faults out.old) (K.faults out.new) }
+    ensures faults { Counts result ((S.faults input.old, S.faults input.new) ∷ [])
+        ((K.faults out.old, K.faults out.new) ∷ []) }
 {
     walks_the_front();
     walks_on();
@@ -230,6 +216,7 @@ fn tell_next<S: Source, K: Sink>(
         Ok(Step::End) => Ok(Some(Finish::Done)),
         Err(TraceFault::Cut(place)) => Ok(Some(Finish::Cut(place))),
         Err(TraceFault::TooLong(place)) => Ok(Some(Finish::TooLong(place))),
-        Err(TraceFault::ReadFault | TraceFault::NotTrace(_)) => Err(Fault::Read),
+        Err(TraceFault::ReadFault) => Err(Fault::Read),
+        Err(TraceFault::NotTrace(_)) => unreachable!(),
     }
 }

@@ -1,8 +1,11 @@
 -- Lemmas on the definitions of this crate, which proofs of other crates cite too.
+mod KeeperLemmas
 mod OpenFilesLemmas
 pub mod OutletLemmas
 pub mod PieceLemmas
 pub mod PrefixLemmas
+pub mod RangeLemmas
+pub mod SentLemmas
 pub mod SinkLemmas
-mod SlotLemmas
 pub mod SourceLemmas
+pub mod TextLemmas

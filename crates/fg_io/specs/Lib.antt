@@ -1,6 +1,7 @@
 -- The definitions that the contracts of this crate cite.
 pub mod Calls
 pub mod Faults
+pub mod InputBuffer
 pub mod LaneName
 pub mod Laws
 pub mod MemOutlet

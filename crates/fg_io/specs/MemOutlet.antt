@@ -5,29 +5,29 @@ use Rattle.fg_io.specs.Calls.{CallState}
 use Rattle.fg_io.specs.Outlet.{Lanes, lane_bytes}
 
 -- a listed port, how many bytes its lane takes in all, and its lane, if it has one
-pub record SlotState : Type 0 where
+pub record KeeperState : Type 0 where
   pub port : ℕ
   pub room : ℕ
   pub lane : Option (List ℕ)
 
 -- a port without a lane
-abbrev pub empty_slot : ℕ → ℕ → SlotState
-empty_slot room port = record { port = port; room = room; lane = None }
+abbrev pub empty_keeper : ℕ → ℕ → KeeperState
+empty_keeper room port = record { port = port; room = room; lane = None }
 
 -- the listed ports with their lanes, and the calls
 pub record OutletState : Type 0 where
-  pub slots : List SlotState
+  pub keepers : List KeeperState
   pub calls : CallState
 
--- the first of the slots that is the port's
-abbrev pub slot_of : List SlotState → ℕ → Option SlotState
-slot_of slots port = find (λ slot. slot.port == port) slots
+-- the first of the keepers that is the port's
+abbrev pub keeper_of : List KeeperState → ℕ → Option KeeperState
+keeper_of keepers port = find (λ keeper. keeper.port == port) keepers
 
--- the lanes of these slots
-abbrev pub slot_lanes : List SlotState → Lanes
-slot_lanes slots port = option_and_then (λ slot. slot.lane) (slot_of slots port)
+-- the lanes of these keepers
+abbrev pub keeper_lanes : List KeeperState → Lanes
+keeper_lanes keepers port = option_and_then (λ keeper. keeper.lane) (keeper_of keepers port)
 
 -- how many more bytes the lane of the port takes: none where the port is not listed
-abbrev pub room_left : List SlotState → ℕ → ℕ
-room_left slots port =
-    unwrap_or (option_map (λ slot. slot.room) (slot_of slots port)) 0 - length (lane_bytes (slot_lanes slots) port)
+abbrev pub room_left : List KeeperState → ℕ → ℕ
+room_left keepers port =
+    unwrap_or (option_map (λ keeper. keeper.room) (keeper_of keepers port)) 0 - length (lane_bytes (keeper_lanes keepers) port)

@@ -8,6 +8,7 @@ ghost use Rattle.fg_io.specs.Source.{Gives};
 
 use crate::Failed;
 use crate::calls::Calls;
+use crate::safe::SafeSource;
 use crate::source::Source;
 use std::alloc::{AllocError, Global};
 use std::marker::Model;
@@ -15,25 +16,20 @@ use std::marker::Model;
 /// Gives the bytes that it was made with, some at each call, and fails at chosen calls.
 #[derive(Drop)]
 pub struct MemSource {
-    bytes: Vec<u8>,
-    given: usize,
-    piece: usize,
+    source: SafeSource,
     calls: Calls,
 }
 
 impl Model for MemSource {
-    ghost use Rattle.std.specs.Prelude.{◌≤◌, drop, length};
     ghost use Rattle.fg_io.specs.MemSource.{SourceState};
 
     ghost Value = { SourceState };
 
     ghost view = { λ a. record {
-      left = drop a.given a.bytes.items;
-      piece = a.piece;
+      left = a.source.left;
+      piece = a.source.piece;
       calls = a.calls;
     } };
-
-    ghost invariant = { λ a. (a.given ≤ length a.bytes.items) × (1 ≤ a.piece) };
 }
 
 impl MemSource {
@@ -50,9 +46,7 @@ impl MemSource {
             ≡ record { left = bytes.now; piece = piece; calls = first_calls fails.now }) }
     {
         Ok(MemSource {
-            bytes: Vec::from_slice(alloc, bytes)?,
-            given: 0,
-            piece,
+            source: SafeSource::new(alloc, bytes, piece)?,
             calls: Calls::new(alloc, fails)?,
         })
     }
@@ -97,10 +91,6 @@ impl Source for MemSource {
             self.calls.count_fault();
             return Err(Failed);
         }
-        let left = &self.bytes[self.given..];
-        let count = into.len().min(self.piece).min(left.len());
-        into[..count].copy_from_slice(&left[..count]);
-        self.given += count;
-        Ok(count)
+        self.source.read(into)
     }
 }

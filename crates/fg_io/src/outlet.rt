@@ -1,9 +1,10 @@
 //! Where the lanes go, one lane of bytes for each port.
-ghost use Rattle.std.specs.Prelude.{◌≡◌, ℕ, ◌≤◌, Option, OnOk, OnErr};
-ghost use Rattle.fg_io.specs.Faults.{CountsFault};
+ghost use Rattle.std.specs.Prelude.{◌≡◌, ℕ, ◌≤◌, Option, [], ◌∷◌, IfErr, OnOk, OnErr};
+ghost use Rattle.fg_io.specs.Faults.{Counts, CountsFault};
 ghost use Rattle.fg_io.specs.Outlet.{Lanes, Puts, PutsPart};
 
 use crate::Failed;
+use crate::fault::Fault;
 
 /// Keeps one lane of bytes for each port.
 pub trait Outlet {
@@ -23,4 +24,19 @@ pub trait Outlet {
         ensures no_fault { OnOk result (faults self.new ≡ faults self.old) }
         ensures counted { OnErr result (CountsFault (faults self.old) (faults self.new)) }
         ensures never_falls { faults self.old ≤ faults self.new };
+}
+
+/// Appends the piece to the lane of the port, as [`Outlet::put`] does.
+///
+/// After a fault, which is `Write`, that lane has gained a prefix of the piece.
+pub fn put<O: Outlet>(lanes: &mut O, port: u16, piece: &[u8]) -> Result<(), Fault>
+    ensures puts { OnOk result (Puts (O.lanes lanes.old) port piece.now (O.lanes lanes.new)) }
+    ensures failed { OnErr result (PutsPart (O.lanes lanes.old) port piece.now (O.lanes lanes.new)) }
+    ensures fault { IfErr result (λ fault. fault ≡ Fault.Write) }
+    ensures faults { Counts result [] ((O.faults lanes.old, O.faults lanes.new) ∷ []) }
+{
+    match lanes.put(port, piece) {
+        Ok(()) => Ok(()),
+        Err(Failed) => Err(Fault::Write),
+    }
 }

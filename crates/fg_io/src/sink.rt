@@ -1,10 +1,11 @@
 //! Where bytes go.
-ghost use Rattle.std.specs.Prelude.{◌≡◌, ◌⊎◌, ℕ, ◌<◌, ◌≤◌, Option, List, length, take, IfOk, OnOk, OnErr};
+ghost use Rattle.std.specs.Prelude.{◌≡◌, ◌⊎◌, ℕ, ◌<◌, ◌≤◌, Option, List, [], ◌∷◌, length, take, IfOk, IfErr, OnOk, OnErr};
 ghost use Rattle.std.specs.List.{flat_map};
-ghost use Rattle.fg_io.specs.Faults.{CountsFault};
+ghost use Rattle.fg_io.specs.Faults.{Counts, CountsFault};
 ghost use Rattle.fg_io.specs.Sink.{Gains, GainsPart};
 
 use crate::Failed;
+use crate::fault::Fault;
 
 /// Takes bytes, a piece at a time.
 pub trait Sink {
@@ -33,36 +34,35 @@ pub trait Sink {
 
 /// Writes the whole piece.
 ///
-/// After [`Failed`] the sink has gained a prefix of it. A sink that takes none of what is left counts as failed.
-pub fn write_all<K: Sink>(sink: &mut K, piece: &[u8]) -> Result<(), Failed>
+/// After a fault, which is `Write`, the sink has gained a prefix of it. A sink that takes none of what is left counts as
+/// failed.
+pub fn write_all<K: Sink>(sink: &mut K, piece: &[u8]) -> Result<(), Fault>
     ensures whole { OnOk result (Gains (K.written sink.old) piece.now (K.written sink.new)) }
     ensures part { OnErr result (GainsPart (K.written sink.old) piece.now (K.written sink.new)) }
-    ensures no_fault { OnOk result (K.faults sink.new ≡ K.faults sink.old) }
-    ensures counted { OnErr result (CountsFault (K.faults sink.old) (K.faults sink.new)) }
-    ensures never_falls { K.faults sink.old ≤ K.faults sink.new }
+    ensures fault { IfErr result (λ fault. fault ≡ Fault.Write) }
+    ensures faults { Counts result [] ((K.faults sink.old, K.faults sink.new) ∷ []) }
 {
     let mut taken = 0;
     while taken < piece.len() {
-        let count = sink.write(&piece[taken..])?;
-        if count == 0 {
-            return Err(Failed);
+        match sink.write(&piece[taken..]) {
+            Ok(0) => return Err(Fault::Write),
+            Ok(count) => taken += count,
+            Err(Failed) => return Err(Fault::Write),
         }
-        taken += count;
     }
     Ok(())
 }
 
 /// Writes the pieces, one after another.
 ///
-/// After [`Failed`] the sink has gained a prefix of what they are together.
-pub fn write_pieces<K: Sink>(sink: &mut K, pieces: &[&[u8]]) -> Result<(), Failed>
+/// After a fault, which is `Write`, the sink has gained a prefix of what they are together.
+pub fn write_pieces<K: Sink>(sink: &mut K, pieces: &[&[u8]]) -> Result<(), Fault>
     ensures whole { OnOk result (Gains (K.written sink.old)
         (flat_map (λ piece. piece.now) pieces.now) (K.written sink.new)) }
     ensures part { OnErr result (GainsPart (K.written sink.old)
         (flat_map (λ piece. piece.now) pieces.now) (K.written sink.new)) }
-    ensures no_fault { OnOk result (K.faults sink.new ≡ K.faults sink.old) }
-    ensures counted { OnErr result (CountsFault (K.faults sink.old) (K.faults sink.new)) }
-    ensures never_falls { K.faults sink.old ≤ K.faults sink.new }
+    ensures fault { IfErr result (λ fault. fault ≡ Fault.Write) }
+    ensures faults { Counts result [] ((K.faults sink.old, K.faults sink.new) ∷ []) }
 {
     for piece in pieces {
         write_all(sink, piece)?;

@@ -63,7 +63,7 @@ fn sink_takes_what_fits(rt: HostRuntime) -> Result<(), Fail> {
 fn writes_all_or_a_front(rt: HostRuntime) -> Result<(), Fail> {
     let mut sink = MemSink::new(rt.alloc(), 5, &[])?;
     assert_eq!(rt; write_all(&mut sink, b"abc"), Ok(()));
-    assert_eq!(rt; write_all(&mut sink, b"def"), Err(Failed));
+    assert_eq!(rt; write_all(&mut sink, b"def"), Err(Fault::Write));
     assert_eq!(rt; sink.bytes(), b"abcde".as_slice());
     Ok(())
 }
@@ -72,11 +72,11 @@ fn writes_all_or_a_front(rt: HostRuntime) -> Result<(), Fail> {
 #[test]
 fn a_failed_write_ends_the_piece(rt: HostRuntime) -> Result<(), Fail> {
     let mut sink = MemSink::new(rt.alloc(), 9, &[0, 3])?;
-    assert_eq!(rt; write_all(&mut sink, b"abc"), Err(Failed));
+    assert_eq!(rt; write_all(&mut sink, b"abc"), Err(Fault::Write));
     assert_eq!(rt; sink.bytes(), b"".as_slice());
     assert_eq!(rt;
         write_pieces(&mut sink, &[b"ab", b"", b"c", b"de", b"f"]),
-        Err(Failed)
+        Err(Fault::Write)
     );
     assert_eq!(rt; sink.bytes(), b"abc".as_slice());
     assert_eq!(rt; write_pieces(&mut sink, &[b"de", b"f"]), Ok(()));
@@ -93,7 +93,8 @@ fn outlet_keeps_lanes(rt: HostRuntime) -> Result<(), Fail> {
     assert_eq!(rt; outlet.put(5000, b"abc"), Ok(()));
     assert_eq!(rt; outlet.put(5000, b"d"), Err(Failed));
     assert_eq!(rt; outlet.put(5002, b""), Err(Failed));
-    assert_eq!(rt; outlet.put(5000, b"de"), Err(Failed));
+    assert_eq!(rt; put(&mut outlet, 5000, b""), Ok(()));
+    assert_eq!(rt; put(&mut outlet, 5000, b"de"), Err(Fault::Write));
     assert_eq!(rt; outlet.lane(5000), Some(b"abcd".as_slice()));
     assert_eq!(rt; outlet.lane(5001), None);
     Ok(())

@@ -7,9 +7,9 @@ use Rattle.fg_peel.specs.Equation.{Equation, slots}
 use Rattle.fg_peel.specs.Closure.{InClosure, given, derived}
 use Rattle.fg_peel.specs.Block.{row, column, block, received, ThreeLostFollow, TwoPassesFollow, FourInSquareStay, WrongParityIsUnsolvable}
 use Rattle.fg_peel.proofs.Sums.{sum_at-agree}
-use Rattle.fg_peel.proofs.Peelings.{some_word}
 use Rattle.fg_peel.proofs.Lists.{Contains-nil, Contains-cases}
 use Rattle.fg_peel.proofs.Closures.{closure_least}
+use Rattle.fg_peel.proofs.Options.{value_of}
 
 -- What holds of each element by recursion holds of what the list has.
 pub element : {X : Type 0} (P : X → Type 0) (xs : List X) → AllByRecursion P xs → (x : X) → Contains xs x → P x
@@ -35,6 +35,20 @@ below P (suc n) all p h = ⊎_elim
     (λ l. below P n all.0 p l)
     (λ g. let e : n ≡ p = omega arith in subst P e all.1)
     (cases_lt p n)
+
+-- Position 5 follows in its column, and then 6 in its row.
+module _ (known : ℕ → Option Word) (all : List Equation) where
+  in_column :
+      (parity : Word) → Contains all (column parity 1) → InClosure known all 1 → InClosure known all 9 → InClosure known all 13
+      → InClosure known all 5
+  in_column parity listed first third fourth = follows known all (column parity 1) 5 listed (1, omega arith, refl)
+      (inr first, (inl refl, (inr third, (inr fourth, tt))))
+
+  in_row :
+      (parity : Word) → Contains all (row parity 1) → InClosure known all 4 → InClosure known all 5 → InClosure known all 7
+      → InClosure known all 6
+  in_row parity listed first second fourth = follows known all (row parity 1) 6 listed (2, omega arith, refl)
+      (inr first, (inr second, (inl refl, (inr fourth, tt))))
 
 pub three_lost_follow : ThreeLostFollow
 three_lost_follow words across down = below (InClosure known all) 16 (
@@ -74,12 +88,10 @@ three_lost_follow words across down = below (InClosure known all) 16 (
         (inr (given refl), (inl refl, (inr (given refl), (inr (given refl), tt))))
 
     five : InClosure known all 5
-    five = follows known all (column (down 1) 1) 5 (5, omega arith, refl) (1, omega arith, refl)
-        (inr (given refl), (inl refl, (inr nine, (inr (given refl), tt))))
+    five = in_column known all (down 1) (5, omega arith, refl) (given refl) nine (given refl)
 
     six : InClosure known all 6
-    six = follows known all (row (across 1) 1) 6 (1, omega arith, refl) (2, omega arith, refl)
-        (inr (given refl), (inr five, (inl refl, (inr (given refl), tt))))
+    six = in_row known all (across 1) (1, omega arith, refl) (given refl) five (given refl)
 
 pub two_passes_follow : TwoPassesFollow
 two_passes_follow words across down = below (InClosure known all) 16 (
@@ -115,12 +127,10 @@ two_passes_follow words across down = below (InClosure known all) 16 (
     all = block across down (0 ∷ 1 ∷ 2 ∷ 3 ∷ []) (0 ∷ 1 ∷ 2 ∷ [])
 
     five : InClosure known all 5
-    five = follows known all (column (down 1) 1) 5 (5, omega arith, refl) (1, omega arith, refl)
-        (inr (given refl), (inl refl, (inr (given refl), (inr (given refl), tt))))
+    five = in_column known all (down 1) (5, omega arith, refl) (given refl) (given refl) (given refl)
 
     six : InClosure known all 6
-    six = follows known all (row (across 1) 1) 6 (1, omega arith, refl) (2, omega arith, refl)
-        (inr (given refl), (inr five, (inl refl, (inr (given refl), tt))))
+    six = in_row known all (across 1) (1, omega arith, refl) (given refl) five (given refl)
 
     ten : InClosure known all 10
     ten = follows known all (column (down 2) 2) 10 (6, omega arith, refl) (2, omega arith, refl)
@@ -188,7 +198,7 @@ pub wrong_parity_unsolvable : WrongParityIsUnsolvable
 wrong_parity_unsolvable words across down differs assigned solution =
     differs (solution.sums (row (across 1) 1) (1, omega arith, refl) (λ q c. given (whole q c))
     ∙ sum_at-agree assigned known (slots (row (across 1) 1)) (λ q c.
-    let v = some_word (known q) (whole q c) in solution.keeps q v.0 v.1 ∙ sym v.1))
+    let v = value_of (known q) (whole q c) in solution.keeps q v.0 v.1 ∙ sym v.1))
   where
     known : ℕ → Option Word
     known = received words []

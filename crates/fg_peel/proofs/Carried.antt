@@ -9,7 +9,8 @@ use Rattle.fg_peel.specs.Equation.{Equation, slots, others}
 use Rattle.fg_peel.specs.Peeling.{Step, CanFollow, IsPeeling, after_step, end_of, given_word}
 use Rattle.fg_peel.proofs.Lists.{Contains-here, Contains-there, others-element, same_or_not}
 use Rattle.fg_peel.proofs.Sums.{sum_at-agree}
-use Rattle.fg_peel.proofs.Peelings.{some_word, known_or_not, after_step-at, after_step-other, end_of-keeps}
+use Rattle.fg_peel.proofs.Peelings.{known_or_not, after_step-at, after_step-other, end_of-keeps}
+use Rattle.fg_peel.proofs.Options.{value_of}
 
 -- The steps at the positions that a test keeps.
 abbrev pub kept_steps : (ℕ → Bool) → List Step → List Step
@@ -64,7 +65,7 @@ module _ (equations more_equations : List Equation) (stays keep : ℕ → Bool) 
         keeps = λ q w stay is. ⊎_elim
             (λ same.
             let here : stays step.position ≡ true = (rw same at stay) in
-            let u = some_word (more step.position) (c.dropped step.position here gone) in
+            let u = value_of (more step.position) (c.dropped step.position here gone) in
             let equal : u.0 ≡ given_word known step = c.agrees step.position u.0 (given_word known step) u.1 at_end in
             let word : Some (given_word known step) ≡ Some w = sym (after_step-at known step) ∙ (rw same at is) in
             ap more same ∙ u.1 ∙ ap Some equal ∙ word)
@@ -84,11 +85,11 @@ module _ (equations more_equations : List Equation) (stays keep : ℕ → Bool) 
 
         same_known : (o : ℕ) → Contains (slots step.equation) o → o ≢ step.position → more o ≡ known o
         same_known o slot n =
-            let v = some_word (known o) (can.others_known o slot n) in
+            let v = value_of (known o) (can.others_known o slot n) in
             ⊎_elim
             (λ stay. c.keeps o v.0 stay v.1 ∙ sym v.1)
             (λ k.
-            let u = some_word (more o) k in
+            let u = value_of (more o) k in
             let equal : u.0 ≡ v.0 = c.agrees o u.0 v.0 u.1 (known_at_end o v.0 v.1 n) in
             u.1 ∙ ap Some equal ∙ sym v.1)
             (c.slots_known step (Contains-here step steps) kept o slot)
@@ -161,7 +162,7 @@ module _ (equations more_equations : List Equation) (stays keep : ℕ → Bool) 
       rest false e none = refl
       rest true e none = ⊎_elim
           (λ k.
-          let v = some_word (known q) k in
+          let v = value_of (known q) k in
           let s : more q ≡ Some v.0 = c.keeps q v.0 e v.1 in
           absurd (cc))
           (λ unknown. sym unknown ∙ end q)

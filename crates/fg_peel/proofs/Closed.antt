@@ -1,5 +1,5 @@
 -- Lines from which nothing follows.
-use Rattle.std.proofs.Common.{◌≡◌, ◌≢◌, ◌⊎◌, ℕ, List, [], ◌∷◌, Option, None, IsSome, is_some, inl, inr, refl, sym, ap, subst, ◌∙◌, ⊎_elim}
+use Rattle.std.proofs.Common.{◌≡◌, ◌≢◌, ◌⊎◌, ℕ, List, [], ◌∷◌, Option, is_some, inl, inr, refl, sym, ap, subst, ◌∙◌, ⊎_elim}
 use Rattle.std.specs.List.{Contains}
 use Rattle.slab.specs.Slab.{Slab, entries}
 use Rattle.fg_words.specs.declared.Word.{Word}
@@ -11,19 +11,17 @@ use Rattle.fg_peel.specs.Peeling.{Step, after_step}
 use Rattle.fg_peel.specs.Slots.{equation_of, lines_of, IsMissing}
 use Rattle.fg_peel.specs.Recovery.{NothingFollows, AllClosed, AllClosedAt, StayClosed}
 use Rattle.fg_peel.proofs.Lists.{Contains-cases, Contains-nil, same_or_not, some_or_all}
+use Rattle.fg_peel.proofs.Options.{none_has_no_value}
 use Rattle.fg_peel.proofs.Lines.{lines_in}
 use Rattle.fg_peel.proofs.Peelings.{after_step-other}
 
-none_not_some : (o : Option Word) → o ≡ None → IsSome o → ⊥
-none_not_some o none some = let h : IsSome {T = Word} None = (rw none at some) in (cc)
-
 closed_by_nothing : (words : ℕ → Option Word) (equation : Equation) → IsMissing words equation Nothing → NothingFollows words equation
-closed_by_nothing words equation all position one = none_not_some (words position) one.1 (all position one.0)
+closed_by_nothing words equation all position one = none_has_no_value (words position) one.1 (all position one.0)
 
 closed_by_several : (words : ℕ → Option Word) (equation : Equation) → IsMissing words equation Several → NothingFollows words equation
 closed_by_several words equation two position one = ⊎_elim
-    (λ same. none_not_some (words two.1) two.6 (one.2 two.1 two.3 (λ equal. two.4 (same ∙ sym equal))))
-    (λ other. none_not_some (words two.0) two.5 (one.2 two.0 two.2 other))
+    (λ same. none_has_no_value (words two.1) two.6 (one.2 two.1 two.3 (λ equal. two.4 (same ∙ sym equal))))
+    (λ other. none_has_no_value (words two.0) two.5 (one.2 two.0 two.2 other))
     (same_or_not two.0 position)
 
 pub closed_unless_one :

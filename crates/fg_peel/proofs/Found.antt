@@ -6,8 +6,9 @@ use Rattle.fg_peel.specs.Closure.{InClosure}
 use Rattle.fg_peel.specs.Solution.{IsSolution, FindsMedia}
 use Rattle.fg_peel.specs.Peeling.{Step, IsPeeling, end_of}
 use Rattle.fg_peel.proofs.Closures.{closure_grows, closure_final}
-use Rattle.fg_peel.proofs.Peelings.{some_word, known_or_not, end_of-keeps, end_of-known, peelings_stay}
+use Rattle.fg_peel.proofs.Peelings.{known_or_not, end_of-keeps, end_of-known, peelings_stay}
 use Rattle.fg_peel.proofs.Solutions.{peelings_agree}
+use Rattle.fg_peel.proofs.Options.{value_of}
 
 module _
     (known : ℕ → Option Word) (equations : List Equation) (steps : List Step) (peeling : IsPeeling known equations steps) where
@@ -45,7 +46,7 @@ module _
       keeps = λ q w is. solution.keeps q w (end_of-keeps known equations steps peeling q w is);
       media = λ q w unknown is. ⊎_elim
           (λ k.
-          let v = some_word (end_of known steps q) k in
+          let v = value_of (end_of known steps q) k in
           let kept : words q ≡ Some v.0 = solution.keeps q v.0 v.1 in
           let same : v.0 ≡ w = cc in
           rw (← same) (media q v.0 unknown v.1))

@@ -11,8 +11,10 @@ pub mod Found
 pub mod Lines
 pub mod Lists
 pub mod Low
+pub mod Maps
 pub mod Maximal
 pub mod Misses
+pub mod Options
 pub mod Peelings
 pub mod Played
 pub mod Settled

@@ -1,12 +1,12 @@
 -- A walk through the live lines.
-use Rattle.std.proofs.Common.{◌≡◌, ◌⊎◌, ℕ, List, [], ◌∷◌, length, map, inl, inr, ⊎_elim}
+use Rattle.std.proofs.Common.{◌≡◌, ◌⊎◌, ℕ, List, [], ◌∷◌, length, map, inl, inr, sym, ⊎_elim}
 use Rattle.std.specs.List.{Contains}
 use Rattle.slab.specs.Slab.{Slab, entries}
 use Rattle.fg_peel.specs.declared.Line.{Line}
 use Rattle.fg_peel.specs.declared.Slot.{Slot}
 use Rattle.fg_peel.specs.Equation.{Equation}
 use Rattle.fg_peel.specs.Slots.{lines_of, equations_of, equation_of, FitsFrom, AllFitFrom}
-use Rattle.fg_peel.proofs.Lists.{Contains-here, Contains-there, Contains-cases, Contains-nil}
+use Rattle.fg_peel.proofs.Lists.{Contains-here, Contains-there, Contains-cases, Contains-nil, Contains-map, Contains-from_map}
 
 -- The lines of these entries.
 abbrev pub lines_in : List (ℕ × Line) → List Line
@@ -26,26 +26,13 @@ pub live_rest : (lines : Slab Line) (all : List (ℕ × Line)) (entry : ℕ × L
 live_rest lines all entry rest cut live line c = live line (rw cut (Contains-there entry.1 (lines_in rest) line c))
 
 -- a live line's equation is one of the equations
-Contains-map : {X Y : Type 0} (f : X → Y) (xs : List X) (x : X) → Contains xs x → Contains (map f xs) (f x)
-Contains-map f [] x c = absurd (Contains-nil x c)
-Contains-map f (y ∷ xs) x c = ⊎_elim
-    (λ here. rw here (Contains-here (f y) (map f xs)))
-    (λ there. Contains-there (f y) (map f xs) (f x) (Contains-map f xs x there))
-    (Contains-cases y xs x c)
-
 pub live_equation : (lines : Slab Line) (line : Line) → Contains (lines_of lines) line → Contains (equations_of lines) (equation_of line)
 live_equation lines line c = Contains-map equation_of (lines_of lines) line c
 
 -- an equation is that of a live line
-from_map : {X Y : Type 0} (f : X → Y) (xs : List X) (y : Y) → Contains (map f xs) y → (x : X) × Contains xs x × (y ≡ f x)
-from_map f [] y c = absurd (Contains-nil y c)
-from_map f (x ∷ xs) y c = ⊎_elim
-    (λ here. (x, Contains-here x xs, here))
-    (λ there. let r = from_map f xs y there in (r.0, Contains-there x xs r.0 r.1, r.2))
-    (Contains-cases (f x) (map f xs) y c)
-
 pub line_of_equation : (lines : Slab Line) (equation : Equation) → Contains (equations_of lines) equation → (line : Line) × Contains (lines_of lines) line × (equation ≡ equation_of line)
-line_of_equation lines equation c = from_map equation_of (lines_of lines) equation c
+line_of_equation lines equation c =
+    let r = Contains-from_map equation_of (lines_of lines) equation c in (r.0, r.1, sym r.2)
 
 -- Each live line is left, or fits.
 abbrev pub FitsBut : ℕ → List Slot → Slab Line → List (ℕ × Line) → Type 0

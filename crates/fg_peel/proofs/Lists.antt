@@ -1,5 +1,5 @@
 -- Elements of a list, one after another.
-use Rattle.std.proofs.Common.{◌≡◌, ◌≢◌, ◌⊎◌, ◌<◌, ◌==◌, ℕ, zero, suc, Bool, true, false, List, [], ◌∷◌, length, get_or, inl, inr, refl, sym, ap, subst, ◌∙◌, ⊎_elim, arith}
+use Rattle.std.proofs.Common.{◌≡◌, ◌≢◌, ◌⊎◌, ◌<◌, ◌==◌, ℕ, zero, suc, Bool, true, false, List, [], ◌∷◌, map, length, get_or, inl, inr, refl, sym, ap, subst, ◌∙◌, ⊎_elim, arith}
 use Rattle.std.specs.List.{Contains}
 use Rattle.std.proofs.lemmas.Bool.Decides.{Decides-eqb}
 use Rattle.fg_peel.specs.Equation.{others}
@@ -19,6 +19,20 @@ Contains-cases {X} x xs y h = go h.0 h.1 h.2
 
 pub Contains-nil : {X : Type 0} (y : X) → Contains [] y → ⊥
 Contains-nil y h = omega (arith, h.1)
+
+pub Contains-map : {X Y : Type 0} (f : X → Y) (xs : List X) (x : X) → Contains xs x → Contains (map f xs) (f x)
+Contains-map f [] x c = absurd (Contains-nil x c)
+Contains-map f (y ∷ xs) x c = ⊎_elim
+    (λ here. rw here (Contains-here (f y) (map f xs)))
+    (λ there. Contains-there (f y) (map f xs) (f x) (Contains-map f xs x there))
+    (Contains-cases y xs x c)
+
+pub Contains-from_map : {X Y : Type 0} (f : X → Y) (xs : List X) (y : Y) → Contains (map f xs) y → (x : X) × Contains xs x × (f x ≡ y)
+Contains-from_map f [] y c = absurd (Contains-nil y c)
+Contains-from_map f (x ∷ xs) y c = ⊎_elim
+    (λ here. (x, Contains-here x xs, sym here))
+    (λ there. let r = Contains-from_map f xs y there in (r.0, Contains-there x xs r.0 r.1, r.2))
+    (Contains-cases (f x) (map f xs) y c)
 
 -- A list whose elements differ from each other.
 abbrev pub Distinct : List ℕ → Type 0

@@ -13,11 +13,10 @@ use Rattle.fg_peel.specs.declared.Slot.TheVariants.{Empty, Filled}
 use Rattle.fg_peel.specs.declared.Verdict.{Verdict}
 use Rattle.fg_peel.specs.Equation.{Equation, AreAdmissible, AreMedia}
 use Rattle.fg_peel.specs.Slots.{first_position, from_first, before_first, words_from, words_at, known_at, recovered_at, equation_of, equations_of, AllFit, AllFitFrom, OnlyFills}
-use Rattle.fg_peel.specs.Peeling.{ArePeeled}
-use Rattle.fg_peel.specs.Verdict.{TellsSolution}
+use Rattle.fg_peel.specs.Peels.{Peels}
 use Rattle.fg_peel.specs.Recovery.{IsPeel, IsPeelAfter}
 use Rattle.fg_peel.proofs.Lines.{line_of_equation}
-use Rattle.fg_peel.proofs.Whole.{ends_from_known, recovered_told, recovered_since, tells_solution}
+use Rattle.fg_peel.proofs.Whole.{ends_at_closure, ends_from_known, recovered_told, recovered_since, tells_solution}
 
 -- the rest of a list is what follows the part before it
 rest_is : (n below : ℕ) (old new rest : List Slot) → below ≡ min (length old) (n + 1) → new ≡ take below old ++ rest → length rest ≡ length (drop below old) → drop (n + 1) new ≡ rest
@@ -181,14 +180,20 @@ admissible_at low lines old fit media = record {
       subst P (sym line.2) some);
 }
 
--- The verdict tells of a solution.
-pub tells_at :
-    (low : ℤ) (lines : Slab Line) (old new : List Slot) (answer : Verdict) → AllFit low old lines → PeelsAt low lines old new answer
-    → AreMedia (known_at low old) → ArePeeled (equations_of lines) (known_at low old) (words_at low old)
-    → TellsSolution (equations_of lines) (known_at low old) (words_at low new) answer
-tells_at low lines old new answer fit peel media peeled =
-    tells_solution lines (known_at low old) (words_at low new) (recovered_at low new) (admissible_at low lines old fit media)
-    (ends_from_known (equations_of lines) (known_at low old) (words_at low old) (words_at low new) peeled peel.peeling)
-    (recovered_told (first_position low) (from_first low new))
-    (recovered_since (first_position low) (from_first low old) (from_first low new) peel.fills)
-    answer peel.verdict
+-- So peeling does all that it does.
+pub peels_whole :
+    (low : ℤ) (lines : Slab Line) (old new : List Slot) (answer : Verdict) → AllFit low old lines → OnlyFills old new
+    → before_first low new ≡ before_first low old → PeelsAt low lines old new answer → Peels low lines old new answer
+peels_whole low lines old new answer fit fills below peel = record {
+  fills = fills;
+  below = below;
+  closure = ends_at_closure (equations_of lines) (words_at low old) (words_at low new) peel.peeling;
+  peeling = peel.peeling;
+  verdict = peel.verdict;
+  solution = λ media peeled.
+      tells_solution lines (known_at low old) (words_at low new) (recovered_at low new) (admissible_at low lines old fit media)
+      (ends_from_known (equations_of lines) (known_at low old) (words_at low old) (words_at low new) peeled peel.peeling)
+      (recovered_told (first_position low) (from_first low new))
+      (recovered_since (first_position low) (from_first low old) (from_first low new) peel.fills)
+      answer peel.verdict;
+}

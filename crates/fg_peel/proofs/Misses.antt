@@ -1,6 +1,5 @@
 -- Looking through an equation's slots for those with no word.
-use Rattle.std.proofs.Common.{◌≡◌, ◌≢◌, ◌+◌, ◌<◌, ◌≤◌, ℕ, List, length, get_or, Option, Some, None, IsSome, is_some, true, false, Bor, Contains, refl, sym, ap, ◌∙◌, ⊎_elim, arith}
-use Rattle.std.specs.Option.{option_copied}
+use Rattle.std.proofs.Common.{◌≡◌, ◌≢◌, ◌+◌, ◌<◌, ◌≤◌, ℕ, List, length, get_or, Option, Some, None, IsSome, is_some, true, Contains, refl, sym, ap, ◌∙◌, ⊎_elim, arith}
 use Rattle.std.proofs.lemmas.List.{get_or_default}
 use Rattle.std.proofs.lemmas.List.Elements.{Contains-get_or}
 use Rattle.std.proofs.lemmas.Bool.{cases_eq}
@@ -49,15 +48,6 @@ misses_this words xs j none below =
 -- an element has a place
 place_of : (xs : List ℕ) (x : ℕ) → Contains xs x → (k : ℕ) × (k < length xs) × (get_or xs k 0 ≡ x)
 place_of xs x c = (c.0, c.1, get_or_default xs c.0 0 x c.1 ∙ c.2)
-
--- what a look at an entry tells
-pub none_of_copied : (o : Option Word) (r : Option (Bor Word)) → option_copied r ≡ o → is_some r ≡ false → o ≡ None
-none_of_copied o None is none = sym is
-none_of_copied o (Some w) is none = absurd (cc)
-
-pub some_of_copied : (o : Option Word) (r : Option (Bor Word)) → option_copied r ≡ o → is_some r ≡ true → IsSome o
-some_of_copied o None is some = absurd (cc)
-some_of_copied o (Some w) is some = rw (← is) refl
 
 module _ (words : ℕ → Option Word) (equation : Equation) where
   -- a second slot that has none

@@ -6,11 +6,8 @@ use Rattle.fg_peel.specs.Equation.{Equation}
 use Rattle.fg_peel.specs.Closure.{InClosure, IsClosed, given, derived}
 use Rattle.fg_peel.specs.Peeling.{Step, CanFollow, IsPeeling, IsMaximal, after_step, end_of, given_word}
 use Rattle.fg_peel.proofs.Lists.{same_or_not}
+use Rattle.fg_peel.proofs.Options.{value_of}
 use Rattle.fg_peel.proofs.Closures.{closure_least}
-
-pub some_word : (o : Option Word) → IsSome o → (w : Word) × (o ≡ Some w)
-some_word None h = absurd (cc)
-some_word (Some w) h = (w, refl)
 
 pub known_or_not : (o : Option Word) → IsSome o ⊎ (o ≡ None)
 known_or_not None = inr refl
@@ -47,7 +44,7 @@ pub end_of-known :
     (known : ℕ → Option Word) (equations : List Equation) (steps : List Step) → IsPeeling known equations steps
     → (q : ℕ) → IsSome (known q) → IsSome (end_of known steps q)
 end_of-known known equations steps peeling q h =
-    let s = some_word (known q) h in
+    let s = value_of (known q) h in
     rw (end_of-keeps known equations steps peeling q s.0 s.1)
 
 -- A step from known positions inside a closed set stays inside.

@@ -8,8 +8,9 @@ use Rattle.fg_peel.specs.Equation.{Equation, Keeps, Agree, slots}
 use Rattle.fg_peel.specs.Peeling.{Step, IsPeeling, after_step, end_of}
 use Rattle.fg_peel.specs.Laws.{CarriesOver, ReachesPast, IsPlayed}
 use Rattle.fg_peel.proofs.Lists.{Contains-nil, Contains-cases, same_or_not}
-use Rattle.fg_peel.proofs.Peelings.{some_word, known_or_not, after_step-at, after_step-other, end_of-keeps, end_of-known}
+use Rattle.fg_peel.proofs.Peelings.{known_or_not, after_step-at, after_step-other, end_of-keeps, end_of-known}
 use Rattle.fg_peel.proofs.Carried.{Carries, carried}
+use Rattle.fg_peel.proofs.Options.{value_of}
 
 -- A peeling is one under more equations.
 pub peelings_take_equations :
@@ -154,7 +155,7 @@ module _
   or_end : (q : ℕ) → mark ≤ q → option_or (later q) (end_of known steps q) ≡ end_of known steps q
   or_end q above = ⊎_elim
       (λ k.
-      let v = some_word (known q) k in
+      let v = value_of (known q) k in
       let end : end_of known steps q ≡ Some v.0 = end_of-keeps known equations steps peeling q v.0 v.1 in
       ap (λ (o : Option Word). option_or o (end_of known steps q)) (played.ahead q above ∙ v.1) ∙ sym end)
       (λ none. ap (λ (o : Option Word). option_or o (end_of known steps q)) (played.ahead q above ∙ none))

@@ -6,8 +6,8 @@ use Rattle.fg_peel.specs.Closure.{InClosure, given, derived}
 use Rattle.fg_peel.specs.Solution.{IsSolution}
 use Rattle.fg_peel.specs.Laws.{AddsSettled}
 use Rattle.fg_peel.proofs.Closures.{closure_least, closure_grows}
-use Rattle.fg_peel.proofs.Peelings.{some_word}
 use Rattle.fg_peel.proofs.Sums.{sum_at-agree}
+use Rattle.fg_peel.proofs.Options.{value_of}
 
 -- An equation that is settled in some words comes out in all words that keep them.
 pub settled_still :
@@ -15,7 +15,7 @@ pub settled_still :
     → ComesOut words equation
 settled_still known words equation settled keeps =
     settled.1 ∙ sum_at-agree known words (slots equation) (λ q c.
-    let v = some_word (known q) (settled.0 q c) in
+    let v = value_of (known q) (settled.0 q c) in
     v.1 ∙ sym (keeps q v.0 v.1))
 
 module _ (known : ℕ → Option Word) (few many : List Equation) (adds : AddsSettled known few many) where

@@ -12,7 +12,8 @@ use Rattle.fg_peel.specs.Peeling.{Step, CanFollow, IsPeeling, IsMaximal, IsSound
 use Rattle.fg_peel.proofs.Lists.{others-element, same_or_not}
 use Rattle.fg_peel.proofs.Slots.{slots_distinct}
 use Rattle.fg_peel.proofs.Sums.{sum_at-agree, sum_at-split, HasRoom-sum_at}
-use Rattle.fg_peel.proofs.Peelings.{some_word, known_or_not, after_step-at, after_step-other, maximal_end}
+use Rattle.fg_peel.proofs.Peelings.{known_or_not, after_step-at, after_step-other, maximal_end}
+use Rattle.fg_peel.proofs.Options.{value_of}
 
 module _ (known : ℕ → Option Word) (equations : List Equation) (admissible : AreAdmissible known equations) where
   -- Every word of a solution is a media word, and so has room.
@@ -20,7 +21,7 @@ module _ (known : ℕ → Option Word) (equations : List Equation) (admissible :
       (words : ℕ → Option Word) → IsSolution known equations words
       → (q : ℕ) (w : Word) → words q ≡ Some w → IsMedia w
   solution_media words solution q w is = ⊎_elim
-      (λ k. let v = some_word (known q) k in
+      (λ k. let v = value_of (known q) k in
       let e : words q ≡ Some v.0 = solution.keeps q v.0 v.1 in
       let same : v.0 ≡ w = cc in
       rw (← same) (admissible.known_media q v.0 v.1))
@@ -47,11 +48,11 @@ module _ (known : ℕ → Option Word) (equations : List Equation) (admissible :
       (one other : ℕ → Option Word) → IsSolution known equations one → IsSolution known equations other
       → (q : ℕ) → InClosure known equations q → one q ≡ other q
   solutions_agree one other first second q (given h) =
-      let v = some_word (known q) h in
+      let v = value_of (known q) h in
       first.keeps q v.0 v.1 ∙ sym (second.keeps q v.0 v.1)
   solutions_agree one other first second q (derived equation listed slot inside) =
-      let a = some_word (one q) ((first.domain q).1 (derived equation listed slot inside)) in
-      let b = some_word (other q) ((second.domain q).1 (derived equation listed slot inside)) in
+      let a = value_of (one q) ((first.domain q).1 (derived equation listed slot inside)) in
+      let b = value_of (other q) ((second.domain q).1 (derived equation listed slot inside)) in
       let left : Word = sum_at one (others q (slots equation)) in
       let right : Word = sum_at other (others q (slots equation)) in
       let same : left ≡ right = sum_at-agree one other (others q (slots equation))
@@ -84,13 +85,13 @@ module _ (known : ℕ → Option Word) (equations : List Equation) (admissible :
   step_agrees words solution now agree step can =
       let rest : List ℕ = others step.position (slots step.equation) in
       let inside : (q : ℕ) → Contains (slots step.equation) q → q ≢ step.position → InClosure known equations q =
-      (λ q c n. (let v = some_word (now q) (can.others_known q c n) in
+      (λ q c n. (let v = value_of (now q) (can.others_known q c n) in
       (solution.domain q).0 (rw (agree q v.0 v.1)))) in
       let closed : InClosure known equations step.position = derived step.equation can.listed can.slot inside in
-      let a = some_word (words step.position) ((solution.domain step.position).1 closed) in
+      let a = value_of (words step.position) ((solution.domain step.position).1 closed) in
       let same : sum_at now rest ≡ sum_at words rest = sum_at-agree now words rest
       (λ q c. let e = others-element step.position (slots step.equation) q c in
-      let v = some_word (now q) (can.others_known q e.0 e.1) in
+      let v = value_of (now q) (can.others_known q e.0 e.1) in
       v.1 ∙ sym (agree q v.0 v.1)) in
       let p : step.equation.parity ≡ word_xor a.0 (sum_at words rest) =
       solution_split words solution step.equation step.position can.listed can.slot inside a.0 a.1 in
@@ -131,7 +132,7 @@ module _ (known : ℕ → Option Word) (equations : List Equation) (admissible :
       (words : ℕ → Option Word) → IsSolution known equations words
       → (steps : List Step) → IsMaximal known equations steps → end_of known steps ≡ words
   maximal_ends_at_solution words solution steps maximal = fun_ext (λ q. ⊎_elim
-      (λ k. let v = some_word (end_of known steps q) k in
+      (λ k. let v = value_of (end_of known steps q) k in
       v.1 ∙ sym (peelings_agree words solution steps maximal.peeling q v.0 v.1))
       (λ none. ⊎_elim
       (λ k. (let h : IsSome (end_of known steps q) = (maximal_end known equations steps maximal q).1 ((solution.domain q).0 k) in cc))

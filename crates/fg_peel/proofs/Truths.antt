@@ -7,11 +7,11 @@ use Rattle.fg_peel.specs.Solution.{IsSolution}
 use Rattle.fg_peel.specs.Peeling.{Step, IsPeeling, end_of}
 use Rattle.fg_peel.specs.Laws.{AreTrue}
 use Rattle.fg_peel.proofs.Closures.{closure_least}
-use Rattle.fg_peel.proofs.Peelings.{some_word}
 use Rattle.fg_peel.proofs.Maximal.{maximal_exists}
 use Rattle.fg_peel.proofs.Solutions.{end_agrees, maximal_ends_at_solution}
 use Rattle.fg_peel.proofs.Sums.{sum_at-agree}
 use Rattle.fg_peel.proofs.Verdicts.{sound_from_tests}
+use Rattle.fg_peel.proofs.Options.{value_of}
 
 module _ (known : ℕ → Option Word) (equations : List Equation) (truth : ℕ → Option Word) (are : AreTrue known equations truth) where
   -- The true words are a solution of themselves.
@@ -44,7 +44,7 @@ module _ (known : ℕ → Option Word) (equations : List Equation) (truth : ℕ 
             (λ q w unknown is. are.media q w (true_words q w is))
             (λ equation listed complete.
             (are.settled equation listed).1 ∙ sym (sum_at-agree (end_of known m.0) truth (slots equation) (λ q c.
-            let v = some_word (end_of known m.0 q) (complete q c) in
+            let v = value_of (end_of known m.0 q) (complete q c) in
             v.1 ∙ sym (true_words q v.0 v.1)))),
       )
 

@@ -51,3 +51,10 @@ WrongParityIsUnsolvable =
     (words across down : ℕ → Word) → across 1 ≢ word_sum (words 4 ∷ words 5 ∷ words 6 ∷ words 7 ∷ [])
     → let all = block across down (0 ∷ 1 ∷ 2 ∷ 3 ∷ []) (0 ∷ 1 ∷ 2 ∷ 3 ∷ []) in
     (assigned : ℕ → Option Word) → ¬ IsSolution (received words []) all assigned
+
+-- All of it.
+pub record WorkedBlocks : Type 0 where
+  pub three : ThreeLostFollow
+  pub chain : TwoPassesFollow
+  pub square : FourInSquareStay
+  pub parity : WrongParityIsUnsolvable

@@ -253,3 +253,14 @@ PeelingsCarryOver =
     IsPeeling more others rest
     × ((position : ℕ) → end_of more rest position
     ≡ option_or (more position) (if stays position then end_of known steps position else None))
+
+-- Laws that go together
+
+-- Peelings fill the closure.
+pub record PeelingsFillTheClosure : Type 0 where
+  pub within : PeelingsStayInClosure
+  pub filled : MaximalPeelingsEndAtClosure
+  pub exists : MaximalPeelingExists
+  pub continued : PeelingsContinue
+  pub keeps : PeelingsKeepWords
+  pub appended : PeelingsAppend

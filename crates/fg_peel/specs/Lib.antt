@@ -3,6 +3,7 @@ pub mod Closure
 pub mod Equation
 pub mod Laws
 pub mod Peeling
+pub mod Peels
 pub mod Recovery
 pub mod Row
 pub mod Slots

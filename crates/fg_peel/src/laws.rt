@@ -1,10 +1,10 @@
 //! The laws by which the repaired stream means one thing, whatever the order of the work. Each is
 //! the contract of a function that does nothing.
 
-ghost use Rattle.fg_peel.specs.Block.{ThreeLostFollow, TwoPassesFollow, FourInSquareStay, WrongParityIsUnsolvable};
+ghost use Rattle.fg_peel.specs.Block.{WorkedBlocks};
 ghost use Rattle.fg_peel.specs.Laws.{ClosureIsClosed, ClosureIsLeast, ClosureHasTest, ClosureGrows, ClosureIsFinal};
-ghost use Rattle.fg_peel.specs.Laws.{PeelingsKeepWords, PeelingsAppend, SolutionsKeepPeelings};
-ghost use Rattle.fg_peel.specs.Laws.{PeelingsStayInClosure, MaximalPeelingsEndAtClosure, MaximalPeelingExists, PeelingsContinue, MaximalPeelingsAreTested};
+ghost use Rattle.fg_peel.specs.Laws.{PeelingsFillTheClosure, SolutionsKeepPeelings};
+ghost use Rattle.fg_peel.specs.Laws.{MaximalPeelingsAreTested};
 ghost use Rattle.fg_peel.specs.Laws.{SettledKeepClosure, SettledKeepSolutions, FoundKeepsClosure, FoundKeepsSolutions};
 ghost use Rattle.fg_peel.specs.Laws.{TruthIsSolvable, SolutionsAreTrue};
 ghost use Rattle.fg_peel.specs.Laws.{PeelingsTakeEquations, PeelingsTakeWords, PeelingsOutlivePlays, PeelingsCarryOver};
@@ -28,12 +28,7 @@ pub fn closure_grows()
 /// and every peeling can be continued to one. A peeling keeps the known words, and two in succession
 /// are one.
 pub fn peelings_fill_the_closure()
-    ensures within { PeelingsStayInClosure }
-    ensures filled { MaximalPeelingsEndAtClosure }
-    ensures exists { MaximalPeelingExists }
-    ensures continued { PeelingsContinue }
-    ensures keeps { PeelingsKeepWords }
-    ensures appended { PeelingsAppend }
+    ensures { PeelingsFillTheClosure }
 {}
 
 /// Whether a maximal peeling is sound shows in its words: each found word is a media word, and each
@@ -92,8 +87,5 @@ pub fn peelings_stay()
 /// The definitions on a block of 4 columns and 4 rows: three lost words follow, and so do four in a
 /// chain of two passes. Four in a square do not. With a wrong parity there is no solution.
 pub fn worked_blocks()
-    ensures three { ThreeLostFollow }
-    ensures chain { TwoPassesFollow }
-    ensures square { FourInSquareStay }
-    ensures parity { WrongParityIsUnsolvable }
+    ensures { WorkedBlocks }
 {}

@@ -2,13 +2,11 @@
 //! datagram recovers one lost datagram).
 #![tactic(auto)]
 
-ghost use Rattle.std.specs.Prelude.{◌≡◌, ◌+◌, ◌^◌, ◌<◌, ◌≤◌, ◌≤ℤ◌, ◌+ℤ◌, ◌↔◌, ℕ, pos, negsuc, length, drop, IsSome, IfSome, IsTrue, Option};
+ghost use Rattle.std.specs.Prelude.{◌≡◌, ◌+◌, ◌^◌, ◌<◌, ◌≤◌, ◌≤ℤ◌, ◌+ℤ◌, ℕ, pos, negsuc, length, drop, IfSome, IsTrue, Option};
 ghost use Rattle.std.specs.Option.{option_copied};
-ghost use Rattle.fg_peel.specs.Closure.{InClosure};
 ghost use Rattle.fg_peel.specs.Equation.{AreMedia};
-ghost use Rattle.fg_peel.specs.Peeling.{ArePeeled, EndsPeeling};
-ghost use Rattle.fg_peel.specs.Slots.{word_in, before_first, words_from, words_at, known_at, recovered_at, equations_of, AllFit, AllFitFrom, OnlyFills};
-ghost use Rattle.fg_peel.specs.Verdict.{IsVerdict, TellsSolution};
+ghost use Rattle.fg_peel.specs.Peels.{Peels};
+ghost use Rattle.fg_peel.specs.Slots.{word_in, words_from, words_at, AllFit, AllFitFrom};
 ghost use Rattle.fg_peel.specs.Recovery.{IsPeel, IsPeelAfter};
 
 use checks::verdict_on;
@@ -99,25 +97,7 @@ pub fn peel(low: i64, slots: &mut [Slot], lines: &Slab<Line>) -> Verdict
     requires first { negsuc 99 ≤ℤ low }
     requires last { (low +ℤ pos (length slots.old)) ≤ℤ pos (2 ^ 62) }
     requires lines { AllFit low slots.old lines.now }
-
-    // Only empty entries change, and the words are then those of exactly the closure.
-    ensures fills { OnlyFills slots.old slots.new }
-    ensures below { before_first low slots.new ≡ before_first low slots.old }
-    ensures closure { (position : ℕ) → IsSome (words_at low slots.new position)
-        ↔ InClosure (words_at low slots.old) (equations_of lines.now) position }
-    ensures peeling { EndsPeeling (equations_of lines.now)
-        (words_at low slots.old) (words_at low slots.new) }
-
-    // A recovered word that is no media word counts before an equation that doesn't come out.
-    ensures verdict { IsVerdict (recovered_at low slots.new) (words_at low slots.new)
-        lines.now result }
-
-    // Where the known words are media words and the recovered ones come from them by a peeling, the
-    // verdict tells whether there is a solution, and the words are then it.
-    ensures solution { AreMedia (known_at low slots.old)
-        → ArePeeled (equations_of lines.now) (known_at low slots.old) (words_at low slots.old)
-        → TellsSolution (equations_of lines.now)
-        (known_at low slots.old) (words_at low slots.new) result }
+    ensures { Peels low lines.now slots.old slots.new result }
 {
     peel_slots(low, slots, lines, false)
 }
@@ -129,25 +109,7 @@ pub fn peel_media(low: i64, slots: &mut [Slot], lines: &Slab<Line>) -> Verdict
     requires last { (low +ℤ pos (length slots.old)) ≤ℤ pos (2 ^ 62) }
     requires lines { AllFit low slots.old lines.now }
     requires media { AreMedia (words_at low slots.old) }
-
-    // Only empty entries change, and the words are then those of exactly the closure.
-    ensures fills { OnlyFills slots.old slots.new }
-    ensures below { before_first low slots.new ≡ before_first low slots.old }
-    ensures closure { (position : ℕ) → IsSome (words_at low slots.new position)
-        ↔ InClosure (words_at low slots.old) (equations_of lines.now) position }
-    ensures peeling { EndsPeeling (equations_of lines.now)
-        (words_at low slots.old) (words_at low slots.new) }
-
-    // A recovered word that is no media word counts before an equation that doesn't come out.
-    ensures verdict { IsVerdict (recovered_at low slots.new) (words_at low slots.new)
-        lines.now result }
-
-    // Where the known words are media words and the recovered ones come from them by a peeling, the
-    // verdict tells whether there is a solution, and the words are then it.
-    ensures solution { AreMedia (known_at low slots.old)
-        → ArePeeled (equations_of lines.now) (known_at low slots.old) (words_at low slots.old)
-        → TellsSolution (equations_of lines.now)
-        (known_at low slots.old) (words_at low slots.new) result }
+    ensures { Peels low lines.now slots.old slots.new result }
 {
     peel_slots(low, slots, lines, true)
 }
@@ -158,21 +120,7 @@ fn peel_slots(low: i64, slots: &mut [Slot], lines: &Slab<Line>, all_media: bool)
     requires last { (low +ℤ pos (length slots.old)) ≤ℤ pos (2 ^ 62) }
     requires lines { AllFit low slots.old lines.now }
     requires media { IsTrue all_media → AreMedia (words_at low slots.old) }
-
-    ensures fills { OnlyFills slots.old slots.new }
-    ensures below { before_first low slots.new ≡ before_first low slots.old }
-    ensures closure { (position : ℕ) → IsSome (words_at low slots.new position)
-        ↔ InClosure (words_at low slots.old) (equations_of lines.now) position }
-    ensures peeling { EndsPeeling (equations_of lines.now)
-        (words_at low slots.old) (words_at low slots.new) }
-
-    ensures verdict { IsVerdict (recovered_at low slots.new) (words_at low slots.new)
-        lines.now result }
-
-    ensures solution { AreMedia (known_at low slots.old)
-        → ArePeeled (equations_of lines.now) (known_at low slots.old) (words_at low slots.old)
-        → TellsSolution (equations_of lines.now)
-        (known_at low slots.old) (words_at low slots.new) result }
+    ensures { Peels low lines.now slots.old slots.new result }
 {
     if low < 0 {
         let below = slots.len().min(low.unsigned_abs() as usize);

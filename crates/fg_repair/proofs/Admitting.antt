@@ -5,16 +5,16 @@ use Rattle.fg_io.specs.Outlet.{Lanes}
 use Rattle.fg_rtp.specs.MediaDatagram.{IsMediaDatagram}
 use Rattle.fg_fechead.specs.declared.Parity.{Parity as ParityRead}
 use Rattle.fg_fechead.specs.ParityDatagram.{IsParityDatagram}
-use Rattle.fg_flows.specs.declared.Kind.{Kind}
-use Rattle.fg_flows.specs.declared.Kind.TheVariants.{Media}
+use Rattle.fg_shape.specs.declared.kind.Kind.{Kind}
+use Rattle.fg_shape.specs.declared.kind.Kind.TheVariants.{Media}
 use Rattle.fg_desk.specs.declared.reply.Reply.{Reply}
-use Rattle.fg_desk.specs.declared.run.Stream.TheVariants as stream
+use Rattle.fg_shape.specs.declared.kind.Kind.TheVariants as kind
 use Rattle.fg_desk.specs.State.{State}
 use Rattle.fg_desk.specs.Admission.{AdmitsMedia}
 use Rattle.fg_desk.specs.Run.{Arrival, carries, protects, refused, ArePlaysDue, Takes}
 use Rattle.fg_desk.specs.Laws.{HavePlayed}
 use Rattle.fg_report.specs.declared.flow_sum.FlowSum.{FlowSum}
-use Rattle.fg_repair.specs.Flow.{IsReadAs, stream_of, parity_of}
+use Rattle.fg_results.specs.Flow.{IsReadAs, parity_of}
 use Rattle.fg_repair.specs.Steps.{HaveShown, BreakOff, AdmitsDatagram, BreaksAtDatagram, PlaysBefore}
 use Rattle.fg_repair.proofs.Growing.{grows_none}
 use Rattle.fg_repair.proofs.Reading.{parity_is_read}
@@ -39,7 +39,7 @@ pub media_is_refused :
     → ((seq ssrc : ℕ) (word : Word) → ¬ IsMediaDatagram bytes seq ssrc word)
     → AdmitsDatagram Media bytes old sum lanes None old sum lanes
 media_is_refused bytes old sum lanes none =
-    plays_nothing Media bytes old sum lanes None old (refused stream.Media) (refl, none) (refl, refl)
+    plays_nothing Media bytes old sum lanes None old (refused kind.Media) (refl, none) (refl, refl)
 
 pub media_is_admitted :
     (bytes : List ℕ) (old due new : State) (sum sum' : FlowSum) (before after : Option Lanes) (seq ssrc : ℕ) (word : Word)
@@ -78,7 +78,7 @@ pub parity_without_memory :
     (kind : Kind) (bytes : List ℕ) (old : State) (port : ℕ) (lanes : Option Lanes)
     → kind ≢ Media → (parity : ParityRead) × IsParityDatagram bytes parity → BreaksAtDatagram kind bytes old port lanes lanes
 parity_without_memory kind bytes old port lanes other read = record {
-  arrival = protects (stream_of kind) (parity_of read.0);
+  arrival = protects kind (parity_of read.0);
   read = parity_is_read kind bytes read.0 other read.1;
-  off = breaks_before (PlaysBefore old (protects (stream_of kind) (parity_of read.0))) old port lanes refl;
+  off = breaks_before (PlaysBefore old (protects kind (parity_of read.0))) old port lanes refl;
 }

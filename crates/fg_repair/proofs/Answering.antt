@@ -1,17 +1,15 @@
 -- One more reply is counted.
 use Rattle.std.proofs.Common.{◌≡◌, ◌+◌, ◌==◌, ◌&&◌, ℕ, cond, List, [], ◌∷◌, ◌++◌, length, Option, Some, None, refl, sym, ap, ◌∙◌, arith}
-use Rattle.fg_flows.specs.declared.Kind.{Kind}
-use Rattle.fg_flows.specs.declared.Kind.TheVariants as kind
+use Rattle.fg_shape.specs.declared.kind.Kind.{Kind}
+use Rattle.fg_shape.specs.declared.kind.Kind.TheVariants as kind
 use Rattle.fg_desk.specs.declared.reply.Reply.{Reply}
 use Rattle.fg_desk.specs.declared.reply.Reply.TheVariants.{Admitted, Duplicate, Conflict, Late, NotStarted, BeforeStart, Ahead, Crowded}
-use Rattle.fg_desk.specs.declared.run.Stream.{Stream}
-use Rattle.fg_desk.specs.declared.run.Stream.TheVariants as stream
 use Rattle.fg_desk.specs.Play.{Play}
-use Rattle.fg_desk.specs.Run.{Arrival, carries, protects, refused, came_by, stream_number, reply_number, count_of}
+use Rattle.fg_desk.specs.Run.{Arrival, carries, protects, refused, came_by, kind_number, reply_number, count_of}
 use Rattle.fg_desk.specs.Laws.{CountsAdd}
 use Rattle.fg_report.specs.declared.marks.Marks.{Marks}
 use Rattle.fg_report.specs.declared.flow_sum.FlowSum.{FlowSum}
-use Rattle.fg_repair.specs.Flow.{IsReadAs, stream_of, marks_of, sum_of}
+use Rattle.fg_results.specs.Flow.{IsReadAs, marks_of, sum_of}
 use Rattle.fg_repair.specs.Steps.{with_reply, with_answer}
 
 -- Marks with so many more of each reply.
@@ -60,11 +58,11 @@ plus_one marks (Some Crowded) = λ i. record (plus_none marks i) { crowded = mar
 plus_one marks None = λ i. record (plus_none marks i) { bad = marks.bad + 1 }
 
 -- What an arrival by this stream adds to a stream's counts.
-abbrev adds : Stream → Stream → Option Reply → Option Reply → ℕ
-adds by stream answer reply = cond ((stream_number by == stream_number stream) && (reply_number answer == reply_number reply)) 1 0
+abbrev adds : Kind → Kind → Option Reply → Option Reply → ℕ
+adds by stream answer reply = cond ((kind_number by == kind_number stream) && (reply_number answer == reply_number reply)) 1 0
 
 marks_more :
-    CountsAdd → (stream : Stream) (arrivals : List Arrival) (arrival : Arrival) (replies : List (Option Reply)) (answer : Option Reply)
+    CountsAdd → (stream : Kind) (arrivals : List Arrival) (arrival : Arrival) (replies : List (Option Reply)) (answer : Option Reply)
     → length arrivals ≡ length replies
     → marks_of stream (arrivals ++ arrival ∷ []) (replies ++ answer ∷ [])
     ≡ plus (marks_of stream arrivals replies) (adds (came_by arrival) stream answer)
@@ -85,14 +83,14 @@ marks_more add stream arrivals arrival replies answer same =
     }
 
 -- What an arrival by this stream adds to the three streams' counts.
-abbrev adds_all : Stream → Option Reply → FlowSum → FlowSum
+abbrev adds_all : Kind → Option Reply → FlowSum → FlowSum
 adds_all by answer sum = record sum {
-  media = plus sum.media (adds by stream.Media answer);
-  column = plus sum.column (adds by stream.Column answer);
-  row = plus sum.row (adds by stream.Row answer);
+  media = plus sum.media (adds by kind.Media answer);
+  column = plus sum.column (adds by kind.Column answer);
+  row = plus sum.row (adds by kind.Row answer);
 }
 
-answered : (kind : Kind) (answer : Option Reply) (sum : FlowSum) → adds_all (stream_of kind) answer sum ≡ with_answer kind sum answer
+answered : (kind : Kind) (answer : Option Reply) (sum : FlowSum) → adds_all kind answer sum ≡ with_answer kind sum answer
 answered kind.Media answer sum =
     λ i. record sum { media = plus_one sum.media answer i; column = plus_none sum.column i; row = plus_none sum.row i }
 answered kind.Column answer sum =
@@ -100,7 +98,7 @@ answered kind.Column answer sum =
 answered kind.Row answer sum =
     λ i. record sum { media = plus_none sum.media i; column = plus_none sum.column i; row = plus_one sum.row answer i }
 
-came_by_its_stream : (kind : Kind) (bytes : List ℕ) (arrival : Arrival) → IsReadAs kind bytes arrival → came_by arrival ≡ stream_of kind
+came_by_its_stream : (kind : Kind) (bytes : List ℕ) (arrival : Arrival) → IsReadAs kind bytes arrival → came_by arrival ≡ kind
 came_by_its_stream kind.Media bytes (carries seq word) read = refl
 came_by_its_stream kind.Media bytes (protects by parity) read = absurd read
 came_by_its_stream kind.Media bytes (refused by) read = read.0
@@ -112,15 +110,15 @@ came_by_its_stream kind.Row bytes (protects by parity) read = read.0
 came_by_its_stream kind.Row bytes (refused by) read = read.0
 
 pub answer_added :
-    CountsAdd → (flow : ℕ) (kind : Kind) (bytes : List ℕ) (arrivals : List Arrival) (arrival : Arrival) (plays : List Play)
-    (replies : List (Option Reply)) (answer : Option Reply) → length arrivals ≡ length replies → IsReadAs kind bytes arrival
-    → with_answer kind (sum_of flow arrivals plays replies) answer
+    CountsAdd → (flow : ℕ) (came : Kind) (bytes : List ℕ) (arrivals : List Arrival) (arrival : Arrival) (plays : List Play)
+    (replies : List (Option Reply)) (answer : Option Reply) → length arrivals ≡ length replies → IsReadAs came bytes arrival
+    → with_answer came (sum_of flow arrivals plays replies) answer
     ≡ sum_of flow (arrivals ++ arrival ∷ []) plays (replies ++ answer ∷ [])
-answer_added add flow kind bytes arrivals arrival plays replies answer same read =
+answer_added add flow came bytes arrivals arrival plays replies answer same read =
     let sum = sum_of flow arrivals plays replies in
-    let media = marks_more add stream.Media arrivals arrival replies answer same in
-    let column = marks_more add stream.Column arrivals arrival replies answer same in
-    let row = marks_more add stream.Row arrivals arrival replies answer same in
+    let media = marks_more add kind.Media arrivals arrival replies answer same in
+    let column = marks_more add kind.Column arrivals arrival replies answer same in
+    let row = marks_more add kind.Row arrivals arrival replies answer same in
     let more : sum_of flow (arrivals ++ arrival ∷ []) plays (replies ++ answer ∷ []) ≡ adds_all (came_by arrival) answer sum =
     λ i. record sum { media = media i; column = column i; row = row i } in
-    sym (more ∙ ap (λ (by : Stream). adds_all by answer sum) (came_by_its_stream kind bytes arrival read) ∙ answered kind answer sum)
+    sym (more ∙ ap (λ (by : Kind). adds_all by answer sum) (came_by_its_stream came bytes arrival read) ∙ answered came answer sum)

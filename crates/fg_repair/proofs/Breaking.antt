@@ -10,8 +10,10 @@ use Rattle.fg_desk.specs.Run.{Arrival, carries, protects, refused, ArePlaysDue, 
 use Rattle.fg_desk.specs.Laws.{IsRead, HavePlayed, PlayIsOne, OneTaking, LaterChangesNothing}
 use Rattle.fg_report.specs.declared.flow_sum.FlowSum.{FlowSum}
 use Rattle.fg_trace.specs.Trace.{Record}
-use Rattle.fg_repair.specs.Steps.{HasTaken, PlaysBefore}
-use Rattle.fg_repair.specs.Stops.{HasShown}
+use Rattle.fg_shape.specs.Playout.{Playout}
+use Rattle.fg_results.specs.Laws.{ShownIsFront}
+use Rattle.fg_repair.specs.Steps.{HasTaken, IsFrontOfLane, PlaysBefore}
+use Rattle.fg_results.specs.Stops.{HasShown}
 
 -- The first of the plays are these.
 abbrev BeginWith : List Play → List Play → Type 0
@@ -27,7 +29,7 @@ due_begin :
 due_begin one old seq [] plays now new holds a b = (plays, refl)
 due_begin one old seq (play ∷ due) [] now new holds a b = absurd (b.0 a.0)
 due_begin one old seq (play ∷ due) (play' ∷ plays) now new holds a b =
-    let same : (play' ≡ play) × (b.1.0 ≡ a.1.0) = one old.window old b.1.0 a.1.0 play' play (holds [] old refl) b.1.1 a.1.1 in
+    let same : (play' ≡ play) × (b.1.0 ≡ a.1.0) = one old.playout.window old b.1.0 a.1.0 play' play (holds [] old refl) b.1.1 a.1.1 in
     one_more play play' plays due same.0
     (due_begin one a.1.0 seq due plays now new (λ more last k. holds (play ∷ more) last (a.0, (a.1.0, a.1.1, k))) a.1.2
     (subst (λ (s : State). ArePlaysDue s seq plays new) same.1 b.1.2))
@@ -52,15 +54,15 @@ next_plays one taken now filled (refused by) rest due after (reply ∷ second) w
 -- So does what follows the plays of the datagrams before.
 pub plays_go_on :
     LaterChangesNothing → OneTaking → PlayIsOne
-    → (window depth : ℕ) (arrivals rest : List Arrival) (arrival : Arrival) (before due plays : List Play)
+    → (playout : Playout) (arrivals rest : List Arrival) (arrival : Arrival) (before due plays : List Play)
     (first replies : List (Option Reply)) (taken now filled : State)
-    → All IsRead arrivals → TakesAll (opening window depth) arrivals before first taken → StaysWithin taken
+    → All IsRead arrivals → TakesAll (opening playout) arrivals before first taken → StaysWithin taken
     → PlaysBefore taken arrival due now
-    → TakesAll (opening window depth) (arrivals ++ arrival ∷ rest) plays replies filled
+    → TakesAll (opening playout) (arrivals ++ arrival ∷ rest) plays replies filled
     → (after : List Play) × (plays ≡ before ++ (due ++ after))
-plays_go_on later once one window depth arrivals rest arrival before due plays first replies taken now filled read takes within played all =
-    let parts = later (opening window depth) filled arrivals (arrival ∷ rest) plays replies all in
-    let same = once window depth arrivals parts.1 before parts.3 first parts.0 taken read parts.5 takes in
+plays_go_on later once one playout arrivals rest arrival before due plays first replies taken now filled read takes within played all =
+    let parts = later (opening playout) filled arrivals (arrival ∷ rest) plays replies all in
+    let same = once playout arrivals parts.1 before parts.3 first parts.0 taken read parts.5 takes in
     let begin = next_plays one taken now filled arrival rest due parts.2 parts.4 within played
     (subst (λ (s : State). TakesAll s (arrival ∷ rest) parts.2 parts.4 filled) same.2 parts.6) in (
       begin.0,
@@ -71,9 +73,9 @@ plays_go_on later once one window depth arrivals rest arrival before due plays f
 
 -- What a flow has shown that took these records.
 pub shown_of :
-    (window depth flow : ℕ) (records : List Record) (state : State) (sum : FlowSum) (lane : List ℕ)
-    → HasTaken window depth flow records state sum lane → HasShown window depth flow records lane
-shown_of window depth flow records state sum lane h = record {
+    (playout : Playout) (flow : ℕ) (records : List Record) (state : State) (sum : FlowSum) (lane : List ℕ)
+    → HasTaken playout flow records state sum lane → HasShown playout flow records lane
+shown_of playout flow records state sum lane h = record {
   arrivals = h.arrivals;
   plays = h.plays;
   replies = h.replies;
@@ -82,3 +84,10 @@ shown_of window depth flow records state sum lane h = record {
   takes = h.takes;
   bytes_are = h.lane_is;
 }
+
+-- It is the front of its lane in every trace that begins with these records.
+pub front_of :
+    ShownIsFront → (playout : Playout) (flow : ℕ) (records : List Record) (state : State) (sum : FlowSum) (lane : List ℕ)
+    → HasTaken playout flow records state sum lane → IsFrontOfLane playout records flow lane
+front_of law playout flow records state sum lane h later result k =
+    law playout flow records later lane result (shown_of playout flow records state sum lane h) k

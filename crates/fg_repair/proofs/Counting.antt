@@ -1,13 +1,13 @@
 -- The counts of plays, one after another.
 use Rattle.std.proofs.Common.{◌≡◌, ◌+◌, ◌≤◌, ◌==◌, ℕ, Bool, true, false, cond, not, List, [], ◌∷◌, ◌++◌, length, refl, sym, ap, ◌∙◌, arith, length-append}
-use Rattle.std.specs.List.{count_by, flat_map}
+use Rattle.std.specs.List.{count_by}
 use Rattle.std.proofs.lemmas.Bool.Decides.{nat_tests}
 use Rattle.std.proofs.lemmas.List.Sums.{sum_by-append, count_by-le-length}
-use Rattle.std.proofs.lemmas.List.Concat.{flat_map-append}
 use Rattle.fg_desk.specs.Play.{Play, Shown}
 use Rattle.fg_report.specs.Gaps.{run_end, gaps_end, with_gap}
 use Rattle.fg_report.specs.declared.flow_sum.FlowSum.{FlowSum}
-use Rattle.fg_repair.specs.Flow.{all_shown, shows_word, shown_payload, is_inconsistent, gaps_from, lane_of}
+use Rattle.fg_results.specs.Flow.{all_shown, shows_word, is_inconsistent, gaps_from}
+use Rattle.fg_results.proofs.ShownLemmas.{all_shown_more}
 use Rattle.fg_repair.specs.Steps.{with_shown, with_plays, CountsWithin}
 
 -- Where the runs end.
@@ -83,14 +83,6 @@ shown_within sum first shown within = record {
   inconsistent = omega (arith, within.inconsistent);
   gaps = gaps_end_within sum.gaps first shown within.gaps;
 }
-
-pub all_shown_more : (one other : List Play) → all_shown (one ++ other) ≡ all_shown one ++ all_shown other
-all_shown_more one other = flat_map-append (λ (play : Play). play.shown) one other
-
-pub lane_more : (one other : List Play) → lane_of (one ++ other) ≡ lane_of one ++ lane_of other
-lane_more one other =
-    ap (λ (shown : List Shown). flat_map shown_payload shown) (all_shown_more one other)
-    ∙ flat_map-append shown_payload (all_shown one) (all_shown other)
 
 pub plays_more :
     (sum : FlowSum) (first : ℕ) (one other : List Play)

@@ -11,7 +11,7 @@ use Rattle.fg_desk.specs.Contents.{Contents, kept_shown, kept_from}
 use Rattle.fg_desk.specs.Play.{Shown}
 use Rattle.fg_desk.specs.State.{known}
 use Rattle.fg_report.specs.declared.flow_sum.FlowSum.{FlowSum}
-use Rattle.fg_repair.specs.Flow.{all_shown, shown_payload, is_inconsistent, lane_of}
+use Rattle.fg_results.specs.Flow.{all_shown, shown_payload, is_inconsistent, lane_of}
 use Rattle.fg_repair.specs.Steps.{with_shown, with_plays, play_on, CountsWithin}
 use Rattle.fg_repair.proofs.Counting.{shown_more, shown_within}
 

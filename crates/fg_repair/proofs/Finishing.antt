@@ -1,73 +1,36 @@
 -- How a repair ends: what it answers, and what lanes and sink have gained then.
-use Rattle.std.proofs.Common.{◌≡◌, ◌⊎◌, inl, inr, ℕ, nat_lt, cond, Bool, true, false, is_some, Option, Some, None, IfSome, List, [], ◌∷◌, length, map, suc, take, arith, refl, sym, ap, ◌∙◌, subst}
-use Rattle.std.specs.FinMap.{get, empty, get-empty}
+use Rattle.std.proofs.Common.{◌≡◌, ◌≤◌, ◌⊎◌, inl, inr, ℕ, Option, Some, None, IfSome, Result, Ok, Err, List, [], ◌∷◌, length, map, suc, take, arith, refl, sym, ap, ◌∙◌, subst}
 use Rattle.std.specs.List.{AllZip, Contains}
-use Rattle.std.specs.Ordering.{nat_cmp}
+use Rattle.std.specs.Result.{IsErr}
 use Rattle.fg_flows.specs.declared.Plan.{Plan}
-use Rattle.fg_desk.specs.Laws.{LiveStandUnderSerials}
-use Rattle.fg_desk.specs.Solution.{InClosure, given, derived}
-use Rattle.fg_desk.specs.State.{Words, opening}
-use Rattle.fg_repair.specs.Flow.{FlowResult, IsFlowResult, sum_of}
+use Rattle.fg_flows.specs.Plan.{playout_of}
+use Rattle.fg_results.specs.Flow.{FlowResult, IsFlowResult}
 use Rattle.fg_report.specs.declared.flow_sum.FlowSum.{FlowSum}
 use Rattle.fg_report.specs.declared.tail.Tail.{Tail}
 use Rattle.fg_report.specs.Text.{report_of}
 use Rattle.fg_trace.specs.declared.step.Finish.{Finish}
 use Rattle.fg_trace.specs.declared.step.Finish.TheVariants as finish
+use Rattle.fg_trace.specs.Finish.{IsFault, finish_of}
+use Rattle.fg_trace.specs.Reading.{IsReadFor}
 use Rattle.fg_trace.specs.Laws.{OneTrace}
 use Rattle.fg_trace.specs.Trace.{Record, Ending, Ended, NotTrace, Cut, TooLong, IsTrace}
 use Rattle.fg_io.specs.Outlet.{Lanes, WhereTold}
-use Rattle.fg_io.specs.Sink.{GainsPart}
+use Rattle.fg_io.specs.Sink.{Gains, GainsPart}
 use Rattle.fg_repair.specs.declared.engine.Engine.{Engine}
-use Rattle.fg_repair.specs.Engine.{OneFlowResult, NoRecordsHaveResults, LanesPart, LanesWhole, StopsAt, StopsIn, TellsTail, sums_of, fault_finish}
-use Rattle.fg_repair.specs.Lanes.{OthersStay, LanesGain, PutsAll, PutsAllPart}
-use Rattle.fg_repair.specs.Repair.{AreResults, OutputsPart, Finishes, lanes_of, others_of, tail_of, report_text}
-use Rattle.fg_repair.proofs.Fronts.{one_of_each}
-use Rattle.fg_repair.specs.Stops.{Stops, Flushing, HasGained, HasGainedPart}
-use Rattle.fg_repair.specs.declared.fault.Fault.{Fault}
-use Rattle.fg_repair.specs.declared.fault.Fault.TheVariants.{Read, Write, Memory}
+use Rattle.fg_results.specs.Contract.{IsRepair}
+use Rattle.fg_results.specs.Existence.{ResultsExist}
+use Rattle.fg_results.specs.Laws.{OneFlowResult}
+use Rattle.fg_repair.specs.Engine.{LanesPart, LanesWhole, StopsAt, StopsIn, TellsTail, sums_of, told_finish, fault_finish, answer_of}
+use Rattle.fg_results.specs.Lanes.{OthersStay, LanesGain, PutsAll, PutsAllPart}
+use Rattle.fg_results.specs.Repair.{AreResults, Gain, OutputsPart, Finishes, lanes_of, others_of, tail_of, report_text}
+use Rattle.fg_results.proofs.Fronts.{one_of_each}
+use Rattle.fg_results.specs.Stops.{Stops, Flushing, HasGained, HasGainedPart}
+use Rattle.fg_io.specs.declared.fault.Fault.{Fault}
+use Rattle.fg_io.specs.declared.fault.Fault.TheVariants.{Read, Write, Memory}
+use Rattle.fg_results.proofs.RepairLemmas.{stopped_repair}
 use Rattle.fg_repair.proofs.Firsts.{first_all}
 use Rattle.fg_repair.proofs.Lanes.{told_map}
 use Rattle.fg_repair.proofs.Writing.{none_part}
-
--- No records
-
-word_of_none : (position : ℕ) (b : Bool) (m n : Words) → get m position ≡ None → get n position ≡ None → is_some (cond b (get m position) (get n position)) ≡ false
-word_of_none position true m n e f = ap is_some e
-word_of_none position false m n e f = ap is_some f
-
-none_inside : LiveStandUnderSerials → (window depth position : ℕ) → InClosure (opening window depth) position → ⊥
-none_inside law window depth position (given s) =
-    let none : false ≡ true = sym (word_of_none position (nat_lt position 0) empty empty (get-empty nat_cmp position) (get-empty nat_cmp position)) ∙ s in
-    absurd cc
-none_inside law window depth position (derived equation live slot ahead others) =
-    let stands = (law (opening window depth) equation).0 live in
-    let none : None ≡ Some stands.1 = sym (get-empty nat_cmp stands.0) ∙ stands.2 in
-    absurd cc
-
-no_result : LiveStandUnderSerials → (window depth flow : ℕ) → IsFlowResult window depth [] flow (record { lane = []; sum = sum_of flow [] [] [] })
-no_result law window depth flow = record {
-  arrivals = [];
-  plays = [];
-  replies = [];
-  arrive = tt;
-  run = record {
-    taken = [];
-    flushed = [];
-    filled = opening window depth;
-    empty = opening window depth;
-    takes = (refl, refl, refl);
-    flush = (λ more. none_inside law window depth more.0 more.1, refl);
-    plays_are = refl;
-  };
-  lane = refl;
-  sum = refl;
-}
-
-pub no_results : LiveStandUnderSerials → (plan : Plan) (flows : List ℕ) → (results : List FlowResult) × AllZip (IsFlowResult plan.window plan.depth []) flows results
-no_results law plan [] = ([], tt)
-no_results law plan (flow ∷ flows) =
-    let rest = no_results law plan flows in
-    (record { lane = []; sum = sum_of flow [] [] [] } ∷ rest.0, (no_result law plan.window plan.depth flow, rest.1))
 
 -- After a fault
 
@@ -101,7 +64,7 @@ report_front : {K : Type 0} → OneTrace → OneFlowResult → (plan : Plan) (fi
 report_front law one plan None engine told before after written out out' h part = tt
 report_front law one plan (Some bytes) engine told before after written out out' h part = λ records results end trace are.
     let same = law bytes plan.max records h.records end h.end trace h.of_input in
-    let results_same : results ≡ h.ended.results = one_of_each one plan.window plan.depth h.records plan.table results h.ended.results (subst (λ (rs : List Record). AreResults plan rs results) same.0 are) h.ended.are_results in
+    let results_same : results ≡ h.ended.results = one_of_each one (playout_of plan) h.records plan.table results h.ended.results (subst (λ (rs : List Record). AreResults plan rs results) same.0 are) h.ended.are_results in
     inr (
       subst (λ (rs : List FlowResult). PutsAll before plan.table (lanes_of rs) after) (sym results_same) h.ended.puts,
       subst (λ (text : List ℕ). GainsPart (written out) text (written out')) (text_is plan (Some bytes) engine told before after h records results end same.0 results_same same.1) part,
@@ -118,7 +81,7 @@ report_outputs law one plan first engine told before after written out out' h pa
 
 -- Where it stopped
 
-each_whole : (plan : Plan) (records : List Record) (broken : Option ℕ) (n : ℕ) (ports : List ℕ) (results : List FlowResult) → AllZip (IsFlowResult plan.window plan.depth records) ports results → ((port : ℕ) → Contains ports port → Contains (take n plan.table) port) → AllZip (λ flow piece. HasGained plan records (Flushing n) flow piece ⊎ ((broken ≡ Some flow) × HasGainedPart plan records (Flushing n) flow piece)) ports (lanes_of results)
+each_whole : (plan : Plan) (records : List Record) (broken : Option ℕ) (n : ℕ) (ports : List ℕ) (results : List FlowResult) → AllZip (IsFlowResult (playout_of plan) records) ports results → ((port : ℕ) → Contains ports port → Contains (take n plan.table) port) → AllZip (λ flow piece. HasGained plan records (Flushing n) flow piece ⊎ ((broken ≡ Some flow) × HasGainedPart plan records (Flushing n) flow piece)) ports (lanes_of results)
 each_whole plan records broken n [] [] h f = tt
 each_whole plan records broken n [] (r ∷ results) h f = absurd h
 each_whole plan records broken n (p ∷ ports) [] h f = absurd h
@@ -141,7 +104,12 @@ whole_stops law plan Quiet (Some bytes) engine told before after h = λ all end 
       puts = h.ended.puts;
     })
 
-read_only : (fault : Fault) → fault_finish fault ≡ finish.ReadFault → fault ≡ Read
+pub fault_finish_is : (fault : Fault) → IsFault (fault_finish fault)
+fault_finish_is Read = tt
+fault_finish_is Write = tt
+fault_finish_is Memory = tt
+
+pub read_only : (fault : Fault) → fault_finish fault ≡ finish.ReadFault → fault ≡ Read
 read_only Read e = refl
 read_only Write e = absurd cc
 read_only Memory e = absurd cc
@@ -160,17 +128,78 @@ answer_stops plan Quiet fault answer (Some bytes) before after quiet is h = λ r
       puts = at.puts;
     }
 
--- No trace
+-- The answer
 
-pub not_trace : NoRecordsHaveResults → (plan : Plan) (first : Option (List ℕ)) (max : ℕ) (lanes : Option Lanes) (written : Option (List ℕ)) (place : ℕ) → max ≡ plan.max → IfSome first (λ bytes. IsTrace bytes max [] (NotTrace place)) → Finishes plan (finish.NotTrace place) first lanes lanes written written
-not_trace law plan first max lanes written place same h = (
+-- It is that of the trace's ending.
+finish_is : (end : Ending) (told : Tail) → TellsTail end told → told_finish told ≡ finish_of end
+finish_is Ended told h = ap told_finish h
+finish_is (NotTrace n) told h = absurd h
+finish_is (Cut n) told h = ap told_finish h
+finish_is (TooLong n) told h = ap told_finish h
+
+gain_is :
+    (plan : Plan) (records : List Record) (results : List FlowResult) (end : Ending) (told : Tail) (lanes lanes' : Option Lanes) (written written' : Option (List ℕ))
+    → TellsTail end told → PutsAll lanes plan.table (lanes_of results) lanes' → Gains written (report_text plan records results end) written'
+    → Gain plan records results end lanes lanes' written written'
+gain_is plan records results Ended told lanes lanes' written written' h puts gains = (puts, gains)
+gain_is plan records results (NotTrace n) told lanes lanes' written written' h puts gains = absurd h
+gain_is plan records results (Cut n) told lanes lanes' written written' h puts gains = (puts, gains)
+gain_is plan records results (TooLong n) told lanes lanes' written written' h puts gains = (puts, gains)
+
+-- Lanes and report are whole.
+pub finished :
+    (plan : Plan) (first : Option (List ℕ)) (engine : Engine) (told : Tail) (answer : Finish) (lanes lanes' : Option Lanes) (written written' : Option (List ℕ))
+    → LanesWhole plan first engine told lanes lanes' → answer ≡ told_finish told
+    → Gains written (report_of (sums_of engine.flows.items) engine.other told) written' → Finishes plan answer first lanes lanes' written written'
+finished plan first engine told answer lanes lanes' written written' h is gains = (
+  h.end,
+  is ∙ finish_is h.end told h.tells,
+  record {
+    records = h.records;
+    results = h.ended.results;
+    of_input = h.of_input;
+    are_results = h.ended.are_results;
+    gain = gain_is plan h.records h.ended.results h.end told lanes lanes' written written' h.tells h.ended.puts
+        (subst (λ (text : List ℕ). Gains written text written') (text_is plan first engine told lanes lanes' h h.records h.ended.results h.end refl refl refl) gains);
+  },
+)
+
+-- No flow has a record, and each has its result.
+pub not_trace : ResultsExist → (plan : Plan) → 1 ≤ plan.window → (first : Option (List ℕ)) (max : ℕ) (lanes : Option Lanes) (written : Option (List ℕ)) (place : ℕ) → max ≡ plan.max → IfSome first (λ bytes. IsTrace bytes max [] (NotTrace place)) → Finishes plan (finish.NotTrace place) first lanes lanes written written
+not_trace law plan some first max lanes written place same h = (
   NotTrace place,
   refl,
   record {
     records = [];
-    results = (law plan).0;
+    results = (law plan [] some).0;
     of_input = subst (λ n. IfSome first (λ bytes. IsTrace bytes n [] (NotTrace place))) same h;
-    are_results = (law plan).1;
+    are_results = (law plan [] some).1;
     gain = (refl, refl);
   },
 )
+
+-- A fault is answered.
+pub stopped :
+    {O K : Type 0} (plan : Plan) (result : Result Finish Fault) → IsErr result
+    → (first left : Option (List ℕ)) (told : O → Option Lanes) (lanes lanes' : O) (written : K → Option (List ℕ)) (out out' : K)
+    → IfSome first (λ bytes. IsReadFor plan.max (answer_of result) bytes left)
+    → IfSome first (λ bytes. (place : ℕ) → IsTrace bytes plan.max [] (NotTrace place) → (lanes' ≡ lanes) × (out' ≡ out))
+    → OutputsPart plan first (told lanes) (told lanes') written out out' → StopsIn plan (result ≡ Err Read) first (told lanes) (told lanes')
+    → (result ≡ Err Read → out' ≡ out) → IsRepair plan (answer_of result) first left told lanes lanes' written out out'
+stopped plan (Ok x) is first left told lanes lanes' written out out' reads refused part stops quiet = absurd cc
+stopped plan (Err fault) is first left told lanes lanes' written out out' reads refused part stops quiet =
+    stopped_repair plan (fault_finish fault) first left told lanes lanes' written out out' reads refused (fault_finish_is fault) part
+    (answer_stops plan (Err fault ≡ Err Read) fault (fault_finish fault) first (told lanes) (told lanes') (λ same. ap Err same) refl stops)
+    (λ reading. quiet (ap Err (read_only fault reading)))
+
+-- Before the report was begun.
+pub stopped_before :
+    {O K : Type 0} (plan : Plan) (result : Result Finish Fault) → IsErr result
+    → (first left : Option (List ℕ)) (told : O → Option Lanes) (lanes lanes' : O) (written : K → Option (List ℕ)) (out : K)
+    → IfSome first (λ bytes. IsReadFor plan.max (answer_of result) bytes left)
+    → IfSome first (λ bytes. (place : ℕ) → IsTrace bytes plan.max [] (NotTrace place) → (lanes' ≡ lanes) × (out ≡ out))
+    → LanesPart plan (result ≡ Err Read) first (told lanes) (told lanes')
+    → IsRepair plan (answer_of result) first left told lanes lanes' written out out
+stopped_before plan result is first left told lanes lanes' written out reads refused h =
+    stopped plan result is first left told lanes lanes' written out out reads refused
+    (lanes_outputs plan (result ≡ Err Read) first (told lanes) (told lanes') written out h) h.stops (λ _. refl)

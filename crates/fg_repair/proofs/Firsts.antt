@@ -6,7 +6,7 @@ use Rattle.std.proofs.lemmas.Bool.{cases_eq}
 use Rattle.std.proofs.lemmas.List.{get_or_default, get_or-take, length-take}
 use Rattle.fg_io.specs.Outlet.{Lanes, lane_of, WhereTold}
 use Rattle.fg_repair.specs.Engine.{LanesGrow, GrowAll, MakesFirst}
-use Rattle.fg_repair.specs.Lanes.{OthersStay}
+use Rattle.fg_results.specs.Lanes.{OthersStay}
 use Rattle.fg_repair.specs.Steps.{LaneGrows, Grows}
 use Rattle.fg_repair.proofs.Lanes.{AreMade, contains_at, there_at}
 

@@ -9,17 +9,19 @@ use Rattle.fg_io.specs.Outlet.{Lanes, lane_of, lane_bytes}
 use Rattle.fg_flows.specs.declared.Plan.{Plan}
 use Rattle.fg_flows.specs.Flows.{IsTable}
 use Rattle.fg_flows.specs.Laws.{OneFlowHasAPort}
-use Rattle.fg_flows.specs.Plan.{PlanFits}
+use Rattle.fg_flows.specs.Plan.{PlanFits, playout_of}
+use Rattle.fg_shape.specs.Playout.{PlayoutFits}
 use Rattle.fg_trace.specs.Trace.{Record}
 use Rattle.fg_repair.specs.declared.engine.Engine.{Engine}
 use Rattle.fg_repair.specs.declared.flow.Flow.{Flow}
-use Rattle.fg_repair.specs.Engine.{OneFlowResult, TakenIsFront, GrowAll, AreThere, FlowStands, FlowEnds, HasCome, IsFlushing, BreaksAtFlush, HasEnded, sums_of}
-use Rattle.fg_repair.specs.Flow.{FlowResult, IsFlowResult}
-use Rattle.fg_repair.specs.Lanes.{PutsAll}
-use Rattle.fg_repair.specs.Repair.{lanes_of}
+use Rattle.fg_repair.specs.Engine.{GrowAll, AreThere, FlowStands, FlowEnds, HasCome, IsFlushing, BreaksAtFlush, HasEnded, sums_of}
+use Rattle.fg_results.specs.Flow.{FlowResult, IsFlowResult}
+use Rattle.fg_results.specs.Lanes.{PutsAll}
+use Rattle.fg_results.specs.Repair.{lanes_of}
 use Rattle.fg_repair.specs.Steps.{HasTaken, IsUnderway, BeginsLane, EndsFlow, BreaksAtEnd}
-use Rattle.fg_repair.specs.Stops.{Flushing, HasGained, HasGainedPart}
-use Rattle.fg_repair.proofs.Breaking.{shown_of}
+use Rattle.fg_results.specs.Stops.{Flushing, HasGained, HasGainedPart}
+use Rattle.fg_results.specs.Laws.{OneFlowResult, ShownIsFront}
+use Rattle.fg_repair.proofs.Breaking.{shown_of, front_of}
 use Rattle.fg_repair.proofs.Firsts.{first_has, first_at}
 use Rattle.fg_repair.proofs.Lanes.{more, more_same, more_other, grow_more, there_more, contains_at}
 use Rattle.fg_repair.proofs.Standing.{moved, flow_taken, ports_differ}
@@ -59,38 +61,37 @@ next_stands plan records i items before now old h short at =
     subst (λ (f : Flow). FlowStands plan records flow f (h.gained flow)) (sym at)
     (subst (λ b. FlowEnds b plan records flow (slice_index_or items i old) (h.gained flow)) (not_yet i) here)
 
-pub underway : (plan : Plan) → PlanFits plan → (records : List Record) (port : ℕ) (flow : Flow) (lane : List ℕ) → length records < 2 ^ 43 → FlowStands plan records port flow lane → IsUnderway flow.desk.state.window flow.desk.state.depth flow.sum.port flow.desk.state flow.sum
+pub underway : (plan : Plan) → PlanFits plan → (records : List Record) (port : ℕ) (flow : Flow) (lane : List ℕ) → length records < 2 ^ 43 → FlowStands plan records port flow lane → IsUnderway flow.desk.state.playout flow.sum.port flow.desk.state flow.sum
 underway plan fits records port flow lane few h = record {
   records = records;
   lane = lane;
   few = few;
   taken = flow_taken plan records port flow lane h;
-  window_fits = subst (λ n. (1 ≤ n) × (n ≤ 100)) (sym h.window_is) fits.window;
-  depth_fits = subst (λ n. (n ≤ flow.desk.state.depth) × (flow.desk.state.depth ≤ 1000)) (sym h.window_is) (subst (λ n. (plan.window ≤ n) × (n ≤ 1000)) (sym h.depth_is) fits.depth);
+  fits = subst PlayoutFits (sym h.playout_is) fits.playout;
 }
 
 -- what a flow does when it is flushed whole, or a fault stops it
 abbrev pub Ends : Flow → Flow → Option Lanes → Option Lanes → Type 0
 Ends old new now after =
     (records : List Record) (lane : List ℕ)
-    → HasTaken old.desk.state.window old.desk.state.depth old.sum.port records old.desk.state old.sum lane
-    → EndsFlow old.desk.state.window old.desk.state.depth old.sum.port records lane new.sum now after
+    → HasTaken old.desk.state.playout old.sum.port records old.desk.state old.sum lane
+    → EndsFlow old.desk.state.playout old.sum.port records lane new.sum now after
 
 abbrev pub Stops : Flow → Option Lanes → Option Lanes → Type 0
 Stops old now after =
     (records : List Record) (lane : List ℕ)
-    → HasTaken old.desk.state.window old.desk.state.depth old.sum.port records old.desk.state old.sum lane
-    → BreaksAtEnd old.desk.state.window old.desk.state.depth old.sum.port records lane now after
+    → HasTaken old.desk.state.playout old.sum.port records old.desk.state old.sum lane
+    → BreaksAtEnd old.desk.state.playout old.sum.port records lane now after
 
-flow_ends : (plan : Plan) (records : List Record) (port : ℕ) (old new : Flow) (lane : List ℕ) (now after : Option Lanes) → Ends old new now after → FlowStands plan records port old lane → EndsFlow plan.window plan.depth port records lane new.sum now after
+flow_ends : (plan : Plan) (records : List Record) (port : ℕ) (old new : Flow) (lane : List ℕ) (now after : Option Lanes) → Ends old new now after → FlowStands plan records port old lane → EndsFlow (playout_of plan) port records lane new.sum now after
 flow_ends plan records port old new lane now after ends h =
-    moved (λ w d p. EndsFlow w d p records lane new.sum now after) old.desk.state.window plan.window old.desk.state.depth plan.depth old.sum.port port
-    h.window_is h.depth_is h.port_is (ends records lane (flow_taken plan records port old lane h))
+    moved (λ w p. EndsFlow w p records lane new.sum now after) old.desk.state.playout (playout_of plan) old.sum.port port
+    h.playout_is h.port_is (ends records lane (flow_taken plan records port old lane h))
 
-flow_stops : (plan : Plan) (records : List Record) (port : ℕ) (old : Flow) (lane : List ℕ) (now after : Option Lanes) → Stops old now after → FlowStands plan records port old lane → BreaksAtEnd plan.window plan.depth port records lane now after
+flow_stops : (plan : Plan) (records : List Record) (port : ℕ) (old : Flow) (lane : List ℕ) (now after : Option Lanes) → Stops old now after → FlowStands plan records port old lane → BreaksAtEnd (playout_of plan) port records lane now after
 flow_stops plan records port old lane now after stops h =
-    moved (λ w d p. BreaksAtEnd w d p records lane now after) old.desk.state.window plan.window old.desk.state.depth plan.depth old.sum.port port
-    h.window_is h.depth_is h.port_is (stops records lane (flow_taken plan records port old lane h))
+    moved (λ w p. BreaksAtEnd w p records lane now after) old.desk.state.playout (playout_of plan) old.sum.port port
+    h.playout_is h.port_is (stops records lane (flow_taken plan records port old lane h))
 
 -- It is flushed
 
@@ -113,7 +114,7 @@ pub flushing_more :
 flushing_more law plan good records i items before now after old new short at ends h =
     let flow = slice_index plan.table i in
     let inside : i < length plan.table = subst (λ n. i < n) h.long short in
-    let step : EndsFlow plan.window plan.depth flow records (h.gained flow) new.sum now after = flow_ends plan records flow old new (h.gained flow) now after ends (next_stands plan records i items before now old h short at) in
+    let step : EndsFlow (playout_of plan) flow records (h.gained flow) new.sum now after = flow_ends plan records flow old new (h.gained flow) now after ends (next_stands plan records i items before now old h short at) in
     record {
       gained = more h.gained flow step.piece;
       long = length-set items i new ∙ h.long;
@@ -124,22 +125,22 @@ flushing_more law plan good records i items before now after old new short at en
 
 -- A fault
 
-begins_of : OneFlowResult → TakenIsFront → (ended : Bool) (plan : Plan) (records : List Record) (port : ℕ) (flow : Flow) (lane : List ℕ) → FlowEnds ended plan records port flow lane → BeginsLane plan.window plan.depth records port lane
+begins_of : OneFlowResult → ShownIsFront → (ended : Bool) (plan : Plan) (records : List Record) (port : ℕ) (flow : Flow) (lane : List ℕ) → FlowEnds ended plan records port flow lane → BeginsLane (playout_of plan) records port lane
 begins_of one front true plan records port flow lane h result k =
-    let same : result ≡ record { lane = lane; sum = flow.sum } = one plan.window plan.depth port records result (record { lane = lane; sum = flow.sum }) k h in
+    let same : result ≡ record { lane = lane; sum = flow.sum } = one (playout_of plan) port records result (record { lane = lane; sum = flow.sum }) k h in
     ([], ap (λ (r : FlowResult). r.lane) same ∙ sym (append-nil lane))
 begins_of one front false plan records port flow lane h result k =
-    front plan.window plan.depth port records flow.desk.state flow.sum lane h.taken [] result
-    (subst (λ (rs : List Record). IsFlowResult plan.window plan.depth rs port result) (sym (append-nil records)) k)
+    front_of front (playout_of plan) port records flow.desk.state flow.sum lane h.taken [] result
+    (subst (λ (rs : List Record). IsFlowResult (playout_of plan) rs port result) (sym (append-nil records)) k)
 
-begins_at : OneFlowResult → TakenIsFront → (plan : Plan) (records : List Record) (i : ℕ) (items : List Flow) (before now : Option Lanes) (h : IsFlushing plan records i items before now) → Flow → (flow : ℕ) (part : List ℕ) → BeginsLane plan.window plan.depth records flow (h.gained flow ++ part) → (port : ℕ) → Contains plan.table port → (port ≡ flow) ⊎ (port ≡ flow → ⊥) → BeginsLane plan.window plan.depth records port (more h.gained flow part port)
+begins_at : OneFlowResult → ShownIsFront → (plan : Plan) (records : List Record) (i : ℕ) (items : List Flow) (before now : Option Lanes) (h : IsFlushing plan records i items before now) → Flow → (flow : ℕ) (part : List ℕ) → BeginsLane (playout_of plan) records flow (h.gained flow ++ part) → (port : ℕ) → Contains plan.table port → (port ≡ flow) ⊎ (port ≡ flow → ⊥) → BeginsLane (playout_of plan) records port (more h.gained flow part port)
 begins_at one front plan records i items before now h any flow part begins port c (inl e) =
-    subst (λ p. BeginsLane plan.window plan.depth records p (more h.gained flow part p)) (sym e)
-    (subst (λ (lane : List ℕ). BeginsLane plan.window plan.depth records flow lane) (sym (more_same h.gained flow part)) begins)
+    subst (λ p. BeginsLane (playout_of plan) records p (more h.gained flow part p)) (sym e)
+    (subst (λ (lane : List ℕ). BeginsLane (playout_of plan) records flow lane) (sym (more_same h.gained flow part)) begins)
 begins_at one front plan records i items before now h any flow part begins port c (inr ne) =
     let same : slice_index plan.table c.0 ≡ port = get_or_default plan.table c.0 0 port c.1 ∙ c.2 in
-    subst (λ (lane : List ℕ). BeginsLane plan.window plan.depth records port lane) (sym (more_other h.gained flow part port ne))
-    (subst (λ p. BeginsLane plan.window plan.depth records p (h.gained p)) same
+    subst (λ (lane : List ℕ). BeginsLane (playout_of plan) records port lane) (sym (more_other h.gained flow part port ne))
+    (subst (λ p. BeginsLane (playout_of plan) records p (h.gained p)) same
     (begins_of one front (nat_lt c.0 i) plan records (slice_index plan.table c.0) (slice_index_or items c.0 any) (h.gained (slice_index plan.table c.0)) (h.ends c.0 any c.1)))
 
 -- What a flow's lane has gained, where the first are flushed.
@@ -155,11 +156,11 @@ gained_at law plan good records i k flow lane inside false e h =
           let below : f.at < i = f.below in
           let past : i ≤ k = grind (arith, nat_tests, e) in
           ports_differ law plan.table good k f.at inside f.inside (λ same. absurd (omega (arith, same))) f.is,
-      shown_of plan.window plan.depth (slice_index plan.table k) records _ _ lane h.taken,
+      shown_of (playout_of plan) (slice_index plan.table k) records _ _ lane h.taken,
     )
 
 -- The lane that the fault broke lies between what the flow has shown and its whole lane.
-broken_lies : (plan : Plan) (records : List Record) (i : ℕ) (gained : ℕ → List ℕ) (part : List ℕ) → i < length plan.table → HasGained plan records (Flushing i) (slice_index plan.table i) (gained (slice_index plan.table i)) → BeginsLane plan.window plan.depth records (slice_index plan.table i) (gained (slice_index plan.table i) ++ part) → HasGainedPart plan records (Flushing i) (slice_index plan.table i) (more gained (slice_index plan.table i) part (slice_index plan.table i))
+broken_lies : (plan : Plan) (records : List Record) (i : ℕ) (gained : ℕ → List ℕ) (part : List ℕ) → i < length plan.table → HasGained plan records (Flushing i) (slice_index plan.table i) (gained (slice_index plan.table i)) → BeginsLane (playout_of plan) records (slice_index plan.table i) (gained (slice_index plan.table i) ++ part) → HasGainedPart plan records (Flushing i) (slice_index plan.table i) (more gained (slice_index plan.table i) part (slice_index plan.table i))
 broken_lies plan records i gained part inside shown begins =
     let flow = slice_index plan.table i in
     let whole : (bytes : List ℕ) → HasGained plan records (Flushing (i + 1)) flow bytes → IsPrefix (gained flow ++ part) bytes = λ bytes h. lies_in plan records i (gained flow ++ part) inside begins bytes h in
@@ -170,13 +171,13 @@ broken_lies plan records i gained part inside shown begins =
       next = λ bytes h. subst (λ (lane : List ℕ). IsPrefix lane bytes) (sym (more_same gained flow part)) (whole bytes h);
     }
   where
-    lies_in : (plan : Plan) (records : List Record) (i : ℕ) (front : List ℕ) → i < length plan.table → BeginsLane plan.window plan.depth records (slice_index plan.table i) front → (bytes : List ℕ) → HasGained plan records (Flushing (i + 1)) (slice_index plan.table i) bytes → IsPrefix front bytes
+    lies_in : (plan : Plan) (records : List Record) (i : ℕ) (front : List ℕ) → i < length plan.table → BeginsLane (playout_of plan) records (slice_index plan.table i) front → (bytes : List ℕ) → HasGained plan records (Flushing (i + 1)) (slice_index plan.table i) bytes → IsPrefix front bytes
     lies_in plan records i front inside begins bytes (inl whole) = subst (IsPrefix front) (sym whole.1.bytes_are) (begins whole.1.result whole.1.is_result)
     lies_in plan records i front inside begins bytes (inr other) = absurd (other.0 (first_has plan.table (i + 1) i (omega arith) inside))
 
 exact_at :
     OneFlowHasAPort → (plan : Plan) → IsTable plan.table → (records : List Record) (i : ℕ) (items : List Flow) (before now : Option Lanes) (h : IsFlushing plan records i items before now) → Flow → (part : List ℕ) → i < length plan.table
-    → BeginsLane plan.window plan.depth records (slice_index plan.table i) (h.gained (slice_index plan.table i) ++ part)
+    → BeginsLane (playout_of plan) records (slice_index plan.table i) (h.gained (slice_index plan.table i) ++ part)
     → (port : ℕ) → Contains plan.table port → (port ≡ slice_index plan.table i) ⊎ (port ≡ slice_index plan.table i → ⊥)
     → HasGained plan records (Flushing i) port (more h.gained (slice_index plan.table i) part port)
     ⊎ ((Some (slice_index plan.table i) ≡ Some port) × HasGainedPart plan records (Flushing i) port (more h.gained (slice_index plan.table i) part port))
@@ -196,13 +197,13 @@ exact_at law plan good records i items before now h any part inside begins port 
     (gained_at law plan good records i c.0 (slice_index_or items c.0 any) (h.gained (slice_index plan.table c.0)) c.1 (nat_lt c.0 i) refl (h.ends c.0 any c.1))))
 
 pub flushing_stops :
-    OneFlowResult → TakenIsFront → OneFlowHasAPort → (plan : Plan) → IsTable plan.table → (records : List Record) (i : ℕ) (items : List Flow) (before now after : Option Lanes) (old : Flow)
+    OneFlowResult → ShownIsFront → OneFlowHasAPort → (plan : Plan) → IsTable plan.table → (records : List Record) (i : ℕ) (items : List Flow) (before now after : Option Lanes) (old : Flow)
     → i < length items → old ≡ slice_index_or items i old → Stops old now after
     → IsFlushing plan records i items before now → BreaksAtFlush plan records before after
 flushing_stops one front law plan good records i items before now after old short at stops h =
     let flow = slice_index plan.table i in
     let inside : i < length plan.table = subst (λ n. i < n) h.long short in
-    let step : BreaksAtEnd plan.window plan.depth flow records (h.gained flow) now after = flow_stops plan records flow old (h.gained flow) now after stops (next_stands plan records i items before now old h short at) in
+    let step : BreaksAtEnd (playout_of plan) flow records (h.gained flow) now after = flow_stops plan records flow old (h.gained flow) now after stops (next_stands plan records i items before now old h short at) in
     record {
       count = i;
       broken = Some flow;
@@ -220,7 +221,7 @@ results_of gained [] flows = []
 results_of gained (p ∷ ports) [] = []
 results_of gained (p ∷ ports) (f ∷ flows) = record { lane = gained p; sum = f.sum } ∷ results_of gained ports flows
 
-each_result : (plan : Plan) (records : List Record) (gained : ℕ → List ℕ) (ports : List ℕ) (flows : List Flow) → length flows ≡ length ports → ((k : ℕ) (d : Flow) → k < length ports → FlowEnds true plan records (slice_index ports k) (slice_index_or flows k d) (gained (slice_index ports k))) → AllZip (IsFlowResult plan.window plan.depth records) ports (results_of gained ports flows)
+each_result : (plan : Plan) (records : List Record) (gained : ℕ → List ℕ) (ports : List ℕ) (flows : List Flow) → length flows ≡ length ports → ((k : ℕ) (d : Flow) → k < length ports → FlowEnds true plan records (slice_index ports k) (slice_index_or flows k d) (gained (slice_index ports k))) → AllZip (IsFlowResult (playout_of plan) records) ports (results_of gained ports flows)
 each_result plan records gained [] flows long f = tt
 each_result plan records gained (p ∷ ports) [] long f = absurd (omega arith)
 each_result plan records gained (p ∷ ports) (flow ∷ flows) long f =

@@ -1,17 +1,13 @@
 pub mod Admitting
 pub mod Answering
-pub mod Arriving
 pub mod Breaking
 pub mod Counting
-pub mod Existing
 pub mod Filling
 pub mod Finishing
 pub mod Firsts
 pub mod Flushing
-pub mod Fronts
 pub mod Growing
 pub mod Lanes
-pub mod Opening
 pub mod Reaching
 pub mod Reading
 pub mod Results
@@ -22,4 +18,3 @@ pub mod Taking
 pub mod Underway
 pub mod Walking
 pub mod Writing
-pub mod Zips

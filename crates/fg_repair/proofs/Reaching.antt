@@ -1,18 +1,19 @@
 -- How far the input is read.
-use Rattle.std.proofs.Common.{◌≡◌, ◌⊎◌, inl, inr, ℕ, ◌+◌, ◌<◌, ◌≤◌, Option, IfSome, IfOk, Result, Ok, Err, IfErr, List, length, sym, ap, subst, refl, arith}
+use Rattle.std.proofs.Common.{◌≡◌, ◌⊎◌, inl, inr, ℕ, ◌+◌, ◌<◌, ◌≤◌, Option, Some, None, IfSome, Result, Ok, Err, List, [], length, sym, ap, subst, refl, arith}
 use Rattle.std.specs.Io.KnownBytes.{IsAtEnd}
 use Rattle.std.specs.Result.{IsErr, IsErrAnd}
 use Rattle.fg_trace.specs.declared.step.Finish.{Finish}
 use Rattle.fg_trace.specs.declared.step.Finish.TheVariants as finish
-use Rattle.fg_trace.specs.declared.step.TraceFault.{TraceFault}
-use Rattle.fg_trace.specs.declared.step.TraceFault.TheVariants as fault
-use Rattle.fg_trace.specs.Finish.{IsFault}
+use Rattle.fg_report.specs.declared.tail.Tail.{Tail}
+use Rattle.fg_report.specs.declared.tail.Tail.TheVariants as tail
+use Rattle.fg_trace.specs.Finish.{IsFault, ReadsAll}
 use Rattle.fg_trace.specs.Laws.{BeforeIsReadFor, AfterIsReadFor}
-use Rattle.fg_trace.specs.Reader.{ReaderState, Opens}
+use Rattle.fg_trace.specs.Reader.{ReaderState, StandsBefore}
+use Rattle.fg_trace.specs.Trace.{IsTrace, NotTrace}
 use Rattle.fg_trace.specs.Reading.{most_held, HasReached, IsReadFor}
-use Rattle.fg_repair.specs.declared.fault.Fault.{Fault}
-use Rattle.fg_repair.specs.declared.fault.Fault.TheVariants.{Read, Write, Memory}
-use Rattle.fg_repair.specs.Engine.{HasRead, told_place, fault_finish, answer_of}
+use Rattle.fg_io.specs.declared.fault.Fault.{Fault}
+use Rattle.fg_io.specs.declared.fault.Fault.TheVariants.{Read, Write, Memory}
+use Rattle.fg_repair.specs.Engine.{HasRead, told_finish, fault_finish, answer_of}
 
 -- At an answer
 
@@ -36,51 +37,45 @@ pub passed_on : (r : Result Finish Fault) (e : Fault) → IsErrAnd r (λ x. x �
 passed_on (Ok x) e h = absurd h
 passed_on (Err y) e h = ap fault_finish (sym h)
 
--- the same of an equal limit and answer
-pub read_as : (first now : Option (List ℕ)) (max max' : ℕ) (answer answer' : Finish) → max ≡ max' → answer ≡ answer' → IfSome first (λ bytes. IsReadFor max answer bytes now) → IfSome first (λ bytes. IsReadFor max' answer' bytes now)
-read_as first now max max' answer answer' same is h =
-    subst (λ n. IfSome first (λ bytes. IsReadFor n answer' bytes now)) same (subst (λ (a : Finish). IfSome first (λ bytes. IsReadFor max a bytes now)) is h)
+pub told_ends : (told : Tail) → IsFault (told_finish told) → ⊥
+told_ends tail.Ended fault = absurd fault
+told_ends (tail.Cut n) fault = absurd fault
+told_ends (tail.TooLong n) fault = absurd fault
 
--- At the magic
-
-none_read_for :
-    BeforeIsReadFor → (first now : Option (List ℕ)) (reader : ReaderState) (why : TraceFault)
-    → reader.place + length reader.held ≤ reader.max + 1 → length reader.held ≤ most_held
-    → ((n : ℕ) → why ≡ fault.NotTrace n → (n < length reader.held) ⊎ IsAtEnd now) → Opens (Err why) reader first now
-    → IfOk (told_place why) (λ place. IfSome place (λ n. IfSome first (λ bytes. IsReadFor reader.max (finish.NotTrace n) bytes now)))
-none_read_for law first now reader fault.ReadFault bounded few differs h = tt
-none_read_for law first now reader (fault.NotTrace n) bounded few differs h =
-    law (finish.NotTrace n) reader first now h.0 bounded (seen n (length reader.held) reader.place now h.0.start (differs n refl), omega (arith, h.0.start))
+-- What differs from the magic was read, or there is nothing left.
+pub none_read :
+    BeforeIsReadFor → (max : ℕ) (first now : Option (List ℕ)) (reader : ReaderState) (n : ℕ) → reader.max ≡ max
+    → reader.place + length reader.held ≤ reader.max + 1 → length reader.held ≤ most_held → (n < length reader.held) ⊎ IsAtEnd now
+    → StandsBefore reader first now → IfSome first (λ bytes. IsReadFor max (finish.NotTrace n) bytes now)
+none_read law max first now reader n same bounded few differs h =
+    subst (λ m. IfSome first (λ bytes. IsReadFor m (finish.NotTrace n) bytes now)) same
+    (law (finish.NotTrace n) reader first now h bounded (seen n (length reader.held) reader.place now h.start differs, omega (arith, h.start)))
   where
     seen : (n held place : ℕ) (now : Option (List ℕ)) → place ≡ 0 → (n < held) ⊎ IsAtEnd now → (n < place + held) ⊎ IsAtEnd now
     seen n held place now none (inl below) = inl (omega arith)
     seen n held place now none (inr end) = inr end
-none_read_for law first now reader (fault.TooLong n) bounded few differs h = absurd h
-none_read_for law first now reader (fault.Cut n) bounded few differs h = absurd h
 
-fault_read_for :
-    BeforeIsReadFor → (first now : Option (List ℕ)) (reader : ReaderState) (why : TraceFault)
-    → reader.place + length reader.held ≤ reader.max + 1 → Opens (Err why) reader first now
-    → IfErr (told_place why) (λ fault. IfSome first (λ bytes. IsReadFor reader.max (fault_finish fault) bytes now))
-fault_read_for law first now reader fault.ReadFault bounded h = law finish.ReadFault reader first now h bounded tt
-fault_read_for law first now reader (fault.NotTrace n) bounded h = tt
-fault_read_for law first now reader (fault.TooLong n) bounded h = absurd h
-fault_read_for law first now reader (fault.Cut n) bounded h = absurd h
+-- A read fault needs no more than was read.
+pub fault_read :
+    BeforeIsReadFor → (max : ℕ) (first now : Option (List ℕ)) (reader : ReaderState) → reader.max ≡ max
+    → reader.place + length reader.held ≤ reader.max + 1 → StandsBefore reader first now
+    → IfSome first (λ bytes. IsReadFor max finish.ReadFault bytes now)
+fault_read law max first now reader same bounded h =
+    subst (λ m. IfSome first (λ bytes. IsReadFor m finish.ReadFault bytes now)) same (law finish.ReadFault reader first now h bounded tt)
 
--- at the function's own result
-pub none_read_at :
-    BeforeIsReadFor → (result : Result (Option ℕ) Fault) (first now : Option (List ℕ)) (reader : ReaderState) (why : TraceFault)
-    → reader.place + length reader.held ≤ reader.max + 1 → length reader.held ≤ most_held
-    → ((n : ℕ) → why ≡ fault.NotTrace n → (n < length reader.held) ⊎ IsAtEnd now) → result ≡ told_place why → Opens (Err why) reader first now
-    → IfOk result (λ place. IfSome place (λ n. IfSome first (λ bytes. IsReadFor reader.max (finish.NotTrace n) bytes now)))
-none_read_at law result first now reader why bounded few differs e h =
-    subst (λ (r : Result (Option ℕ) Fault). IfOk r (λ place. IfSome place (λ n. IfSome first (λ bytes. IsReadFor reader.max (finish.NotTrace n) bytes now)))) (sym e)
-    (none_read_for law first now reader why bounded few differs h)
+-- Where nothing was made, what is no trace has made nothing.
+pub none_made :
+    {O K : Type 0} (max : ℕ) (first : Option (List ℕ)) (lanes : O) (out : K)
+    → IfSome first (λ bytes. (place : ℕ) → IsTrace bytes max [] (NotTrace place) → (lanes ≡ lanes) × (out ≡ out))
+none_made max None lanes out = tt
+none_made max (Some bytes) lanes out = λ place trace. (refl, refl)
 
-pub fault_read_at :
-    BeforeIsReadFor → (result : Result (Option ℕ) Fault) (first now : Option (List ℕ)) (reader : ReaderState) (why : TraceFault)
-    → reader.place + length reader.held ≤ reader.max + 1 → result ≡ told_place why → Opens (Err why) reader first now
-    → IfErr result (λ fault. IfSome first (λ bytes. IsReadFor reader.max (fault_finish fault) bytes now))
-fault_read_at law result first now reader why bounded e h =
-    subst (λ (r : Result (Option ℕ) Fault). IfErr r (λ fault. IfSome first (λ bytes. IsReadFor reader.max (fault_finish fault) bytes now))) (sym e)
-    (fault_read_for law first now reader why bounded h)
+-- What is read to its end leaves nothing.
+pub reached_end : (answer : Finish) (reader : ReaderState) (now : Option (List ℕ)) → HasReached answer reader now → ReadsAll answer → IsAtEnd now
+reached_end finish.Done reader now reached all = reached
+reached_end (finish.Cut n) reader now reached all = reached
+reached_end (finish.NotTrace n) reader now reached all = absurd all
+reached_end (finish.TooLong n) reader now reached all = absurd all
+reached_end finish.ReadFault reader now reached all = absurd all
+reached_end finish.WriteFault reader now reached all = absurd all
+reached_end finish.Memory reader now reached all = absurd all

@@ -2,24 +2,24 @@
 use Rattle.std.proofs.Common.{◌≢◌, ℕ, List, [], Option, Some, None, refl}
 use Rattle.fg_fechead.specs.declared.Parity.{Parity as ParityRead}
 use Rattle.fg_fechead.specs.ParityDatagram.{IsParityDatagram}
-use Rattle.fg_flows.specs.declared.Kind.{Kind}
-use Rattle.fg_flows.specs.declared.Kind.TheVariants.{Media, Column, Row}
+use Rattle.fg_shape.specs.declared.kind.Kind.{Kind}
+use Rattle.fg_shape.specs.declared.kind.Kind.TheVariants.{Media, Column, Row}
 use Rattle.fg_desk.specs.declared.reply.Reply.{Reply}
 use Rattle.fg_desk.specs.State.{State}
 use Rattle.fg_desk.specs.Admission.{AdmitsParity}
 use Rattle.fg_desk.specs.Run.{Arrival, protects, refused, Takes}
-use Rattle.fg_repair.specs.Flow.{IsReadAs, stream_of, parity_of}
+use Rattle.fg_results.specs.Flow.{IsReadAs, parity_of}
 
 pub parity_is_read :
     (kind : Kind) (bytes : List ℕ) (parity : ParityRead) → kind ≢ Media → IsParityDatagram bytes parity
-    → IsReadAs kind bytes (protects (stream_of kind) (parity_of parity))
+    → IsReadAs kind bytes (protects kind (parity_of parity))
 parity_is_read Media bytes parity other is = absurd (other refl)
 parity_is_read Column bytes parity other is = (refl, (parity, is, refl))
 parity_is_read Row bytes parity other is = (refl, (parity, is, refl))
 
 parity_is_refused :
     (kind : Kind) (bytes : List ℕ) → kind ≢ Media → ((parity : ParityRead) → ¬ IsParityDatagram bytes parity)
-    → IsReadAs kind bytes (refused (stream_of kind))
+    → IsReadAs kind bytes (refused kind)
 parity_is_refused Media bytes other none = absurd (other refl)
 parity_is_refused Column bytes other none = (refl, none)
 parity_is_refused Row bytes other none = (refl, none)
@@ -31,14 +31,14 @@ ParityTakes old kind bytes reply new = (arrival : Arrival) × IsReadAs kind byte
 pub refused_takes :
     (old : State) (bytes : List ℕ) → ((parity : ParityRead) → ¬ IsParityDatagram bytes parity)
     → (kind : Kind) → kind ≢ Media → ParityTakes old kind bytes None old
-refused_takes old bytes none kind other = (refused (stream_of kind), parity_is_refused kind bytes other none, (refl, refl))
+refused_takes old bytes none kind other = (refused kind, parity_is_refused kind bytes other none, (refl, refl))
 
 pub parity_takes :
     (old : State) (bytes : List ℕ) (parity : ParityRead) (reply : Reply) (new : State)
     → IsParityDatagram bytes parity → AdmitsParity old (parity_of parity) reply new
     → (kind : Kind) → kind ≢ Media → ParityTakes old kind bytes (Some reply) new
 parity_takes old bytes parity reply new is admits kind other = (
-  protects (stream_of kind) (parity_of parity),
+  protects kind (parity_of parity),
   parity_is_read kind bytes parity other is,
   (refl, admits),
 )

@@ -7,9 +7,10 @@ use Rattle.fg_desk.specs.Admission.{IsDue}
 use Rattle.fg_desk.specs.Play.{Play, IsPlay, IsFlushStep}
 use Rattle.fg_desk.specs.Laws.{HavePlayed, AreFlushSteps, PlaysDueJoin, FlushStepsJoin}
 use Rattle.fg_report.specs.declared.flow_sum.FlowSum.{FlowSum}
-use Rattle.fg_repair.specs.Flow.{all_shown, lane_of}
+use Rattle.fg_results.specs.Flow.{all_shown, lane_of}
 use Rattle.fg_repair.specs.Steps.{with_plays, CountsWithin, Grows, GrowsPart, HaveShown, BreakOff}
-use Rattle.fg_repair.proofs.Counting.{all_shown_more, lane_more, plays_more, plays_within}
+use Rattle.fg_results.proofs.ShownLemmas.{all_shown_more, lane_more}
+use Rattle.fg_repair.proofs.Counting.{plays_more, plays_within}
 use Rattle.fg_repair.proofs.Growing.{grows_none, grows_join, prefix_none, grows_part_join}
 
 shown_of_one : (play : Play) → length (all_shown (play ∷ [])) ≡ length play.shown
@@ -112,7 +113,7 @@ within_one_more count between new so_far next play within is some counted =
 -- A play that is due comes after those before it.
 pub due_after :
     (old between new : State) (seq : ℕ) (play : Play) → PlaysDueJoin → IsDue between seq
-    → IsPlay between.window between play new → (plays : List Play) → HavePlayed old seq plays between
+    → IsPlay between.playout.window between play new → (plays : List Play) → HavePlayed old seq plays between
     → HavePlayed old seq (plays ++ play ∷ []) new
 due_after old between new seq play join due is plays played =
     join old between new seq plays (play ∷ []) played (due, (new, is, refl))
@@ -138,13 +139,13 @@ on_err (Err e) holds = holds
 
 -- A step of a flush plays one position at least, and moves the mark nearer to its limit.
 pub step_shows :
-    (old new : State) (play : Play) (step : IsFlushStep old play new) → 1 ≤ old.window
-    → 1 ≤ min old.window (step.highest + 1 - old.mark)
+    (old new : State) (play : Play) (step : IsFlushStep old play new) → 1 ≤ old.playout.window
+    → 1 ≤ min old.playout.window (step.highest + 1 - old.mark)
 step_shows old new play step some = (let more : old.mark ≤ step.highest = step.more in omega (arith, more, some))
 
 pub step_nearer :
-    (limit : ℕ) (old new : State) (play : Play) → IsFlushStep old play new → 1 ≤ old.window → old.mark < limit
+    (limit : ℕ) (old new : State) (play : Play) → IsFlushStep old play new → 1 ≤ old.playout.window → old.mark < limit
     → limit - new.mark < limit - old.mark
 step_nearer limit old new play step some room =
-    nearer limit old.mark new.mark (min old.window (step.highest + 1 - old.mark)) step.plays.mark
+    nearer limit old.mark new.mark (min old.playout.window (step.highest + 1 - old.mark)) step.plays.mark
     (step_shows old new play step some) room

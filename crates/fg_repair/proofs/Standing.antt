@@ -11,11 +11,14 @@ use Rattle.std.proofs.lemmas.List.Sums.{sum_by-append, count_by-le-length}
 use Rattle.fg_io.specs.Prefix.{IsPrefix}
 use Rattle.fg_io.specs.Outlet.{Lanes}
 use Rattle.fg_trace.specs.Trace.{Record}
-use Rattle.fg_flows.specs.declared.Kind.{Kind}
-use Rattle.fg_flows.specs.declared.Kind.TheVariants as kind
+use Rattle.fg_shape.specs.declared.kind.Kind.{Kind}
+use Rattle.fg_shape.specs.declared.kind.Kind.TheVariants as kind
+use Rattle.fg_shape.specs.Playout.{Playout}
 use Rattle.fg_flows.specs.declared.Plan.{Plan}
-use Rattle.fg_flows.specs.Flows.{port_of, IsPortOf, IsTable}
+use Rattle.fg_flows.specs.Flows.{IsPortOf, IsTable}
+use Rattle.fg_shape.specs.Kind.{port_of}
 use Rattle.fg_flows.specs.Laws.{OneFlowHasAPort}
+use Rattle.fg_flows.specs.Plan.{playout_of}
 use Rattle.fg_desk.specs.declared.reply.Reply.{Reply}
 use Rattle.fg_desk.specs.Play.{Play}
 use Rattle.fg_desk.specs.Run.{Arrival, TakesAll}
@@ -23,28 +26,27 @@ use Rattle.fg_desk.specs.State.{State, opening}
 use Rattle.fg_report.specs.declared.flow_sum.FlowSum.{FlowSum}
 use Rattle.fg_repair.specs.declared.engine.Engine.{Engine}
 use Rattle.fg_repair.specs.declared.flow.Flow.{Flow}
-use Rattle.fg_repair.specs.declared.player.Player.{Player}
-use Rattle.fg_repair.specs.Engine.{TakenIsFront, FlowStands, EngineStands, HasCome, BreaksAfter}
-use Rattle.fg_repair.specs.Flow.{Arrives, records_of, is_of, IsFlowResult}
-use Rattle.fg_repair.specs.Repair.{others_of}
+use Rattle.fg_repair.specs.Engine.{FlowStands, EngineStands, HasCome, BreaksAfter}
+use Rattle.fg_results.specs.Flow.{Arrives, records_of, is_of, IsFlowResult}
+use Rattle.fg_results.specs.Repair.{others_of}
 use Rattle.fg_repair.specs.Steps.{HasTaken, IsFrontOfLane, TakesRecord, BreaksAtRecord}
-use Rattle.fg_repair.specs.Stops.{HasShown, LiesBetween}
-use Rattle.fg_repair.proofs.Breaking.{shown_of}
+use Rattle.fg_results.specs.Stops.{HasShown, LiesBetween}
+use Rattle.fg_results.specs.Laws.{ShownIsFront}
+use Rattle.fg_repair.proofs.Breaking.{shown_of, front_of}
 use Rattle.fg_repair.proofs.Lanes.{more, more_same, more_other, grow_more, there_more, contains_at}
 
 -- Before the first record
 
-opened_by : (window depth flow : ℕ) (arrivals : List Arrival) (plays : List Play) (replies : List (Option Reply)) (state : State) → AllZip (Arrives flow) [] arrivals → TakesAll (opening window depth) arrivals plays replies state → state ≡ opening window depth
-opened_by window depth flow [] plays replies state h k = k.2
-opened_by window depth flow (a ∷ arrivals) plays replies state h k = absurd h
+opened_by : (playout : Playout) (flow : ℕ) (arrivals : List Arrival) (plays : List Play) (replies : List (Option Reply)) (state : State) → AllZip (Arrives flow) [] arrivals → TakesAll (opening playout) arrivals plays replies state → state ≡ opening playout
+opened_by playout flow [] plays replies state h k = k.2
+opened_by playout flow (a ∷ arrivals) plays replies state h k = absurd h
 
-pub new_stands : (plan : Plan) (port : ℕ) (flow : Flow) → HasTaken plan.window plan.depth port [] flow.desk.state flow.sum [] → FlowStands plan [] port flow []
+pub new_stands : (plan : Plan) (port : ℕ) (flow : Flow) → HasTaken (playout_of plan) port [] flow.desk.state flow.sum [] → FlowStands plan [] port flow []
 new_stands plan port flow h =
-    let opened : flow.desk.state ≡ opening plan.window plan.depth = opened_by plan.window plan.depth port h.arrivals h.plays h.replies flow.desk.state h.arrive h.takes in
+    let opened : flow.desk.state ≡ opening (playout_of plan) = opened_by (playout_of plan) port h.arrivals h.plays h.replies flow.desk.state h.arrive h.takes in
     record {
       port_is = ap (λ (s : FlowSum). s.port) h.sum_is;
-      window_is = ap (λ (s : State). s.window) opened;
-      depth_is = ap (λ (s : State). s.depth) opened;
+      playout_is = ap (λ (s : State). s.playout) opened;
       taken = h;
     }
 
@@ -59,9 +61,9 @@ new_at plan items i new long h each k d below (inl e) =
 new_at plan items i new long h each k d below (inr ne) =
     subst (λ (f : Flow). FlowStands plan [] (slice_index plan.table k) f []) (sym (get_or_append_left items (new ∷ []) d k (omega arith))) (each k d (omega arith))
 
-pub new_more : (plan : Plan) (items : List Flow) (i port : ℕ) (new : Flow) → length items ≡ i → port ≡ slice_index plan.table i → HasTaken plan.window plan.depth port [] new.desk.state new.sum [] → AreNew plan i items → AreNew plan (i + 1) (items ++ new ∷ [])
+pub new_more : (plan : Plan) (items : List Flow) (i port : ℕ) (new : Flow) → length items ≡ i → port ≡ slice_index plan.table i → HasTaken (playout_of plan) port [] new.desk.state new.sum [] → AreNew plan i items → AreNew plan (i + 1) (items ++ new ∷ [])
 new_more plan items i port new long at h each = λ k d below.
-    new_at plan items i new long (new_stands plan (slice_index plan.table i) new (subst (λ p. HasTaken plan.window plan.depth p [] new.desk.state new.sum []) at h)) each k d below (cases_eq k i)
+    new_at plan items i new long (new_stands plan (slice_index plan.table i) new (subst (λ p. HasTaken (playout_of plan) p [] new.desk.state new.sum []) at h)) each k d below (cases_eq k i)
 
 -- Which flow a record is of
 
@@ -86,8 +88,7 @@ not_of port records r e =
 pub stands_still : (plan : Plan) (records : List Record) (r : Record) (port : ℕ) (flow : Flow) (lane : List ℕ) → is_of port r ≡ false → FlowStands plan records port flow lane → FlowStands plan (records ++ r ∷ []) port flow lane
 stands_still plan records r port flow lane e h = record {
   port_is = h.port_is;
-  window_is = h.window_is;
-  depth_is = h.depth_is;
+  playout_is = h.playout_is;
   taken = record {
     arrivals = h.taken.arrivals;
     plays = h.taken.plays;
@@ -126,7 +127,7 @@ others_of_none table records r none =
 pub few_others : (table : List ℕ) (records : List Record) → others_of table records ≤ length records
 few_others table records = count_by-le-length (λ r. not (list_any (λ flow. is_of flow r) table)) records
 
-pub come_none : (plan : Plan) (engine : Engine) (port : ℕ) → IsOfNone plan.table port → (before now : Option Lanes) (records : List Record) (r : Record) → HasCome plan records engine before now → r.port ≡ port → HasCome plan (records ++ r ∷ []) (record { flows = engine.flows; player = engine.player; other = engine.other + 1 }) before now
+pub come_none : (plan : Plan) (engine : Engine) (port : ℕ) → IsOfNone plan.table port → (before now : Option Lanes) (records : List Record) (r : Record) → HasCome plan records engine before now → r.port ≡ port → HasCome plan (records ++ r ∷ []) (record { flows = engine.flows; piece = engine.piece; other = engine.other + 1 }) before now
 come_none plan engine port none before now records r h e =
     let of_none : IsOfNone plan.table r.port = subst (IsOfNone plan.table) (sym e) none in
     record {
@@ -143,45 +144,44 @@ come_none plan engine port none before now records r h e =
 -- A record of a flow
 
 -- a fact of a flow's own settings, at the plan's
-pub moved : (P : ℕ → ℕ → ℕ → Type 0) (w w' d d' p p' : ℕ) → w ≡ w' → d ≡ d' → p ≡ p' → P w d p → P w' d' p'
-moved P w w' d d' p p' ew ed ep h = subst (λ x. P x d' p') ew (subst (λ x. P w x p') ed (subst (λ x. P w d x) ep h))
+pub moved : (P : Playout → ℕ → Type 0) (w w' : Playout) (p p' : ℕ) → w ≡ w' → p ≡ p' → P w p → P w' p'
+moved P w w' p p' ew ep h = subst (λ (x : Playout). P x p') ew (subst (λ x. P w x) ep h)
 
-pub flow_taken : (plan : Plan) (records : List Record) (port : ℕ) (flow : Flow) (lane : List ℕ) → FlowStands plan records port flow lane → HasTaken flow.desk.state.window flow.desk.state.depth flow.sum.port records flow.desk.state flow.sum lane
+pub flow_taken : (plan : Plan) (records : List Record) (port : ℕ) (flow : Flow) (lane : List ℕ) → FlowStands plan records port flow lane → HasTaken flow.desk.state.playout flow.sum.port records flow.desk.state flow.sum lane
 flow_taken plan records port flow lane h =
-    moved (λ w d p. HasTaken w d p records flow.desk.state flow.sum lane) plan.window flow.desk.state.window plan.depth flow.desk.state.depth port flow.sum.port
-    (sym h.window_is) (sym h.depth_is) (sym h.port_is) h.taken
+    moved (λ w p. HasTaken w p records flow.desk.state flow.sum lane) (playout_of plan) flow.desk.state.playout port flow.sum.port
+    (sym h.playout_is) (sym h.port_is) h.taken
 
 -- what a flow keeps when it takes a record
 pub record KeepsSettings (old new : Flow) : Type 0 where
   pub port : new.sum.port ≡ old.sum.port
-  pub window : new.desk.state.window ≡ old.desk.state.window
-  pub depth : new.desk.state.depth ≡ old.desk.state.depth
+  pub playout : new.desk.state.playout ≡ old.desk.state.playout
 
 -- what a flow does with a record that it takes whole, or that a fault stops
 abbrev pub Takes : Flow → Flow → Kind → List ℕ → Option Lanes → Option Lanes → Type 0
 Takes old new kind datagram now after =
     (records : List Record) (r : Record) (lane : List ℕ)
-    → HasTaken old.desk.state.window old.desk.state.depth old.sum.port records old.desk.state old.sum lane
+    → HasTaken old.desk.state.playout old.sum.port records old.desk.state old.sum lane
     → r.datagram ≡ datagram → port_of old.sum.port kind ≡ r.port
-    → TakesRecord old.desk.state.window old.desk.state.depth old.sum.port records r lane new.desk.state new.sum now after
+    → TakesRecord old.desk.state.playout old.sum.port records r lane new.desk.state new.sum now after
 
 abbrev pub Breaks : Flow → Kind → List ℕ → Option Lanes → Option Lanes → Type 0
 Breaks old kind datagram now after =
     (records : List Record) (r : Record) (lane : List ℕ)
-    → HasTaken old.desk.state.window old.desk.state.depth old.sum.port records old.desk.state old.sum lane
+    → HasTaken old.desk.state.playout old.sum.port records old.desk.state old.sum lane
     → r.datagram ≡ datagram → port_of old.sum.port kind ≡ r.port
-    → BreaksAtRecord old.desk.state.window old.desk.state.depth old.sum.port records r lane now after
+    → BreaksAtRecord old.desk.state.playout old.sum.port records r lane now after
 
-flow_step : (plan : Plan) (records : List Record) (r : Record) (port : ℕ) (old new : Flow) (lane : List ℕ) (kind : Kind) (datagram : List ℕ) (now after : Option Lanes) → KeepsSettings old new → Takes old new kind datagram now after → FlowStands plan records port old lane → r.datagram ≡ datagram → port_of port kind ≡ r.port → TakesRecord plan.window plan.depth port records r lane new.desk.state new.sum now after
+flow_step : (plan : Plan) (records : List Record) (r : Record) (port : ℕ) (old new : Flow) (lane : List ℕ) (kind : Kind) (datagram : List ℕ) (now after : Option Lanes) → KeepsSettings old new → Takes old new kind datagram now after → FlowStands plan records port old lane → r.datagram ≡ datagram → port_of port kind ≡ r.port → TakesRecord (playout_of plan) port records r lane new.desk.state new.sum now after
 flow_step plan records r port old new lane kind datagram now after keeps takes h same of =
-    moved (λ w d p. TakesRecord w d p records r lane new.desk.state new.sum now after) old.desk.state.window plan.window old.desk.state.depth plan.depth old.sum.port port
-    h.window_is h.depth_is h.port_is
+    moved (λ w p. TakesRecord w p records r lane new.desk.state new.sum now after) old.desk.state.playout (playout_of plan) old.sum.port port
+    h.playout_is h.port_is
     (takes records r lane (flow_taken plan records port old lane h) same (subst (λ p. port_of p kind ≡ r.port) (sym h.port_is) of))
 
-flow_break : (plan : Plan) (records : List Record) (r : Record) (port : ℕ) (old : Flow) (lane : List ℕ) (kind : Kind) (datagram : List ℕ) (now after : Option Lanes) → Breaks old kind datagram now after → FlowStands plan records port old lane → r.datagram ≡ datagram → port_of port kind ≡ r.port → BreaksAtRecord plan.window plan.depth port records r lane now after
+flow_break : (plan : Plan) (records : List Record) (r : Record) (port : ℕ) (old : Flow) (lane : List ℕ) (kind : Kind) (datagram : List ℕ) (now after : Option Lanes) → Breaks old kind datagram now after → FlowStands plan records port old lane → r.datagram ≡ datagram → port_of port kind ≡ r.port → BreaksAtRecord (playout_of plan) port records r lane now after
 flow_break plan records r port old lane kind datagram now after breaks h same of =
-    moved (λ w d p. BreaksAtRecord w d p records r lane now after) old.desk.state.window plan.window old.desk.state.depth plan.depth old.sum.port port
-    h.window_is h.depth_is h.port_is
+    moved (λ w p. BreaksAtRecord w p records r lane now after) old.desk.state.playout (playout_of plan) old.sum.port port
+    h.playout_is h.port_is
     (breaks records r lane (flow_taken plan records port old lane h) same (subst (λ p. port_of p kind ≡ r.port) (sym h.port_is) of))
 
 -- the flow that took it
@@ -212,20 +212,19 @@ at_each law plan good records r items gained i kind of new piece short stands k 
 
 pub come_some :
     OneFlowHasAPort → (plan : Plan) → IsTable plan.table → (engine : Engine) (port i : ℕ) (kind : Kind) → IsPortOf plan.table port i kind
-    → (old new : Flow) (player : Player) → old ≡ slice_index_or engine.flows.items i old
+    → (old new : Flow) (shared : Engine) → old ≡ slice_index_or engine.flows.items i old
     → KeepsSettings old new
     → (datagram : List ℕ) (now after : Option Lanes) → Takes old new kind datagram now after
     → (before : Option Lanes) (records : List Record) (r : Record) → HasCome plan records engine before now → r.port ≡ port → r.datagram ≡ datagram
-    → HasCome plan (records ++ r ∷ []) (record { flows = with_item engine.flows i new; player = player; other = engine.other }) before after
-come_some law plan good engine port i kind of old new player at keeps datagram now after takes before records r h e same =
+    → HasCome plan (records ++ r ∷ []) (record { flows = with_item engine.flows i new; piece = shared.piece; other = engine.other }) before after
+come_some law plan good engine port i kind of old new shared at keeps datagram now after takes before records r h e same =
     let here : IsPortOf plan.table r.port i kind = subst (λ p. IsPortOf plan.table p i kind) (sym e) of in
     let flow = slice_index plan.table i in
     let stood : FlowStands plan records flow old (h.gained flow) = subst (λ (f : Flow). FlowStands plan records flow f (h.gained flow)) (sym at) (h.stands.flows i old of.0) in
-    let step : TakesRecord plan.window plan.depth flow records r (h.gained flow) new.desk.state new.sum now after = flow_step plan records r flow old new (h.gained flow) kind datagram now after keeps takes stood same here.1 in
+    let step : TakesRecord (playout_of plan) flow records r (h.gained flow) new.desk.state new.sum now after = flow_step plan records r flow old new (h.gained flow) kind datagram now after keeps takes stood same here.1 in
     let stands : FlowStands plan (records ++ r ∷ []) flow new (h.gained flow ++ step.piece) = record {
       port_is = keeps.port ∙ stood.port_is;
-      window_is = keeps.window ∙ stood.window_is;
-      depth_is = keeps.depth ∙ stood.depth_is;
+      playout_is = keeps.playout ∙ stood.playout_is;
       taken = step.taken;
     } in
     record {
@@ -241,57 +240,57 @@ come_some law plan good engine port i kind of old new player at keeps datagram n
 
 -- A fault
 
-front_more : (window depth : ℕ) (records : List Record) (r : Record) (port : ℕ) (lane : List ℕ) → IsFrontOfLane window depth records port lane → IsFrontOfLane window depth (records ++ r ∷ []) port lane
-front_more window depth records r port lane f later result h = f (r ∷ later) result (subst (λ (rs : List Record). IsFlowResult window depth rs port result) (append_assoc records (r ∷ []) later) h)
+front_more : (playout : Playout) (records : List Record) (r : Record) (port : ℕ) (lane : List ℕ) → IsFrontOfLane playout records port lane → IsFrontOfLane playout (records ++ r ∷ []) port lane
+front_more playout records r port lane f later result h = f (r ∷ later) result (subst (λ (rs : List Record). IsFlowResult playout rs port result) (append_assoc records (r ∷ []) later) h)
 
 some_flow : (items : List Flow) → 0 < length items → Flow
 some_flow [] h = absurd (omega arith)
 some_flow (f ∷ items) h = f
 
 -- what a flow of the table has shown is its lane's front
-pub front_at : TakenIsFront → (plan : Plan) (records : List Record) (engine : Engine) (gained : ℕ → List ℕ) → EngineStands plan records engine gained → (port : ℕ) → Contains plan.table port → IsFrontOfLane plan.window plan.depth records port (gained port)
+pub front_at : ShownIsFront → (plan : Plan) (records : List Record) (engine : Engine) (gained : ℕ → List ℕ) → EngineStands plan records engine gained → (port : ℕ) → Contains plan.table port → IsFrontOfLane (playout_of plan) records port (gained port)
 front_at law plan records engine gained h port c =
     let any = some_flow engine.flows.items (omega (arith, h.count, c.1)) in
     let same : slice_index plan.table c.0 ≡ port = get_or_default plan.table c.0 0 port c.1 ∙ c.2 in
     let stands : FlowStands plan records (slice_index plan.table c.0) (slice_index_or engine.flows.items c.0 any) (gained (slice_index plan.table c.0)) = h.flows c.0 any c.1 in
-    subst (λ p. IsFrontOfLane plan.window plan.depth records p (gained p)) same
-    (law plan.window plan.depth (slice_index plan.table c.0) records _ _ (gained (slice_index plan.table c.0)) stands.taken)
+    subst (λ p. IsFrontOfLane (playout_of plan) records p (gained p)) same
+    (front_of law (playout_of plan) (slice_index plan.table c.0) records _ _ (gained (slice_index plan.table c.0)) stands.taken)
 
-broken_at : TakenIsFront → (plan : Plan) (records : List Record) (r : Record) (engine : Engine) (gained : ℕ → List ℕ) → EngineStands plan records engine gained → (flow : ℕ) (part : List ℕ) → IsFrontOfLane plan.window plan.depth (records ++ r ∷ []) flow (gained flow ++ part) → (port : ℕ) → Contains plan.table port → (port ≡ flow) ⊎ (port ≡ flow → ⊥) → IsFrontOfLane plan.window plan.depth (records ++ r ∷ []) port (more gained flow part port)
+broken_at : ShownIsFront → (plan : Plan) (records : List Record) (r : Record) (engine : Engine) (gained : ℕ → List ℕ) → EngineStands plan records engine gained → (flow : ℕ) (part : List ℕ) → IsFrontOfLane (playout_of plan) (records ++ r ∷ []) flow (gained flow ++ part) → (port : ℕ) → Contains plan.table port → (port ≡ flow) ⊎ (port ≡ flow → ⊥) → IsFrontOfLane (playout_of plan) (records ++ r ∷ []) port (more gained flow part port)
 broken_at law plan records r engine gained h flow part f port c (inl e) =
-    subst (λ p. IsFrontOfLane plan.window plan.depth (records ++ r ∷ []) p (more gained flow part p)) (sym e)
-    (subst (λ (lane : List ℕ). IsFrontOfLane plan.window plan.depth (records ++ r ∷ []) flow lane) (sym (more_same gained flow part)) f)
+    subst (λ p. IsFrontOfLane (playout_of plan) (records ++ r ∷ []) p (more gained flow part p)) (sym e)
+    (subst (λ (lane : List ℕ). IsFrontOfLane (playout_of plan) (records ++ r ∷ []) flow lane) (sym (more_same gained flow part)) f)
 broken_at law plan records r engine gained h flow part f port c (inr ne) =
-    subst (λ (lane : List ℕ). IsFrontOfLane plan.window plan.depth (records ++ r ∷ []) port lane) (sym (more_other gained flow part port ne))
-    (front_more plan.window plan.depth records r port (gained port) (front_at law plan records engine gained h port c))
+    subst (λ (lane : List ℕ). IsFrontOfLane (playout_of plan) (records ++ r ∷ []) port lane) (sym (more_other gained flow part port ne))
+    (front_more (playout_of plan) records r port (gained port) (front_at law plan records engine gained h port c))
 
 -- what a flow of the table has shown
-pub shown_at : (plan : Plan) (records : List Record) (engine : Engine) (gained : ℕ → List ℕ) → EngineStands plan records engine gained → (port : ℕ) → Contains plan.table port → HasShown plan.window plan.depth port records (gained port)
+pub shown_at : (plan : Plan) (records : List Record) (engine : Engine) (gained : ℕ → List ℕ) → EngineStands plan records engine gained → (port : ℕ) → Contains plan.table port → HasShown (playout_of plan) port records (gained port)
 shown_at plan records engine gained h port c =
     let any = some_flow engine.flows.items (omega (arith, h.count, c.1)) in
     let same : slice_index plan.table c.0 ≡ port = get_or_default plan.table c.0 0 port c.1 ∙ c.2 in
     let stands : FlowStands plan records (slice_index plan.table c.0) (slice_index_or engine.flows.items c.0 any) (gained (slice_index plan.table c.0)) = h.flows c.0 any c.1 in
-    subst (λ p. HasShown plan.window plan.depth p records (gained p)) same
-    (shown_of plan.window plan.depth (slice_index plan.table c.0) records _ _ (gained (slice_index plan.table c.0)) stands.taken)
+    subst (λ p. HasShown (playout_of plan) p records (gained p)) same
+    (shown_of (playout_of plan) (slice_index plan.table c.0) records _ _ (gained (slice_index plan.table c.0)) stands.taken)
 
 -- and a part of what it shows next, where a fault broke it
-between : (plan : Plan) (records : List Record) (r : Record) (gained : ℕ → List ℕ) (flow : ℕ) (part : List ℕ) → HasShown plan.window plan.depth flow records (gained flow) → ((next : List ℕ) → HasShown plan.window plan.depth flow (records ++ r ∷ []) next → IsPrefix (gained flow ++ part) next) → LiesBetween (HasShown plan.window plan.depth flow records) (HasShown plan.window plan.depth flow (records ++ r ∷ [])) (more gained flow part flow)
+between : (plan : Plan) (records : List Record) (r : Record) (gained : ℕ → List ℕ) (flow : ℕ) (part : List ℕ) → HasShown (playout_of plan) flow records (gained flow) → ((next : List ℕ) → HasShown (playout_of plan) flow (records ++ r ∷ []) next → IsPrefix (gained flow ++ part) next) → LiesBetween (HasShown (playout_of plan) flow records) (HasShown (playout_of plan) flow (records ++ r ∷ [])) (more gained flow part flow)
 between plan records r gained flow part shown next = record {
   first = gained flow;
   are = shown;
   begins = (part, more_same gained flow part);
-  next = λ (bytes : List ℕ) (h : HasShown plan.window plan.depth flow (records ++ r ∷ []) bytes). subst (λ (lane : List ℕ). IsPrefix lane bytes) (sym (more_same gained flow part)) (next bytes h);
+  next = λ (bytes : List ℕ) (h : HasShown (playout_of plan) flow (records ++ r ∷ []) bytes). subst (λ (lane : List ℕ). IsPrefix lane bytes) (sym (more_same gained flow part)) (next bytes h);
 }
 
-exact_at : (plan : Plan) (records : List Record) (r : Record) (engine : Engine) (gained : ℕ → List ℕ) → EngineStands plan records engine gained → (flow : ℕ) (part : List ℕ) → Contains plan.table flow → ((next : List ℕ) → HasShown plan.window plan.depth flow (records ++ r ∷ []) next → IsPrefix (gained flow ++ part) next) → (port : ℕ) → Contains plan.table port → (port ≡ flow) ⊎ (port ≡ flow → ⊥) → HasShown plan.window plan.depth port records (more gained flow part port) ⊎ ((Some flow ≡ Some port) × LiesBetween (HasShown plan.window plan.depth port records) (HasShown plan.window plan.depth port (records ++ r ∷ [])) (more gained flow part port))
+exact_at : (plan : Plan) (records : List Record) (r : Record) (engine : Engine) (gained : ℕ → List ℕ) → EngineStands plan records engine gained → (flow : ℕ) (part : List ℕ) → Contains plan.table flow → ((next : List ℕ) → HasShown (playout_of plan) flow (records ++ r ∷ []) next → IsPrefix (gained flow ++ part) next) → (port : ℕ) → Contains plan.table port → (port ≡ flow) ⊎ (port ≡ flow → ⊥) → HasShown (playout_of plan) port records (more gained flow part port) ⊎ ((Some flow ≡ Some port) × LiesBetween (HasShown (playout_of plan) port records) (HasShown (playout_of plan) port (records ++ r ∷ [])) (more gained flow part port))
 exact_at plan records r engine gained h flow part here next port c (inl e) =
-    subst (λ p. HasShown plan.window plan.depth p records (more gained flow part p) ⊎ ((Some flow ≡ Some p) × LiesBetween (HasShown plan.window plan.depth p records) (HasShown plan.window plan.depth p (records ++ r ∷ [])) (more gained flow part p))) (sym e)
+    subst (λ p. HasShown (playout_of plan) p records (more gained flow part p) ⊎ ((Some flow ≡ Some p) × LiesBetween (HasShown (playout_of plan) p records) (HasShown (playout_of plan) p (records ++ r ∷ [])) (more gained flow part p))) (sym e)
     (inr (refl, between plan records r gained flow part (shown_at plan records engine gained h flow here) next))
 exact_at plan records r engine gained h flow part here next port c (inr ne) =
-    inl (subst (λ (lane : List ℕ). HasShown plan.window plan.depth port records lane) (sym (more_other gained flow part port ne)) (shown_at plan records engine gained h port c))
+    inl (subst (λ (lane : List ℕ). HasShown (playout_of plan) port records lane) (sym (more_other gained flow part port ne)) (shown_at plan records engine gained h port c))
 
 pub breaks_some :
-    TakenIsFront → (plan : Plan) (engine : Engine) (port i : ℕ) (kind : Kind) → IsPortOf plan.table port i kind
+    ShownIsFront → (plan : Plan) (engine : Engine) (port i : ℕ) (kind : Kind) → IsPortOf plan.table port i kind
     → (old : Flow) → old ≡ slice_index_or engine.flows.items i old
     → (datagram : List ℕ) (now after : Option Lanes) → Breaks old kind datagram now after
     → (before : Option Lanes) (records : List Record) (r : Record) → HasCome plan records engine before now → r.port ≡ port → r.datagram ≡ datagram
@@ -300,7 +299,7 @@ breaks_some law plan engine port i kind of old at datagram now after breaks befo
     let here : IsPortOf plan.table r.port i kind = subst (λ p. IsPortOf plan.table p i kind) (sym e) of in
     let flow = slice_index plan.table i in
     let stood : FlowStands plan records flow old (h.gained flow) = subst (λ (f : Flow). FlowStands plan records flow f (h.gained flow)) (sym at) (h.stands.flows i old of.0) in
-    let step : BreaksAtRecord plan.window plan.depth flow records r (h.gained flow) now after = flow_break plan records r flow old (h.gained flow) kind datagram now after breaks stood same here.1 in (
+    let step : BreaksAtRecord (playout_of plan) flow records r (h.gained flow) now after = flow_break plan records r flow old (h.gained flow) kind datagram now after breaks stood same here.1 in (
       Some flow,
       record {
         gained = more h.gained flow step.part;

@@ -5,18 +5,11 @@ use Rattle.std.proofs.Math.Seq.{take-append_seam}
 use Rattle.std.proofs.lemmas.List.{take-append-drop}
 use Rattle.fg_io.specs.Outlet.{Lanes, lane_of, lane_bytes}
 use Rattle.fg_flows.specs.declared.Plan.{Plan}
+use Rattle.fg_flows.specs.Plan.{playout_of}
 use Rattle.fg_trace.specs.Trace.{Record}
-use Rattle.fg_desk.specs.Laws.{OneTaking}
-use Rattle.fg_desk.specs.Run.{Arrival, TakesAll}
-use Rattle.fg_desk.specs.State.{opening}
-use Rattle.fg_fechead.specs.Laws.{ReadsOneWay as ParityReadsOneWay}
-use Rattle.fg_rtp.specs.Laws.{ReadsOneWay as MediaReadsOneWay}
-use Rattle.fg_repair.specs.Engine.{OneFlowResult, GrowAll, AreThere, BreaksAfter, MakesFirst, StopsAt}
-use Rattle.fg_repair.specs.Flow.{FlowResult, records_of, lane_of as lane_of_plays}
-use Rattle.fg_repair.specs.Laws.{OneGained}
-use Rattle.fg_repair.specs.Lanes.{PutsAll}
-use Rattle.fg_repair.specs.Stops.{HasShown, HasLane, LiesBetween, Stage, Making, Taking, Flushing, made_at, HasGained, HasGainedPart}
-use Rattle.fg_repair.proofs.Arriving.{arrivals_are_read, one_list_arrives}
+use Rattle.fg_repair.specs.Engine.{GrowAll, AreThere, BreaksAfter, MakesFirst, StopsAt}
+use Rattle.fg_results.specs.Lanes.{PutsAll}
+use Rattle.fg_results.specs.Stops.{HasShown, LiesBetween, Stage, Making, Taking, made_at, HasGained, HasGainedPart}
 use Rattle.fg_repair.proofs.Flushing.{some_is}
 
 -- What the lanes have gained, in the order of the ports
@@ -81,19 +74,19 @@ next_first taken next all broken (inr one) walked flow is =
 shown_at_stage :
     (plan : Plan) (all taken next : List Record) (broken : Option ℕ) (flow : ℕ) (bytes : List ℕ)
     → take (length taken) all ≡ taken → (broken ≡ Some flow → take (length taken + 1) all ≡ next)
-    → HasShown plan.window plan.depth flow taken bytes
-    ⊎ ((broken ≡ Some flow) × LiesBetween (HasShown plan.window plan.depth flow taken) (HasShown plan.window plan.depth flow next) bytes)
+    → HasShown (playout_of plan) flow taken bytes
+    ⊎ ((broken ≡ Some flow) × LiesBetween (HasShown (playout_of plan) flow taken) (HasShown (playout_of plan) flow next) bytes)
     → HasGained plan all (Taking (length taken)) flow bytes ⊎ ((broken ≡ Some flow) × HasGainedPart plan all (Taking (length taken)) flow bytes)
 shown_at_stage plan all taken next broken flow bytes now then (inl shown) =
-    inl (subst (λ (rs : List Record). HasShown plan.window plan.depth flow rs bytes) (sym now) shown)
+    inl (subst (λ (rs : List Record). HasShown (playout_of plan) flow rs bytes) (sym now) shown)
 shown_at_stage plan all taken next broken flow bytes now then (inr part) =
     inr (
       part.0,
       record {
         first = part.1.first;
-        are = subst (λ (rs : List Record). HasShown plan.window plan.depth flow rs part.1.first) (sym now) part.1.are;
+        are = subst (λ (rs : List Record). HasShown (playout_of plan) flow rs part.1.first) (sym now) part.1.are;
         begins = part.1.begins;
-        next = λ more h. part.1.next more (subst (λ (rs : List Record). HasShown plan.window plan.depth flow rs more) (then part.0) h);
+        next = λ more h. part.1.next more (subst (λ (rs : List Record). HasShown (playout_of plan) flow rs more) (then part.0) h);
       },
     )
 
@@ -106,27 +99,3 @@ taking_stops plan Quiet all taken next broken before after quiet follows walked 
     (λ flow c. shown_at_stage plan all taken next broken flow (h.gained flow) (taken_first taken next all broken follows walked)
     (next_first taken next all broken follows walked flow) (h.exact flow c))
     h.grow h.there
-
--- What is gained is one
-
-one_shown : MediaReadsOneWay → ParityReadsOneWay → OneTaking → (window depth flow : ℕ) (records : List Record) (one other : List ℕ) → HasShown window depth flow records one → HasShown window depth flow records other → one ≡ other
-one_shown media parity once window depth flow records one other a b =
-    let same = one_list_arrives media parity flow (records_of flow records) b.arrivals a.arrivals b.arrive a.arrive in
-    let plays = once window depth a.arrivals a.plays b.plays a.replies b.replies a.state b.state (arrivals_are_read flow records a.arrivals a.arrive) a.takes
-    (subst (λ (xs : List Arrival). TakesAll (opening window depth) xs b.plays b.replies b.state) same b.takes) in
-    a.bytes_are ∙ ap lane_of_plays plays.0 ∙ sym b.bytes_are
-
-one_lane : OneFlowResult → (window depth flow : ℕ) (records : List Record) (one other : List ℕ) → HasLane window depth flow records one → HasLane window depth flow records other → one ≡ other
-one_lane law window depth flow records one other a b =
-    a.bytes_are ∙ ap (λ (r : FlowResult). r.lane) (law window depth flow records a.result b.result a.is_result b.is_result) ∙ sym b.bytes_are
-
-pub one_gained : MediaReadsOneWay → ParityReadsOneWay → OneTaking → OneFlowResult → OneGained
-one_gained media parity once law plan records (Making n) flow one other a b = a ∙ sym b
-one_gained media parity once law plan records (Taking n) flow one other a b =
-    one_shown media parity once plan.window plan.depth flow (take n records) one other a b
-one_gained media parity once law plan records (Flushing n) flow one other (inl a) (inl b) =
-    one_lane law plan.window plan.depth flow records one other a.1 b.1
-one_gained media parity once law plan records (Flushing n) flow one other (inl a) (inr b) = absurd (b.0 a.0)
-one_gained media parity once law plan records (Flushing n) flow one other (inr a) (inl b) = absurd (a.0 b.0)
-one_gained media parity once law plan records (Flushing n) flow one other (inr a) (inr b) =
-    one_shown media parity once plan.window plan.depth flow records one other a.1 b.1

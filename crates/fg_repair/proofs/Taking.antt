@@ -7,25 +7,27 @@ use Rattle.fg_io.specs.Outlet.{Lanes}
 use Rattle.fg_rtp.specs.Laws.{ReadsOneWay as MediaReadsOneWay}
 use Rattle.fg_fechead.specs.Laws.{ReadsOneWay as ParityReadsOneWay}
 use Rattle.fg_trace.specs.Trace.{Record}
-use Rattle.fg_flows.specs.declared.Kind.{Kind}
-use Rattle.fg_flows.specs.Flows.{port_of}
+use Rattle.fg_shape.specs.declared.kind.Kind.{Kind}
+use Rattle.fg_shape.specs.Kind.{port_of}
 use Rattle.fg_desk.specs.declared.reply.Reply.{Reply}
-use Rattle.fg_desk.specs.declared.run.Stream.TheVariants as stream
+use Rattle.fg_shape.specs.declared.kind.Kind.TheVariants as kind
+use Rattle.fg_shape.specs.Playout.{Playout}
 use Rattle.fg_desk.specs.State.{State, opening}
 use Rattle.fg_desk.specs.Play.{Play}
 use Rattle.fg_desk.specs.Run.{Arrival, carries, protects, refused, TakesAll, IsFlush, IsRun}
 use Rattle.fg_desk.specs.Arrivals.{StaysWithin}
 use Rattle.fg_desk.specs.Laws.{IsRead, LaterChangesNothing, OneTaking, PlayIsOne, AreFlushSteps, TakingsJoin, TakenPlaysComeFirst, DuePlaysComeNext, FlushStepsComeNext, PlaysReachTheMark, EachGetsAReply, CountsAdd}
 use Rattle.fg_report.specs.declared.flow_sum.FlowSum.{FlowSum}
-use Rattle.fg_repair.specs.Flow.{FlowResult, IsFlowResult, IsReadAs, Arrives, records_of, all_shown, marks_of, lane_of, sum_of}
+use Rattle.fg_results.specs.Flow.{FlowResult, IsFlowResult, IsReadAs, Arrives, records_of, all_shown, marks_of, lane_of, sum_of}
 use Rattle.fg_repair.specs.Steps.{HasTaken, HaveShown, BreakOff, AdmitsDatagram, PlaysBefore, BreaksAtDatagram, TakesRecord, BreaksAtRecord, EndsFlow, BreaksAtEnd, with_plays, with_answer}
-use Rattle.fg_repair.specs.Stops.{HasShown}
+use Rattle.fg_results.specs.Stops.{HasShown}
 use Rattle.fg_repair.proofs.Breaking.{plays_go_on}
-use Rattle.fg_repair.proofs.Arriving.{one_more_record, and_later_records, arrivals_are_read, one_list_arrives, arrivals_begin}
+use Rattle.fg_results.proofs.ArrivalLemmas.{one_more_record, and_later_records, arrivals_are_read, one_list_arrives, arrivals_begin}
 use Rattle.fg_repair.proofs.Answering.{answer_added}
-use Rattle.fg_repair.proofs.Counting.{plays_more, lane_more}
+use Rattle.fg_results.proofs.ShownLemmas.{lane_more}
+use Rattle.fg_repair.proofs.Counting.{plays_more}
 use Rattle.fg_repair.proofs.Underway.{mark_is_shown}
-use Rattle.fg_repair.proofs.Zips.{zip_push}
+use Rattle.fg_results.proofs.Zips.{zip_push}
 
 -- The counts of replies alone.
 abbrev replies_alone : ℕ → List Arrival → List (Option Reply) → FlowSum
@@ -36,9 +38,9 @@ replies_alone flow arrivals replies = record {
   missing = 0;
   windows = 0;
   inconsistent = 0;
-  media = marks_of stream.Media arrivals replies;
-  column = marks_of stream.Column arrivals replies;
-  row = marks_of stream.Row arrivals replies;
+  media = marks_of kind.Media arrivals replies;
+  column = marks_of kind.Column arrivals replies;
+  row = marks_of kind.Row arrivals replies;
   gaps = [];
 }
 
@@ -67,11 +69,11 @@ plays_added flow arrivals plays more replies =
     ∙ sym (sum_is_with_plays flow arrivals (plays ++ more) replies)
 
 pub sum_after_plays :
-    PlaysReachTheMark → (window depth flow : ℕ) (records : List Record) (state : State) (sum sum' : FlowSum) (lane : List ℕ)
-    → 1 ≤ window → (taken : HasTaken window depth flow records state sum lane) → (plays : List Play)
+    PlaysReachTheMark → (playout : Playout) (flow : ℕ) (records : List Record) (state : State) (sum sum' : FlowSum) (lane : List ℕ)
+    → 1 ≤ playout.window → (taken : HasTaken playout flow records state sum lane) → (plays : List Play)
     → sum' ≡ with_plays sum state.mark plays → sum' ≡ sum_of flow taken.arrivals (taken.plays ++ plays) taken.replies
-sum_after_plays reach window depth flow records state sum sum' lane some taken plays counts =
-    let mark = mark_is_shown reach window depth taken.arrivals taken.plays taken.replies state some taken.takes in
+sum_after_plays reach playout flow records state sum sum' lane some taken plays counts =
+    let mark = mark_is_shown reach playout taken.arrivals taken.plays taken.replies state some taken.takes in
     counts
     ∙ (λ i. with_plays (taken.sum_is i) (mark i) plays)
     ∙ plays_added flow taken.arrivals taken.plays plays taken.replies
@@ -94,11 +96,11 @@ front_of_lane lane part whole before next after plays is front begin shown = (
 -- The end.
 
 pub flow_ends :
-    PlaysReachTheMark → (window depth : ℕ) (state : State) (sum sum' : FlowSum) (before after : Option Lanes) → 1 ≤ window
+    PlaysReachTheMark → (playout : Playout) (state : State) (sum sum' : FlowSum) (before after : Option Lanes) → 1 ≤ playout.window
     → (empty : State) × HaveShown (IsFlush state) state sum before empty sum' after
-    → (records : List Record) (lane : List ℕ) → HasTaken window depth sum.port records state sum lane
-    → EndsFlow window depth sum.port records lane sum' before after
-flow_ends reach window depth state sum sum' before after some (empty, shown) records lane taken = record {
+    → (records : List Record) (lane : List ℕ) → HasTaken playout sum.port records state sum lane
+    → EndsFlow playout sum.port records lane sum' before after
+flow_ends reach playout state sum sum' before after some (empty, shown) records lane taken = record {
   piece = lane_of shown.plays;
   grows = shown.grows;
   result = record {
@@ -116,24 +118,24 @@ flow_ends reach window depth state sum sum' before after some (empty, shown) rec
       plays_are = refl;
     };
     lane = ap (λ (bytes : List ℕ). bytes ++ lane_of shown.plays) taken.lane_is ∙ sym (lane_more taken.plays shown.plays);
-    sum = sum_after_plays reach window depth sum.port records state sum sum' lane some taken shown.plays shown.counts;
+    sum = sum_after_plays reach playout sum.port records state sum sum' lane some taken shown.plays shown.counts;
   };
 }
 
 module _ (media : MediaReadsOneWay) (parity : ParityReadsOneWay) where
   pub flow_breaks :
-      FlushStepsComeNext → (window depth flow : ℕ) (state : State) (sum : FlowSum) (before after : Option Lanes)
+      FlushStepsComeNext → (playout : Playout) (flow : ℕ) (state : State) (sum : FlowSum) (before after : Option Lanes)
       → BreakOff (AreFlushSteps state) flow before after
-      → (records : List Record) (lane : List ℕ) → HasTaken window depth flow records state sum lane
-      → BreaksAtEnd window depth flow records lane before after
-  flow_breaks next window depth flow state sum before after off records lane taken = record {
+      → (records : List Record) (lane : List ℕ) → HasTaken playout flow records state sum lane
+      → BreaksAtEnd playout flow records lane before after
+  flow_breaks next playout flow state sum before after off records lane taken = record {
     part = off.part.0;
     grows = off.part.2;
-    begins = λ (result : FlowResult) (is : IsFlowResult window depth records flow result).
+    begins = λ (result : FlowResult) (is : IsFlowResult playout records flow result).
         let same = one_list_arrives media parity flow (records_of flow records) is.arrivals taken.arrivals is.arrive taken.arrive in
-        let begin = next window depth taken.arrivals taken.plays off.plays is.plays taken.replies is.replies state off.now
+        let begin = next playout taken.arrivals taken.plays off.plays is.plays taken.replies is.replies state off.now
         (arrivals_are_read flow records taken.arrivals taken.arrive) taken.takes off.are
-        (subst (λ (arrivals : List Arrival). IsRun window depth arrivals is.plays is.replies) same is.run) in
+        (subst (λ (arrivals : List Arrival). IsRun playout arrivals is.plays is.replies) same is.run) in
         front_of_lane lane off.part.0 result.lane taken.plays off.plays begin.0 is.plays taken.lane_is off.part.1 begin.1 is.lane;
   }
 
@@ -141,17 +143,17 @@ module _ (media : MediaReadsOneWay) (parity : ParityReadsOneWay) where
 
 pub record_taken :
     PlaysReachTheMark → TakingsJoin → CountsAdd → EachGetsAReply
-    → (window depth : ℕ) (kind : Kind) (bytes : List ℕ) (state new : State) (sum sum' last : FlowSum) (reply : Option Reply)
-    (before after : Option Lanes) → 1 ≤ window → AdmitsDatagram kind bytes state sum before reply new sum' after
+    → (playout : Playout) (kind : Kind) (bytes : List ℕ) (state new : State) (sum sum' last : FlowSum) (reply : Option Reply)
+    (before after : Option Lanes) → 1 ≤ playout.window → AdmitsDatagram kind bytes state sum before reply new sum' after
     → last ≡ with_answer kind sum' reply
-    → (records : List Record) (r : Record) (lane : List ℕ) → HasTaken window depth sum.port records state sum lane
+    → (records : List Record) (r : Record) (lane : List ℕ) → HasTaken playout sum.port records state sum lane
     → r.datagram ≡ bytes → port_of sum.port kind ≡ r.port
-    → TakesRecord window depth sum.port records r lane new last before after
-record_taken reach join add each window depth kind bytes state new sum sum' last reply before after some admits counted records r lane taken is on =
+    → TakesRecord playout sum.port records r lane new last before after
+record_taken reach join add each playout kind bytes state new sum sum' last reply before after some admits counted records r lane taken is on =
     let flow = sum.port in
-    let plays = sum_after_plays reach window depth flow records state sum sum' lane some taken admits.due admits.counts in
+    let plays = sum_after_plays reach playout flow records state sum sum' lane some taken admits.due admits.counts in
     let same : length taken.arrivals ≡ length taken.replies =
-    sym (each (opening window depth) state taken.arrivals taken.plays taken.replies taken.takes) in
+    sym (each (opening playout) state taken.arrivals taken.plays taken.replies taken.takes) in
     record {
       piece = lane_of admits.due;
       grows = admits.grows;
@@ -165,7 +167,7 @@ record_taken reach join add each window depth kind bytes state new sum sum' last
             (zip_push (Arrives flow) (records_of flow records) taken.arrivals r admits.arrival taken.arrive
             (kind, on, subst (λ (bytes : List ℕ). IsReadAs kind bytes admits.arrival) (sym is) admits.read));
         takes =
-            join (opening window depth) state new taken.arrivals (admits.arrival ∷ []) taken.plays admits.due taken.replies (reply ∷ [])
+            join (opening playout) state new taken.arrivals (admits.arrival ∷ []) taken.plays admits.due taken.replies (reply ∷ [])
             taken.takes (admits.due, [], new, sym (append-nil admits.due), admits.takes, (refl, refl, refl));
         lane_is = ap (λ (bytes : List ℕ). bytes ++ lane_of admits.due) taken.lane_is ∙ sym (lane_more taken.plays admits.due);
         sum_is =
@@ -178,12 +180,12 @@ record_taken reach join add each window depth kind bytes state new sum sum' last
 module _ (media : MediaReadsOneWay) (parity : ParityReadsOneWay) where
   -- The run of a trace that goes on has this datagram next.
   goes_on :
-      (window depth flow : ℕ) (kind : Kind) (bytes : List ℕ) (state : State) (sum : FlowSum) (arrival : Arrival) → IsReadAs kind bytes arrival
-      → (records : List Record) (r : Record) (lane : List ℕ) (taken : HasTaken window depth flow records state sum lane)
+      (playout : Playout) (flow : ℕ) (kind : Kind) (bytes : List ℕ) (state : State) (sum : FlowSum) (arrival : Arrival) → IsReadAs kind bytes arrival
+      → (records : List Record) (r : Record) (lane : List ℕ) (taken : HasTaken playout flow records state sum lane)
       → r.datagram ≡ bytes → port_of flow kind ≡ r.port → (later : List Record) (arrivals : List Arrival)
       → AllZip (Arrives flow) (records_of flow ((records ++ r ∷ []) ++ later)) arrivals
       → (rest : List Arrival) × (arrivals ≡ taken.arrivals ++ arrival ∷ rest)
-  goes_on window depth flow kind bytes state sum arrival read records r lane taken is on later arrivals arrive =
+  goes_on playout flow kind bytes state sum arrival read records r lane taken is on later arrivals arrive =
       let own = and_later_records flow kind records later r on in
       let first : AllZip (Arrives flow) (records_of flow records ++ r ∷ []) (taken.arrivals ++ arrival ∷ []) =
       zip_push (Arrives flow) (records_of flow records) taken.arrivals r arrival taken.arrive
@@ -195,41 +197,41 @@ module _ (media : MediaReadsOneWay) (parity : ParityReadsOneWay) where
   -- Its plays come next.
   plays_next :
       DuePlaysComeNext → TakenPlaysComeFirst
-      → (window depth : ℕ) (state now : State) (arrival : Arrival) (arrivals rest : List Arrival) (before due plays : List Play)
-      (first replies : List (Option Reply)) → All IsRead arrivals → TakesAll (opening window depth) arrivals before first state
-      → PlaysBefore state arrival due now → IsRun window depth (arrivals ++ arrival ∷ rest) plays replies
+      → (playout : Playout) (state now : State) (arrival : Arrival) (arrivals rest : List Arrival) (before due plays : List Play)
+      (first replies : List (Option Reply)) → All IsRead arrivals → TakesAll (opening playout) arrivals before first state
+      → PlaysBefore state arrival due now → IsRun playout (arrivals ++ arrival ∷ rest) plays replies
       → (after : List Play) × (plays ≡ before ++ (due ++ after))
-  plays_next next come window depth state now (carries seq word) arrivals rest before due plays first replies read takes played run =
-      next window depth seq word arrivals rest before due plays first replies state now read takes played run
-  plays_next next come window depth state now (protects by parity) arrivals rest before due plays first replies read takes played run =
-      let begin = come window depth arrivals (protects by parity ∷ rest) before plays first replies state read takes run in
+  plays_next next come playout state now (carries seq word) arrivals rest before due plays first replies read takes played run =
+      next playout seq word arrivals rest before due plays first replies state now read takes played run
+  plays_next next come playout state now (protects by parity) arrivals rest before due plays first replies read takes played run =
+      let begin = come playout arrivals (protects by parity ∷ rest) before plays first replies state read takes run in
       (begin.0, begin.1 ∙ ap (λ (ps : List Play). before ++ (ps ++ begin.0)) (sym played))
-  plays_next next come window depth state now (refused by) arrivals rest before due plays first replies read takes played run =
-      let begin = come window depth arrivals (refused by ∷ rest) before plays first replies state read takes run in
+  plays_next next come playout state now (refused by) arrivals rest before due plays first replies read takes played run =
+      let begin = come playout arrivals (refused by ∷ rest) before plays first replies state read takes run in
       (begin.0, begin.1 ∙ ap (λ (ps : List Play). before ++ (ps ++ begin.0)) (sym played))
 
   pub record_breaks :
       DuePlaysComeNext → TakenPlaysComeFirst → LaterChangesNothing → OneTaking → PlayIsOne
-      → (window depth flow : ℕ) (kind : Kind) (bytes : List ℕ) (state : State) (sum : FlowSum) (before after : Option Lanes)
+      → (playout : Playout) (flow : ℕ) (kind : Kind) (bytes : List ℕ) (state : State) (sum : FlowSum) (before after : Option Lanes)
       → StaysWithin state → BreaksAtDatagram kind bytes state flow before after
-      → (records : List Record) (r : Record) (lane : List ℕ) → HasTaken window depth flow records state sum lane
-      → r.datagram ≡ bytes → port_of flow kind ≡ r.port → BreaksAtRecord window depth flow records r lane before after
-  record_breaks next come further once one window depth flow kind bytes state sum before after within breaks records r lane taken is on =
+      → (records : List Record) (r : Record) (lane : List ℕ) → HasTaken playout flow records state sum lane
+      → r.datagram ≡ bytes → port_of flow kind ≡ r.port → BreaksAtRecord playout flow records r lane before after
+  record_breaks next come further once one playout flow kind bytes state sum before after within breaks records r lane taken is on =
       let off = breaks.off in
       record {
         part = off.part.0;
         grows = off.part.2;
-        front = λ (later : List Record) (result : FlowResult) (flows : IsFlowResult window depth ((records ++ r ∷ []) ++ later) flow result).
-            let goes = goes_on window depth flow kind bytes state sum breaks.arrival breaks.read records r lane taken is on later flows.arrivals flows.arrive in
-            let begin = plays_next next come window depth state off.now breaks.arrival taken.arrivals goes.0 taken.plays off.plays flows.plays
+        front = λ (later : List Record) (result : FlowResult) (flows : IsFlowResult playout ((records ++ r ∷ []) ++ later) flow result).
+            let goes = goes_on playout flow kind bytes state sum breaks.arrival breaks.read records r lane taken is on later flows.arrivals flows.arrive in
+            let begin = plays_next next come playout state off.now breaks.arrival taken.arrivals goes.0 taken.plays off.plays flows.plays
             taken.replies flows.replies (arrivals_are_read flow records taken.arrivals taken.arrive) taken.takes off.are
-            (subst (λ (arrivals : List Arrival). IsRun window depth arrivals flows.plays flows.replies) goes.1 flows.run) in
+            (subst (λ (arrivals : List Arrival). IsRun playout arrivals flows.plays flows.replies) goes.1 flows.run) in
             front_of_lane lane off.part.0 result.lane taken.plays off.plays begin.0 flows.plays taken.lane_is off.part.1 begin.1 flows.lane;
-        next = λ (more : List ℕ) (shown : HasShown window depth flow (records ++ r ∷ []) more).
+        next = λ (more : List ℕ) (shown : HasShown playout flow (records ++ r ∷ []) more).
             let arrive = subst (λ (rs : List Record). AllZip (Arrives flow) (records_of flow rs) shown.arrivals) (sym (append-nil (records ++ r ∷ []))) shown.arrive in
-            let goes = goes_on window depth flow kind bytes state sum breaks.arrival breaks.read records r lane taken is on [] shown.arrivals arrive in
-            let begin = plays_go_on further once one window depth taken.arrivals goes.0 breaks.arrival taken.plays off.plays shown.plays
+            let goes = goes_on playout flow kind bytes state sum breaks.arrival breaks.read records r lane taken is on [] shown.arrivals arrive in
+            let begin = plays_go_on further once one playout taken.arrivals goes.0 breaks.arrival taken.plays off.plays shown.plays
             taken.replies shown.replies state off.now shown.state (arrivals_are_read flow records taken.arrivals taken.arrive) taken.takes within off.are
-            (subst (λ (arrivals : List Arrival). TakesAll (opening window depth) arrivals shown.plays shown.replies shown.state) goes.1 shown.takes) in
+            (subst (λ (arrivals : List Arrival). TakesAll (opening playout) arrivals shown.plays shown.replies shown.state) goes.1 shown.takes) in
             front_of_lane lane off.part.0 more taken.plays off.plays begin.0 shown.plays taken.lane_is off.part.1 begin.1 shown.bytes_are;
       }

@@ -4,33 +4,28 @@ use Rattle.std.specs.List.{AllZip, Contains, flat_map}
 use Rattle.std.proofs.lemmas.List.{take-append-drop}
 use Rattle.fg_io.specs.Outlet.{Lanes, WhereTold}
 use Rattle.fg_flows.specs.declared.Plan.{Plan}
-use Rattle.fg_flows.specs.Plan.{PlanFits}
+use Rattle.fg_flows.specs.Plan.{PlanFits, playout_of}
 use Rattle.fg_report.specs.declared.tail.Tail.{Tail}
 use Rattle.fg_trace.specs.declared.step.Step.TheVariants.{Datagram}
 use Rattle.fg_trace.specs.declared.step.TraceFault.{TraceFault}
 use Rattle.fg_trace.specs.declared.step.TraceFault.TheVariants as fault
 use Rattle.fg_trace.specs.Laws.{WalksTheFront}
+use Rattle.fg_trace.proofs.Opening.{few_spelled, stands_still}
 use Rattle.fg_trace.specs.Reader.{Answer, ReaderState, StandsAfter, Walks}
 use Rattle.fg_trace.specs.Trace.{Record, Ending, IsTrace, spelling, trace_of}
+use Rattle.fg_shape.specs.Playout.{Playout}
 use Rattle.fg_repair.specs.declared.engine.Engine.{Engine}
-use Rattle.fg_repair.specs.Engine.{TakenIsFront, LanesGrow, GrowAll, IsRunning, HasCome, BreaksAfter, StopsIn, LanesPart, HasWalked, TookAll, TellsTail}
-use Rattle.fg_repair.specs.Flow.{FlowResult, IsFlowResult}
-use Rattle.fg_repair.specs.Lanes.{OthersStay, LaneGainsPart, LanesGainPart, PutsAllPart}
-use Rattle.fg_repair.specs.Repair.{AreResults, lanes_of}
+use Rattle.fg_results.specs.Laws.{ShownIsFront}
+use Rattle.fg_repair.specs.Engine.{LanesGrow, GrowAll, IsRunning, HasCome, BreaksAfter, StopsIn, LanesPart, HasWalked, TookAll, TellsTail}
+use Rattle.fg_results.specs.Flow.{FlowResult, IsFlowResult}
+use Rattle.fg_results.specs.Lanes.{OthersStay, LaneGainsPart, LanesGainPart, PutsAllPart}
+use Rattle.fg_results.specs.Repair.{AreResults, lanes_of}
 use Rattle.fg_repair.specs.Steps.{IsFrontOfLane}
 use Rattle.fg_repair.proofs.Lanes.{told_map}
 use Rattle.fg_repair.proofs.Standing.{front_at, shown_at}
 use Rattle.fg_repair.proofs.Stopping.{Follows, taking_stops}
 
 -- Few records
-
-spelled_some : (r : Record) → 1 ≤ length (spelling r)
-spelled_some r = omega arith
-
--- a record is spelled by one byte at least
-few_spelled : (records : List Record) → length records ≤ length (flat_map spelling records)
-few_spelled [] = omega arith
-few_spelled (r ∷ records) = omega (arith, spelled_some r, few_spelled records, length-append (spelling r) (flat_map spelling records))
 
 pub few_records : (plan : Plan) → PlanFits plan → (first now : Option (List ℕ)) (reader : ReaderState) (records : List Record) → reader.max ≡ plan.max → StandsAfter reader first now records → length records < 2 ^ 43
 few_records plan fits first now reader records max h =
@@ -49,16 +44,16 @@ running plan fits first now reader engine before after max h = record {
 -- Parts
 
 -- what holds of each port of a list and its result
-pub each_part : (old new : Lanes) (window depth : ℕ) (records : List Record) (ports : List ℕ) (results : List FlowResult) → AllZip (IsFlowResult window depth records) ports results → ((port : ℕ) → Contains ports port → (result : FlowResult) → IsFlowResult window depth records port result → LaneGainsPart old new port result.lane) → AllZip (LaneGainsPart old new) ports (lanes_of results)
-each_part old new window depth records [] [] h f = tt
-each_part old new window depth records [] (r ∷ results) h f = absurd h
-each_part old new window depth records (p ∷ ports) [] h f = absurd h
-each_part old new window depth records (p ∷ ports) (r ∷ results) h f =
-    (f p (0, omega arith, refl) r h.0, each_part old new window depth records ports results h.1 (λ port c. f port (suc c.0, omega (arith, c.1), c.2)))
+pub each_part : (old new : Lanes) (playout : Playout) (records : List Record) (ports : List ℕ) (results : List FlowResult) → AllZip (IsFlowResult playout records) ports results → ((port : ℕ) → Contains ports port → (result : FlowResult) → IsFlowResult playout records port result → LaneGainsPart old new port result.lane) → AllZip (LaneGainsPart old new) ports (lanes_of results)
+each_part old new playout records [] [] h f = tt
+each_part old new playout records [] (r ∷ results) h f = absurd h
+each_part old new playout records (p ∷ ports) [] h f = absurd h
+each_part old new playout records (p ∷ ports) (r ∷ results) h f =
+    (f p (0, omega arith, refl) r h.0, each_part old new playout records ports results h.1 (λ port c. f port (suc c.0, omega (arith, c.1), c.2)))
 
-grown_part : (plan : Plan) (records later : List Record) (gained : ℕ → List ℕ) → ((port : ℕ) → Contains plan.table port → IsFrontOfLane plan.window plan.depth records port (gained port)) → (results : List FlowResult) → AreResults plan (records ++ later) results → (old new : Lanes) → LanesGrow old plan.table gained new → LanesGainPart old plan.table (lanes_of results) new
+grown_part : (plan : Plan) (records later : List Record) (gained : ℕ → List ℕ) → ((port : ℕ) → Contains plan.table port → IsFrontOfLane (playout_of plan) records port (gained port)) → (results : List FlowResult) → AreResults plan (records ++ later) results → (old new : Lanes) → LanesGrow old plan.table gained new → LanesGainPart old plan.table (lanes_of results) new
 grown_part plan records later gained fronts results are old new g = record {
-  lanes = each_part old new plan.window plan.depth (records ++ later) plan.table results are (λ port c result h. record {
+  lanes = each_part old new (playout_of plan) (records ++ later) plan.table results are (λ port c result h. record {
     part = gained port;
     front = fronts port c later result h;
     bytes = (g.lanes port c).bytes;
@@ -111,13 +106,7 @@ part_at_record law plan Quiet loud first left now reader next engine before at a
 
 -- A read fault
 
-stands_still : (reader : ReaderState) (first now : Option (List ℕ)) (records : List Record) (why : TraceFault) → Walks (Err why) reader first now records → StandsAfter reader first now records
-stands_still reader first now records fault.ReadFault h = h
-stands_still reader first now records (fault.NotTrace n) h = h.0
-stands_still reader first now records (fault.TooLong n) h = h.0
-stands_still reader first now records (fault.Cut n) h = h.0
-
-come_breaks : TakenIsFront → (plan : Plan) (records : List Record) (engine : Engine) (before after : Option Lanes) → HasCome plan records engine before after → BreaksAfter plan records records None before after
+come_breaks : ShownIsFront → (plan : Plan) (records : List Record) (engine : Engine) (before after : Option Lanes) → HasCome plan records engine before after → BreaksAfter plan records records None before after
 come_breaks law plan records engine before after h = record {
   gained = h.gained;
   grow = h.grow;
@@ -127,7 +116,7 @@ come_breaks law plan records engine before after h = record {
 }
 
 pub part_at_fault :
-    WalksTheFront → TakenIsFront → (plan : Plan) (Quiet : Type 0) (first left now : Option (List ℕ)) (reader next : ReaderState) (engine : Engine) (before at : Option Lanes) (why : TraceFault)
+    WalksTheFront → ShownIsFront → (plan : Plan) (Quiet : Type 0) (first left now : Option (List ℕ)) (reader next : ReaderState) (engine : Engine) (before at : Option Lanes) (why : TraceFault)
     → next.max ≡ plan.max → ((records : List Record) → StandsAfter reader first left records → Walks (Err why) next first now records)
     → HasWalked plan first left reader engine before at → LanesPart plan Quiet first before at
 part_at_fault law front plan Quiet first left now reader next engine before at why max walks h =

@@ -3,7 +3,7 @@ use Rattle.std.proofs.Common.{◌≡◌, ℕ, Option, Some, None, IfSome, List, 
 use Rattle.std.specs.List.{Contains}
 use Rattle.fg_io.specs.Outlet.{Lanes}
 use Rattle.fg_flows.specs.declared.Plan.{Plan}
-use Rattle.fg_flows.specs.Plan.{PlanFits}
+use Rattle.fg_flows.specs.Plan.{PlanFits, playout_of}
 use Rattle.fg_report.specs.declared.tail.Tail.{Tail}
 use Rattle.fg_trace.specs.Laws.{OneTrace}
 use Rattle.fg_trace.specs.Reader.{ReaderState, StandsAfter}
@@ -11,13 +11,13 @@ use Rattle.fg_trace.specs.Trace.{Record, Ending, IsTrace}
 use Rattle.fg_repair.specs.declared.engine.Engine.{Engine}
 use Rattle.fg_repair.specs.declared.flow.Flow.{Flow}
 use Rattle.fg_repair.specs.Engine.{LanesGrow, GrowAll, AreThere, MakesFirst, StopsAt, StopsIn, EngineStands, LanesPart, HasWalked, TookAll, AreReady, IsFlushing, BreaksAtFlush, HasEnded, LanesWhole}
-use Rattle.fg_repair.specs.Flow.{FlowResult}
-use Rattle.fg_repair.specs.Lanes.{LanesGainPart, PutsAllPart}
-use Rattle.fg_repair.specs.Repair.{AreResults, lanes_of}
+use Rattle.fg_results.specs.Flow.{FlowResult}
+use Rattle.fg_results.specs.Lanes.{LanesGainPart, PutsAllPart}
+use Rattle.fg_results.specs.Repair.{AreResults, lanes_of}
 use Rattle.fg_repair.specs.Steps.{BeginsLane}
 use Rattle.fg_repair.proofs.Flushing.{flushing_none}
 use Rattle.fg_repair.proofs.Lanes.{told_map, grow_none}
-use Rattle.fg_repair.specs.Stops.{Flushing}
+use Rattle.fg_results.specs.Stops.{Flushing}
 use Rattle.fg_repair.proofs.Stopping.{making_stops, stops_at}
 use Rattle.fg_repair.proofs.Walking.{each_part, others_told}
 
@@ -25,7 +25,7 @@ use Rattle.fg_repair.proofs.Walking.{each_part, others_told}
 
 nothing_in : (plan : Plan) (records : List Record) (results : List FlowResult) → AreResults plan records results → (old new : Lanes) → LanesGrow old plan.table (λ _. []) new → LanesGainPart old plan.table (lanes_of results) new
 nothing_in plan records results are old new g = record {
-  lanes = each_part old new plan.window plan.depth records plan.table results are (λ port c result h. record {
+  lanes = each_part old new (playout_of plan) records plan.table results are (λ port c result h. record {
     part = [];
     front = (result.lane, refl);
     bytes = (g.lanes port c).bytes;
@@ -81,9 +81,9 @@ ready plan fits first engine tail before now flows e h = record {
   flushing = took_flushing plan first engine tail before now flows e h;
 }
 
-begun_in : (plan : Plan) (records all : List Record) (gained : ℕ → List ℕ) → ((port : ℕ) → Contains plan.table port → BeginsLane plan.window plan.depth records port (gained port)) → all ≡ records → (results : List FlowResult) → AreResults plan all results → (old new : Lanes) → LanesGrow old plan.table gained new → LanesGainPart old plan.table (lanes_of results) new
+begun_in : (plan : Plan) (records all : List Record) (gained : ℕ → List ℕ) → ((port : ℕ) → Contains plan.table port → BeginsLane (playout_of plan) records port (gained port)) → all ≡ records → (results : List FlowResult) → AreResults plan all results → (old new : Lanes) → LanesGrow old plan.table gained new → LanesGainPart old plan.table (lanes_of results) new
 begun_in plan records all gained begins e results are old new g = record {
-  lanes = each_part old new plan.window plan.depth records plan.table results (subst (λ (rs : List Record). AreResults plan rs results) e are) (λ port c result h. record {
+  lanes = each_part old new (playout_of plan) records plan.table results (subst (λ (rs : List Record). AreResults plan rs results) e are) (λ port c result h. record {
     part = gained port;
     front = begins port c result h;
     bytes = (g.lanes port c).bytes;

@@ -1,45 +1,25 @@
 -- How far a repair has come, over all flows. No public contract cites what stands here.
-use Rattle.std.specs.Prelude.{◌≡◌, ◌≢◌, ◌+◌, ◌≤◌, ◌<◌, ◌^◌, ◌⊎◌, ℕ, ⊤, Bool, true, false, Option, None, Some, IfSome, IsSome, Result, Ok, Err, List, [], ◌++◌, length, map, nat_lt, slice_index, take}
+use Rattle.std.specs.Prelude.{◌≡◌, ◌+◌, ◌≤◌, ◌<◌, ◌^◌, ◌⊎◌, ℕ, Bool, true, false, Option, None, Some, IfSome, IsSome, Result, Ok, Err, List, [], ◌++◌, length, map, nat_lt, slice_index, take}
 use Rattle.std.specs.List.{AllZip, Contains, slice_index_or}
-use Rattle.fg_io.specs.Faults.{CountsFault}
 use Rattle.fg_io.specs.Outlet.{Lanes, lane_of, lane_bytes, WhereTold}
-use Rattle.fg_trace.specs.declared.step.TraceFault.{TraceFault}
-use Rattle.fg_trace.specs.declared.step.TraceFault.TheVariants as fault
 use Rattle.fg_trace.specs.declared.step.Finish.{Finish}
 use Rattle.fg_trace.specs.declared.step.Finish.TheVariants as finish
 use Rattle.fg_trace.specs.Reader.{ReaderState, StandsAfter}
 use Rattle.fg_trace.specs.Trace.{Record, Ending, NotTrace, IsTrace}
 use Rattle.fg_flows.specs.declared.Plan.{Plan}
-use Rattle.fg_flows.specs.Plan.{PlanFits}
-use Rattle.fg_desk.specs.State.{State}
-use Rattle.fg_report.specs.declared.fault.ReportFault.{ReportFault}
-use Rattle.fg_report.specs.declared.fault.ReportFault.TheVariants.{WriteFault as NotWritten, Memory as NoMemory}
+use Rattle.fg_flows.specs.Plan.{PlanFits, playout_of}
 use Rattle.fg_report.specs.declared.flow_sum.FlowSum.{FlowSum}
 use Rattle.fg_report.specs.declared.tail.Tail.{Tail}
 use Rattle.fg_report.specs.declared.tail.Tail.TheVariants as tail
 use Rattle.fg_repair.specs.declared.engine.Engine.{Engine}
-use Rattle.fg_repair.specs.declared.fault.Fault.{Fault}
-use Rattle.fg_repair.specs.declared.fault.Fault.TheVariants.{Read, Write, Memory}
+use Rattle.fg_io.specs.declared.fault.Fault.{Fault}
+use Rattle.fg_io.specs.declared.fault.Fault.TheVariants.{Read, Write, Memory}
 use Rattle.fg_repair.specs.declared.flow.Flow.{Flow}
-use Rattle.fg_repair.specs.Flow.{FlowResult, IsFlowResult}
-use Rattle.fg_repair.specs.Lanes.{OthersStay, PutsAll, PutsAllPart}
-use Rattle.fg_repair.specs.Repair.{AreResults, lanes_of, others_of, tail_of}
+use Rattle.fg_results.specs.Flow.{FlowResult, IsFlowResult}
+use Rattle.fg_results.specs.Lanes.{OthersStay, PutsAll, PutsAllPart}
+use Rattle.fg_results.specs.Repair.{AreResults, lanes_of, others_of, tail_of}
 use Rattle.fg_repair.specs.Steps.{HasTaken, IsFrontOfLane, BeginsLane}
-use Rattle.fg_repair.specs.Stops.{HasShown, LiesBetween, Stage, Flushing, made_at, HasGained, HasGainedPart}
-
--- Laws of one flow
-
--- The records give a flow one result.
-abbrev pub OneFlowResult : Type 0
-OneFlowResult =
-    (window depth flow : ℕ) (records : List Record) (a b : FlowResult)
-    → IsFlowResult window depth records flow a → IsFlowResult window depth records flow b → a ≡ b
-
--- What a flow has shown is the front of its lane in every trace that begins with the records taken.
-abbrev pub TakenIsFront : Type 0
-TakenIsFront =
-    (window depth flow : ℕ) (records : List Record) (state : State) (sum : FlowSum) (lane : List ℕ)
-    → HasTaken window depth flow records state sum lane → IsFrontOfLane window depth records flow lane
+use Rattle.fg_results.specs.Stops.{HasShown, LiesBetween, Stage, Flushing, made_at, HasGained, HasGainedPart}
 
 -- The lanes
 
@@ -65,9 +45,8 @@ AreThere ports lanes = IfSome lanes (λ told. (port : ℕ) → Contains ports po
 -- One flow has taken its part of these records and has shown these bytes.
 pub record FlowStands (plan : Plan) (records : List Record) (port : ℕ) (flow : Flow) (lane : List ℕ) : Type 0 where
   pub port_is : flow.sum.port ≡ port
-  pub window_is : flow.desk.state.window ≡ plan.window
-  pub depth_is : flow.desk.state.depth ≡ plan.depth
-  pub taken : HasTaken plan.window plan.depth port records flow.desk.state flow.sum lane
+  pub playout_is : flow.desk.state.playout ≡ playout_of plan
+  pub taken : HasTaken (playout_of plan) port records flow.desk.state flow.sum lane
 
 -- So has each flow of the plan, and the records of no flow are counted.
 pub record EngineStands (plan : Plan) (records : List Record) (engine : Engine) (gained : ℕ → List ℕ) : Type 0 where
@@ -99,10 +78,10 @@ pub record BreaksAfter
   pub grow : GrowAll before plan.table gained after
   pub there : AreThere plan.table after
   pub exact : (flow : ℕ) → Contains plan.table flow
-      → HasShown plan.window plan.depth flow taken (gained flow)
+      → HasShown (playout_of plan) flow taken (gained flow)
       ⊎ ((broken ≡ Some flow)
-      × LiesBetween (HasShown plan.window plan.depth flow taken) (HasShown plan.window plan.depth flow next) (gained flow))
-  pub fronts : (port : ℕ) → Contains plan.table port → IsFrontOfLane plan.window plan.depth next port (gained port)
+      × LiesBetween (HasShown (playout_of plan) flow taken) (HasShown (playout_of plan) flow next) (gained flow))
+  pub fronts : (port : ℕ) → Contains plan.table port → IsFrontOfLane (playout_of plan) next port (gained port)
 
 -- The lanes of the first ports are there. Nothing else has changed.
 pub record MakesFirst (ports : List ℕ) (before after : Option Lanes) : Type 0 where
@@ -156,12 +135,6 @@ abbrev pub TellsTail : Ending → Tail → Type 0
 TellsTail (NotTrace n) told = ⊥
 TellsTail end told = told ≡ tail_of end
 
--- Such a tail is found at the input's end.
-abbrev pub IsReadToEnd : Tail → Type 0
-IsReadToEnd tail.Ended = ⊤
-IsReadToEnd (tail.Cut n) = ⊤
-IsReadToEnd (tail.TooLong n) = ⊥
-
 -- All records of the trace were taken, and it ends so.
 pub record TookAll
     (plan : Plan) (first : Option (List ℕ)) (engine : Engine) (tail : Tail) (before after : Option Lanes) : Type 0 where
@@ -177,7 +150,7 @@ pub record TookAll
 -- One flow is flushed or not.
 abbrev pub FlowEnds : Bool → Plan → List Record → ℕ → Flow → List ℕ → Type 0
 FlowEnds true plan records port flow lane =
-    IsFlowResult plan.window plan.depth records port (record { lane = lane; sum = flow.sum })
+    IsFlowResult (playout_of plan) records port (record { lane = lane; sum = flow.sum })
 FlowEnds false plan records port flow lane = FlowStands plan records port flow lane
 
 -- The first flows are flushed.
@@ -210,7 +183,7 @@ pub record BreaksAtFlush (plan : Plan) (records : List Record) (before after : O
   pub exact : (flow : ℕ) → Contains plan.table flow
       → HasGained plan records (Flushing count) flow (gained flow)
       ⊎ ((broken ≡ Some flow) × HasGainedPart plan records (Flushing count) flow (gained flow))
-  pub begin : (port : ℕ) → Contains plan.table port → BeginsLane plan.window plan.depth records port (gained port)
+  pub begin : (port : ℕ) → Contains plan.table port → BeginsLane (playout_of plan) records port (gained port)
 
 -- The flows' counts.
 abbrev pub sums_of : List Flow → List FlowSum
@@ -236,11 +209,6 @@ pub record LanesWhole
 
 -- The answer
 
--- To a fault of the magic: the place of the first byte that differs, or a read fault.
-abbrev pub told_place : TraceFault → Result (Option ℕ) Fault
-told_place (fault.NotTrace n) = Ok (Some n)
-told_place why = Err Read
-
 -- To a trace with this tail.
 abbrev pub told_finish : Tail → Finish
 told_finish tail.Ended = finish.Done
@@ -257,21 +225,3 @@ fault_finish Memory = finish.Memory
 abbrev pub answer_of : Result Finish Fault → Finish
 answer_of (Ok finish) = finish
 answer_of (Err fault) = fault_finish fault
-
--- A fault of the report.
-abbrev pub report_fault : ReportFault → Fault
-report_fault NotWritten = Write
-report_fault NoMemory = Memory
-
--- What is no trace has a result for each flow too: that of no record.
-abbrev pub NoRecordsHaveResults : Type 0
-NoRecordsHaveResults = (plan : Plan) → (results : List FlowResult) × AreResults plan [] results
-
--- Faults
-
--- The counts of two objects that are written.
-pub record CountsWrites {A : Type 0} (result : Result A Fault) (one one' other other' : ℕ) : Type 0 where
-  pub counted : result ≡ Err Write → CountsFault one one' ⊎ CountsFault other other'
-  pub still : result ≢ Err Write → (one' ≡ one) × (other' ≡ other)
-  pub one_rises : one ≤ one'
-  pub other_rises : other ≤ other'

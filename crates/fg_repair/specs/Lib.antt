@@ -1,9 +1,3 @@
 -- The definitions that the contracts of this crate cite.
 pub mod Engine
-pub mod Existence
-pub mod Flow
-pub mod Lanes
-pub mod Laws
-pub mod Repair
 pub mod Steps
-pub mod Stops

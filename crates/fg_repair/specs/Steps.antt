@@ -4,8 +4,9 @@ use Rattle.std.specs.List.{AllZip, count_by}
 use Rattle.fg_io.specs.Prefix.{IsPrefix}
 use Rattle.fg_io.specs.Outlet.{Lanes, lane_of as lane_at, lane_bytes, OthersStay, WhereTold}
 use Rattle.fg_trace.specs.Trace.{Record}
-use Rattle.fg_flows.specs.declared.Kind.{Kind}
-use Rattle.fg_flows.specs.declared.Kind.TheVariants as kind
+use Rattle.fg_shape.specs.declared.kind.Kind.{Kind}
+use Rattle.fg_shape.specs.declared.kind.Kind.TheVariants as kind
+use Rattle.fg_shape.specs.Playout.{Playout, PlayoutFits}
 use Rattle.fg_desk.specs.declared.desk.Played.{Played}
 use Rattle.fg_desk.specs.declared.reply.Reply.{Reply}
 use Rattle.fg_desk.specs.declared.reply.Reply.TheVariants.{Admitted, Duplicate, Conflict, Late, NotStarted, BeforeStart, Ahead, Crowded}
@@ -17,8 +18,8 @@ use Rattle.fg_desk.specs.Laws.{HavePlayed}
 use Rattle.fg_report.specs.declared.marks.Marks.{Marks}
 use Rattle.fg_report.specs.declared.flow_sum.FlowSum.{FlowSum}
 use Rattle.fg_report.specs.Gaps.{gaps_end}
-use Rattle.fg_repair.specs.Flow.{FlowResult, IsFlowResult, IsReadAs, Arrives, records_of, all_shown, shows_word, is_inconsistent, lane_of, gaps_from, sum_of}
-use Rattle.fg_repair.specs.Stops.{HasShown}
+use Rattle.fg_results.specs.Flow.{FlowResult, IsFlowResult, IsReadAs, Arrives, records_of, all_shown, shows_word, is_inconsistent, lane_of, gaps_from, sum_of}
+use Rattle.fg_results.specs.Stops.{HasShown}
 
 -- The port's lane has gained the piece, and is still there if it was. All others are as they were.
 pub record LaneGrows (before : Lanes) (port : ℕ) (piece : List ℕ) (after : Lanes) : Type 0 where
@@ -32,64 +33,63 @@ Grows before port piece after = WhereTold (λ old new. LaneGrows old port piece 
 -- The flow has taken its part of these records: its desk has come to this state, its counts are these, and its plays have
 -- shown these bytes.
 pub record HasTaken
-    (window depth flow : ℕ) (records : List Record) (state : State) (sum : FlowSum) (lane : List ℕ) : Type 0 where
+    (playout : Playout) (flow : ℕ) (records : List Record) (state : State) (sum : FlowSum) (lane : List ℕ) : Type 0 where
   pub arrivals : List Arrival
   pub plays : List Play
   pub replies : List (Option Reply)
   pub arrive : AllZip (Arrives flow) (records_of flow records) arrivals
-  pub takes : TakesAll (opening window depth) arrivals plays replies state
+  pub takes : TakesAll (opening playout) arrivals plays replies state
   pub lane_is : lane ≡ lane_of plays
   pub sum_is : sum ≡ sum_of flow arrivals plays replies
 
 -- Some records have been taken, fewer than a trace within the limits can have.
-pub record IsUnderway (window depth flow : ℕ) (state : State) (sum : FlowSum) : Type 0 where
+pub record IsUnderway (playout : Playout) (flow : ℕ) (state : State) (sum : FlowSum) : Type 0 where
   pub records : List Record
   pub lane : List ℕ
   pub few : length records < 2 ^ 43
-  pub taken : HasTaken window depth flow records state sum lane
-  pub window_fits : (1 ≤ window) × (window ≤ 100)
-  pub depth_fits : (window ≤ depth) × (depth ≤ 1000)
+  pub taken : HasTaken playout flow records state sum lane
+  pub fits : PlayoutFits playout
 
 -- The bytes are the front of the flow's lane in every trace that begins with these records.
-abbrev pub IsFrontOfLane : ℕ → ℕ → List Record → ℕ → List ℕ → Type 0
-IsFrontOfLane window depth records flow lane =
+abbrev pub IsFrontOfLane : Playout → List Record → ℕ → List ℕ → Type 0
+IsFrontOfLane playout records flow lane =
     (later : List Record) (result : FlowResult)
-    → IsFlowResult window depth (records ++ later) flow result → IsPrefix lane result.lane
+    → IsFlowResult playout (records ++ later) flow result → IsPrefix lane result.lane
 
 -- And of its lane in the trace of these records alone.
-abbrev pub BeginsLane : ℕ → ℕ → List Record → ℕ → List ℕ → Type 0
-BeginsLane window depth records flow lane =
-    (result : FlowResult) → IsFlowResult window depth records flow result → IsPrefix lane result.lane
+abbrev pub BeginsLane : Playout → List Record → ℕ → List ℕ → Type 0
+BeginsLane playout records flow lane =
+    (result : FlowResult) → IsFlowResult playout records flow result → IsPrefix lane result.lane
 
 -- One more record of the flow is taken whole.
 pub record TakesRecord
-    (window depth flow : ℕ) (records : List Record) (r : Record) (lane : List ℕ)
+    (playout : Playout) (flow : ℕ) (records : List Record) (r : Record) (lane : List ℕ)
     (state : State) (sum : FlowSum) (before after : Option Lanes) : Type 0 where
   pub piece : List ℕ
   pub grows : Grows before flow piece after
-  pub taken : HasTaken window depth flow (records ++ r ∷ []) state sum (lane ++ piece)
+  pub taken : HasTaken playout flow (records ++ r ∷ []) state sum (lane ++ piece)
 
 -- A fault came while it was taken.
 pub record BreaksAtRecord
-    (window depth flow : ℕ) (records : List Record) (r : Record) (lane : List ℕ) (before after : Option Lanes) : Type 0 where
+    (playout : Playout) (flow : ℕ) (records : List Record) (r : Record) (lane : List ℕ) (before after : Option Lanes) : Type 0 where
   pub part : List ℕ
   pub grows : Grows before flow part after
-  pub front : IsFrontOfLane window depth (records ++ r ∷ []) flow (lane ++ part)
-  pub next : (more : List ℕ) → HasShown window depth flow (records ++ r ∷ []) more → IsPrefix (lane ++ part) more
+  pub front : IsFrontOfLane playout (records ++ r ∷ []) flow (lane ++ part)
+  pub next : (more : List ℕ) → HasShown playout flow (records ++ r ∷ []) more → IsPrefix (lane ++ part) more
 
 -- The flow is flushed whole.
 pub record EndsFlow
-    (window depth flow : ℕ) (records : List Record) (lane : List ℕ) (sum : FlowSum) (before after : Option Lanes) : Type 0 where
+    (playout : Playout) (flow : ℕ) (records : List Record) (lane : List ℕ) (sum : FlowSum) (before after : Option Lanes) : Type 0 where
   pub piece : List ℕ
   pub grows : Grows before flow piece after
-  pub result : IsFlowResult window depth records flow (record { lane = lane ++ piece; sum = sum })
+  pub result : IsFlowResult playout records flow (record { lane = lane ++ piece; sum = sum })
 
 -- A fault came while it was flushed.
 pub record BreaksAtEnd
-    (window depth flow : ℕ) (records : List Record) (lane : List ℕ) (before after : Option Lanes) : Type 0 where
+    (playout : Playout) (flow : ℕ) (records : List Record) (lane : List ℕ) (before after : Option Lanes) : Type 0 where
   pub part : List ℕ
   pub grows : Grows before flow part after
-  pub begins : BeginsLane window depth records flow (lane ++ part)
+  pub begins : BeginsLane playout records flow (lane ++ part)
 
 -- What one datagram adds to the counts, and what plays do
 

@@ -3,10 +3,10 @@ ghost use Rattle.std.specs.Prelude.{◌≡◌, ◌+◌, ◌≤◌, ◌<◌, ◌^
 ghost use Rattle.std.specs.List.{count_by};
 ghost use Rattle.std.specs.Option.{option_copied};
 ghost use Rattle.fg_desk.specs.Play.{Play};
-ghost use Rattle.fg_repair.specs.Flow.{is_inconsistent, shown_payload};
+ghost use Rattle.fg_results.specs.Flow.{is_inconsistent, shown_payload};
 ghost use Rattle.fg_repair.specs.Steps.{MarksHaveRoom, RepliesHaveRoom, CountsWithin, with_reply, with_answer, with_shown};
 
-use crate::player::payload;
+use crate::play::payload;
 use fg_desk::{Outcome, Reply};
 use fg_flows::Kind;
 use fg_report::{FlowSum, Marks};

@@ -1,32 +1,31 @@
 //! All flows of a repair, from the first record to the end of the lanes.
 ghost use Rattle.std.specs.Prelude.{◌≡◌, ◌≢◌, ◌≤◌, ◌<◌, ◌^◌, ◌++◌, ℕ, Option, List, [], ◌∷◌, length, None, Err, IfOk, IfSome, IfNone, OnOk, OnErr};
-ghost use Rattle.std.specs.Io.KnownBytes.{IsAtEnd};
-ghost use Rattle.fg_io.specs.Faults.{CountsFault, CountsFor};
+ghost use Rattle.fg_io.specs.Faults.{Counts};
 ghost use Rattle.fg_io.specs.Outlet.{Lanes};
 ghost use Rattle.fg_trace.specs.Reader.{StandsAfter};
 ghost use Rattle.fg_trace.specs.Reading.{HasReached};
 ghost use Rattle.fg_trace.specs.Trace.{Record};
 ghost use Rattle.fg_flows.specs.declared.Plan.{Plan};
 ghost use Rattle.fg_flows.specs.Plan.{PlanFits};
-ghost use Rattle.fg_repair.specs.Engine.{EngineStands, IsRunning, HasCome, BreaksAfter, LanesPart, HasWalked, HasRead, TookAll, IsReadToEnd, told_finish, IsFlushing, AreReady, HasEnded, BreaksAtFlush, LanesWhole, GrowAll, AreThere, MakesFirst};
+ghost use Rattle.fg_repair.specs.Engine.{EngineStands, IsRunning, HasCome, BreaksAfter, LanesPart, HasWalked, HasRead, TookAll, told_finish, IsFlushing, AreReady, HasEnded, BreaksAtFlush, LanesWhole, GrowAll, AreThere, MakesFirst};
 
-use crate::fault::Fault;
 use crate::flow::Flow;
-use crate::laws::{one_flow_result, taken_is_front};
-use crate::player::Player;
 use fg_flows::laws::one_flow_has_a_port;
 use fg_flows::{Plan, Table};
-use fg_io::{Failed, Outlet, Source};
+use fg_io::{Fault, Outlet, Source, put};
 use fg_report::Tail;
+use fg_results::laws::{one_flow_result, shown_is_front};
 use fg_trace::laws::{one_trace, walks_the_front};
 use fg_trace::{Reader, Step, TraceFault};
+use fg_words::PAYLOAD_LIMIT;
 use std::alloc::{AllocError, Global};
 
 /// The flows in the order of the plan, and what they share.
 #[derive(Drop)]
 pub(crate) struct Engine {
     pub(crate) flows: Vec<Flow>,
-    pub(crate) player: Player,
+    /// The bytes that a play adds to a lane. It is filled again and again.
+    pub(crate) piece: Vec<u8>,
     /// Records on a port of no flow.
     pub(crate) other: u64,
 }
@@ -42,10 +41,10 @@ impl Engine {
         for i in 0..count {
             flows.push(Flow::new(alloc, plan.table.port(i), plan.window, plan.depth)?)?;
         }
-        let player = Player::new(alloc, plan.window)?;
+        let piece = Vec::with_capacity(alloc, plan.window as usize * PAYLOAD_LIMIT)?;
         Ok(Engine {
             flows,
-            player,
+            piece,
             other: 0,
         })
     }
@@ -70,14 +69,13 @@ impl Engine {
             → r.port ≡ port → r.datagram ≡ datagram.now
             → (broken : Option ℕ)
             × BreaksAfter plan.now records (records ++ r ∷ []) broken before (O.lanes lanes.new)) }
-        ensures not_read { result ≢ Err Fault.Read }
-        ensures writes { CountsFor Fault.Write result (O.faults lanes.old) (O.faults lanes.new) }
+        ensures faults { Counts result [] ((O.faults lanes.old, O.faults lanes.new) ∷ []) }
     {
-        taken_is_front();
+        shown_is_front();
         one_flow_has_a_port();
         match plan.table.find(port) {
             Some((i, kind)) => {
-                self.flows[i].take(alloc, &mut self.player, kind, datagram, lanes)?;
+                self.flows[i].take(alloc, &mut self.piece, kind, datagram, lanes)?;
             }
             None => self.other += 1,
         }
@@ -107,7 +105,6 @@ impl Engine {
         ensures part { OnErr result ((first : Option (List ℕ)) (before : Option Lanes)
             → HasWalked plan.now first (S.left input.old) reader.old self.old before (O.lanes lanes.old)
             → LanesPart plan.now (result ≡ Err Fault.Read) first before (O.lanes lanes.new)) }
-        ensures all_read { IfOk result (λ end. IfSome end (λ tail. IsReadToEnd tail → IsAtEnd (S.left input.new))) }
         ensures far { (first : Option (List ℕ)) → HasRead plan.now.max reader.old first (S.left input.old)
             → HasRead plan.now.max reader.new first (S.left input.new) }
         ensures reaches { IfOk result (λ end. IfSome end (λ tail.
@@ -116,12 +113,12 @@ impl Engine {
         ensures max { reader.new.max ≡ reader.old.max }
         ensures place { IfOk result (λ end. IfNone end (reader.old.place < reader.new.place)) }
         ensures within { reader.new.place ≤ reader.new.max }
-        ensures reads { CountsFor Fault.Read result (S.faults input.old) (S.faults input.new) }
+        ensures faults { Counts result ((S.faults input.old, S.faults input.new) ∷ [])
+            ((O.faults lanes.old, O.faults lanes.new) ∷ []) }
         ensures fixed { S.fixed input.new ≡ S.fixed input.old }
-        ensures writes { CountsFor Fault.Write result (O.faults lanes.old) (O.faults lanes.new) }
     {
         walks_the_front();
-        taken_is_front();
+        shown_is_front();
         match reader.next(input) {
             Ok(Step::Datagram { port, .. }) => {
                 self.take(alloc, plan, port, reader.payload(), lanes)?;
@@ -154,13 +151,12 @@ impl Engine {
         ensures part { OnErr result ((first : Option (List ℕ)) (before : Option Lanes)
             → HasWalked plan.now first (S.left input.old) reader.old self.old before (O.lanes lanes.old)
             → LanesPart plan.now (result ≡ Err Fault.Read) first before (O.lanes lanes.new)) }
-        ensures all_read { IfOk result (λ tail. IsReadToEnd tail → IsAtEnd (S.left input.new)) }
         ensures far { (first : Option (List ℕ)) → HasRead plan.now.max reader.old first (S.left input.old)
             → HasRead plan.now.max reader.new first (S.left input.new) }
         ensures reaches { IfOk result (λ tail. HasReached (told_finish tail) reader.new (S.left input.new)) }
-        ensures reads { CountsFor Fault.Read result (S.faults input.old) (S.faults input.new) }
+        ensures faults { Counts result ((S.faults input.old, S.faults input.new) ∷ [])
+            ((O.faults lanes.old, O.faults lanes.new) ∷ []) }
         ensures fixed { S.fixed input.new ≡ S.fixed input.old }
-        ensures writes { CountsFor Fault.Write result (O.faults lanes.old) (O.faults lanes.new) }
     {
         loop {
             if let Some(tail) = self.take_next(alloc, plan, reader, input, lanes)? {
@@ -188,40 +184,37 @@ impl Engine {
             → LanesWhole plan.now first self.new tail (O.lanes lanes.old) (O.lanes lanes.new)) }
         ensures part { OnErr result ((first : Option (List ℕ)) → StandsAfter reader.old first (S.left input.old) []
             → LanesPart plan.now (result ≡ Err Fault.Read) first (O.lanes lanes.old) (O.lanes lanes.new)) }
-        ensures all_read { IfOk result (λ tail. IsReadToEnd tail → IsAtEnd (S.left input.new)) }
         ensures far { (first : Option (List ℕ)) → HasRead plan.now.max reader.old first (S.left input.old)
             → HasRead plan.now.max reader.new first (S.left input.new) }
         ensures reaches { IfOk result (λ tail. HasReached (told_finish tail) reader.new (S.left input.new)) }
-        ensures reads { CountsFor Fault.Read result (S.faults input.old) (S.faults input.new) }
+        ensures faults { Counts result ((S.faults input.old, S.faults input.new) ∷ [])
+            ((O.faults lanes.old, O.faults lanes.new) ∷ []) }
         ensures fixed { S.fixed input.new ≡ S.fixed input.old }
-        ensures writes { CountsFor Fault.Write result (O.faults lanes.old) (O.faults lanes.new) }
     {
         one_trace();
         make_lanes(&plan.table, lanes)?;
         let tail = self.take_all(alloc, plan, reader, input, lanes)?;
-        flush(&mut self.flows, &mut self.player, lanes)?;
+        flush(&mut self.flows, &mut self.piece, lanes)?;
         Ok(tail)
     }
 }
 
 /// Makes each flow's lane, by an empty put.
-fn make_lanes<O: Outlet>(table: &Table, lanes: &mut O) -> Result<(), Failed>
+fn make_lanes<O: Outlet>(table: &Table, lanes: &mut O) -> Result<(), Fault>
     ensures made { OnOk result (GrowAll (O.lanes lanes.old) table.now (λ _. []) (O.lanes lanes.new)) }
     ensures there { OnOk result (AreThere table.now (O.lanes lanes.new)) }
     ensures part { OnErr result (GrowAll (O.lanes lanes.old) table.now (λ _. []) (O.lanes lanes.new)) }
     ensures first { OnErr result (MakesFirst table.now (O.lanes lanes.old) (O.lanes lanes.new)) }
-    ensures no_fault { OnOk result (O.faults lanes.new ≡ O.faults lanes.old) }
-    ensures counted { OnErr result (CountsFault (O.faults lanes.old) (O.faults lanes.new)) }
-    ensures never_falls { O.faults lanes.old ≤ O.faults lanes.new }
+    ensures faults { Counts result [] ((O.faults lanes.old, O.faults lanes.new) ∷ []) }
 {
     for i in 0..table.count() {
-        lanes.put(table.port(i), &[])?;
+        put(lanes, table.port(i), &[])?;
     }
     Ok(())
 }
 
 /// Flushes the flows, in their order.
-fn flush<O: Outlet>(flows: &mut [Flow], player: &mut Player, lanes: &mut O) -> Result<(), Fault>
+fn flush<O: Outlet>(flows: &mut [Flow], piece: &mut Vec<u8>, lanes: &mut O) -> Result<(), Fault>
     requires { AreReady flows.old (O.lanes lanes.old) }
     ensures ends { OnOk result ((plan : Plan) (records : List Record) (before : Option Lanes) → PlanFits plan
         → IsFlushing plan records 0 flows.old before (O.lanes lanes.old)
@@ -229,14 +222,13 @@ fn flush<O: Outlet>(flows: &mut [Flow], player: &mut Player, lanes: &mut O) -> R
     ensures breaks { OnErr result ((plan : Plan) (records : List Record) (before : Option Lanes) → PlanFits plan
         → IsFlushing plan records 0 flows.old before (O.lanes lanes.old)
         → BreaksAtFlush plan records before (O.lanes lanes.new)) }
-    ensures not_read { result ≢ Err Fault.Read }
-    ensures writes { CountsFor Fault.Write result (O.faults lanes.old) (O.faults lanes.new) }
+    ensures faults { Counts result [] ((O.faults lanes.old, O.faults lanes.new) ∷ []) }
 {
-    taken_is_front();
+    shown_is_front();
     one_flow_result();
     one_flow_has_a_port();
     for flow in flows.iter_mut() {
-        flow.flush(player, lanes)?;
+        flow.flush(piece, lanes)?;
     }
     Ok(())
 }

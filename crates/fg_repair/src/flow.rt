@@ -1,24 +1,24 @@
 //! One flow of a repair.
-ghost use Rattle.std.specs.Prelude.{◌≡◌, ◌≢◌, ◌≤◌, ◌<◌, ◌^◌, ℕ, List, [], ◌∷◌, length, IfOk, OnOk, OnErr, IsErrOf};
-ghost use Rattle.fg_io.specs.Faults.{CountsFault};
+ghost use Rattle.std.specs.Prelude.{◌≡◌, ◌≢◌, ◌≤◌, ◌<◌, ◌^◌, ℕ, List, [], ◌∷◌, length, IfOk, OnOk, OnErr};
+ghost use Rattle.fg_io.specs.Faults.{Counts};
 ghost use Rattle.fg_trace.specs.Trace.{Record};
 ghost use Rattle.fg_fechead.specs.declared.Parity.{Parity as ParityRead};
 ghost use Rattle.fg_fechead.specs.ParityDatagram.{IsParityDatagram};
-ghost use Rattle.fg_flows.specs.declared.Kind.{Kind as KindOf};
-ghost use Rattle.fg_flows.specs.Flows.{port_of};
+ghost use Rattle.fg_shape.specs.declared.kind.Kind.{Kind as KindOf};
+ghost use Rattle.fg_shape.specs.Kind.{port_of};
+ghost use Rattle.fg_shape.specs.Playout.{PlayoutFits};
 ghost use Rattle.fg_desk.specs.State.{State, opening};
 ghost use Rattle.fg_desk.specs.Admission.{IsDue};
 ghost use Rattle.fg_desk.specs.Contents.{HasRoom};
 ghost use Rattle.fg_desk.specs.Run.{Arrival, ArePlaysDue, Takes, IsFlush};
 ghost use Rattle.fg_desk.specs.Laws.{HavePlayed, AreFlushSteps};
 ghost use Rattle.fg_desk.specs.Arrivals.{StaysWithin, FlushesWithin};
-ghost use Rattle.fg_repair.specs.Flow.{IsReadAs, lane_of, sum_of};
+ghost use Rattle.fg_results.specs.Flow.{IsReadAs, lane_of, sum_of};
 ghost use Rattle.fg_repair.specs.Steps.{HasTaken, IsUnderway, TakesRecord, BreaksAtRecord, EndsFlow, BreaksAtEnd};
 ghost use Rattle.fg_repair.specs.Steps.{CountsWithin, Grows, GrowsPart, HaveShown, BreakOff, AdmitsDatagram, BreaksAtDatagram, with_plays, play_on};
 
 use crate::counts::count_answer;
-use crate::fault::Fault;
-use crate::player::Player;
+use crate::play::fill;
 use fg_desk::laws::{
     counts_add, counts_stay_within, due_plays_come_next, each_gets_a_reply, flush_steps_come_next,
     flushes_end, one_outcome, one_taking, plays_reach_the_mark, runs_join, runs_only_add,
@@ -28,7 +28,7 @@ use fg_desk::{Desk, Played, Reply};
 use fg_fechead::laws::parity_datagrams_read_one_way;
 use fg_fechead::parity_share;
 use fg_flows::Kind;
-use fg_io::Outlet;
+use fg_io::{Fault, Outlet, put};
 use fg_report::{FlowSum, Gaps, Marks};
 use fg_rtp::laws::media_datagrams_read_one_way;
 use fg_rtp::media_share;
@@ -44,9 +44,8 @@ pub(crate) struct Flow {
 impl Flow {
     /// The flow on this port, before its first record.
     pub(crate) fn new(alloc: Global, port: u16, window: u32, depth: u32) -> Result<Flow, AllocError>
-        requires window { (1 ≤ window) × (window ≤ 100) }
-        requires depth { (window ≤ depth) × (depth ≤ 1000) }
-        ensures { IfOk result (λ flow. HasTaken window depth port [] flow.desk.state flow.sum []) }
+        requires { PlayoutFits (record { window = window; depth = depth }) }
+        ensures { IfOk result (λ flow. HasTaken (record { window = window; depth = depth }) port [] flow.desk.state flow.sum []) }
     {
         Ok(Flow {
             desk: Desk::new(alloc, window, depth)?,
@@ -70,33 +69,28 @@ impl Flow {
     pub(crate) fn take<O: Outlet>(
         &mut self,
         alloc: Global,
-        player: &mut Player,
+        piece: &mut Vec<u8>,
         kind: Kind,
         datagram: &[u8],
         lanes: &mut O,
     ) -> Result<(), Fault>
-        requires underway { IsUnderway self.old.desk.state.window self.old.desk.state.depth self.old.sum.port
+        requires underway { IsUnderway self.old.desk.state.playout self.old.sum.port
             self.old.desk.state self.old.sum }
         ensures takes { OnOk result ((records : List Record) (r : Record) (lane : List ℕ)
-            → HasTaken self.old.desk.state.window self.old.desk.state.depth self.old.sum.port records
+            → HasTaken self.old.desk.state.playout self.old.sum.port records
             self.old.desk.state self.old.sum lane
             → r.datagram ≡ datagram.now → port_of self.old.sum.port kind ≡ r.port
-            → TakesRecord self.old.desk.state.window self.old.desk.state.depth self.old.sum.port records r lane
+            → TakesRecord self.old.desk.state.playout self.old.sum.port records r lane
             self.new.desk.state self.new.sum (O.lanes lanes.old) (O.lanes lanes.new)) }
         ensures breaks { OnErr result ((records : List Record) (r : Record) (lane : List ℕ)
-            → HasTaken self.old.desk.state.window self.old.desk.state.depth self.old.sum.port records
+            → HasTaken self.old.desk.state.playout self.old.sum.port records
             self.old.desk.state self.old.sum lane
             → r.datagram ≡ datagram.now → port_of self.old.sum.port kind ≡ r.port
-            → BreaksAtRecord self.old.desk.state.window self.old.desk.state.depth self.old.sum.port records r lane
+            → BreaksAtRecord self.old.desk.state.playout self.old.sum.port records r lane
             (O.lanes lanes.old) (O.lanes lanes.new)) }
         ensures port { self.new.sum.port ≡ self.old.sum.port }
-        ensures settings { (self.new.desk.state.window ≡ self.old.desk.state.window)
-            × (self.new.desk.state.depth ≡ self.old.desk.state.depth) }
-        ensures not_read { IsErrOf result Fault.Read → ⊥ }
-        ensures counted { IsErrOf result Fault.Write → CountsFault (O.faults lanes.old) (O.faults lanes.new) }
-        ensures no_fault { OnOk result (O.faults lanes.new ≡ O.faults lanes.old) }
-        ensures memory { IsErrOf result Fault.Memory → O.faults lanes.new ≡ O.faults lanes.old }
-        ensures never_falls { O.faults lanes.old ≤ O.faults lanes.new }
+        ensures playout { self.new.desk.state.playout ≡ self.old.desk.state.playout }
+        ensures faults { Counts result [] ((O.faults lanes.old, O.faults lanes.new) ∷ []) }
     {
         runs_join();
         runs_stay_within();
@@ -111,7 +105,7 @@ impl Flow {
         one_outcome();
         media_datagrams_read_one_way();
         parity_datagrams_read_one_way();
-        let reply = self.admit(alloc, player, kind, datagram, lanes)?;
+        let reply = self.admit(alloc, piece, kind, datagram, lanes)?;
         count_answer(&mut self.sum, kind, reply);
         Ok(())
     }
@@ -119,27 +113,23 @@ impl Flow {
     /// Plays all that is left. What the plays show goes to the flow's lane.
     pub(crate) fn flush<O: Outlet>(
         &mut self,
-        player: &mut Player,
+        piece: &mut Vec<u8>,
         lanes: &mut O,
     ) -> Result<(), Fault>
-        requires underway { IsUnderway self.old.desk.state.window self.old.desk.state.depth self.old.sum.port
+        requires underway { IsUnderway self.old.desk.state.playout self.old.sum.port
             self.old.desk.state self.old.sum }
         ensures ends { OnOk result ((records : List Record) (lane : List ℕ)
-            → HasTaken self.old.desk.state.window self.old.desk.state.depth self.old.sum.port records
+            → HasTaken self.old.desk.state.playout self.old.sum.port records
             self.old.desk.state self.old.sum lane
-            → EndsFlow self.old.desk.state.window self.old.desk.state.depth self.old.sum.port records lane
+            → EndsFlow self.old.desk.state.playout self.old.sum.port records lane
             self.new.sum (O.lanes lanes.old) (O.lanes lanes.new)) }
         ensures breaks { OnErr result ((records : List Record) (lane : List ℕ)
-            → HasTaken self.old.desk.state.window self.old.desk.state.depth self.old.sum.port records
+            → HasTaken self.old.desk.state.playout self.old.sum.port records
             self.old.desk.state self.old.sum lane
-            → BreaksAtEnd self.old.desk.state.window self.old.desk.state.depth self.old.sum.port records lane
+            → BreaksAtEnd self.old.desk.state.playout self.old.sum.port records lane
             (O.lanes lanes.old) (O.lanes lanes.new)) }
         ensures port { self.new.sum.port ≡ self.old.sum.port }
-        ensures not_read { IsErrOf result Fault.Read → ⊥ }
-        ensures counted { IsErrOf result Fault.Write → CountsFault (O.faults lanes.old) (O.faults lanes.new) }
-        ensures no_fault { OnOk result (O.faults lanes.new ≡ O.faults lanes.old) }
-        ensures memory { IsErrOf result Fault.Memory → O.faults lanes.new ≡ O.faults lanes.old }
-        ensures never_falls { O.faults lanes.old ≤ O.faults lanes.new }
+        ensures faults { Counts result [] ((O.faults lanes.old, O.faults lanes.new) ∷ []) }
     {
         flushes_end();
         runs_stay_within();
@@ -147,7 +137,7 @@ impl Flow {
         flush_steps_come_next();
         media_datagrams_read_one_way();
         parity_datagrams_read_one_way();
-        self.play_rest(player, lanes)
+        self.play_rest(piece, lanes)
     }
 
     /// Plays what is due before a datagram that came on the port of this kind, and admits it or says why not. There is no
@@ -155,7 +145,7 @@ impl Flow {
     fn admit<O: Outlet>(
         &mut self,
         alloc: Global,
-        player: &mut Player,
+        piece: &mut Vec<u8>,
         kind: Kind,
         datagram: &[u8],
         lanes: &mut O,
@@ -167,54 +157,25 @@ impl Flow {
         ensures breaks { OnErr result (BreaksAtDatagram kind datagram.now self.old.desk.state self.old.sum.port
             (O.lanes lanes.old) (O.lanes lanes.new)) }
         ensures port { self.new.sum.port ≡ self.old.sum.port }
-        ensures settings { (self.new.desk.state.window ≡ self.old.desk.state.window)
-            × (self.new.desk.state.depth ≡ self.old.desk.state.depth) }
-        ensures not_read { IsErrOf result Fault.Read → ⊥ }
-        ensures counted { IsErrOf result Fault.Write → CountsFault (O.faults lanes.old) (O.faults lanes.new) }
-        ensures no_fault { OnOk result (O.faults lanes.new ≡ O.faults lanes.old) }
-        ensures memory { IsErrOf result Fault.Memory → O.faults lanes.new ≡ O.faults lanes.old }
-        ensures never_falls { O.faults lanes.old ≤ O.faults lanes.new }
+        ensures playout { self.new.desk.state.playout ≡ self.old.desk.state.playout }
+        ensures faults { Counts result [] ((O.faults lanes.old, O.faults lanes.new) ∷ []) }
     {
         match kind {
-            Kind::Media => self.admit_media(alloc, player, datagram, lanes),
+            Kind::Media => {
+                let Ok((seq, _, share)) = media_share(alloc, datagram)? else {
+                    return Ok(None);
+                };
+                self.play_due(piece, seq, lanes)?;
+                Ok(Some(self.desk.admit_media(seq, share)))
+            }
             _ => Ok(admit_parity(alloc, &mut self.desk, datagram)?),
         }
-    }
-
-    /// Plays what is due before a media datagram, and admits it or says why not.
-    fn admit_media<O: Outlet>(
-        &mut self,
-        alloc: Global,
-        player: &mut Player,
-        datagram: &[u8],
-        lanes: &mut O,
-    ) -> Result<Option<Reply>, Fault>
-        requires within { StaysWithin self.old.desk.state }
-        requires counts { CountsWithin self.old.sum self.old.desk.state.mark }
-        ensures admits { IfOk result (λ reply. AdmitsDatagram Kind.Media datagram.now self.old.desk.state self.old.sum
-            (O.lanes lanes.old) reply self.new.desk.state self.new.sum (O.lanes lanes.new)) }
-        ensures breaks { OnErr result (BreaksAtDatagram Kind.Media datagram.now self.old.desk.state self.old.sum.port
-            (O.lanes lanes.old) (O.lanes lanes.new)) }
-        ensures port { self.new.sum.port ≡ self.old.sum.port }
-        ensures settings { (self.new.desk.state.window ≡ self.old.desk.state.window)
-            × (self.new.desk.state.depth ≡ self.old.desk.state.depth) }
-        ensures not_read { IsErrOf result Fault.Read → ⊥ }
-        ensures counted { IsErrOf result Fault.Write → CountsFault (O.faults lanes.old) (O.faults lanes.new) }
-        ensures no_fault { OnOk result (O.faults lanes.new ≡ O.faults lanes.old) }
-        ensures memory { IsErrOf result Fault.Memory → O.faults lanes.new ≡ O.faults lanes.old }
-        ensures never_falls { O.faults lanes.old ≤ O.faults lanes.new }
-    {
-        let Ok((seq, _, share)) = media_share(alloc, datagram)? else {
-            return Ok(None);
-        };
-        self.play_due(player, seq, lanes)?;
-        Ok(Some(self.desk.admit_media(seq, share)))
     }
 
     /// Plays while a play is due before a datagram of this sequence number.
     fn play_due<O: Outlet>(
         &mut self,
-        player: &mut Player,
+        piece: &mut Vec<u8>,
         seq: u16,
         lanes: &mut O,
     ) -> Result<(), Fault>
@@ -227,24 +188,19 @@ impl Flow {
         ensures breaks { OnErr result (BreakOff (HavePlayed self.old.desk.state seq) self.old.sum.port
             (O.lanes lanes.old) (O.lanes lanes.new)) }
         ensures port { self.new.sum.port ≡ self.old.sum.port }
-        ensures settings { (self.new.desk.state.window ≡ self.old.desk.state.window)
-            × (self.new.desk.state.depth ≡ self.old.desk.state.depth) }
-        ensures not_read { IsErrOf result Fault.Read → ⊥ }
-        ensures counted { IsErrOf result Fault.Write → CountsFault (O.faults lanes.old) (O.faults lanes.new) }
-        ensures no_fault { OnOk result (O.faults lanes.new ≡ O.faults lanes.old) }
-        ensures memory { IsErrOf result Fault.Memory → O.faults lanes.new ≡ O.faults lanes.old }
-        ensures never_falls { O.faults lanes.old ≤ O.faults lanes.new }
+        ensures playout { self.new.desk.state.playout ≡ self.old.desk.state.playout }
+        ensures faults { Counts result [] ((O.faults lanes.old, O.faults lanes.new) ∷ []) }
     {
         runs_join();
         while self.desk.due(seq) {
             let played = self.desk.play_in_place();
-            put_play(&mut self.sum, player, &self.desk, played, lanes)?;
+            put_play(&mut self.sum, piece, &self.desk, played, lanes)?;
         }
         Ok(())
     }
 
     /// Plays while something is left to be played.
-    fn play_rest<O: Outlet>(&mut self, player: &mut Player, lanes: &mut O) -> Result<(), Fault>
+    fn play_rest<O: Outlet>(&mut self, piece: &mut Vec<u8>, lanes: &mut O) -> Result<(), Fault>
         requires within { FlushesWithin self.old.desk.state }
         requires counts { CountsWithin self.old.sum self.old.desk.state.mark }
         ensures plays { OnOk result ((empty : State) × HaveShown (IsFlush self.old.desk.state) self.old.desk.state
@@ -252,15 +208,11 @@ impl Flow {
         ensures breaks { OnErr result (BreakOff (AreFlushSteps self.old.desk.state) self.old.sum.port
             (O.lanes lanes.old) (O.lanes lanes.new)) }
         ensures port { self.new.sum.port ≡ self.old.sum.port }
-        ensures not_read { IsErrOf result Fault.Read → ⊥ }
-        ensures counted { IsErrOf result Fault.Write → CountsFault (O.faults lanes.old) (O.faults lanes.new) }
-        ensures no_fault { OnOk result (O.faults lanes.new ≡ O.faults lanes.old) }
-        ensures memory { IsErrOf result Fault.Memory → O.faults lanes.new ≡ O.faults lanes.old }
-        ensures never_falls { O.faults lanes.old ≤ O.faults lanes.new }
+        ensures faults { Counts result [] ((O.faults lanes.old, O.faults lanes.new) ∷ []) }
     {
         flushes_end();
         while let Some(played) = self.desk.flush_step_in_place() {
-            put_play(&mut self.sum, player, &self.desk, played, lanes)?;
+            put_play(&mut self.sum, piece, &self.desk, played, lanes)?;
         }
         Ok(())
     }
@@ -277,8 +229,7 @@ fn admit_parity(
         × IsReadAs kind datagram.now arrival × Takes desk.old.state arrival [] reply desk.new.state) }
     ensures read { OnErr result ((parity : ParityRead) × IsParityDatagram datagram.now parity) }
     ensures unchanged { OnErr result (desk.new ≡ desk.old) }
-    ensures settings { (desk.new.state.window ≡ desk.old.state.window)
-        × (desk.new.state.depth ≡ desk.old.state.depth) }
+    ensures playout { desk.new.state.playout ≡ desk.old.state.playout }
 {
     let Ok((parity, share)) = parity_share(alloc, datagram)? else {
         return Ok(None);
@@ -289,7 +240,7 @@ fn admit_parity(
 /// Counts the play that was just made on the desk, and puts its words' payloads to the flow's lane.
 fn put_play<O: Outlet>(
     sum: &mut FlowSum,
-    player: &mut Player,
+    piece: &mut Vec<u8>,
     desk: &Desk,
     played: Played,
     lanes: &mut O,
@@ -302,13 +253,8 @@ fn put_play<O: Outlet>(
     ensures part { OnErr result (GrowsPart (O.lanes lanes.old) sum.old.port
         (lane_of (play_on played desk.now ∷ [])) (O.lanes lanes.new)) }
     ensures port { sum.new.port ≡ sum.old.port }
-    ensures not_read { IsErrOf result Fault.Read → ⊥ }
-    ensures counted { IsErrOf result Fault.Write → CountsFault (O.faults lanes.old) (O.faults lanes.new) }
-    ensures no_fault { OnOk result (O.faults lanes.new ≡ O.faults lanes.old) }
-    ensures memory { IsErrOf result Fault.Memory → O.faults lanes.new ≡ O.faults lanes.old }
-    ensures never_falls { O.faults lanes.old ≤ O.faults lanes.new }
+    ensures faults { Counts result [] ((O.faults lanes.old, O.faults lanes.new) ∷ []) }
 {
-    player.fill(sum, desk, played)?;
-    lanes.put(sum.port, player.lane.as_slice())?;
-    Ok(())
+    fill(piece, sum, desk, played)?;
+    put(lanes, sum.port, piece.as_slice())
 }

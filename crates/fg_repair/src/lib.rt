@@ -4,9 +4,7 @@
 mod alone;
 mod counts;
 mod engine;
-mod fault;
 mod flow;
-pub mod laws;
-mod player;
+mod play;
 
-pub use alone::repair_alone;
+pub use alone::{Alone, repair_alone};

@@ -1,5 +1,6 @@
 -- Runs of positions that show nothing, as pairs of a first position and a number of positions: this project's own.
-use Rattle.std.specs.Prelude.{◌≡◌, ◌⊎◌, ℕ, ◌+◌, ◌^◌, ◌<◌, ◌≤◌, ◌==◌, List, [], ◌∷◌, length, ⊤, cond}
+use Rattle.std.specs.Prelude.{◌≡◌, ◌⊎◌, ℕ, ◌+◌, ◌<◌, ◌≤◌, ◌==◌, List, [], ◌∷◌, length, ⊤, cond}
+use Rattle.fg_shape.specs.Shape.{position_limit}
 
 -- The position behind a run.
 abbrev pub run_end : ℕ × ℕ → ℕ
@@ -35,7 +36,7 @@ AreApart (run ∷ more) = (0 < run.1) × EndsBefore run more × AreApart more
 -- They are so, and none goes past the greatest position.
 pub record AreKept (runs : List (ℕ × ℕ)) : Type 0 where
   pub apart : AreApart runs
-  pub limit : gaps_end runs ≤ 2 ^ 62
+  pub limit : gaps_end runs ≤ position_limit
 
 -- The position is one of some run.
 abbrev pub IsInGap : List (ℕ × ℕ) → ℕ → Type 0

@@ -1,5 +1,6 @@
 //! Runs of positions that show nothing.
-ghost use Rattle.std.specs.Prelude.{◌≡◌, ◌↔◌, ◌+◌, ◌^◌, ◌<◌, ◌≤◌, [], OnOk, OnErr, IsTrue};
+ghost use Rattle.std.specs.Prelude.{◌≡◌, ◌↔◌, ◌+◌, ◌<◌, ◌≤◌, [], OnOk, OnErr, IsTrue};
+ghost use Rattle.fg_shape.specs.Shape.{position_limit};
 ghost use Rattle.fg_report.specs.Gaps.{with_gap, gaps_end, EndsAt};
 
 use std::alloc::{AllocError, Global};
@@ -38,7 +39,7 @@ impl Gaps {
     pub fn add(&mut self, first: u64, count: u64) -> Result<(), AllocError>
         requires some { 0 < count }
         requires behind { gaps_end self.old ≤ first }
-        requires limit { first + count ≤ 2 ^ 62 }
+        requires limit { first + count ≤ position_limit }
         ensures added { OnOk result (self.new ≡ with_gap self.old first count) }
         ensures unchanged { OnErr result (self.new ≡ self.old) }
     {

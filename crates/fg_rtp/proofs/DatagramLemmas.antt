@@ -6,18 +6,9 @@ use Rattle.std.proofs.lemmas.Nat.{be_bytes_2, be_bytes_4}
 use Rattle.std.proofs.lemmas.List.{get_or_append_left, get_or-append_right, get_or-take, get_or-replicate, get_or_past, length-take, length-replicate, take_at, drop_at, ext_get_or}
 use Rattle.fg_words.specs.declared.Word.{Word}
 use Rattle.fg_words.specs.Word.{transport_word, IsMedia}
+use Rattle.fg_words.proofs.WordLemmas.{word-ext}
 use Rattle.fg_rtp.specs.Header.{header}
 use Rattle.fg_rtp.specs.MediaDatagram.{IsMediaDatagram, media_bytes, HasHeader, IsVersionTwo, IsPlain, IsTransport, HasPackets, IsSynced}
-
--- A word is its four fields.
-word_of_fields : ℕ → ℕ → ℕ → List ℕ → Word
-word_of_fields pt ts len bytes = record { pt = pt; ts = ts; len = len; bytes = bytes }
-
-word-ext : (a b : Word) → a.pt ≡ b.pt → a.ts ≡ b.ts → a.len ≡ b.len → a.bytes ≡ b.bytes → a ≡ b
-unfolding word_of_fields
-word-ext a b pt ts len bytes =
-    ap (λ x. word_of_fields x a.ts a.len a.bytes) pt ∙ ap (λ x. word_of_fields b.pt x a.len a.bytes) ts
-    ∙ ap (λ x. word_of_fields b.pt b.ts x a.bytes) len ∙ ap (λ x. word_of_fields b.pt b.ts b.len x) bytes
 
 -- What is written for a media word is a media datagram of it.
 pub written_datagram : (seq ssrc : ℕ) (word : Word) → seq < 2 ^ 16 → word.ts < 2 ^ 32 → ssrc < 2 ^ 32 → IsMedia word → IsMediaDatagram (media_bytes seq ssrc word) seq ssrc word

@@ -9,6 +9,10 @@ use Rattle.std.specs.Prelude.{ℕ, ◌/◌, ◌%◌, ◌==◌, List, ◌∷◌, 
 use Rattle.std.specs.Int.{from_be_bytes, to_be_bytes, w16, w32}
 use Rattle.fg_rtp.specs.declared.Rtp.{Rtp}
 
+-- The bytes of the fixed header.
+abbrev pub header_length : ℕ
+header_length = 12
+
 -- The version that a header's first byte names.
 abbrev pub version : List ℕ → ℕ
 version bytes = slice_index bytes 0 / 64

@@ -57,9 +57,9 @@ pub enum RtpFault {
 /// The fault is the first that applies, in the order of its variants.
 pub fn read(bytes: &[u8]) -> Result<Rtp, RtpFault>
     ensures ok { IfOk result (λ rtp. rtp ≡ header bytes.now) }
-    ensures short { IsErrOf result RtpFault.Short ↔ length bytes.now < 12 }
+    ensures short { IsErrOf result RtpFault.Short ↔ length bytes.now < HEADER_LENGTH }
     ensures version { IsErrOf result RtpFault.Version
-        ↔ ((12 ≤ length bytes.now) × (version bytes.now ≢ 2)) }
+        ↔ ((HEADER_LENGTH ≤ length bytes.now) × (version bytes.now ≢ 2)) }
 {
     if bytes.len() < HEADER_LENGTH {
         return Err(RtpFault::Short);
@@ -72,7 +72,7 @@ pub fn read(bytes: &[u8]) -> Result<Rtp, RtpFault>
 
 /// The fields of the fixed header at the front of a datagram.
 fn fields(bytes: &[u8]) -> Rtp
-    requires { 12 ≤ length bytes.now }
+    requires { HEADER_LENGTH ≤ length bytes.now }
     ensures { result ≡ header bytes.now }
 {
     Rtp {

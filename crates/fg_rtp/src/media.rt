@@ -7,7 +7,8 @@ ghost use Rattle.fg_words.specs.Word.{transport_word, IsMedia};
 ghost use Rattle.fg_rtp.specs.Header.{plain_header};
 
 use crate::{HEADER_LENGTH, RtpFault, header_bytes, read};
-use fg_words::{PACKET_LENGTH, PAYLOAD_LIMIT, SYNC_BYTE, Shared, TRANSPORT_TYPE, Word};
+use fg_ts::{PACKET_LENGTH, SYNC_BYTE};
+use fg_words::{PAYLOAD_LIMIT, Shared, TRANSPORT_TYPE, Word};
 use std::alloc::{AllocError, Global};
 
 /// The bytes of the largest media datagram.
@@ -154,7 +155,7 @@ pub fn write_payload(
 ) -> usize
     requires { length payload.now ≤ PAYLOAD_LIMIT }
     ensures size { result ≡ HEADER_LENGTH + length payload.now }
-    ensures written { into.new ≡ (plain_header 33 seq ts ssrc ++ payload.now) ++ drop result into.old }
+    ensures written { into.new ≡ (plain_header TRANSPORT_TYPE seq ts ssrc ++ payload.now) ++ drop result into.old }
 {
     let end = HEADER_LENGTH + payload.len();
     let header = header_bytes(TRANSPORT_TYPE, seq, ts, ssrc);
@@ -188,7 +189,7 @@ fn is_synced(bytes: &[u8]) -> bool
 
 /// A share of the word of transport packets with this timestamp.
 fn share_of(alloc: Global, ts: u32, payload: &[u8]) -> Result<Shared, AllocError>
-    requires { length payload.now ≤ 1316 }
+    requires { length payload.now ≤ PAYLOAD_LIMIT }
     ensures { IfOk result (λ share. share ≡ transport_word ts payload.now) }
 {
     Shared::of_payload(alloc, TRANSPORT_TYPE, ts, payload.len() as u16, payload)
@@ -196,7 +197,7 @@ fn share_of(alloc: Global, ts: u32, payload: &[u8]) -> Result<Shared, AllocError
 
 /// The word of transport packets with this timestamp.
 fn word_of(ts: u32, payload: &[u8]) -> Word
-    requires { length payload.now ≤ 1316 }
+    requires { length payload.now ≤ PAYLOAD_LIMIT }
     ensures { result ≡ transport_word ts payload.now }
 {
     Word::of_payload(TRANSPORT_TYPE, ts, payload.len() as u16, payload)

@@ -11,13 +11,13 @@ use Rattle.fg_run.specs.Laws.{OneRequest}
 use Rattle.fg_run.specs.Request.{Asks}
 use Rattle.fg_run.specs.Reading.{ReadsTrace}
 use Rattle.fg_run.specs.Run.{ComesBack, IsAnswer, IsNoInput, Reads, StopsAt}
-use Rattle.fg_run.specs.Sample.{sample_sent}
+use Rattle.fg_drill.specs.Sample.{sample_sent}
 use Rattle.fg_run.specs.Stopping.{StopsLanes}
 use Rattle.fg_trace.specs.declared.step.Finish.TheVariants as finish
 use Rattle.fg_trace.specs.Trace.{Record, Ending, IsTrace}
 use Rattle.fg_flows.specs.declared.Plan.{Plan}
-use Rattle.fg_run.proofs.Reading.{unread}
-use Rattle.fg_run.proofs.Repairs.{drill_stops_first, stops_first}
+use Rattle.fg_encode.proofs.ReadLemmas.{unread}
+use Rattle.fg_run.proofs.Stopping.{drill_stops_first, stops_first}
 
 pub of_each : OneRequest → (words : List (List ℕ)) (r : Request) (P : Request → Type 0) → Asks words r → P r → (request : Request) → Asks words request → P request
 of_each one words r P h x request k = subst P (one words r request h k) x

@@ -1,13 +1,9 @@
 pub mod Asked
-pub mod ComingBack
-pub mod Drills
-pub mod Encodings
+pub mod Drilled
+pub mod Encoded
 pub mod Lines
 pub mod Reading
-pub mod Repairs
 pub mod Requests
-pub mod Samples
-pub mod Sending
-pub mod TraceBuffers
+pub mod Stopping
 pub mod Untouched
 pub mod WholeStreams

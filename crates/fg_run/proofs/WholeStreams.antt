@@ -1,12 +1,12 @@
 -- A stream of whole packets is cut to its end.
-use Rattle.std.proofs.Common.{◌≡◌, ⊎_elim, ℕ, zero, suc, ◌+◌, ◌-◌, ◌*◌, ◌<◌, ◌≤◌, min, List, length, map, drop, get_or, refl, sym, ap, ◌∙◌, arith, subst}
+use Rattle.std.proofs.Common.{◌≡◌, ⊎_elim, ℕ, zero, suc, ◌+◌, ◌-◌, ◌*◌, ◌<◌, ◌≤◌, min, None, List, length, map, drop, get_or, refl, sym, ap, ◌∙◌, arith, subst}
 use Rattle.std.specs.List.{range_with_len}
 use Rattle.std.proofs.Math.Nat.{mul-suc, mul_assoc}
 use Rattle.std.proofs.lemmas.Bool.{cases_lt}
 use Rattle.std.proofs.lemmas.List.{get_or-take, get_or-drop, length-take, length-drop}
 use Rattle.std.proofs.lemmas.List.FromFn.{length-map-range_with_len}
 use Rattle.fg_ts.specs.Packets.{ArePackets}
-use Rattle.fg_encode.specs.Stream.{payload_of, IsAcceptable, Whole}
+use Rattle.fg_encode.specs.Stream.{payload_of, IsAcceptable}
 use Rattle.fg_run.specs.declared.ended.Why.TheVariants as why
 use Rattle.fg_run.specs.Encode.{IsStreamAnswer}
 
@@ -69,7 +69,7 @@ whole_done packets max count bytes some h within =
     let at : 188 * packets * n ≡ 188 * (packets * n) = mul_assoc 188 packets n in
     let ends : length bytes ≤ 188 * packets * n = omega (arith, at, h.whole, cover.1.enough) in (
       payloads,
-      Whole,
+      None,
       record {
         first = record {
           cut = ap (λ k. map f (range_with_len 0 k)) (sym long);

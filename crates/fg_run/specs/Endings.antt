@@ -1,9 +1,13 @@
 -- The answers to endings: this project's own.
-use Rattle.fg_ts.specs.declared.TsFault.TheVariants as packets
+use Rattle.std.specs.Prelude.{None, Some, Result, Ok, Err}
+use Rattle.fg_io.specs.declared.fault.Fault.{Fault}
+use Rattle.fg_io.specs.declared.fault.Fault.TheVariants as fault
 use Rattle.fg_trace.specs.declared.step.Finish.{Finish}
 use Rattle.fg_trace.specs.declared.step.Finish.TheVariants as finish
 use Rattle.fg_trace.specs.Trace.{Ending, Ended, NotTrace, Cut, TooLong}
-use Rattle.fg_encode.specs.Stream.{StreamEnding, Whole, Ragged, NoSync, TooLong as PastLimit}
+use Rattle.fg_encode.specs.declared.stream.StreamFault.TheVariants.{NotTransport, TooLong as PastLimit}
+use Rattle.fg_encode.specs.Stream.{StreamEnding}
+use Rattle.fg_drill.specs.Drill.{Answer as Drilled}
 use Rattle.fg_run.specs.declared.ended.Why.{Why}
 use Rattle.fg_run.specs.declared.ended.Why.TheVariants as why
 
@@ -26,7 +30,22 @@ why_of_finish finish.Memory = why.Memory
 
 -- The answer to a stream that ends so.
 abbrev pub why_of_stream : StreamEnding → Why
-why_of_stream Whole = why.Done
-why_of_stream (PastLimit n) = why.TooLong n
-why_of_stream (Ragged n) = why.NotTransport (packets.Ragged n)
-why_of_stream (NoSync k) = why.NotTransport (packets.NoSync k)
+why_of_stream None = why.Done
+why_of_stream (Some (PastLimit n)) = why.TooLong n
+why_of_stream (Some (NotTransport fault)) = why.NotTransport fault
+
+-- The answer of a drill that ends so.
+abbrev pub why_of_drill : Drilled → Why
+why_of_drill (Ok finish) = why_of_finish finish
+why_of_drill (Err fault) = why_of_stream (Some fault)
+
+-- The answer where such a fault ends a command.
+abbrev pub why_of_fault : Fault → Why
+why_of_fault fault.Read = why.ReadFault
+why_of_fault fault.Write = why.WriteFault
+why_of_fault fault.Memory = why.Memory
+
+-- The answer of an encoding that ends so.
+abbrev pub why_of_encoding : Result StreamEnding Fault → Why
+why_of_encoding (Ok ending) = why_of_stream ending
+why_of_encoding (Err fault) = why_of_fault fault

@@ -1,15 +1,8 @@
-pub mod Drill
-pub mod DrillLaws
-pub mod DrillSteps
 pub mod Encode
-pub mod EncodeSteps
 pub mod Ended
 pub mod Endings
 pub mod Laws
 pub mod Reading
-pub mod Repair
 pub mod Request
 pub mod Run
-pub mod Sample
 pub mod Stopping
-pub mod TraceBuffer

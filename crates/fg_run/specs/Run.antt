@@ -7,17 +7,21 @@ use Rattle.fg_trace.specs.Trace.{Record, Ending, NotTrace, IsTrace}
 use Rattle.fg_encode.specs.Stream.{StreamEnding, IsCut}
 use Rattle.fg_cli.specs.Help.{answer_text}
 use Rattle.fg_cli.specs.declared.Order.TheVariants.{Repair, Encode, Drill, Inspect, Sample}
-use Rattle.fg_repair.specs.Repair.{Outputs, OutputsPart}
+use Rattle.fg_results.specs.Repair.{Outputs, OutputsPart}
 use Rattle.fg_inspect.specs.Inspect.{Tells, TellsPart}
+use Rattle.fg_encode.specs.Encode.{EncodesPart}
+use Rattle.fg_drill.specs.Drill.{Answer as Drilled, Drills, DrillsPart, StreamComesBack, records_sent}
+use Rattle.fg_drill.specs.Repairs.{EncodingsComeBack}
+use Rattle.fg_drill.specs.Sample.{SampleComesBack, Samples, SamplesPart, sample_sent}
+use Rattle.fg_flows.specs.declared.Plan.{Plan}
+use Rattle.fg_shape.specs.declared.encoding.Losses.{Losses}
+use Rattle.fg_shape.specs.declared.encoding.Settings.{Settings}
 use Rattle.fg_run.specs.declared.ended.Why.{Why}
 use Rattle.fg_run.specs.declared.ended.Why.TheVariants as why
-use Rattle.fg_run.specs.Drill.{Drills, DrillsPart, StreamComesBack, records_sent}
-use Rattle.fg_run.specs.Encode.{Encodes, EncodesPart, EndsStream, IsStreamAnswer}
+use Rattle.fg_run.specs.Encode.{EncodesFor, EndsStream, IsStreamAnswer}
 use Rattle.fg_run.specs.Ended.{IsFault}
-use Rattle.fg_run.specs.Endings.{why_of_ending, why_of_finish}
+use Rattle.fg_run.specs.Endings.{why_of_drill, why_of_ending, why_of_finish}
 use Rattle.fg_run.specs.Reading.{ReadsStream, ReadsTrace}
-use Rattle.fg_run.specs.Repair.{EncodingsComeBack}
-use Rattle.fg_run.specs.Sample.{SampleComesBack, Samples, SamplesPart, sample_sent}
 use Rattle.fg_run.specs.Stopping.{StopsLanes}
 use Rattle.fg_run.specs.declared.request.Request.{Request}
 use Rattle.fg_run.specs.declared.request.Request.TheVariants.{Asked, Ordered, Refused}
@@ -40,6 +44,14 @@ abbrev pub Inspects : List ℕ → ℕ → Why → Option (List ℕ) → Option 
 Inspects flows max answer input written written' =
     (finish : Finish) × (answer ≡ why_of_finish finish) × Tells flows max finish input written written'
 
+-- What is sent of the stream is repaired, and the answer is that of the drill.
+abbrev pub DrillsFor :
+    Settings → Plan → Losses → ℕ → Why → Option (List ℕ) → Option Lanes → Option Lanes → Option (List ℕ)
+    → Option (List ℕ) → Type 0
+DrillsFor settings plan losses max answer input lanes lanes' written written' =
+    (drilled : Drilled) × (answer ≡ why_of_drill drilled)
+    × Drills settings plan losses max drilled input lanes lanes' written written'
+
 -- The request has this answer, and the lanes and the sink have gained what is defined for it over the input.
 abbrev pub Answers :
     Request → Why → Option (List ℕ) → Option Lanes → Option Lanes → Option (List ℕ) → Option (List ℕ) → Type 0
@@ -50,13 +62,13 @@ Answers (Refused fault) answer input lanes lanes' written written' =
 Answers (Ordered (Repair plan)) answer input lanes lanes' written written' =
     (end : Ending) × (answer ≡ why_of_ending end) × Outputs plan end input lanes lanes' written written'
 Answers (Ordered (Encode settings max)) answer input lanes lanes' written written' =
-    (lanes' ≡ lanes) × Encodes settings max answer input written written'
+    (lanes' ≡ lanes) × EncodesFor settings max answer input written written'
 Answers (Ordered (Drill settings plan losses max)) answer input lanes lanes' written written' =
-    Drills settings plan losses max answer input lanes lanes' written written'
+    DrillsFor settings plan losses max answer input lanes lanes' written written'
 Answers (Ordered (Inspect table max)) answer input lanes lanes' written written' =
     (lanes' ≡ lanes) × Inspects table max answer input written written'
 Answers (Ordered (Sample seed datagrams loss plan)) answer input lanes lanes' written written' =
-    Samples seed datagrams loss plan answer lanes lanes' written written'
+    (answer ≡ why.Done) × Samples seed datagrams loss plan lanes lanes' written written'
 
 -- The answer that the request has over these bytes, where nothing fails and memory is there.
 abbrev pub IsAnswer : Request → List ℕ → Why → Type 0
@@ -179,7 +191,7 @@ ComesBack (Ordered (Repair plan)) answer input lanes lanes' =
     IfSome input (λ bytes. IsFault answer ⊎ EncodingsComeBack plan bytes lanes lanes')
 ComesBack (Ordered (Encode settings max)) answer input lanes lanes' = ⊤
 ComesBack (Ordered (Drill settings plan losses max)) answer input lanes lanes' =
-    IfSome input (λ bytes. IsFault answer ⊎ StreamComesBack settings plan losses max answer bytes lanes lanes')
+    IfSome input (λ bytes. IsFault answer ⊎ StreamComesBack settings plan losses max bytes lanes lanes')
 ComesBack (Ordered (Inspect table max)) answer input lanes lanes' = ⊤
 ComesBack (Ordered (Sample seed datagrams loss plan)) answer input lanes lanes' =
     IsFault answer ⊎ SampleComesBack seed datagrams loss plan lanes lanes'

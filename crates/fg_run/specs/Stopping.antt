@@ -1,10 +1,10 @@
 -- Where a fault stops a repair for an answer: this project's own rule.
-use Rattle.std.specs.Prelude.{◌≡◌, List, Option}
+use Rattle.std.specs.Prelude.{◌≡◌, ℕ, List, Option, IfSome}
 use Rattle.fg_io.specs.Outlet.{Lanes}
 use Rattle.fg_trace.specs.declared.step.Finish.{Finish}
-use Rattle.fg_trace.specs.Trace.{Record}
+use Rattle.fg_trace.specs.Trace.{Record, Ending, IsTrace}
 use Rattle.fg_flows.specs.declared.Plan.{Plan}
-use Rattle.fg_repair.specs.Stops.{Stops}
+use Rattle.fg_results.specs.Stops.{Stops}
 use Rattle.fg_run.specs.declared.ended.Why.{Why}
 use Rattle.fg_run.specs.Endings.{why_of_finish}
 
@@ -13,3 +13,9 @@ use Rattle.fg_run.specs.Endings.{why_of_finish}
 abbrev pub StopsLanes : Plan → Why → List Record → Option Lanes → Option Lanes → Type 0
 StopsLanes plan answer records lanes lanes' =
     (finish : Finish) × (answer ≡ why_of_finish finish) × Stops plan finish records lanes lanes'
+
+-- So did a repair of the trace in these bytes.
+abbrev pub StopsTrace : Plan → Option (List ℕ) → Why → Option Lanes → Option Lanes → Type 0
+StopsTrace plan trace answer lanes lanes' =
+    IfSome trace (λ bytes. (records : List Record) (end : Ending) → IsTrace bytes plan.max records end
+    → StopsLanes plan answer records lanes lanes')

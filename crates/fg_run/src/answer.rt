@@ -1,7 +1,7 @@
 //! Answering a request.
-ghost use Rattle.std.specs.Prelude.{◌≡◌, ◌≢◌, ◌≤◌, ◌⊎◌, IfSome};
+ghost use Rattle.std.specs.Prelude.{◌≡◌, ◌⊎◌, ◌∷◌, [], IfSome};
 ghost use Rattle.std.specs.Io.KnownBytes.{IsAtEnd};
-ghost use Rattle.fg_io.specs.Faults.{CountsFault};
+ghost use Rattle.fg_io.specs.Faults.{CountsFaults};
 ghost use Rattle.fg_io.specs.Sink.{Gains, GainsPart};
 ghost use Rattle.fg_flows.specs.Plan.{PlanFits};
 ghost use Rattle.fg_cli.specs.Help.{answer_text};
@@ -13,21 +13,21 @@ ghost use Rattle.fg_run.specs.Ended.{IsFault};
 ghost use Rattle.fg_run.specs.Request.{RequestFits};
 ghost use Rattle.fg_run.specs.Run.{Answers, AnswersPart, ComesBack, IsAnswer, IsNoInput, MakesNoLane, Reads, ReadsAll, ReadsNothing, StopsAt, WritesLast, WritesNothing};
 
-use crate::drilling::drill;
+use crate::drilling::run_drill;
 use crate::encoding::run_encode;
 use crate::ended::Why;
 use crate::inspection::run_inspect;
 use crate::repairing::repair;
 use crate::request::Request;
-use crate::sampling::sample;
 use fg_cli::{Order, Question};
-use fg_flows::Plan;
+use fg_drill::sample;
 use fg_io::laws::parts_of_writes;
 use fg_io::{Outlet, Sink, Source, write_all};
+use fg_repair::Alone;
 use std::alloc::Global;
 
 /// Does what the request asks for, and tells why it ended.
-pub fn answer<S: Source, K: Sink, O: Outlet>(
+pub fn answer<S: Source + Send, K: Sink + Send, O: Outlet + Send>(
     alloc: Global,
     request: Request,
     input: &mut S,
@@ -53,16 +53,9 @@ pub fn answer<S: Source, K: Sink, O: Outlet>(
     ensures all_read { ReadsAll request result → IsAtEnd (S.left input.new) }
 
     ensures no_report { WritesLast request → result ≡ Why.ReadFault → out.new ≡ out.old }
-    ensures read_fault { result ≡ Why.ReadFault → CountsFault (S.faults input.old) (S.faults input.new) }
-    ensures write_fault { result ≡ Why.WriteFault
-        → CountsFault (K.faults out.old) (K.faults out.new)
-        ⊎ CountsFault (O.faults lanes.old) (O.faults lanes.new) }
-    ensures no_read_fault { result ≢ Why.ReadFault → S.faults input.new ≡ S.faults input.old }
-    ensures no_write_fault { result ≢ Why.WriteFault
-        → (K.faults out.new ≡ K.faults out.old) × (O.faults lanes.new ≡ O.faults lanes.old) }
-    ensures input_faults { S.faults input.old ≤ S.faults input.new }
-    ensures out_faults { K.faults out.old ≤ K.faults out.new }
-    ensures lanes_faults { O.faults lanes.old ≤ O.faults lanes.new }
+    ensures faults { CountsFaults (result ≡ Why.ReadFault) (result ≡ Why.WriteFault)
+        ((S.faults input.old, S.faults input.new) ∷ [])
+        ((K.faults out.old, K.faults out.new) ∷ (O.faults lanes.old, O.faults lanes.new) ∷ []) }
 {
     match request {
         Request::Asked(question) => answer_question(alloc, question, out),
@@ -77,7 +70,7 @@ pub fn answer<S: Source, K: Sink, O: Outlet>(
                 losses,
                 max,
             },
-        ) => drill(alloc, settings, &plan, losses, max, input, out, lanes),
+        ) => run_drill(alloc, settings, &plan, losses, max, input, out, lanes),
         Request::Ordered(Order::Inspect { table, max }) => {
             run_inspect(alloc, &table, max, input, out).why
         }
@@ -88,7 +81,7 @@ pub fn answer<S: Source, K: Sink, O: Outlet>(
                 loss,
                 plan,
             },
-        ) => sample(alloc, seed, datagrams, loss, &plan, out, lanes),
+        ) => sample(&Alone, alloc, seed, datagrams, loss, &plan, out, lanes).into(),
         Request::Refused(fault) => Why::Words(fault),
     }
 }
@@ -98,10 +91,8 @@ fn answer_question<K: Sink>(alloc: Global, question: Question, out: &mut K) -> W
     ensures whole { IsFault result ⊎ ((result ≡ Why.Done)
         × Gains (K.written out.old) (answer_text question) (K.written out.new)) }
     ensures part { IsFault result → GainsPart (K.written out.old) (answer_text question) (K.written out.new) }
-    ensures no_read { result ≢ Why.ReadFault }
-    ensures counted { result ≡ Why.WriteFault → CountsFault (K.faults out.old) (K.faults out.new) }
-    ensures no_fault { result ≢ Why.WriteFault → K.faults out.new ≡ K.faults out.old }
-    ensures never_falls { K.faults out.old ≤ K.faults out.new }
+    ensures faults { CountsFaults (result ≡ Why.ReadFault) (result ≡ Why.WriteFault) []
+        ((K.faults out.old, K.faults out.new) ∷ []) }
 {
     parts_of_writes();
     let Ok(text) = question.answer(alloc) else {
@@ -109,6 +100,6 @@ fn answer_question<K: Sink>(alloc: Global, question: Question, out: &mut K) -> W
     };
     match write_all(out, &text) {
         Ok(()) => Why::Done,
-        Err(_) => Why::WriteFault,
+        Err(fault) => fault.into(),
     }
 }

@@ -1,9 +1,11 @@
 //! How a call of the program ends.
 ghost use Rattle.std.specs.Prelude.{◌≡◌};
 ghost use Rattle.fg_run.specs.Ended.{status_of};
-ghost use Rattle.fg_run.specs.Endings.{why_of_finish};
+ghost use Rattle.fg_run.specs.Endings.{why_of_fault, why_of_finish, why_of_stream};
 
 use fg_cli::WordFault;
+use fg_encode::stream::StreamFault;
+use fg_io::Fault;
 use fg_trace::Finish;
 use fg_ts::TsFault;
 
@@ -87,6 +89,32 @@ impl From<Finish> for Why {
             Finish::Cut(place) => Why::Cut(place),
             Finish::TooLong(place) => Why::TooLong(place),
             Finish::Memory => Why::Memory,
+        }
+    }
+}
+
+/// A command that reads a stream ends so, once all before its ending is done.
+impl From<Option<StreamFault>> for Why {
+    ghost from_gives = { λ ending why. why ≡ why_of_stream ending };
+
+    fn from(ending: Option<StreamFault>) -> Why {
+        match ending {
+            None => Why::Done,
+            Some(StreamFault::TooLong(place)) => Why::TooLong(place),
+            Some(StreamFault::NotTransport(fault)) => Why::NotTransport(fault),
+        }
+    }
+}
+
+/// A command that a fault ends.
+impl From<Fault> for Why {
+    ghost from_gives = { λ fault why. why ≡ why_of_fault fault };
+
+    fn from(fault: Fault) -> Why {
+        match fault {
+            Fault::Read => Why::ReadFault,
+            Fault::Write => Why::WriteFault,
+            Fault::Memory => Why::Memory,
         }
     }
 }

@@ -1,26 +1,25 @@
 //! The line on the error sink.
-ghost use Rattle.std.specs.Prelude.{◌≡◌, ◌≤◌, ◌++◌, OnOk, OnErr, codes};
+ghost use Rattle.std.specs.Prelude.{◌≡◌, ◌++◌, ◌∷◌, [], IfErr, OnOk, OnErr, codes};
 ghost use Rattle.std.specs.Fmt.{decimal};
-ghost use Rattle.fg_io.specs.Faults.{CountsFault};
+ghost use Rattle.fg_io.specs.Faults.{Counts};
 ghost use Rattle.fg_io.specs.Sink.{Gains, GainsPart};
 ghost use Rattle.fg_run.specs.Ended.{fault_line, flows_line, words_line, name_text as text_of_name, layout_number as number_of_rule};
 
 use crate::ended::Why;
 use fg_cli::{Name, WordFault};
 use fg_flows::FlowFault;
-use fg_io::{Failed, Sink, write_all, write_pieces};
+use fg_io::{Fault, Sink, write_all, write_pieces};
 use fg_shape::LayoutFault;
 use fg_ts::TsFault;
 use itoa::Buffer;
 
 /// Writes the line for a program that ended so; nothing is written where all was done.
-pub fn write_fault_line<E: Sink>(err: &mut E, why: Why) -> Result<(), Failed>
+pub fn write_fault_line<E: Sink>(err: &mut E, why: Why) -> Result<(), Fault>
     ensures whole { OnOk result (Gains (E.written err.old) (fault_line why) (E.written err.new)) }
     ensures part { OnErr result (GainsPart (E.written err.old) (fault_line why)
         (E.written err.new)) }
-    ensures no_fault { OnOk result (E.faults err.new ≡ E.faults err.old) }
-    ensures counted { OnErr result (CountsFault (E.faults err.old) (E.faults err.new)) }
-    ensures never_falls { E.faults err.old ≤ E.faults err.new }
+    ensures fault { IfErr result (λ fault. fault ≡ Fault.Write) }
+    ensures faults { Counts result [] ((E.faults err.old, E.faults err.new) ∷ []) }
     ensures quiet { why ≡ Why.Done → err.new ≡ err.old }
 {
     match why {
@@ -42,13 +41,12 @@ pub fn write_fault_line<E: Sink>(err: &mut E, why: Why) -> Result<(), Failed>
 }
 
 /// Writes the line for words that break this rule first.
-fn write_words_line<E: Sink>(err: &mut E, fault: WordFault) -> Result<(), Failed>
+fn write_words_line<E: Sink>(err: &mut E, fault: WordFault) -> Result<(), Fault>
     ensures whole { OnOk result (Gains (E.written err.old) (words_line fault) (E.written err.new)) }
     ensures part { OnErr result (GainsPart (E.written err.old) (words_line fault)
         (E.written err.new)) }
-    ensures no_fault { OnOk result (E.faults err.new ≡ E.faults err.old) }
-    ensures counted { OnErr result (CountsFault (E.faults err.old) (E.faults err.new)) }
-    ensures never_falls { E.faults err.old ≤ E.faults err.new }
+    ensures fault { IfErr result (λ fault. fault ≡ Fault.Write) }
+    ensures faults { Counts result [] ((E.faults err.old, E.faults err.new) ∷ []) }
 {
     match fault {
         WordFault::NoCommand => write_all(err, b"words: no command\n"),
@@ -61,13 +59,12 @@ fn write_words_line<E: Sink>(err: &mut E, fault: WordFault) -> Result<(), Failed
 }
 
 /// Writes the line for words whose flows break this rule first.
-fn write_flows_line<E: Sink>(err: &mut E, fault: FlowFault) -> Result<(), Failed>
+fn write_flows_line<E: Sink>(err: &mut E, fault: FlowFault) -> Result<(), Fault>
     ensures whole { OnOk result (Gains (E.written err.old) (flows_line fault) (E.written err.new)) }
     ensures part { OnErr result (GainsPart (E.written err.old) (flows_line fault)
         (E.written err.new)) }
-    ensures no_fault { OnOk result (E.faults err.new ≡ E.faults err.old) }
-    ensures counted { OnErr result (CountsFault (E.faults err.old) (E.faults err.new)) }
-    ensures never_falls { E.faults err.old ≤ E.faults err.new }
+    ensures fault { IfErr result (λ fault. fault ≡ Fault.Write) }
+    ensures faults { Counts result [] ((E.faults err.old, E.faults err.new) ∷ []) }
 {
     match fault {
         FlowFault::NoFlow => write_all(err, b"words: flows 1\n"),
@@ -102,27 +99,25 @@ fn layout_number(fault: LayoutFault) -> u64
 }
 
 /// Writes a line of a text and a number.
-fn write_number<E: Sink>(err: &mut E, text: &[u8], number: u64) -> Result<(), Failed>
+fn write_number<E: Sink>(err: &mut E, text: &[u8], number: u64) -> Result<(), Fault>
     ensures whole { OnOk result (Gains (E.written err.old)
         (text.now ++ decimal number ++ codes "\n") (E.written err.new)) }
     ensures part { OnErr result (GainsPart (E.written err.old)
         (text.now ++ decimal number ++ codes "\n") (E.written err.new)) }
-    ensures no_fault { OnOk result (E.faults err.new ≡ E.faults err.old) }
-    ensures counted { OnErr result (CountsFault (E.faults err.old) (E.faults err.new)) }
-    ensures never_falls { E.faults err.old ≤ E.faults err.new }
+    ensures fault { IfErr result (λ fault. fault ≡ Fault.Write) }
+    ensures faults { Counts result [] ((E.faults err.old, E.faults err.new) ∷ []) }
 {
     write_line(err, text, Buffer::new().format(number))
 }
 
 /// Writes a line of two texts.
-fn write_line<E: Sink>(err: &mut E, text: &[u8], more: &str) -> Result<(), Failed>
+fn write_line<E: Sink>(err: &mut E, text: &[u8], more: &str) -> Result<(), Fault>
     ensures whole { OnOk result (Gains (E.written err.old)
         (text.now ++ more.now ++ codes "\n") (E.written err.new)) }
     ensures part { OnErr result (GainsPart (E.written err.old)
         (text.now ++ more.now ++ codes "\n") (E.written err.new)) }
-    ensures no_fault { OnOk result (E.faults err.new ≡ E.faults err.old) }
-    ensures counted { OnErr result (CountsFault (E.faults err.old) (E.faults err.new)) }
-    ensures never_falls { E.faults err.old ≤ E.faults err.new }
+    ensures fault { IfErr result (λ fault. fault ≡ Fault.Write) }
+    ensures faults { Counts result [] ((E.faults err.old, E.faults err.new) ∷ []) }
 {
     write_pieces(err, &[text, more.as_bytes(), b"\n"])
 }

@@ -1,7 +1,7 @@
 //! The inspection of a trace.
-ghost use Rattle.std.specs.Prelude.{◌≡◌, ◌≢◌, ◌⊎◌, ◌≤◌, ◌^◌, IfSome};
+ghost use Rattle.std.specs.Prelude.{◌≡◌, ◌⊎◌, ◌≤◌, ◌^◌, ◌∷◌, [], IfSome};
 ghost use Rattle.std.specs.Io.KnownBytes.{IsAtEnd};
-ghost use Rattle.fg_io.specs.Faults.{CountsFault};
+ghost use Rattle.fg_io.specs.Faults.{CountsFaults};
 ghost use Rattle.fg_inspect.specs.Inspect.{TellsPart};
 ghost use Rattle.fg_run.specs.declared.ended.Why.{Why as AnyWhy};
 ghost use Rattle.fg_run.specs.Ended.{IsFault, status_of};
@@ -46,16 +46,8 @@ pub fn run_inspect<S: Source, K: Sink>(
     ensures part { IsFault result.why → TellsPart table.now max (S.left input.old)
         (K.written out.old) (K.written out.new) }
 
-    // A fault of the outside is answered only where it was counted in this call, and with every other answer none was. No
-    // count falls.
-    ensures read_fault { result.why ≡ Why.ReadFault
-        → CountsFault (S.faults input.old) (S.faults input.new) }
-    ensures write_fault { result.why ≡ Why.WriteFault
-        → CountsFault (K.faults out.old) (K.faults out.new) }
-    ensures no_read_fault { result.why ≢ Why.ReadFault → S.faults input.new ≡ S.faults input.old }
-    ensures no_write_fault { result.why ≢ Why.WriteFault → K.faults out.new ≡ K.faults out.old }
-    ensures input_faults { S.faults input.old ≤ S.faults input.new }
-    ensures out_faults { K.faults out.old ≤ K.faults out.new }
+    ensures faults { CountsFaults (result.why ≡ Why.ReadFault) (result.why ≡ Why.WriteFault)
+        ((S.faults input.old, S.faults input.new) ∷ []) ((K.faults out.old, K.faults out.new) ∷ []) }
 {
     Ended::of(inspect(alloc, table, max, input, out).into())
 }

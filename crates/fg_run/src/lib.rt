@@ -3,9 +3,9 @@
 //! All goes through one thread, the caller's.
 #![tactic(auto)]
 
-ghost use Rattle.std.specs.Prelude.{◌≡◌, ◌≢◌, ◌≤◌, ◌⊎◌, ℕ, IfSome, map, string_bytes};
+ghost use Rattle.std.specs.Prelude.{◌≡◌, ◌≤◌, ◌⊎◌, ◌∷◌, [], IfSome, map, string_bytes};
 ghost use Rattle.std.specs.Io.KnownBytes.{IsAtEnd};
-ghost use Rattle.fg_io.specs.Faults.{CountsFault};
+ghost use Rattle.fg_io.specs.Faults.{CountsFault, CountsFaults};
 ghost use Rattle.fg_cli.specs.declared.WordFault.{WordFault as AnyWordFault};
 ghost use Rattle.fg_run.specs.declared.ended.Why.{Why as AnyWhy};
 ghost use Rattle.fg_run.specs.declared.request.Request.{Request as AnyRequest};
@@ -23,10 +23,8 @@ mod inspection;
 pub mod laws;
 mod repairing;
 mod request;
-mod sampling;
 #[cfg(test)]
 mod tests;
-mod trace_buffer;
 
 pub use encoding::run_encode;
 pub use ended::{Ended, Why};
@@ -126,18 +124,9 @@ pub fn run<
 
     // A fault of the outside is answered only where it was counted in this call, and with every other answer none was.
     // No count falls.
-    ensures read_fault { result.why ≡ Why.ReadFault
-        → CountsFault (S.faults input.old) (S.faults input.new) }
-    ensures write_fault { result.why ≡ Why.WriteFault
-        → CountsFault (K.faults out.old) (K.faults out.new)
-        ⊎ CountsFault (O.faults lanes.old) (O.faults lanes.new) }
-    ensures no_read_fault { result.why ≢ Why.ReadFault → S.faults input.new ≡ S.faults input.old }
-    ensures no_write_fault { result.why ≢ Why.WriteFault
-        → (K.faults out.new ≡ K.faults out.old) × (O.faults lanes.new ≡ O.faults lanes.old) }
-
-    ensures input_faults { S.faults input.old ≤ S.faults input.new }
-    ensures out_faults { K.faults out.old ≤ K.faults out.new }
-    ensures lanes_faults { O.faults lanes.old ≤ O.faults lanes.new }
+    ensures faults { CountsFaults (result.why ≡ Why.ReadFault) (result.why ≡ Why.WriteFault)
+        ((S.faults input.old, S.faults input.new) ∷ [])
+        ((K.faults out.old, K.faults out.new) ∷ (O.faults lanes.old, O.faults lanes.new) ∷ []) }
     ensures err_faults { E.faults err.old ≤ E.faults err.new }
 
     // The error sink gains the line, or a prefix of it where a fault of its own was counted.

@@ -1,20 +1,20 @@
 //! The repair of a trace.
-ghost use Rattle.std.specs.Prelude.{◌≡◌, ◌≢◌, ◌⊎◌, ◌≤◌, IfSome};
+ghost use Rattle.std.specs.Prelude.{◌≡◌, ◌⊎◌, ◌∷◌, [], IfSome};
 ghost use Rattle.std.specs.Io.KnownBytes.{IsAtEnd};
-ghost use Rattle.fg_io.specs.Faults.{CountsFault};
+ghost use Rattle.fg_io.specs.Faults.{CountsFaults};
 ghost use Rattle.fg_trace.specs.Trace.{Ending as TraceEnding};
 ghost use Rattle.fg_flows.specs.Plan.{PlanFits};
-ghost use Rattle.fg_repair.specs.Repair.{Outputs, OutputsPart};
+ghost use Rattle.fg_results.specs.Repair.{Outputs, OutputsPart};
 ghost use Rattle.fg_run.specs.declared.ended.Why.{Why as AnyWhy};
-ghost use Rattle.fg_run.specs.DrillSteps.{StopsTrace};
 ghost use Rattle.fg_run.specs.Ended.{IsFault};
 ghost use Rattle.fg_run.specs.Endings.{why_of_ending};
 ghost use Rattle.fg_run.specs.Reading.{ReadsTrace};
-ghost use Rattle.fg_run.specs.Repair.{EncodingsComeBack};
+ghost use Rattle.fg_drill.specs.Repairs.{EncodingsComeBack};
 ghost use Rattle.fg_run.specs.Run.{EndsTrace, IsNoTrace, IsTraceAnswer};
+ghost use Rattle.fg_run.specs.Stopping.{StopsTrace};
 
 use crate::ended::Why;
-use crate::laws::repairs_come_back;
+use fg_drill::laws::drills::repairs_come_back;
 use fg_flows::Plan;
 use fg_io::{Outlet, Sink, Source};
 use fg_repair::repair_alone;
@@ -55,18 +55,9 @@ pub(crate) fn repair<S: Source, K: Sink, O: Outlet>(
     ensures comes_back { IfSome (S.left input.old) (λ bytes. IsFault result
         ⊎ EncodingsComeBack plan.now bytes (O.lanes lanes.old) (O.lanes lanes.new)) }
 
-    // A fault of the outside is answered only where it was counted in this call, and with every other answer none was. No
-    // count falls.
-    ensures read_fault { result ≡ Why.ReadFault → CountsFault (S.faults input.old) (S.faults input.new) }
-    ensures write_fault { result ≡ Why.WriteFault
-        → CountsFault (K.faults out.old) (K.faults out.new)
-        ⊎ CountsFault (O.faults lanes.old) (O.faults lanes.new) }
-    ensures no_read_fault { result ≢ Why.ReadFault → S.faults input.new ≡ S.faults input.old }
-    ensures no_write_fault { result ≢ Why.WriteFault
-        → (K.faults out.new ≡ K.faults out.old) × (O.faults lanes.new ≡ O.faults lanes.old) }
-    ensures input_faults { S.faults input.old ≤ S.faults input.new }
-    ensures out_faults { K.faults out.old ≤ K.faults out.new }
-    ensures lanes_faults { O.faults lanes.old ≤ O.faults lanes.new }
+    ensures faults { CountsFaults (result ≡ Why.ReadFault) (result ≡ Why.WriteFault)
+        ((S.faults input.old, S.faults input.new) ∷ [])
+        ((K.faults out.old, K.faults out.new) ∷ (O.faults lanes.old, O.faults lanes.new) ∷ []) }
 {
     repairs_come_back();
     repair_alone(alloc, plan, input, out, lanes).into()

@@ -1,6 +1,7 @@
 //! Layouts of parity: which equations a stream is sent with.
-ghost use Rattle.std.specs.Prelude.{◌≡◌, ◌^◌, ◌≤◌, ◌↔◌, ℕ, IfErr, IfOk, IsTrue, MatchOption};
+ghost use Rattle.std.specs.Prelude.{◌≡◌, ◌≤◌, ◌↔◌, ℕ, IfErr, IfOk, IsTrue, MatchOption};
 ghost use Rattle.fg_shape.specs.Limits.{FirstLayoutFault, IsLayout};
+ghost use Rattle.fg_shape.specs.Shape.{position_limit};
 
 use thiserror::Error;
 
@@ -80,7 +81,7 @@ impl Layout {
 
     /// The column and the row whose last slot is this one, of the stream's slots counted from 0.
     pub fn ending_at(&self, slot: u64) -> Ends
-        requires { slot ≤ 2 ^ 62 }
+        requires { slot ≤ position_limit }
         ensures column { MatchOption result.column
             ((base : ℕ) → ColumnEnds self.now slot base → ⊥) (ColumnEnds self.now slot) }
         ensures row { MatchOption result.row

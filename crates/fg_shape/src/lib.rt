@@ -1,16 +1,18 @@
 //! Shapes of parity equations: which media datagrams one parity datagram protects.
 #![tactic(auto)]
 
-ghost use Rattle.std.specs.Prelude.{◌≡◌, ◌↔◌, ◌^◌, ◌<◌, ◌≤◌, All, Contains, IsTrue, slice_index};
-ghost use Rattle.fg_shape.specs.Shape.{slots_of, IsShape};
+ghost use Rattle.std.specs.Prelude.{◌≡◌, ◌↔◌, ◌<◌, ◌≤◌, All, Contains, IsTrue, slice_index};
+ghost use Rattle.fg_shape.specs.Shape.{position_limit, slots_of, IsShape};
 
 mod encoding;
+mod kind;
 pub mod laws;
 mod layouts;
 #[cfg(test)]
 mod tests;
 
 pub use encoding::{Drops, Losses, Settings};
+pub use kind::{Kind, LAST_PORT};
 pub use layouts::{Ends, Layout, LayoutFault};
 
 /// The shape of a parity equation (SMPTE ST 2022-1, the FEC header's Offset and NA fields).
@@ -36,7 +38,7 @@ pub fn shape_ok(shape: Shape) -> bool
 /// The position of slot `j` of the equation with this base, counted from 0.
 pub fn slot(base: u64, shape: Shape, j: u8) -> u64
     requires shape { IsShape shape.offset shape.na }
-    requires base { base ≤ 2 ^ 62 }
+    requires base { base ≤ position_limit }
     requires number { j < shape.na }
     ensures { result ≡ slice_index (slots_of base shape.offset shape.na) j }
 {
@@ -46,7 +48,7 @@ pub fn slot(base: u64, shape: Shape, j: u8) -> u64
 /// Whether a position is one of the slots of the equation with this base.
 pub fn contains(base: u64, shape: Shape, slot: u64) -> bool
     requires shape { IsShape shape.offset shape.na }
-    requires base { base ≤ 2 ^ 62 }
+    requires base { base ≤ position_limit }
     ensures { IsTrue result ↔ Contains (slots_of base shape.offset shape.na) slot }
 {
     if slot < base || slot > last(base, shape) {
@@ -58,7 +60,7 @@ pub fn contains(base: u64, shape: Shape, slot: u64) -> bool
 /// The greatest slot of the equation with this base.
 pub fn last(base: u64, shape: Shape) -> u64
     requires shape { IsShape shape.offset shape.na }
-    requires base { base ≤ 2 ^ 62 }
+    requires base { base ≤ position_limit }
     ensures slot { Contains (slots_of base shape.offset shape.na) result }
     ensures greatest { All (λ slot. slot ≤ result) (slots_of base shape.offset shape.na) }
 {

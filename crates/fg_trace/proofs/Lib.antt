@@ -2,11 +2,11 @@
 pub mod Endings
 pub mod Fields
 pub mod Fronts
-pub mod Pieces
-pub mod Ranges
+pub mod Opening
 pub mod Reaching
 pub mod Records
 pub mod Stopping
 pub mod Traces
+pub mod Viewing
 pub mod Walking
 pub mod Walks

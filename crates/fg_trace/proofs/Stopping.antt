@@ -62,7 +62,7 @@ ends_here bytes max place records held rest longest there within spelled known =
     ]
 
 -- where a reader finds no next record, the ending that is here is the trace's
-pub ends : (reader : ReaderState) (first left : Option (List ℕ)) (records : List Record) → StandsAfter reader first left records → HoldsNone reader left
+pub ends : (reader : ReaderState) (first left : Option (List ℕ)) (records : List Record) → StandsAfter reader first left records → HoldsNone reader.max reader.place reader.held left
     → IfSome first (λ bytes. IsEnding (ending_at reader.max reader.place (length reader.held)) bytes reader.max records)
 ends reader None left records h k = tt
 ends reader (Some bytes) None records h k = let told : Some bytes ≡ None = h.given in cc
@@ -94,7 +94,7 @@ if_some None P Q f h = tt
 if_some (Some bytes) P Q f h = f bytes h
 
 -- the bytes that the source had differ from the magic
-pub differs : (reader : ReaderState) (first left : Option (List ℕ)) (n : ℕ) → StandsBefore reader first left → 8 ≤ reader.max → HoldsEnough reader left 8 → DiffersAt reader.held n → IfSome first (λ bytes. DiffersAt bytes n)
+pub differs : (reader : ReaderState) (first left : Option (List ℕ)) (n : ℕ) → StandsBefore reader first left → 8 ≤ reader.max → HoldsEnough reader.max reader.place reader.held left 8 → DiffersAt reader.held n → IfSome first (λ bytes. DiffersAt bytes n)
 differs reader None left n h least enough k = tt
 differs reader (Some bytes) None n h least enough k = let told : Some bytes ≡ None = h.given in cc
 differs reader (Some bytes) (Some rest) n h least enough k =
@@ -125,14 +125,14 @@ says_ending (Err (PastLimit n)) max place count new first left records e h k = (
 says_ending (Err (CutShort n)) max place count new first left records e h k = (h, k)
 
 -- what the answer says where no record stands next
-pub walks_ending : (reader new : ReaderState) (first left : Option (List ℕ)) (records : List Record) (answer : Answer) → StandsAfter reader first left records → HoldsNone reader left → answer ≡ ending_at reader.max reader.place (length reader.held) → new ≡ record reader { kept = Some answer } → Walks answer new first left records
+pub walks_ending : (reader new : ReaderState) (first left : Option (List ℕ)) (records : List Record) (answer : Answer) → StandsAfter reader first left records → HoldsNone reader.max reader.place reader.held left → answer ≡ ending_at reader.max reader.place (length reader.held) → new ≡ record reader { kept = Some answer } → Walks answer new first left records
 walks_ending reader new first left records answer h k told kept =
     let is : IfSome first (λ bytes. IsEnding answer bytes reader.max records) = subst (λ (a : Answer). IfSome first (λ bytes. IsEnding a bytes reader.max records)) (sym told) (ends reader first left records h k) in
     let stands : StandsAfter (record reader { kept = Some answer }) first left records = record { started = h.started; fit = h.fit; place = h.place; within = h.within; given = h.given; ending = is } in
     subst (λ (t : ReaderState). Walks answer t first left records) (sym kept) (says_ending answer reader.max reader.place (length reader.held) (record reader { kept = Some answer }) first left records told stands is)
 
 -- what is said where the bytes differ from the magic
-pub keeps_difference : (reader : ReaderState) (first left : Option (List ℕ)) (n : ℕ) → StandsBefore reader first left → 8 ≤ reader.max → HoldsEnough reader left 8 → DiffersAt reader.held n
+pub keeps_difference : (reader : ReaderState) (first left : Option (List ℕ)) (n : ℕ) → StandsBefore reader first left → 8 ≤ reader.max → HoldsEnough reader.max reader.place reader.held left 8 → DiffersAt reader.held n
     → StandsBefore (record reader { kept = Some (Err (NoMagic n)) }) first left × IfSome first (λ bytes. IsTrace bytes reader.max [] (NotTrace n))
 keeps_difference reader first left n h least enough k =
     let told : IfSome first (λ bytes. IsTrace bytes reader.max [] (NotTrace n)) = if_some first (λ bytes. DiffersAt bytes n) (λ bytes. IsTrace bytes reader.max [] (NotTrace n)) (λ bytes d. (refl, d)) (differs reader first left n h least enough k) in

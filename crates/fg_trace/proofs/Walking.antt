@@ -96,7 +96,7 @@ pub trace_more : (rs : List Record) (r : Record) → trace_of (rs ++ r ∷ []) �
 trace_more rs r = ap (λ t. magic ++ t) (spelled_last rs r) ∙ sym (append_assoc magic (flat_map spelling rs) (spelling r))
 
 -- the record at the front was answered
-pub after_answer : (reader : ReaderState) (first left : Option (List ℕ)) (records : List Record) (time port size : ℕ) → StandsAfter reader first left records → reader.kept ≡ None → HoldsRecord reader time port size
+pub after_answer : (reader : ReaderState) (first left : Option (List ℕ)) (records : List Record) (time port size : ℕ) → StandsAfter reader first left records → reader.kept ≡ None → HoldsRecord reader.max reader.place reader.held time port size
     → (let r : Record = record { time = time; port = port; datagram = take size (drop 12 reader.held) } in StandsAfter (after_record reader size) first left (records ++ r ∷ []))
 after_answer reader first left records time port size h none k =
     let r : Record = record { time = time; port = port; datagram = take size (drop 12 reader.held) } in
@@ -128,7 +128,7 @@ after_opening reader first left h none k least =
     }
 
 -- what the answer of a record says
-pub walks_record : (reader new : ReaderState) (first left : Option (List ℕ)) (records : List Record) (time port size : ℕ) (step : Step) → StandsAfter reader first left records → reader.kept ≡ None → HoldsRecord reader time port size
+pub walks_record : (reader new : ReaderState) (first left : Option (List ℕ)) (records : List Record) (time port size : ℕ) (step : Step) → StandsAfter reader first left records → reader.kept ≡ None → HoldsRecord reader.max reader.place reader.held time port size
     → step ≡ Datagram time port size → new ≡ after_record reader size → Walks (Ok step) new first left records
 walks_record reader new first left records time port size step h none k told taken =
     let after = after_answer reader first left records time port size h none k in

@@ -1,5 +1,7 @@
 -- How a command ends that reads a trace: this project's own.
 use Rattle.std.specs.Prelude.{⊤}
+use Rattle.fg_io.specs.declared.fault.Fault.{Fault}
+use Rattle.fg_io.specs.declared.fault.Fault.TheVariants.{Read, Write, Memory}
 use Rattle.fg_trace.specs.declared.step.Finish.{Finish}
 use Rattle.fg_trace.specs.declared.step.Finish.TheVariants as finish
 use Rattle.fg_trace.specs.Trace.{Ending, Ended, NotTrace, Cut, TooLong}
@@ -11,15 +13,28 @@ finish_of (NotTrace n) = finish.NotTrace n
 finish_of (Cut n) = finish.Cut n
 finish_of (TooLong n) = finish.TooLong n
 
+-- The answer where a call gave up.
+abbrev pub finish_after : Fault → Finish
+finish_after Read = finish.ReadFault
+finish_after Write = finish.WriteFault
+finish_after Memory = finish.Memory
+
 -- A fault of the outside, or want of memory.
 abbrev pub IsFault : Finish → Type 0
 IsFault finish.ReadFault = ⊤
 IsFault finish.WriteFault = ⊤
 IsFault finish.Memory = ⊤
-IsFault _ = ⊥
+IsFault finish.Done = ⊥
+IsFault (finish.NotTrace n) = ⊥
+IsFault (finish.Cut n) = ⊥
+IsFault (finish.TooLong n) = ⊥
 
 -- The answers after which nothing of the input is left.
 abbrev pub ReadsAll : Finish → Type 0
 ReadsAll finish.Done = ⊤
 ReadsAll (finish.Cut n) = ⊤
-ReadsAll _ = ⊥
+ReadsAll (finish.NotTrace n) = ⊥
+ReadsAll (finish.TooLong n) = ⊥
+ReadsAll finish.ReadFault = ⊥
+ReadsAll finish.WriteFault = ⊥
+ReadsAll finish.Memory = ⊥

@@ -6,4 +6,3 @@ pub mod Reader
 pub mod Reading
 pub mod Trace
 pub mod Walk
-pub mod Window

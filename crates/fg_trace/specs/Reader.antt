@@ -33,7 +33,8 @@ IsEnding (Ok End) bytes max records = IsTrace bytes max records Ended
 IsEnding (Err (NoMagic n)) bytes max records = IsTrace bytes max records (NotTrace n)
 IsEnding (Err (CutShort n)) bytes max records = IsTrace bytes max records (Cut n)
 IsEnding (Err (PastLimit n)) bytes max records = IsTrace bytes max records (TooLong n)
-IsEnding _ bytes max records = ⊥
+IsEnding (Ok (Datagram time port size)) bytes max records = ⊥
+IsEnding (Err ReadFault) bytes max records = ⊥
 
 -- An answer that was kept is the ending, where the source tells its bytes.
 abbrev pub KeepsEnding : ReaderState → Option (List ℕ) → List Record → Type 0
@@ -64,7 +65,13 @@ Opens (Ok _) reader first now = StandsAfter reader first now []
 Opens (Err (NoMagic n)) reader first now =
     StandsBefore reader first now × IfSome first (λ bytes. IsTrace bytes reader.max [] (NotTrace n))
 Opens (Err ReadFault) reader first now = StandsBefore reader first now
-Opens _ reader first now = ⊥
+Opens (Err (CutShort n)) reader first now = ⊥
+Opens (Err (PastLimit n)) reader first now = ⊥
+
+-- The reader stands after these records, which are all, and the answer is the ending.
+abbrev pub StandsAtEnding : Answer → ReaderState → Option (List ℕ) → Option (List ℕ) → List Record → Type 0
+StandsAtEnding answer reader first now records =
+    StandsAfter reader first now records × IfSome first (λ bytes. IsEnding answer bytes reader.max records)
 
 -- What an answer to `next` says, after these records: they go on with this one; or they are all, and the trace ends so; or
 -- a read failed, and nothing is lost.
@@ -72,24 +79,31 @@ abbrev pub Walks : Answer → ReaderState → Option (List ℕ) → Option (List
 Walks (Ok (Datagram time port size)) reader first now records =
     StandsAfter reader first now (records ++ (record { time = time; port = port; datagram = reader.payload }) ∷ [])
 Walks (Err ReadFault) reader first now records = StandsAfter reader first now records
-Walks answer reader first now records =
-    StandsAfter reader first now records × IfSome first (λ bytes. IsEnding answer bytes reader.max records)
+Walks (Ok End) reader first now records = StandsAtEnding (Ok End) reader first now records
+Walks (Err (NoMagic n)) reader first now records = StandsAtEnding (Err (NoMagic n)) reader first now records
+Walks (Err (CutShort n)) reader first now records = StandsAtEnding (Err (CutShort n)) reader first now records
+Walks (Err (PastLimit n)) reader first now records = StandsAtEnding (Err (PastLimit n)) reader first now records
 
 -- How many bytes the payload has after an answer.
 abbrev pub payload_size : Answer → ℕ
 payload_size (Ok (Datagram time port size)) = size
-payload_size _ = 0
+payload_size (Ok End) = 0
+payload_size (Err fault) = 0
 
 -- How many bytes of the trace an answer goes on by.
 abbrev pub record_size : Answer → ℕ
 record_size (Ok (Datagram time port size)) = 12 + size
-record_size _ = 0
+record_size (Ok End) = 0
+record_size (Err fault) = 0
 
 -- The answer that each later call gives again, if it is one.
 abbrev pub kept_answer : Answer → Option Answer
 kept_answer (Ok (Datagram time port size)) = None
+kept_answer (Ok End) = Some (Ok End)
 kept_answer (Err ReadFault) = None
-kept_answer answer = Some answer
+kept_answer (Err (NoMagic n)) = Some (Err (NoMagic n))
+kept_answer (Err (CutShort n)) = Some (Err (CutShort n))
+kept_answer (Err (PastLimit n)) = Some (Err (PastLimit n))
 
 -- The ending that a reader finds that has so many bytes from a place on.
 abbrev pub ending_at : ℕ → ℕ → ℕ → Answer
@@ -100,12 +114,30 @@ ending_at max place count =
 abbrev pub ReadsToEnd : Answer → Type 0
 ReadsToEnd (Ok End) = ⊤
 ReadsToEnd (Err (CutShort n)) = ⊤
-ReadsToEnd _ = ⊥
+ReadsToEnd (Ok (Datagram time port size)) = ⊥
+ReadsToEnd (Err ReadFault) = ⊥
+ReadsToEnd (Err (NoMagic n)) = ⊥
+ReadsToEnd (Err (PastLimit n)) = ⊥
 
 -- The answer again of `start`: a fault that is kept, else that the magic was found.
 abbrev pub start_answer : Option Answer → Result (Unit {0}) TraceFault
 start_answer (Some (Err fault)) = Err fault
-start_answer _ = Ok tt
+start_answer (Some (Ok step)) = Ok tt
+start_answer None = Ok tt
+
+-- The faults of a `start` that reads: of the reading, or that the bytes are no trace.
+abbrev pub IsOfStart : TraceFault → Type 0
+IsOfStart ReadFault = ⊤
+IsOfStart (NoMagic n) = ⊤
+IsOfStart (CutShort n) = ⊥
+IsOfStart (PastLimit n) = ⊥
+
+-- The faults of `next`: of the reading, or of a trace's end.
+abbrev pub IsOfNext : TraceFault → Type 0
+IsOfNext ReadFault = ⊤
+IsOfNext (NoMagic n) = ⊥
+IsOfNext (CutShort n) = ⊤
+IsOfNext (PastLimit n) = ⊤
 
 -- `start` has answered that it found the magic, or an answer is kept.
 abbrev pub IsDecided : ReaderState → Type 0

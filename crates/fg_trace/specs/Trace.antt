@@ -19,10 +19,13 @@ pub record Fits (r : Record) : Type 0 where
   pub port : r.port < 2 ^ 16
   pub size : length r.datagram < 2 ^ 16
 
--- A record is spelled as eight bytes of time, two of port, two of size, and the datagram, each number with its
--- highest byte first.
+-- A record's header is spelled as eight bytes of time, two of port and two of size, each number with its highest byte first.
+abbrev pub header_spelling : ℕ → ℕ → ℕ → List ℕ
+header_spelling time port size = to_be_bytes w64 time ++ to_be_bytes w16 port ++ to_be_bytes w16 size
+
+-- A record is spelled as its header and the datagram.
 abbrev pub spelling : Record → List ℕ
-spelling r = to_be_bytes w64 r.time ++ to_be_bytes w16 r.port ++ to_be_bytes w16 (length r.datagram) ++ r.datagram
+spelling r = header_spelling r.time r.port (length r.datagram) ++ r.datagram
 
 -- The bytes of a trace of these records.
 abbrev pub trace_of : List Record → List ℕ

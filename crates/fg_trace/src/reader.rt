@@ -1,51 +1,52 @@
 //! Walking a trace.
-ghost use Rattle.std.specs.Prelude.{◌≡◌, ◌≢◌, ◌+◌, ◌-◌, ◌*◌, ◌<◌, ◌≤◌, ◌⊎◌, ℕ, Option, List, [], length, take, drop, min, true, IsSome, IsNone, IsTrue, IsOk, IfOk, IfErr, IfSome, IfNone, OnOk, OnErr, None, Some};
+ghost use Rattle.std.specs.Prelude.{◌≡◌, ◌+◌, ◌-◌, ◌<◌, ◌≤◌, ◌⊎◌, ℕ, Option, List, [], ◌∷◌, length, take, drop, true, false, IsSome, IsNone, IsTrue, IsOk, IfOk, IfErr, IfSome, IfNone, OnErr, Err, None, Some};
 ghost use Rattle.std.specs.Io.KnownBytes.{IsAtEnd};
-ghost use Rattle.fg_io.specs.Faults.{CountsFault};
-ghost use Rattle.fg_trace.specs.Header.{BeginsMagic};
+ghost use Rattle.fg_io.specs.Faults.{Answers, CountsFaults};
+ghost use Rattle.fg_io.specs.InputBuffer as buffer;
+ghost use Rattle.fg_io.specs.InputBuffer.{TakesMore};
 ghost use Rattle.fg_trace.specs.Trace.{Record};
-ghost use Rattle.fg_trace.specs.Window.{TakesMore};
-ghost use Rattle.fg_trace.specs.Reader.{StandsBefore, StandsAfter, Opens, Walks, payload_size, record_size, kept_answer, ending_at, ReadsToEnd, start_answer, IsDecided, new_reader};
+ghost use Rattle.fg_trace.specs.Reader.{StandsBefore, StandsAfter, Opens, Walks, payload_size, record_size, kept_answer, ending_at, ReadsToEnd, start_answer, IsDecided, IsOfStart, IsOfNext, new_reader};
 ghost use Rattle.fg_trace.specs.Reading.{most_held};
-ghost use Rattle.fg_trace.specs.Walk.{TakesIn, HoldsEnough, HoldsRecord, HoldsNone, after_record, after_magic};
+ghost use Rattle.fg_trace.specs.Walk.{Finds, Has, Lacks};
 
 use crate::header::{HEADER, Header, LARGEST, MAGIC, differs_from_magic, read_header};
 use crate::step::{Step, TraceFault};
-use crate::window::{BUFFER, Window};
-use fg_io::{Failed, Source};
+use fg_io::{Ahead, Fault, InputBuffer, Source};
 use std::alloc::{AllocError, Global};
 use std::marker::Model;
+
+/// How many bytes the source is asked for at once.
+const PIECE: usize = 262_144;
 
 /// Walks a trace, record by record, in the memory that it was made with and whatever pieces the source gives.
 ///
 /// A reader is for one source, from its first byte on. It reads at most one byte past the limit.
 #[derive(Drop)]
 pub struct Reader {
-    window: Window,
-    max: u64,
+    input: InputBuffer,
+    // How many bytes at the front of what the input holds were answered: the record that was answered last.
+    answered: usize,
     started: bool,
-    place: u64,
     kept: Option<Result<Step, TraceFault>>,
+}
+
+/// What stands next in a trace.
+enum Found {
+    /// A record with this header.
+    Next(Header),
+    /// The trace's end.
+    Ends(Result<Step, TraceFault>),
 }
 
 impl Model for Reader {
     ghost use Rattle.fg_trace.specs.Reader.{ReaderState};
+    ghost use Rattle.fg_trace.specs.Walk.{IsReader, reader_of};
 
     ghost Value = { ReaderState };
 
-    ghost use Rattle.fg_trace.specs.Walk.{IsReader};
+    ghost view = { λ a. reader_of a.input a.answered a.started a.kept };
 
-    ghost view = { λ a. record {
-      max = a.max;
-      started = a.started;
-      place = a.place;
-      held = a.window.held;
-      payload = a.window.payload;
-      kept = a.kept;
-    } };
-
-    ghost invariant = { λ a.
-        IsReader a.max a.started a.place a.window.held a.window.payload a.kept };
+    ghost invariant = { λ a. IsReader a.input a.answered a.started a.kept };
 }
 
 impl Reader {
@@ -57,10 +58,9 @@ impl Reader {
             (first : Option (List ℕ)) → StandsBefore reader first first) }
     {
         Ok(Reader {
-            window: Window::new(alloc)?,
-            max,
+            input: InputBuffer::new(alloc, max, LARGEST, PIECE)?,
+            answered: 0,
             started: false,
-            place: 0,
             kept: None,
         })
     }
@@ -87,11 +87,9 @@ impl Reader {
         // The byte that differs was read, or there is none.
         ensures differs { IsNone self.old.kept → (place : ℕ) → result ≡ Err (TraceFault.NotTrace place)
             → (place < length self.new.held) ⊎ IsAtEnd (S.left from.new) }
-
-        ensures counted { result ≡ Err TraceFault.ReadFault
-            → CountsFault (S.faults from.old) (S.faults from.new) }
-        ensures no_fault { result ≢ Err TraceFault.ReadFault → S.faults from.new ≡ S.faults from.old }
-        ensures never_falls { S.faults from.old ≤ S.faults from.new }
+        ensures fault { IsNone self.old.kept → IfErr result IsOfStart }
+        ensures faults { CountsFaults (Answers result TraceFault.ReadFault) ⊥
+            ((S.faults from.old, S.faults from.new) ∷ []) [] }
         ensures fixed { S.fixed from.new ≡ S.fixed from.old }
     {
         if let Some(answer) = self.kept {
@@ -100,13 +98,14 @@ impl Reader {
         if self.started {
             return Ok(());
         }
-        self.fill(from, MAGIC.len())?;
-        if let Some(place) = differs_from_magic(self.window.held()) {
+        ask(&mut self.input, from, MAGIC.len())?;
+        if let Some(place) = differs_from_magic(self.input.held()) {
             let fault = TraceFault::NotTrace(place as u64);
             self.kept = Some(Err(fault));
             return Err(fault);
         }
-        self.take_magic();
+        self.input.step(MAGIC.len());
+        self.started = true;
         Ok(())
     }
 
@@ -136,6 +135,7 @@ impl Reader {
         ensures past { (place : ℕ) → result ≡ Err (TraceFault.TooLong place)
             → self.new.max < self.new.place + length self.new.held }
 
+        ensures fault { IfErr result IsOfNext }
         ensures payload { length self.new.payload ≡ payload_size result }
         ensures place { self.new.place ≡ self.old.place + record_size result }
         ensures within { self.new.place ≤ self.new.max }
@@ -143,18 +143,25 @@ impl Reader {
         ensures few { length self.new.held ≤ most_held }
         ensures max { self.new.max ≡ self.old.max }
         ensures started { self.new.started ≡ true }
-        ensures counted { result ≡ Err TraceFault.ReadFault
-            → CountsFault (S.faults from.old) (S.faults from.new) }
-        ensures no_fault { result ≢ Err TraceFault.ReadFault → S.faults from.new ≡ S.faults from.old }
-        ensures never_falls { S.faults from.old ≤ S.faults from.new }
+        ensures faults { CountsFaults (Answers result TraceFault.ReadFault) ⊥
+            ((S.faults from.old, S.faults from.new) ∷ []) [] }
         ensures fixed { S.fixed from.new ≡ S.fixed from.old }
     {
         if let Some(answer) = self.kept {
             return answer;
         }
-        match self.look(from)? {
-            Some(header) => Ok(self.take_record(header)),
-            None => self.end(),
+        self.input.step(self.answered);
+        self.answered = 0;
+        match look(&mut self.input, from)? {
+            Found::Next(header) => {
+                let Header { time, port, size } = header;
+                self.answered = HEADER + usize::from(size);
+                Ok(Step::Datagram { time, port, size })
+            }
+            Found::Ends(answer) => {
+                self.kept = Some(answer);
+                answer
+            }
         }
     }
 
@@ -162,109 +169,66 @@ impl Reader {
     pub fn payload(&self) -> &[u8]
         ensures { result.now ≡ self.now.payload }
     {
-        self.window.payload()
+        let answered = self.answered;
+        &self.input.held()[HEADER.min(answered)..answered]
     }
 }
 
-impl Reader {
-    /// How many bytes from the place on lie within the limit, but at most a buffer of them.
-    fn within(&self) -> usize
-        ensures { result ≡ min (self.now.max - self.now.place) BUFFER }
-    {
-        (self.max - self.place).min(BUFFER as u64) as usize
+/// Looks for the next record, and reads it whole.
+fn look<S: Source>(input: &mut InputBuffer, from: &mut S) -> Result<Found, TraceFault>
+    requires longest { input.old.longest ≡ LARGEST }
+    requires place { input.old.place ≤ input.old.max }
+    requires going { input.old.ended ≡ false }
+    ensures takes { TakesMore input.old.held (S.left from.old) input.new.held (S.left from.new) }
+    ensures same { input.new ≡ record input.old { held = input.new.held; ended = input.new.ended } }
+    ensures finds { IfOk result (λ found. Finds found input.new (S.left from.new)) }
+    ensures failed { OnErr result (input.new.ended ≡ false) }
+    ensures bounded { input.new.place + length input.new.held ≤ input.new.max + 1 }
+    ensures few { length input.new.held ≤ buffer.most_held input.new.longest input.new.piece }
+    ensures fault { IfErr result (λ fault. fault ≡ TraceFault.ReadFault) }
+    ensures faults { CountsFaults (Answers result TraceFault.ReadFault) ⊥
+        ((S.faults from.old, S.faults from.new) ∷ []) [] }
+    ensures fixed { S.fixed from.new ≡ S.fixed from.old }
+{
+    if let Some(answer) = ask(input, from, HEADER)? {
+        return Ok(Found::Ends(answer));
     }
-
-    /// Reads until so many bytes are held, or one past the limit, or the input is at its end. The payload goes.
-    fn fill<S: Source>(&mut self, from: &mut S, want: usize) -> Result<(), TraceFault>
-        requires want { want ≤ LARGEST }
-        requires open { self.old.kept ≡ None }
-        ensures takes { TakesIn self.old (S.left from.old) self.new (S.left from.new) }
-        ensures bounded { self.new.place + length self.new.held ≤ self.new.max + 1 }
-        ensures few { length self.new.held ≤ most_held }
-        ensures filled { OnOk result (HoldsEnough self.new (S.left from.new) want) }
-        ensures fault { IfErr result (λ fault. fault ≡ TraceFault.ReadFault) }
-        ensures no_fault { OnOk result (S.faults from.new ≡ S.faults from.old) }
-        ensures counted { OnErr result (CountsFault (S.faults from.old) (S.faults from.new)) }
-        ensures never_falls { S.faults from.old ≤ S.faults from.new }
-        ensures fixed { S.fixed from.new ≡ S.fixed from.old }
-    {
-        let within = self.within();
-        match self.window.fill(from, want.min(within + 1), within + 1) {
-            Ok(()) => Ok(()),
-            Err(Failed) => Err(TraceFault::ReadFault),
-        }
+    let header = read_header(input.held()).unwrap();
+    if let Some(answer) = ask(input, from, HEADER + usize::from(header.size))? {
+        return Ok(Found::Ends(answer));
     }
+    Ok(Found::Next(header))
+}
 
-    /// Goes past the magic, which stands at the front of what is held.
-    fn take_magic(&mut self)
-        requires magic { BeginsMagic self.old.held }
-        requires open { self.old.kept ≡ None }
-        ensures { self.new ≡ after_magic self.old }
-    {
-        self.window.take_record(MAGIC.len(), 0);
-        self.started = true;
-        self.place = 8;
-    }
-
-    /// Reads the next record, and answers its header; `None` where no whole record stands next within the limit.
-    fn look<S: Source>(&mut self, from: &mut S) -> Result<Option<Header>, TraceFault>
-        requires open { self.old.kept ≡ None }
-        ensures takes { TakesIn self.old (S.left from.old) self.new (S.left from.new) }
-        ensures bounded { self.new.place + length self.new.held ≤ self.new.max + 1 }
-        ensures few { length self.new.held ≤ most_held }
-        ensures found { IfOk result (λ found. IfSome found (λ header.
-            HoldsRecord self.new header.time header.port header.size)) }
-        ensures none { IfOk result (λ found. IfNone found (HoldsNone self.new (S.left from.new))) }
-        ensures fault { IfErr result (λ fault. fault ≡ TraceFault.ReadFault) }
-        ensures no_fault { OnOk result (S.faults from.new ≡ S.faults from.old) }
-        ensures counted { OnErr result (CountsFault (S.faults from.old) (S.faults from.new)) }
-        ensures never_falls { S.faults from.old ≤ S.faults from.new }
-        ensures fixed { S.fixed from.new ≡ S.fixed from.old }
-    {
-        self.fill(from, HEADER)?;
-        let Some(header) = read_header(self.window.held()) else {
-            return Ok(None);
-        };
-        let size = HEADER + usize::from(header.size);
-        self.fill(from, size)?;
-        if size > self.within() || size > self.window.held().len() {
-            return Ok(None);
-        }
-        Ok(Some(header))
-    }
-
-    /// Answers the record at the front of what is held.
-    fn take_record(&mut self, header: Header) -> Step
-        requires whole { HoldsRecord self.old header.time header.port header.size }
-        requires started { self.old.started ≡ true }
-        requires open { self.old.kept ≡ None }
-        ensures step { result ≡ Step.Datagram header.time header.port header.size }
-        ensures taken { self.new ≡ after_record self.old header.size }
-    {
-        let Header { time, port, size } = header;
-        let payload = usize::from(size);
-        self.window.take_record(HEADER, payload);
-        self.place += (HEADER + payload) as u64;
-        Step::Datagram { time, port, size }
-    }
-
-    /// Answers the ending that is here, and keeps it.
-    fn end(&mut self) -> Result<Step, TraceFault>
-        requires started { self.old.started ≡ true }
-        requires open { self.old.kept ≡ None }
-        requires quiet { self.old.payload ≡ [] }
-        ensures answer { result ≡ ending_at self.old.max self.old.place (length self.old.held) }
-        ensures kept { self.new ≡ record self.old { kept = Some result } }
-    {
-        let held = self.window.held().len();
-        let answer = if held > self.within() {
-            Err(TraceFault::TooLong(self.place))
-        } else if held == 0 {
-            Ok(Step::End)
-        } else {
-            Err(TraceFault::Cut(self.place))
-        };
-        self.kept = Some(answer);
-        answer
+/// Reads until so many bytes are held. It answers the trace's ending where there aren't so many within the limit.
+fn ask<S: Source>(
+    input: &mut InputBuffer,
+    from: &mut S,
+    want: usize,
+) -> Result<Option<Result<Step, TraceFault>>, TraceFault>
+    requires some { 1 ≤ want }
+    requires want { want ≤ input.old.longest }
+    requires place { input.old.place ≤ input.old.max }
+    requires going { input.old.ended ≡ false }
+    ensures takes { TakesMore input.old.held (S.left from.old) input.new.held (S.left from.new) }
+    ensures same { input.new ≡ record input.old { held = input.new.held; ended = input.new.ended } }
+    ensures has { IfOk result (λ ending. IfNone ending (Has input.new want)) }
+    ensures lacks { IfOk result (λ ending. IfSome ending (λ answer.
+        Lacks answer input.new (S.left from.new) want)) }
+    ensures failed { OnErr result (input.new.ended ≡ false) }
+    ensures bounded { input.new.place + length input.new.held ≤ input.new.max + 1 }
+    ensures few { length input.new.held ≤ buffer.most_held input.new.longest input.new.piece }
+    ensures fault { IfErr result (λ fault. fault ≡ TraceFault.ReadFault) }
+    ensures faults { CountsFaults (Answers result TraceFault.ReadFault) ⊥
+        ((S.faults from.old, S.faults from.new) ∷ []) [] }
+    ensures fixed { S.fixed from.new ≡ S.fixed from.old }
+{
+    match input.fill(from, want) {
+        Ok(Ahead::Whole) => Ok(None),
+        Ok(Ahead::EndsHere) => Ok(Some(Ok(Step::End))),
+        Ok(Ahead::EndsInside) => Ok(Some(Err(TraceFault::Cut(input.place())))),
+        Ok(Ahead::PastLimit) => Ok(Some(Err(TraceFault::TooLong(input.place())))),
+        Err(Fault::Read) => Err(TraceFault::ReadFault),
+        Err(Fault::Write | Fault::Memory) => unreachable!(),
     }
 }

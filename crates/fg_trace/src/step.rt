@@ -1,4 +1,5 @@
 //! What a reader of a trace answers, and how a command ends that reads one.
+use fg_io::Fault;
 
 /// The answer to a call for the next record.
 #[derive(Clone, Copy, Debug, PartialEq, Eq)]
@@ -48,4 +49,19 @@ pub enum Finish {
     TooLong(u64),
     /// There was no memory.
     Memory,
+}
+
+impl From<Fault> for Finish {
+    ghost use Rattle.std.specs.Prelude.{◌≡◌};
+    ghost use Rattle.fg_trace.specs.Finish.{finish_after};
+
+    ghost from_gives = { λ fault finish. finish ≡ finish_after fault };
+
+    fn from(fault: Fault) -> Finish {
+        match fault {
+            Fault::Read => Finish::ReadFault,
+            Fault::Write => Finish::WriteFault,
+            Fault::Memory => Finish::Memory,
+        }
+    }
 }

@@ -3,7 +3,7 @@ ghost use Rattle.std.specs.Prelude.{◌≡◌, ◌≤◌, ◌<◌, ◌^◌, ℕ,
 ghost use Rattle.fg_trace.specs.Trace.{Record, IsTrace, Ended};
 
 use super::*;
-use fg_io::{MemSource, SafeSource, Source};
+use fg_io::{Fault, MemSource, SafeSource, Source};
 use std::alloc::{AllocError, Global};
 use std::test::Fail;
 
@@ -239,7 +239,18 @@ fn a_written_record_is_read_back(rt: HostRuntime) -> Result<(), Fail> {
         15
     );
     assert!(rt; bytes.starts_with(b"\x01\x02\x03\x04\x05\x06\x07\x08\x13\x89\x00\x03abc*"));
+    assert_eq!(rt;
+        record_header(0x0102_0304_0506_0708, 0x1389, 3),
+        *b"\x01\x02\x03\x04\x05\x06\x07\x08\x13\x89\x00\x03"
+    );
     Ok(())
+}
+
+#[test]
+fn a_command_ends_by_a_fault(rt: HostRuntime) {
+    assert_eq!(rt; Finish::from(Fault::Read), Finish::ReadFault);
+    assert_eq!(rt; Finish::from(Fault::Write), Finish::WriteFault);
+    assert_eq!(rt; Finish::from(Fault::Memory), Finish::Memory);
 }
 
 /// How many records a trace has that comes to its end: a loop over a reader, whose invariant is where the reader stands.

@@ -1,8 +1,19 @@
 //! Writing a record.
 ghost use Rattle.std.specs.Prelude.{◌≡◌, ◌+◌, ◌<◌, ◌≤◌, ◌^◌, ◌++◌, length, take, drop};
-ghost use Rattle.fg_trace.specs.Trace.{spelling};
+ghost use Rattle.fg_trace.specs.Trace.{header_spelling, spelling};
 
 use crate::header::HEADER;
+
+/// The bytes of a record before its datagram, which has so many bytes. The time is in microseconds.
+pub fn record_header(time: u64, port: u16, size: u16) -> [u8; HEADER]
+    ensures { result ≡ header_spelling time port size }
+{
+    let mut header = [0; HEADER];
+    let end = put(&mut header, 0, &time.to_be_bytes());
+    let end = put(&mut header, end, &port.to_be_bytes());
+    put(&mut header, end, &size.to_be_bytes());
+    header
+}
 
 /// Writes the record of a datagram to the front of `into`, and answers how many bytes that took: 12 and the payload's.
 ///
@@ -15,9 +26,7 @@ pub fn write_datagram(time: u64, port: u16, payload: &[u8], into: &mut [u8]) -> 
         ≡ spelling (record { time = time; port = port; datagram = payload.now })
         ++ drop result into.old }
 {
-    let end = put(into, 0, &time.to_be_bytes());
-    let end = put(into, end, &port.to_be_bytes());
-    let end = put(into, end, &(payload.len() as u16).to_be_bytes());
+    let end = put(into, 0, &record_header(time, port, payload.len() as u16));
     put(into, end, payload)
 }
 

@@ -8,7 +8,7 @@ ghost use Rattle.fg_ts.specs.Packets.{ArePackets, FirstFault, IsFirstUnsynced, I
 #[cfg(test)]
 mod tests;
 
-/// The bytes of a transport packet.
+/// The length of a transport packet in bytes.
 pub const PACKET_LENGTH: usize = 188;
 
 /// The first byte of each transport packet.
@@ -47,7 +47,7 @@ pub fn packet_count(bytes: &[u8]) -> Result<u64, TsFault>
 /// The number of the first whole packet that doesn't begin with the sync byte.
 fn first_unsynced(bytes: &[u8]) -> Option<usize>
     ensures { MatchOption result
-        ((number : ℕ) → number < length bytes.now / 188 → IsSynced bytes.now number)
+        ((number : ℕ) → number < length bytes.now / PACKET_LENGTH → IsSynced bytes.now number)
         (λ number. IsFirstUnsynced bytes.now number) }
 {
     for number in 0..bytes.len() / PACKET_LENGTH {

@@ -1,5 +1,4 @@
 pub mod Choices
-pub mod Entries
 pub mod LinesBounds
 pub mod LinesCalls
 pub mod LinesInserts
@@ -7,9 +6,7 @@ pub mod LinesLists
 pub mod LinesMoves
 pub mod LinesSearch
 pub mod LinesViews
-pub mod Lists
 pub mod Lost
-pub mod Options
 pub mod Places
 pub mod RowChanges
 pub mod RowLoops

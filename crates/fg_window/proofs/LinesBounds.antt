@@ -1,33 +1,26 @@
 -- What early ends of searches and passes rest on.
-use Rattle.std.proofs.Common.{◌≡◌, ◌<◌, ◌≤◌, ℕ, Bool, List, [], Option, Some, None, inl, refl, ◌∙◌, ⊎_elim, arith}
+use Rattle.std.proofs.Common.{◌≡◌, ◌<◌, ◌≤◌, ℕ, Bool, List, [], Option, Some, None, refl, ◌∙◌, ⊎_elim, arith}
 use Rattle.std.specs.Option.{option_or}
 use Rattle.std.specs.FinMap.{get}
 use Rattle.slab.specs.Slab.{Slab}
 use Rattle.fg_words.specs.declared.Word.{Word}
 use Rattle.fg_peel.specs.declared.Line.{Line}
 use Rattle.fg_peel.specs.Slots.{equation_of}
+use Rattle.fg_peel.proofs.Options.{none_or_some, has_value}
 use Rattle.fg_window.specs.Live.{last_slot, Survives}
 use Rattle.fg_window.specs.Words.{Words}
 use Rattle.fg_window.specs.Row.{RowState, IsRow, row_known, row_received}
 use Rattle.fg_window.specs.LinesInside.{Holds, AreBetween, IsBased, Moves, Drops}
-use Rattle.fg_window.proofs.Options.{none_or_some, has_value}
 use Rattle.fg_window.proofs.Choices.{if-less}
 use Rattle.fg_window.proofs.LinesInserts.{none_at}
+use Rattle.fg_window.proofs.LinesMoves.{over_nothing}
 
 -- where all are left, nothing moves
 pub nothing_moves :
     (IsLeft IsGone : Line → Type 0) (source target : Slab Line) → ((line : Line) → Holds source line → IsLeft line)
     → Moves IsLeft IsGone source target source target
-nothing_moves IsLeft IsGone source target all = record {
-  left = λ line h. (h, all line h);
-  gone = λ line h. inl h;
-  every = λ line stands. stands;
-  kept = λ line h. h;
-  each = λ number each. each;
-  count = refl;
-  source_capacity = refl;
-  target_capacity = refl;
-}
+nothing_moves IsLeft IsGone source target all =
+    record { left = λ line h. (h, all line h); over = over_nothing IsGone source target }
 
 -- where all stay, nothing is dropped
 pub nothing_drops :

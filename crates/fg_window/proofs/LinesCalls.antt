@@ -1,5 +1,5 @@
 -- What the calls tell of the live equations, and what they leave.
-use Rattle.std.proofs.Common.{◌≡◌, ◌⊎◌, ◌↔◌, ℕ, Bool, true, false, not, List, [], ◌∷◌, map as map_list, length, Option, Some, IsSome, IsTrue, MatchBool, inl, inr, refl, sym, ap, subst, ◌∙◌, ⊎_elim, arith}
+use Rattle.std.proofs.Common.{◌≡◌, ◌⊎◌, ◌↔◌, ℕ, Bool, true, false, not, List, [], ◌∷◌, map as map_list, length, Option, Some, IsSome, IsTrue, MatchBool, inl, inr, refl, sym, ap, subst, ◌∙◌, ⊎_elim, arith, Bor, IfSome, IfNone, None}
 use Rattle.std.proofs.lemmas.Bool.{false≢true}
 use Rattle.std.proofs.Math.Bool.{beq}
 use Rattle.std.specs.List.{Contains}
@@ -11,12 +11,12 @@ use Rattle.fg_peel.specs.declared.Line.{Line}
 use Rattle.fg_peel.specs.Slots.{lines_of, equation_of}
 use Rattle.fg_peel.specs.Equation.{IsComplete}
 use Rattle.fg_words.specs.declared.Word.{Word}
+use Rattle.fg_peel.proofs.Lists.{Contains-here, Contains-nil}
+use Rattle.fg_peel.proofs.Options.{has_value, value_of}
 use Rattle.fg_window.specs.Live.{Live, Survives, IsFree}
 use Rattle.fg_window.specs.Words.{Words}
-use Rattle.fg_window.specs.Lines.{AreLines, AreOpen, AreSettled, IsLiveLine, Settles, SettlesAt, Reopens, Retires, SettledAreBased, live_of}
+use Rattle.fg_window.specs.Lines.{LinesState, AreLines, AreOpen, AreSettled, IsLiveLine, Settles, SettlesAt, Reopens, Retires, SettledAreBased, live_of}
 use Rattle.fg_window.specs.LinesInside.{state_of, Holds, Stands, IsOneEach, IsWithin, AreSound, Moves, IsCompleteAs, IsBased, Drops}
-use Rattle.fg_window.proofs.Lists.{Contains-here, Contains-nil}
-use Rattle.fg_window.proofs.Options.{has_value, value_of}
 use Rattle.fg_window.proofs.LinesViews.{serial_of, place_of, held, listed, same_held, live_standing, count_live, standing_of, settled_of, settled_here, live_under, settled_under, not_settled, live_is, same_live, swapped, fewer_each}
 
 -- A line is told by its serial number and by what is live under it.
@@ -119,25 +119,25 @@ module _ (first second : Slab Line) (places : List Bool) (sound : AreSound first
     pub to : (line : Line) → Stands first' second' line → Stands first second line
     to line stands = ⊎_elim
         (λ a. inl (moves.left line a).0)
-        (λ b. ⊎_elim (λ old. inr old) (λ new. inl new.0) (moves.gone line b))
+        (λ b. ⊎_elim (λ old. inr old) (λ new. inl new.0) (moves.over.gone line b))
         stands
 
     pub settles_sound : AreSound first' second' places
     settles_sound = record {
-      serials = moves.each serial_of sound.serials;
-      numbers = moves.each place_of sound.numbers;
+      serials = moves.over.each serial_of sound.serials;
+      numbers = moves.over.each place_of sound.numbers;
       open_within = λ key line is. within line (to line (inl (key, is)));
       settled_within = λ key line is. within line (to line (inr (key, is)));
       count = sound.count;
       taken = λ line stands. sound.taken line (to line stands);
-      by_line = λ place t. (let r = sound.by_line place t in (r.0, moves.every r.0 r.1, r.2));
-      few = (let few = sound.few in let count = moves.count in omega (arith, few, count));
-      open_room = (let room = sound.open_room in let same = moves.source_capacity in omega (arith, room, same));
-      settled_room = (let room = sound.settled_room in let same = moves.target_capacity in omega (arith, room, same));
+      by_line = λ place t. (let r = sound.by_line place t in (r.0, moves.over.every r.0 r.1, r.2));
+      few = (let few = sound.few in let count = moves.over.count in omega (arith, few, count));
+      open_room = (let room = sound.open_room in let same = moves.over.source_capacity in omega (arith, room, same));
+      settled_room = (let room = sound.settled_room in let same = moves.over.target_capacity in omega (arith, room, same));
     }
 
     pub moved_live : (state_of first' second').live ≡ (state_of first second).live
-    moved_live = same_live first second first' second' sound.serials (moves.each serial_of sound.serials) to moves.every
+    moved_live = same_live first second first' second' sound.serials (moves.over.each serial_of sound.serials) to moves.over.every
 
     pub moved_settled :
         (serial : ℕ) → IsTrue (set.contains (state_of first' second').settled serial)
@@ -149,18 +149,18 @@ module _ (first second : Slab Line) (places : List Bool) (sound : AreSound first
           ⊎_elim
           (λ old. inl (settled_under first second r.0 old serial r.2))
           (λ new. inr (live_of r.0, live_under first second sound.serials r.0 (inl new.0) serial r.2, new.1))
-          (moves.gone r.0 r.1)),
+          (moves.over.gone r.0 r.1)),
       λ was. ⊎_elim
           (λ old.
           let r = settled_of first second serial old in
-          settled_under first' second' r.0 (moves.kept r.0 r.1) serial r.2)
+          settled_under first' second' r.0 (moves.over.kept r.0 r.1) serial r.2)
           (λ new.
           let r = standing_of first second serial new.0 new.1 in
           let goes : IsGone (live_of r.0) = subst IsGone r.3 new.2 in
           ⊎_elim
           (λ a. absurd ((moves.left r.0 a).1 goes))
           (λ b. settled_under first' second' r.0 b serial r.2)
-          (moves.every r.0 r.1))
+          (moves.over.every r.0 r.1))
           was,
     )
 
@@ -185,18 +185,18 @@ module _ (first second : Slab Line) (places : List Bool) (sound : AreSound first
       (moves : Moves (IsCompleteAs true words) (IsCompleteAs false words) second first second' first') where
     pub to_reopened : (line : Line) → Stands first' second' line → Stands first second line
     to_reopened line stands = ⊎_elim
-        (λ a. ⊎_elim (λ old. inl old) (λ new. inr new.0) (moves.gone line a))
+        (λ a. ⊎_elim (λ old. inl old) (λ new. inr new.0) (moves.over.gone line a))
         (λ b. inr (moves.left line b).0)
         stands
 
     from_reopened : (line : Line) → Stands first second line → Stands first' second' line
     from_reopened line stands = ⊎_elim
-        (λ a. inl (moves.kept line a))
-        (λ b. ⊎_elim (λ old. inr old) (λ new. inl new) (moves.every line (inl b)))
+        (λ a. inl (moves.over.kept line a))
+        (λ b. ⊎_elim (λ old. inr old) (λ new. inl new) (moves.over.every line (inl b)))
         stands
 
     each_reopened : (number : Line → ℕ) → IsOneEach number first second → IsOneEach number first' second'
-    each_reopened number each = swapped number second' first' (moves.each number (swapped number first second each))
+    each_reopened number each = swapped number second' first' (moves.over.each number (swapped number first second each))
 
     pub reopens_sound : AreSound first' second' places
     reopens_sound = record {
@@ -207,9 +207,9 @@ module _ (first second : Slab Line) (places : List Bool) (sound : AreSound first
       count = sound.count;
       taken = λ line stands. sound.taken line (to_reopened line stands);
       by_line = λ place t. (let r = sound.by_line place t in (r.0, from_reopened r.0 r.1, r.2));
-      few = (let few = sound.few in let count = moves.count in omega (arith, few, count));
-      open_room = (let room = sound.open_room in let same = moves.target_capacity in omega (arith, room, same));
-      settled_room = (let room = sound.settled_room in let same = moves.source_capacity in omega (arith, room, same));
+      few = (let few = sound.few in let count = moves.over.count in omega (arith, few, count));
+      open_room = (let room = sound.open_room in let same = moves.over.target_capacity in omega (arith, room, same));
+      settled_room = (let room = sound.settled_room in let same = moves.over.source_capacity in omega (arith, room, same));
     }
 
     pub reopens : Reopens words (state_of first second) (state_of first' second')
@@ -234,8 +234,8 @@ module _ (first second : Slab Line) (places : List Bool) (sound : AreSound first
             (λ a. ⊎_elim
             (λ old. absurd (sound.serials.apart old.0 r.1.0 r.0 r.0 old.1 r.1.1 refl))
             (λ new. absurd (new.1 complete))
-            (moves.gone r.0 a))
-            (moves.every r.0 (inl r.1))),
+            (moves.over.gone r.0 a))
+            (moves.over.every r.0 (inl r.1))),
       );
     }
 
@@ -397,3 +397,27 @@ module _ (first second : Slab Line) (places : List Bool) (sound : AreSound first
       go : (es : List (ℕ × Line)) → length es ≡ 0 → es ≡ []
       go [] e = refl
       go (entry ∷ rest) e = absurd (omega (arith, e))
+
+-- What was found among some lines is told of them all.
+pub told_some :
+    (IsSought IsTold : Line → Type 0) (lines : Slab Line) (found : Option (Bor Line))
+    → ((line : Line) → Holds lines line × IsSought line → IsTold line)
+    → IfSome found (λ (line : Bor Line). Holds lines line.now × IsSought line.now) → IfSome found (λ (line : Bor Line). IsTold line.now)
+told_some IsSought IsTold lines None f h = h
+told_some IsSought IsTold lines (Some line) f h = f line.now h
+
+pub told_none : (P Q : Type 0) (found : Option (Bor Line)) → (P → Q) → IfNone found P → IfNone found Q
+told_none P Q None f h = f h
+told_none P Q (Some line) f h = h
+
+-- Those found among the settled lines are live.
+pub told_settled :
+    (open_lines settled_lines : Slab Line) (places : List Bool) (now : LinesState) → state_of open_lines settled_lines ≡ now
+    → (sound : AreSound open_lines settled_lines places) (IsSought : Line → Type 0) (found : Option (Bor Line))
+    → IfSome found (λ (line : Bor Line). Holds settled_lines line.now × IsSought line.now)
+    → IfSome found (λ (line : Bor Line). IsLiveLine now line.now × IsSought line.now)
+told_settled open_lines settled_lines places now is sound IsSought found =
+    told_some IsSought (λ (line : Line). IsLiveLine now line × IsSought line) settled_lines found
+    (λ line there.
+    subst (λ (s : LinesState). IsLiveLine s line × IsSought line) is
+    (found_second open_lines settled_lines places sound IsSought line there))

@@ -7,10 +7,11 @@ use Rattle.std.specs.Cmp.{nat_cmp_total}
 use Rattle.std.specs.FinMap as map
 use Rattle.slab.specs.Slab.{Slab, get, slab_len, Updates}
 use Rattle.fg_peel.specs.declared.Line.{Line}
+use Rattle.fg_peel.proofs.Options.{same_options}
+use Rattle.fg_peel.proofs.Maps.{inserted, beside_inserted}
 use Rattle.fg_window.specs.Live.{Live, live_limit, IsFree, IsLeastFree}
 use Rattle.fg_window.specs.Lines.{LinesState, no_lines, live_of}
 use Rattle.fg_window.specs.LinesInside.{live_in, serials_in, state_of, Stands, IsWithin, IsTaken, AreSound}
-use Rattle.fg_window.proofs.Options.{same_options, inserted, beside_inserted}
 use Rattle.fg_window.proofs.Places.{free_place}
 use Rattle.fg_window.proofs.LinesLists.{lines_from}
 use Rattle.fg_window.proofs.LinesViews.{serial_of, place_of, live_standing, count_live, standing_of, live_under}

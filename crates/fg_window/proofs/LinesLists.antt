@@ -12,11 +12,12 @@ use Rattle.std.specs.FinSet as set
 use Rattle.slab.specs.Slab.{entries_from}
 use Rattle.slab.proofs.SlabLemmas.{length-entries_from}
 use Rattle.fg_peel.specs.declared.Line.{Line}
+use Rattle.fg_peel.proofs.Lists.{Contains-here, Contains-there, Contains-cases, Contains-nil}
+use Rattle.fg_peel.proofs.Maps.{nothing_in_empty, inserted, beside_inserted}
+use Rattle.fg_peel.proofs.Options.{none_or_some}
 use Rattle.fg_window.specs.Live.{Live}
 use Rattle.fg_window.specs.Lines.{live_of}
 use Rattle.fg_window.specs.LinesInside.{live_in, serials_in}
-use Rattle.fg_window.proofs.Lists.{Contains-here, Contains-there, Contains-cases, Contains-nil}
-use Rattle.fg_window.proofs.Options.{nothing_in_empty, inserted, beside_inserted, none_or_some}
 
 -- No two of the lines have the same serial number.
 abbrev pub AreApart : List Line → Type 0

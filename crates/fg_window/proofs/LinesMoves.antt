@@ -5,7 +5,7 @@ use Rattle.std.proofs.lemmas.List.{get_or-set_same, get_or-set_other, length-set
 use Rattle.std.proofs.lemmas.Option.{none-some}
 use Rattle.slab.specs.Slab.{Slab, get, slab_len, Updates}
 use Rattle.fg_peel.specs.declared.Line.{Line}
-use Rattle.fg_window.specs.LinesInside.{Holds, Stands, IsOneEach, IsTaken, Moves, Drops}
+use Rattle.fg_window.specs.LinesInside.{Holds, Stands, IsOneEach, IsTaken, MovesOver, Moves, Drops}
 use Rattle.fg_window.proofs.LinesViews.{one_value, swapped}
 
 -- a line under another key stays, and what is found after a change was there or is new
@@ -86,17 +86,11 @@ moved_each number first second first' second' key key' line at out into each =
 pub record MovesBelow (IsLeft IsGone : Line → Type 0) (key : ℕ) (source target source' target' : Slab Line) : Type 0 where
   pub left :
       (k : ℕ) (line : Line) → get source' k ≡ Some line → (get source k ≡ Some line) × (k < key → IsLeft line)
-  pub gone : (line : Line) → Holds target' line → Holds target line ⊎ (Holds source line × IsGone line)
-  pub every : (line : Line) → Stands source target line → Stands source' target' line
-  pub kept : (line : Line) → Holds target line → Holds target' line
-  pub each : (number : Line → ℕ) → IsOneEach number source target → IsOneEach number source' target'
-  pub count : slab_len source' + slab_len target' ≡ slab_len source + slab_len target
-  pub source_capacity : source'.capacity ≡ source.capacity
-  pub target_capacity : target'.capacity ≡ target.capacity
+  pub over : MovesOver IsGone source target source' target'
 
-pub moves_none : (IsLeft IsGone : Line → Type 0) (source target : Slab Line) → MovesBelow IsLeft IsGone 0 source target source target
-moves_none IsLeft IsGone source target = record {
-  left = λ k line is. (is, λ less. absurd (omega (arith, less)));
+-- No line moves.
+pub over_nothing : (IsGone : Line → Type 0) (source target : Slab Line) → MovesOver IsGone source target source target
+over_nothing IsGone source target = record {
   gone = λ line h. inl h;
   every = λ line s. s;
   kept = λ line h. h;
@@ -105,6 +99,10 @@ moves_none IsLeft IsGone source target = record {
   source_capacity = refl;
   target_capacity = refl;
 }
+
+pub moves_none : (IsLeft IsGone : Line → Type 0) (source target : Slab Line) → MovesBelow IsLeft IsGone 0 source target source target
+moves_none IsLeft IsGone source target =
+    record { left = λ k line is. (is, λ less. absurd (omega (arith, less))); over = over_nothing IsGone source target }
 
 module _ (IsLeft IsGone : Line → Type 0) (key : ℕ) (source target source' target' : Slab Line)
     (below : MovesBelow IsLeft IsGone key source target source' target') where
@@ -119,13 +117,7 @@ module _ (IsLeft IsGone : Line → Type 0) (key : ℕ) (source target source' ta
           (λ differs. (below.left k line is).1 (omega (arith, less, differs)))
           (cases_eq k key),
     );
-    gone = below.gone;
-    every = below.every;
-    kept = below.kept;
-    each = below.each;
-    count = below.count;
-    source_capacity = below.source_capacity;
-    target_capacity = below.target_capacity;
+    over = below.over;
   }
 
   pub moves_one :
@@ -140,27 +132,29 @@ module _ (IsLeft IsGone : Line → Type 0) (key : ℕ) (source target source' ta
           (below.left k other was.1).0,
           λ within. (below.left k other was.1).1 (omega (arith, within, differs)),
         );
-    gone = λ other h. ⊎_elim
-        (λ new.
-        let P : Line → Type 0 = λ l. Holds target l ⊎ (Holds source l × IsGone l) in
-        subst P (sym new.1) (inr ((key, (below.left key line at).0), goes)))
-        (λ old. below.gone other (h.0, old.1))
-        (is_or_was target' into key' line put h.0 other h.1);
-    every = λ other stands. ⊎_elim
-        (λ a. ⊎_elim
-        (λ same.
-        let moved : line ≡ other = one_value (get source' key) line other at (ap (get source') (sym same) ∙ a.1) in
-        let P : Line → Type 0 = λ l. Stands out into l in
-        subst P moved (inr (key', put.changed)))
-        (λ differs. inl (a.0, held_still source' out key None removed a.0 other differs a.1))
-        (cases_eq a.0 key))
-        (λ b. inr (held_after target' into key' line vacant put other b))
-        (below.every other stands);
-    kept = λ other h. held_after target' into key' line vacant put other (below.kept other h);
-    each = λ number e. moved_each number source' target' out into key key' line at removed put (below.each number e);
-    count = (let c = below.count in omega (arith, less, more, c));
-    source_capacity = same_room ∙ below.source_capacity;
-    target_capacity = same_room' ∙ below.target_capacity;
+    over = record {
+      gone = λ other h. ⊎_elim
+          (λ new.
+          let P : Line → Type 0 = λ l. Holds target l ⊎ (Holds source l × IsGone l) in
+          subst P (sym new.1) (inr ((key, (below.left key line at).0), goes)))
+          (λ old. below.over.gone other (h.0, old.1))
+          (is_or_was target' into key' line put h.0 other h.1);
+      every = λ other stands. ⊎_elim
+          (λ a. ⊎_elim
+          (λ same.
+          let moved : line ≡ other = one_value (get source' key) line other at (ap (get source') (sym same) ∙ a.1) in
+          let P : Line → Type 0 = λ l. Stands out into l in
+          subst P moved (inr (key', put.changed)))
+          (λ differs. inl (a.0, held_still source' out key None removed a.0 other differs a.1))
+          (cases_eq a.0 key))
+          (λ b. inr (held_after target' into key' line vacant put other b))
+          (below.over.every other stands);
+      kept = λ other h. held_after target' into key' line vacant put other (below.over.kept other h);
+      each = λ number e. moved_each number source' target' out into key key' line at removed put (below.over.each number e);
+      count = (let c = below.over.count in omega (arith, less, more, c));
+      source_capacity = same_room ∙ below.over.source_capacity;
+      target_capacity = same_room' ∙ below.over.target_capacity;
+    };
   }
 
   pub moves_all :
@@ -169,13 +163,7 @@ module _ (IsLeft IsGone : Line → Type 0) (key : ℕ) (source target source' ta
     left = λ line h.
         (let was = below.left h.0 line h.1 in
         ((h.0, was.0), was.1 (past h.0 line was.0)));
-    gone = below.gone;
-    every = below.every;
-    kept = below.kept;
-    each = below.each;
-    count = below.count;
-    source_capacity = below.source_capacity;
-    target_capacity = below.target_capacity;
+    over = below.over;
   }
 
 -- One line moves: the one with this number.
@@ -189,13 +177,7 @@ moves_numbered number source target out into key key' line each at removed less 
     let IsGone : Line → Type 0 = λ other. number other ≡ number line in
     let none : MovesBelow (λ other. Unit {0}) IsGone key source target source target = record {
       left = λ k other is. (is, λ within. tt);
-      gone = λ other h. inl h;
-      every = λ other s. s;
-      kept = λ other h. h;
-      each = λ n e. e;
-      count = refl;
-      source_capacity = refl;
-      target_capacity = refl;
+      over = over_nothing IsGone source target;
     } in
     let one = moves_one (λ other. Unit {0}) IsGone key source target source target none out into key' line at refl removed
     less same_room vacant put more same_room' in
@@ -203,13 +185,7 @@ moves_numbered number source target out into key key' line each at removed less 
       left = λ other h.
           (let was = was_held source out key removed h.0 other h.1 in
           ((h.0, was.1), λ same. was.0 (each.in_first h.0 key other line was.1 at same)));
-      gone = one.gone;
-      every = one.every;
-      kept = one.kept;
-      each = one.each;
-      count = one.count;
-      source_capacity = one.source_capacity;
-      target_capacity = one.target_capacity;
+      over = one.over;
     }
 
 -- A pass that drops lines has come to a key.

@@ -5,9 +5,9 @@ use Rattle.std.specs.List.{Contains}
 use Rattle.slab.specs.Slab.{Slab, get, entries, entries_from}
 use Rattle.slab.proofs.SlabLemmas.{Contains-entries, ContainsKey-within}
 use Rattle.fg_peel.specs.declared.Line.{Line}
+use Rattle.fg_peel.proofs.Lists.{Contains-here, Contains-there, Contains-cases, Contains-nil}
+use Rattle.fg_peel.proofs.Options.{has_value}
 use Rattle.fg_window.specs.LinesInside.{Holds}
-use Rattle.fg_window.proofs.Lists.{Contains-here, Contains-there, Contains-cases, Contains-nil}
-use Rattle.fg_window.proofs.Options.{has_value}
 use Rattle.fg_window.proofs.LinesLists.{listed_slot}
 use Rattle.fg_window.proofs.LinesViews.{listed}
 

@@ -10,10 +10,10 @@ use Rattle.std.specs.FinSet as set
 use Rattle.slab.specs.Slab.{Slab, get, slab_len}
 use Rattle.fg_peel.specs.declared.Line.{Line}
 use Rattle.fg_peel.specs.Slots.{lines_of}
+use Rattle.fg_peel.proofs.Options.{same_options}
 use Rattle.fg_window.specs.Live.{Live}
 use Rattle.fg_window.specs.Lines.{IsLiveLine, live_of}
 use Rattle.fg_window.specs.LinesInside.{state_of, Holds, Stands, IsOneEach}
-use Rattle.fg_window.proofs.Options.{same_options}
 use Rattle.fg_window.proofs.LinesLists.{AreApart, AreApart-joined, line_of, live_here, len-live_in, line_of_serial, serial_here, slot_of, listed_slot, apart_slots, length-lines_from}
 
 abbrev pub serial_of : Line → ℕ

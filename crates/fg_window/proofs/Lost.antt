@@ -5,9 +5,9 @@ use Rattle.std.proofs.lemmas.Bool.{false≢true}
 use Rattle.std.specs.List.{Contains}
 use Rattle.std.specs.FinMap.{get}
 use Rattle.fg_shape.specs.Shape.{slots_of}
+use Rattle.fg_peel.proofs.Options.{none_has_no_value}
 use Rattle.fg_window.specs.Words.{Words}
 use Rattle.fg_window.specs.Lines.{IsLost}
-use Rattle.fg_window.proofs.Options.{none_has_no_value}
 
 pub found_or_not :
     (r : Option ℕ) (P : Type 0) (Q : ℕ → Type 0) → IfSome r Q → IfNone r P

@@ -4,9 +4,9 @@ use Rattle.std.proofs.lemmas.Bool.{cases_eq}
 use Rattle.std.specs.List.{Contains}
 use Rattle.std.specs.Ordering.{nat_cmp}
 use Rattle.std.specs.FinMap.{FinMap, entries, len, len-entries}
+use Rattle.fg_peel.proofs.Lists.{Contains-here, Contains-there, Contains-cases, Contains-nil, Contains-map}
+use Rattle.fg_peel.proofs.Maps.{entry_of_get}
 use Rattle.fg_window.specs.Live.{Live, IsFree}
-use Rattle.fg_window.proofs.Lists.{Contains-here, Contains-there, Contains-cases, Contains-nil, Contains-map}
-use Rattle.fg_window.proofs.Entries.{entry_of_get}
 
 contains_or_not : (xs : List ℕ) (x : ℕ) → Contains xs x ⊎ (Contains xs x → ⊥)
 contains_or_not [] x = inr (Contains-nil x)

@@ -1,5 +1,5 @@
 -- What a change of the entries does to a row.
-use Rattle.std.proofs.Common.{◌≡◌, ◌≢◌, ◌⊎◌, ◌+◌, ◌-◌, ◌<◌, ◌≤◌, ◌^◌, ℕ, Bool, true, false, ◌&&◌, not, is_some, List, length, get_or, set, Option, Some, None, inl, inr, nat_lt, nat_le, if◌then◌else◌, cond, refl, sym, ap, ◌∙◌, ⊎_elim, arith}
+use Rattle.std.proofs.Common.{◌≡◌, ◌≢◌, ◌⊎◌, ◌+◌, ◌-◌, ◌<◌, ◌≤◌, ◌^◌, ℕ, Bool, true, false, ◌&&◌, ◌||◌, not, IsTrue, is_some, List, length, get_or, set, Option, Some, None, inl, inr, nat_lt, nat_le, if◌then◌else◌, cond, refl, sym, ap, ◌∙◌, ⊎_elim, arith}
 use Rattle.std.proofs.lemmas.Bool.{cases_lt, cases_eq, le-leb, lt-leb, lt-ltb, le-ltb}
 use Rattle.std.proofs.lemmas.List.{get_or-set_same, get_or-set_other, length-set}
 use Rattle.std.specs.Ordering.{nat_cmp}
@@ -10,12 +10,13 @@ use Rattle.fg_words.specs.Word.{IsMedia}
 use Rattle.fg_peel.specs.declared.Slot.{Slot}
 use Rattle.fg_peel.specs.declared.Slot.TheVariants.{Empty, Media, Solved, Filled}
 use Rattle.fg_peel.specs.Slots.{word_in}
+use Rattle.fg_peel.proofs.Maps.{inserted, beside_inserted, removed, beside_removed}
+use Rattle.fg_peel.proofs.Options.{none_has_no_value}
 use Rattle.fg_window.specs.Words.{Words}
 use Rattle.fg_window.specs.Row.{row_words, receives, publishes, Advances, IsHighestWord, opened_row}
-use Rattle.fg_window.specs.RowEntries.{entry_at, received_in, solved_in, cached_in, is_alone, is_found, row_of, AreEntries, SolvedAreMedia, forgotten, cleared, Becomes, ForgetsCached, ForgetsFound, HasNoWordFrom, IsLastWord}
+use Rattle.fg_window.specs.RowEntries.{entry_at, received_in, solved_in, cached_in, is_alone, is_found, row_of, AreEntries, SolvedAreMedia, left_of, Becomes, Forgets, forgets, HasNoWordFrom, IsLastWord}
 use Rattle.fg_window.proofs.Choices.{if-less, if-not_less}
-use Rattle.fg_window.proofs.RowMaps.{get-insert_same, get-insert_other, get-remove_same, get-remove_other}
-use Rattle.fg_window.proofs.RowViews.{entry_at-row, entry_at-before, get-kept, get-media, get-solved, get-cached, contains-bare, contains-repaired, same_row, row_words-entry, none_not_some, some_along}
+use Rattle.fg_window.proofs.RowViews.{entry_at-row, entry_at-before, get-kept, get-media, get-solved, get-cached, contains-bare, contains-repaired, same_row, row_words-entry, some_along}
 
 -- What the row keeps is the same where the entries before the mark are.
 module _ (mark : ℕ) (old new : List Slot) (below : (p : ℕ) → p < mark → entry_at mark new p ≡ entry_at mark old p) where
@@ -124,8 +125,8 @@ module _ (mark : ℕ) (entries : List Slot) (q : ℕ) (entry : Slot) (are : AreE
       → f entry ≡ Some word → (p : ℕ) → map.get now p ≡ map.get (map.insert before q word) p
   word_inserted f now before word is was told p =
       ⊎_elim
-      (λ here. here.1 ∙ sym (get-insert_same before q p word here.0))
-      (λ there. there.1 ∙ sym (get-insert_other before q p word there.0))
+      (λ here. here.1 ∙ sym (inserted before q word p here.0))
+      (λ there. there.1 ∙ sym (beside_inserted before q word p there.0))
       (word_put f now before (Some word) is was told p)
 
   word_removed :
@@ -135,8 +136,8 @@ module _ (mark : ℕ) (entries : List Slot) (q : ℕ) (entry : Slot) (are : AreE
       → f entry ≡ None → (p : ℕ) → map.get now p ≡ map.get (map.remove before q) p
   word_removed f now before is was told p =
       ⊎_elim
-      (λ here. here.1 ∙ sym (get-remove_same before q p here.0))
-      (λ there. there.1 ∙ sym (get-remove_other before q p there.0))
+      (λ here. here.1 ∙ sym (removed before q p here.0))
+      (λ there. there.1 ∙ sym (beside_removed before q p there.0))
       (word_put f now before None is was told p)
 
   word_still :
@@ -248,94 +249,74 @@ module _
         (cases_lt p mark)
         ∙ sym (map.get-empty nat_cmp p)
 
--- The words that stand alone are gone.
-received-forgotten : (e : Slot) → received_in (forgotten e) ≡ received_in e
-received-forgotten Empty = refl
-received-forgotten (Media word) = refl
-received-forgotten (Solved word) = refl
-received-forgotten (Filled word) = refl
+-- Words are forgotten: those that stand alone and, where it is said so, those that were solved.
+received-left : (solved : Bool) (e : Slot) → received_in (left_of solved e) ≡ received_in e
+received-left solved Empty = refl
+received-left solved (Media word) = refl
+received-left true (Solved word) = refl
+received-left false (Solved word) = refl
+received-left solved (Filled word) = refl
 
-solved-forgotten : (e : Slot) → solved_in (forgotten e) ≡ solved_in e
-solved-forgotten Empty = refl
-solved-forgotten (Media word) = refl
-solved-forgotten (Solved word) = refl
-solved-forgotten (Filled word) = refl
+cached-left : (solved : Bool) (e : Slot) → cached_in (left_of solved e) ≡ None
+cached-left solved Empty = refl
+cached-left solved (Media word) = refl
+cached-left true (Solved word) = refl
+cached-left false (Solved word) = refl
+cached-left solved (Filled word) = refl
 
-cached-forgotten : (e : Slot) → cached_in (forgotten e) ≡ None
-cached-forgotten Empty = refl
-cached-forgotten (Media word) = refl
-cached-forgotten (Solved word) = refl
-cached-forgotten (Filled word) = refl
+solved-left : (e : Slot) → solved_in (left_of false e) ≡ solved_in e
+solved-left Empty = refl
+solved-left (Media word) = refl
+solved-left (Solved word) = refl
+solved-left (Filled word) = refl
+
+solved-gone : (e : Slot) → solved_in (left_of true e) ≡ None
+solved-gone Empty = refl
+solved-gone (Media word) = refl
+solved-gone (Solved word) = refl
+solved-gone (Filled word) = refl
+
+solved_after :
+    (solved : Bool) (mark : ℕ) (old new : List Slot) → AreEntries mark old → length new ≡ length old → Forgets solved old new
+    → (p : ℕ) → map.get (row_of mark new).solved p ≡ map.get (forgets solved (row_of mark old)).solved p
+solved_after true mark old new are size becomes =
+    words_gone (left_of true) mark old new are size becomes solved_in (row_of mark new).solved (get-solved mark new) solved-gone
+solved_after false mark old new are size becomes =
+    words_still (left_of false) mark old new are size becomes solved_in (row_of mark new).solved (row_of mark old).solved
+    (get-solved mark new) (get-solved mark old) solved-left
 
 pub forgotten_row :
-    (mark : ℕ) (old new : List Slot) → AreEntries mark old → length new ≡ length old → ForgetsCached old new
-    → row_of mark new ≡ record (row_of mark old) { cached = map.empty }
-forgotten_row mark old new are size forgets =
+    (solved : Bool) (mark : ℕ) (old new : List Slot) → AreEntries mark old → length new ≡ length old → Forgets solved old new
+    → row_of mark new ≡ forgets solved (row_of mark old)
+forgotten_row solved mark old new are size becomes =
     let one = row_of mark old in
     let two = row_of mark new in
-    let below = before_still forgotten mark old new are size forgets in
-    same_row two (record one { cached = map.empty }) refl (ap (λ n. n - 100) size)
+    let below = before_still (left_of solved) mark old new are size becomes in
+    same_row two (forgets solved one) refl (ap (λ n. n - 100) size)
     (same_kept mark old new below)
-    (words_still forgotten mark old new are size forgets received_in two.media one.media
-    (get-media mark new) (get-media mark old) received-forgotten)
-    (words_still forgotten mark old new are size forgets solved_in two.solved one.solved
-    (get-solved mark new) (get-solved mark old) solved-forgotten)
-    (words_gone forgotten mark old new are size forgets cached_in two.cached (get-cached mark new) cached-forgotten)
+    (words_still (left_of solved) mark old new are size becomes received_in two.media one.media
+    (get-media mark new) (get-media mark old) (received-left solved))
+    (solved_after solved mark old new are size becomes)
+    (words_gone (left_of solved) mark old new are size becomes cached_in two.cached (get-cached mark new) (cached-left solved))
     (same_bare mark old new below) (same_repaired mark old new below)
 
-forgotten_solved : (e : Slot) (word : Word) → forgotten e ≡ Solved word → e ≡ Solved word
-forgotten_solved Empty word is = absurd (cc)
-forgotten_solved (Media w) word is = absurd (cc)
-forgotten_solved (Solved w) word is = is
-forgotten_solved (Filled w) word is = absurd (cc)
+left_solved : (solved : Bool) (e : Slot) (word : Word) → left_of solved e ≡ Solved word → (solved ≡ false) × (e ≡ Solved word)
+left_solved solved Empty word is = absurd (cc)
+left_solved solved (Media w) word is = absurd (cc)
+left_solved true (Solved w) word is = absurd (cc)
+left_solved false (Solved w) word is = (refl, is)
+left_solved solved (Filled w) word is = absurd (cc)
 
-pub forgotten_media : (old new : List Slot) → ForgetsCached old new → SolvedAreMedia old → SolvedAreMedia new
-forgotten_media old new forgets before i word high is =
-    before i word high (forgotten_solved (get_or old i Empty) word (sym (forgets i ∙ if-not_less i 100 _ _ high) ∙ is))
-
--- All that was not received is gone.
-received-cleared : (e : Slot) → received_in (cleared e) ≡ received_in e
-received-cleared Empty = refl
-received-cleared (Media word) = refl
-received-cleared (Solved word) = refl
-received-cleared (Filled word) = refl
-
-solved-cleared : (e : Slot) → solved_in (cleared e) ≡ None
-solved-cleared Empty = refl
-solved-cleared (Media word) = refl
-solved-cleared (Solved word) = refl
-solved-cleared (Filled word) = refl
-
-cached-cleared : (e : Slot) → cached_in (cleared e) ≡ None
-cached-cleared Empty = refl
-cached-cleared (Media word) = refl
-cached-cleared (Solved word) = refl
-cached-cleared (Filled word) = refl
-
-pub cleared_row :
-    (mark : ℕ) (old new : List Slot) → AreEntries mark old → length new ≡ length old → ForgetsFound old new
-    → row_of mark new ≡ record (row_of mark old) { solved = map.empty; cached = map.empty }
-cleared_row mark old new are size forgets =
-    let one = row_of mark old in
-    let two = row_of mark new in
-    let below = before_still cleared mark old new are size forgets in
-    same_row two (record one { solved = map.empty; cached = map.empty }) refl (ap (λ n. n - 100) size)
-    (same_kept mark old new below)
-    (words_still cleared mark old new are size forgets received_in two.media one.media
-    (get-media mark new) (get-media mark old) received-cleared)
-    (words_gone cleared mark old new are size forgets solved_in two.solved (get-solved mark new) solved-cleared)
-    (words_gone cleared mark old new are size forgets cached_in two.cached (get-cached mark new) cached-cleared)
-    (same_bare mark old new below) (same_repaired mark old new below)
-
-cleared_solved : (e : Slot) (word : Word) → cleared e ≡ Solved word → ⊥
-cleared_solved Empty word is = (cc)
-cleared_solved (Media w) word is = (cc)
-cleared_solved (Solved w) word is = (cc)
-cleared_solved (Filled w) word is = (cc)
-
-pub cleared_media : (old new : List Slot) → ForgetsFound old new → SolvedAreMedia new
-cleared_media old new forgets i word high is =
-    absurd (cleared_solved (get_or old i Empty) word (sym (forgets i ∙ if-not_less i 100 _ _ high) ∙ is))
+pub forgotten_media :
+    (solved known : Bool) (old new : List Slot) → Forgets solved old new → (IsTrue known → SolvedAreMedia old)
+    → IsTrue (known || solved) → SolvedAreMedia new
+forgotten_media solved known old new becomes before all i word high is =
+    let left = left_solved solved (get_or old i Empty) word (sym (becomes i ∙ if-not_less i 100 _ _ high) ∙ is) in
+    before (or_left known solved all left.0) i word high left.1
+  where
+    or_left : (a b : Bool) → IsTrue (a || b) → b ≡ false → IsTrue a
+    or_left true b all none = refl
+    or_left false b all none = absurd (cc)
 
 -- The mark has moved on.
 alone_is : (e : Slot) → is_alone e ≡ (is_some (word_in e) && is_alone e)
@@ -531,7 +512,7 @@ highest_row mark entries last is = (
         (λ past.
         let up : mark ≤ other + 100 = omega arith in
         let later : last + 1 ≤ other + 100 - mark = omega (arith, past, is.ahead) in
-        absurd (none_not_some _
+        absurd (none_has_no_value _
         (row_words-entry mark entries other ∙ ap word_in (entry_at-row mark entries other up)
         ∙ is.none_later (other + 100 - mark) later) some))
         (λ within. within)

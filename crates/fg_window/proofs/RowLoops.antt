@@ -1,12 +1,11 @@
 -- Steps of the loops over a row's entries.
-use Rattle.std.proofs.Common.{◌≡◌, ◌≢◌, ◌+◌, ◌-◌, ◌<◌, ◌≤◌, ℕ, true, false, IsSome, is_some, List, ◌++◌, length, get_or, set, Option, Some, None, Bor, Contains, refl, sym, ap, ◌∙◌, ⊎_elim, subst, arith}
+use Rattle.std.proofs.Common.{◌≡◌, ◌≢◌, ◌+◌, ◌-◌, ◌<◌, ◌≤◌, ℕ, IsSome, List, ◌++◌, length, get_or, set, Option, None, Contains, refl, sym, ap, ◌∙◌, ⊎_elim, subst, arith}
 use Rattle.std.proofs.lemmas.Bool.{cases_lt, cases_eq}
 use Rattle.std.proofs.lemmas.List.{get_or_default, get_or_past, get_or_append_left, get_or-append_right, get_or-set_same, get_or-set_other, length-append, length-set}
 use Rattle.fg_words.specs.declared.Word.{Word}
 use Rattle.fg_peel.specs.declared.Slot.{Slot}
 use Rattle.fg_peel.specs.declared.Slot.TheVariants.{Empty}
 use Rattle.fg_peel.specs.Slots.{word_in}
-use Rattle.std.specs.Option.{option_copied}
 use Rattle.fg_window.specs.RowEntries.{HasNoWordFrom, IsLastWord}
 
 -- the last entry with a word
@@ -28,15 +27,6 @@ last_word_at entries i some within word later = record {
   word = word;
   none_later = λ k from. later k (omega (arith, from, some));
 }
-
--- what a look at an entry tells
-pub none_of_copied : (o : Option Word) (r : Option (Bor Word)) → option_copied r ≡ o → is_some r ≡ false → o ≡ None
-none_of_copied o None is none = sym is
-none_of_copied o (Some w) is none = absurd (cc)
-
-pub some_of_copied : (o : Option Word) (r : Option (Bor Word)) → option_copied r ≡ o → is_some r ≡ true → IsSome o
-some_of_copied o None is some = absurd (cc)
-some_of_copied o (Some w) is some = rw (← is) refl
 
 -- all slots have words, where each numbered one has
 pub all_have_words :

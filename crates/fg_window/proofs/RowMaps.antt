@@ -1,5 +1,5 @@
 -- Maps and sets of the positions below a limit.
-use Rattle.std.proofs.Common.{◌≡◌, ◌==◌, ℕ, zero, suc, Bool, true, false, ◌||◌, Option, Some, None, nat_lt, if◌then◌else◌, cond, refl, sym, ap, ◌∙◌, ⊎_elim, arith}
+use Rattle.std.proofs.Common.{◌≡◌, ◌==◌, ℕ, zero, suc, Bool, true, false, ◌||◌, Option, Some, None, nat_lt, if◌then◌else◌, refl, sym, ap, ◌∙◌, ⊎_elim, arith}
 use Rattle.std.proofs.lemmas.Bool.{cases_lt}
 use Rattle.std.proofs.lemmas.Bool.Decides.{Decides-eqb}
 use Rattle.std.specs.Cmp.{unsigned_tied, nat_cmp_total}
@@ -7,6 +7,7 @@ use Rattle.std.specs.Ordering.{nat_cmp, eq_by_cmp}
 use Rattle.std.specs.FinMap as map
 use Rattle.std.specs.FinSet as set
 use Rattle.fg_words.specs.declared.Word.{Word}
+use Rattle.fg_peel.proofs.Maps.{inserted, beside_inserted}
 use Rattle.fg_window.specs.Words.{Words}
 use Rattle.fg_window.specs.RowEntries.{words_below, positions_below}
 use Rattle.fg_window.proofs.Choices.{if-less, if-not_less}
@@ -22,22 +23,28 @@ not_tied q n other = go (q == n) refl ∙ refl
     go true e = absurd (other ((Decides-eqb q n).0 e))
     go false e = unsigned_tied q n ∙ e
 
--- a map after an insertion and a removal
-pub get-insert_same : (m : Words) (n q : ℕ) (word : Word) → q ≡ n → map.get (map.insert m n word) q ≡ Some word
-get-insert_same m n q word same =
-    map.get-insert nat_cmp_total m n word q ∙ ap (λ b. cond b (Some word) (map.get m q)) (tied_same q n same)
+-- What stands at a position, of what stands below a limit, where one position more is looked at: there it is the same, but
+-- at the limit.
+one_more_below :
+    {X : Type 0} (f : ℕ → X) (none now before : X) (n q : ℕ) → before ≡ (if nat_lt q n then f q else none)
+    → ((q ≡ n → ⊥) → now ≡ before) → (q ≡ n → now ≡ f q) → now ≡ (if nat_lt q (suc n) then f q else none)
+one_more_below f none now before n q was beside here =
+    ⊎_elim
+    (λ below.
+    beside (λ same. omega (arith, below, same)) ∙ was ∙ if-less q n (f q) none below
+    ∙ sym (if-less q (suc n) (f q) none (omega (arith, below))))
+    (λ above.
+    ⊎_elim
+    (λ at. let same : q ≡ n = omega (arith, at, above) in here same ∙ sym (if-less q (suc n) (f q) none at))
+    (λ past.
+    beside (λ same. omega (arith, past, same)) ∙ was ∙ if-not_less q n (f q) none above ∙ sym (if-not_less q (suc n) (f q) none past))
+    (cases_lt q (suc n)))
+    (cases_lt q n)
 
-pub get-insert_other : (m : Words) (n q : ℕ) (word : Word) → (q ≡ n → ⊥) → map.get (map.insert m n word) q ≡ map.get m q
-get-insert_other m n q word other =
-    map.get-insert nat_cmp_total m n word q ∙ ap (λ b. cond b (Some word) (map.get m q)) (not_tied q n other)
-
-pub get-remove_same : (m : Words) (n q : ℕ) → q ≡ n → map.get (map.remove m n) q ≡ None
-get-remove_same m n q same =
-    map.get-remove nat_cmp_total m n q ∙ ap (λ b. cond b None (map.get m q)) (tied_same q n same)
-
-pub get-remove_other : (m : Words) (n q : ℕ) → (q ≡ n → ⊥) → map.get (map.remove m n) q ≡ map.get m q
-get-remove_other m n q other =
-    map.get-remove nat_cmp_total m n q ∙ ap (λ b. cond b None (map.get m q)) (not_tied q n other)
+-- At the limit there was none before.
+none_at :
+    {X : Type 0} (f : ℕ → X) (none before : X) (n q : ℕ) → before ≡ (if nat_lt q n then f q else none) → q ≡ n → before ≡ none
+none_at f none before n q was same = was ∙ if-not_less q n (f q) none (omega (arith, same))
 
 -- what the map of a function has
 get_step :
@@ -46,32 +53,11 @@ get_step :
     → map.get (elim word as (λ _. Words) [ None ↦ m | Some w ↦ map.insert m n w ]) q
     ≡ (if nat_lt q (suc n) then words q else None)
 get_step m n words q None is rest =
-    ⊎_elim
-    (λ below. rest ∙ if-less q n (words q) None below ∙ sym (if-less q (suc n) (words q) None (omega arith)))
-    (λ above.
-    rest ∙ if-not_less q n (words q) None above
-    ∙ ⊎_elim
-    (λ here.
-    let same : q ≡ n = omega arith in
-    sym (if-less q (suc n) (words q) None here ∙ ap words same ∙ is))
-    (λ past. sym (if-not_less q (suc n) (words q) None past))
-    (cases_lt q (suc n)))
-    (cases_lt q n)
+    one_more_below words None (map.get m q) (map.get m q) n q rest (λ _. refl)
+    (λ same. none_at words None (map.get m q) n q rest same ∙ sym (ap words same ∙ is))
 get_step m n words q (Some w) is rest =
-    ⊎_elim
-    (λ below.
-    get-insert_other m n q w (λ same. omega arith) ∙ rest ∙ if-less q n (words q) None below
-    ∙ sym (if-less q (suc n) (words q) None (omega arith)))
-    (λ above.
-    ⊎_elim
-    (λ here.
-    let same : q ≡ n = omega arith in
-    get-insert_same m n q w same ∙ sym (if-less q (suc n) (words q) None here ∙ ap words same ∙ is))
-    (λ past.
-    get-insert_other m n q w (λ same. omega arith) ∙ rest ∙ if-not_less q n (words q) None above
-    ∙ sym (if-not_less q (suc n) (words q) None past))
-    (cases_lt q (suc n)))
-    (cases_lt q n)
+    one_more_below words None (map.get (map.insert m n w) q) (map.get m q) n q rest (beside_inserted m n w q)
+    (λ same. inserted m n w q same ∙ sym (ap words same ∙ is))
 
 pub get-words_below :
     (n : ℕ) (words : ℕ → Option Word) (q : ℕ) → map.get (words_below n words) q ≡ (if nat_lt q n then words q else None)
@@ -85,33 +71,13 @@ contains_step :
     → set.contains s q ≡ (if nat_lt q n then test q else false)
     → set.contains (if b then set.insert s n else s) q ≡ (if nat_lt q (suc n) then test q else false)
 contains_step s n test q false is rest =
-    ⊎_elim
-    (λ below. rest ∙ if-less q n (test q) false below ∙ sym (if-less q (suc n) (test q) false (omega arith)))
-    (λ above.
-    rest ∙ if-not_less q n (test q) false above
-    ∙ ⊎_elim
-    (λ here.
-    let same : q ≡ n = omega arith in
-    sym (if-less q (suc n) (test q) false here ∙ ap test same ∙ is))
-    (λ past. sym (if-not_less q (suc n) (test q) false past))
-    (cases_lt q (suc n)))
-    (cases_lt q n)
+    one_more_below test false (set.contains s q) (set.contains s q) n q rest (λ _. refl)
+    (λ same. none_at test false (set.contains s q) n q rest same ∙ sym (ap test same ∙ is))
 contains_step s n test q true is rest =
-    ⊎_elim
-    (λ below.
-    set.contains-insert nat_cmp_total s n q ∙ ap (λ b. b || set.contains s q) (not_tied q n (λ same. omega arith)) ∙ rest
-    ∙ if-less q n (test q) false below ∙ sym (if-less q (suc n) (test q) false (omega arith)))
-    (λ above.
-    ⊎_elim
-    (λ here.
-    let same : q ≡ n = omega arith in
-    set.contains-insert nat_cmp_total s n q ∙ ap (λ b. b || set.contains s q) (tied_same q n same)
-    ∙ sym (if-less q (suc n) (test q) false here ∙ ap test same ∙ is))
-    (λ past.
-    set.contains-insert nat_cmp_total s n q ∙ ap (λ b. b || set.contains s q) (not_tied q n (λ same. omega arith)) ∙ rest
-    ∙ if-not_less q n (test q) false above ∙ sym (if-not_less q (suc n) (test q) false past))
-    (cases_lt q (suc n)))
-    (cases_lt q n)
+    one_more_below test false (set.contains (set.insert s n) q) (set.contains s q) n q rest
+    (λ other. set.contains-insert nat_cmp_total s n q ∙ ap (λ b. b || set.contains s q) (not_tied q n other))
+    (λ same.
+    set.contains-insert nat_cmp_total s n q ∙ ap (λ b. b || set.contains s q) (tied_same q n same) ∙ sym (ap test same ∙ is))
 
 pub contains-positions_below :
     (n : ℕ) (test : ℕ → Bool) (q : ℕ)

@@ -22,13 +22,14 @@ use Rattle.fg_peel.specs.Closure.{InClosure, given, derived}
 use Rattle.fg_peel.specs.Solution.{IsSolution}
 use Rattle.fg_peel.specs.Slots.{word_in, recovered_in, told_from, first_position, from_first, before_first, words_at, recovered_at, equation_of, equations_of, lines_of, AllFit}
 use Rattle.fg_peel.specs.Verdict.{IsVerdict}
+use Rattle.fg_peel.specs.Peels.{Peels}
+use Rattle.fg_peel.proofs.Lists.{Contains-map, Contains-from_map}
+use Rattle.fg_peel.proofs.Options.{none_or_some, none_has_no_value}
 use Rattle.fg_window.specs.Row.{RowState, row_received, row_words, LiesIn, AllLieIn}
-use Rattle.fg_window.specs.RowEntries.{entry_at, words_of, recovered_of, received_in, solved_in, cached_in, row_of, AreEntries, SolvedAreMedia, Peels, Recovers}
-use Rattle.fg_window.proofs.Lists.{Contains-map, Contains-from_map}
-use Rattle.fg_window.proofs.Options.{none_or_some}
+use Rattle.fg_window.specs.RowEntries.{entry_at, words_of, recovered_of, received_in, solved_in, cached_in, row_of, AreEntries, SolvedAreMedia, Recovers}
 use Rattle.fg_window.proofs.RowChanges.{same_kept, same_bare, same_repaired}
 use Rattle.fg_window.proofs.Choices.{if-less, if-not_less}
-use Rattle.fg_window.proofs.RowViews.{entry_at-row, entry_at-before, get-kept, get-media, get-solved, get-cached, same_row, row_received-below, row_received-ahead, row_words-entry, none_not_some, some_along, kept_lies}
+use Rattle.fg_window.proofs.RowViews.{entry_at-row, entry_at-before, get-kept, get-media, get-solved, get-cached, same_row, row_received-below, row_received-ahead, row_words-entry, some_along, kept_lies}
 
 -- The first entry stands for the position 100 before the mark.
 abbrev pub IsLow : ℕ → ℤ → Type 0
@@ -135,7 +136,7 @@ recovers mark low lines old new verdict answer is peels answers =
     let one = words_low mark low old is in
     let two = words_low mark low new is in
     let three = recovered_low mark low new is in
-    let where_sound = sound_where (recovered_at low new) (words_at low new) lines verdict peels.tells in
+    let where_sound = sound_where (recovered_at low new) (words_at low new) lines verdict peels.verdict in
     record {
       fills = peels.fills;
       below = below_low mark low old new is peels.below;
@@ -146,7 +147,7 @@ recovers mark low lines old new verdict answer is peels answers =
       inside = λ q some.
           (let P : (ℕ → Option Word) → Type 0 = λ w. InClosure w E q in
           let Q : (ℕ → Option Word) → Type 0 = λ w. IsSome (w q) in
-          subst P one (peels.inside q (subst Q (sym two) some)));
+          subst P one ((peels.closure q).0 (subst Q (sym two) some)));
       sound =
           (let P : (ℕ → Option Word) → Type 0 = λ w. IsTrue answer ↔ (AreMedia w × AllComeOut (words_of mark new) E) in
           let Q : (ℕ → Option Word) → Type 0 = λ w. IsTrue answer ↔ (AreMedia (recovered_at low new) × AllComeOut w E) in
@@ -271,7 +272,7 @@ module _
         (λ same. same)
         (λ filled.
         let some : IsSome (words_of mark new p) = some_along _ _ (sym (ap word_in filled.1.1)) refl in
-        absurd (none_not_some (words_of mark old p) (ap word_in filled.0) (had_word (r.inside p some) before)))
+        absurd (none_has_no_value (words_of mark old p) (ap word_in filled.0) (had_word (r.inside p some) before)))
         (same_at p)
 
     same_told :

@@ -10,10 +10,11 @@ use Rattle.fg_words.specs.declared.Word.{Word}
 use Rattle.fg_peel.specs.declared.Slot.{Slot}
 use Rattle.fg_peel.specs.declared.Slot.TheVariants.{Empty, Media, Solved, Filled}
 use Rattle.fg_peel.specs.Slots.{word_in}
+use Rattle.fg_peel.proofs.Options.{none_has_no_value, has_value, value_of}
+use Rattle.fg_window.specs.Words.{Words}
 use Rattle.fg_window.specs.Row.{RowState, row_received, row_words, row_known, row_shared, IsRow}
 use Rattle.fg_window.specs.RowEntries.{entry_at, received_in, solved_in, shared_in, cached_in, is_alone, is_found, kept_at, received_at, solved_at, cached_at, bare_at, repaired_at, words_below, row_of, AreEntries}
 use Rattle.fg_window.proofs.Choices.{if-less, if-not_less}
-use Rattle.fg_window.proofs.Options.{has_value, value_of}
 use Rattle.fg_window.proofs.RowMaps.{get-words_below, contains-positions_below}
 
 -- the entry of a position of the row, and of one before it
@@ -82,6 +83,21 @@ get-solved mark entries q = get-ahead solved_in mark entries q refl
 pub get-cached :
     (mark : ℕ) (entries : List Slot) (q : ℕ) → map.get (row_of mark entries).cached q ≡ cached_at mark entries q
 get-cached mark entries q = get-ahead cached_in mark entries q refl
+
+-- What the entry of a position tells is what the row has there.
+pub told_ahead :
+    (tell : Slot → Option Word) (now : Words) (mark : ℕ) (entries : List Slot) (q : ℕ) (entry : Slot)
+    → map.get now q ≡ (if nat_lt q mark then None else tell (entry_at mark entries q)) → mark ≤ q
+    → entry ≡ entry_at mark entries q → tell entry ≡ map.get now q
+told_ahead tell now mark entries q entry has from is =
+    ap tell is ∙ sym (has ∙ if-not_less q mark None (tell (entry_at mark entries q)) from)
+
+pub told_behind :
+    (tell : Slot → Option Word) (now : Words) (mark : ℕ) (entries : List Slot) (q : ℕ)
+    → map.get now q ≡ (if nat_lt q mark then None else tell (entry_at mark entries q)) → tell Empty ≡ None → q < mark
+    → tell Empty ≡ map.get now q
+told_behind tell now mark entries q has empty before =
+    empty ∙ sym (has ∙ if-less q mark None (tell (entry_at mark entries q)) before)
 
 -- two rows with the same words are equal
 pub same_row :
@@ -189,13 +205,6 @@ row_shared-entry mark entries q =
     ∙ row_known-ahead mark entries q from)
     (cases_lt q mark)
 
--- each row keeps these facts
-pub none_not_some : (o : Option Word) → o ≡ None → IsSome o → ⊥
-none_not_some o is some =
-    let P : Option Word → Type 0 = λ x. IsSome x in
-    let h : P None = subst P is some in
-    cc
-
 pub some_along : (o p : Option Word) → o ≡ p → IsSome o → IsSome p
 some_along o p is some = let P : Option Word → Type 0 = λ x. IsSome x in subst P is some
 
@@ -206,27 +215,27 @@ lies_ahead :
     → (mark ≤ q) × (q < mark + (length entries - 100))
 lies_ahead f mark entries empty are q o is some =
     ⊎_elim
-    (λ before. absurd (none_not_some o (is ∙ if-less q mark None _ before) some))
+    (λ before. absurd (none_has_no_value o (is ∙ if-less q mark None _ before) some))
     (λ from.
     ⊎_elim
     (λ near. (from, near))
     (λ past.
     let far : mark + length entries ≤ q + 100 = omega (arith, are.some) in
-    absurd (none_not_some o
+    absurd (none_has_no_value o
     (is ∙ if-not_less q mark None _ from ∙ ap f (entry_at-past mark entries q far) ∙ empty) some))
     (cases_lt q (mark + (length entries - 100))))
     (cases_lt q mark)
 
 solved_not_received : (entry : Slot) → IsSome (solved_in entry) → received_in entry ≡ None
 solved_not_received Empty some = refl
-solved_not_received (Media word) some = absurd (none_not_some None refl some)
+solved_not_received (Media word) some = absurd (none_has_no_value {X = Word} None refl some)
 solved_not_received (Solved word) some = refl
 solved_not_received (Filled word) some = refl
 
 cached_not_shared : (entry : Slot) → IsSome (cached_in entry) → shared_in entry ≡ None
 cached_not_shared Empty some = refl
-cached_not_shared (Media word) some = absurd (none_not_some None refl some)
-cached_not_shared (Solved word) some = absurd (none_not_some None refl some)
+cached_not_shared (Media word) some = absurd (none_has_no_value {X = Word} None refl some)
+cached_not_shared (Solved word) some = absurd (none_has_no_value {X = Word} None refl some)
 cached_not_shared (Filled word) some = refl
 
 alone_has : (entry : Slot) → is_alone entry ≡ true → IsSome (word_in entry)
@@ -263,11 +272,11 @@ kept_lies mark entries q some =
     (λ before.
     ⊎_elim
     (λ far.
-    absurd (none_not_some (kept_at mark entries q)
+    absurd (none_has_no_value (kept_at mark entries q)
     (if-less q mark _ None before ∙ ap word_in (entry_at-before mark entries q far)) some))
     (λ near. (before, near))
     (cases_lt (q + 100) mark))
-    (λ from. absurd (none_not_some (kept_at mark entries q) (if-not_less q mark _ None from) some))
+    (λ from. absurd (none_has_no_value (kept_at mark entries q) (if-not_less q mark _ None from) some))
     (cases_lt q mark)
 
 pub is_row : (mark : ℕ) (entries : List Slot) → AreEntries mark entries → IsRow (row_of mark entries)

@@ -1,12 +1,12 @@
 -- The slots of a shape lie near each other.
-use Rattle.std.proofs.Common.{◌≡◌, ◌+◌, ◌-◌, ◌*◌, ◌<◌, ◌≤◌, ℕ, zero, suc, [], length, get_or, ◌∙◌, ⊎_elim, arith, mul-le-mul_right}
-use Rattle.std.proofs.lemmas.List.{length-map}
-use Rattle.std.proofs.lemmas.List.FromFn.{length-range_with_len, get_or-map-range_with_len}
+use Rattle.std.proofs.Common.{◌≡◌, ◌+◌, ◌-◌, ◌*◌, ◌<◌, ◌≤◌, ℕ, zero, suc, [], length, get_or, ⊎_elim, arith, mul-le-mul_right}
+use Rattle.std.proofs.lemmas.List.FromFn.{get_or-map-range_with_len}
 use Rattle.std.specs.List.{All, Contains, range_with_len}
 use Rattle.fg_shape.specs.Shape.{IsShape, slots_of}
+use Rattle.fg_shape.proofs.ShapeLemmas.{length-slots_of}
 use Rattle.fg_peel.specs.Equation.{Equation, slots}
+use Rattle.fg_peel.proofs.Lists.{Contains-nil, Contains-cases, Contains-from_map}
 use Rattle.fg_window.specs.Live.{last_slot}
-use Rattle.fg_window.proofs.Lists.{Contains-nil, Contains-cases, Contains-from_map}
 
 within_range : (from n j : ℕ) → Contains (range_with_len from n) j → (from ≤ j) × (j < from + n)
 within_range from zero j c = absurd (Contains-nil j c)
@@ -30,11 +30,6 @@ slot_is_near equation slot shape c =
     let is : equation.base + r.0 * equation.offset ≡ slot = r.2 in
     let span = shape.span in
     record { first = omega (arith, is); last = omega (arith, is, product); span = omega (arith, span) }
-
--- There are as many as the shape says.
-pub length-slots_of : (base offset na : ℕ) → length (slots_of base offset na) ≡ na
-length-slots_of base offset na =
-    length-map (range_with_len 0 na) (λ j. base + j * offset) ∙ length-range_with_len 0 na
 
 -- The greatest of an equation's.
 pub last_is :

@@ -91,9 +91,8 @@ pub record AreKept (open_lines settled_lines : Slab Line) (places : List Bool) (
   pub sound : AreSound open_lines settled_lines places
   pub between : AreBetween earliest latest open_lines settled_lines
 
--- A pass moves those lines that go from one slab to another. The others stay.
-pub record Moves (IsLeft IsGone : Line → Type 0) (source target source' target' : Slab Line) : Type 0 where
-  pub left : (line : Line) → Holds source' line → Holds source line × IsLeft line
+-- Lines move from one slab to another: none but these.
+pub record MovesOver (IsGone : Line → Type 0) (source target source' target' : Slab Line) : Type 0 where
   pub gone : (line : Line) → Holds target' line → Holds target line ⊎ (Holds source line × IsGone line)
   pub every : (line : Line) → Stands source target line → Stands source' target' line
   pub kept : (line : Line) → Holds target line → Holds target' line
@@ -101,6 +100,11 @@ pub record Moves (IsLeft IsGone : Line → Type 0) (source target source' target
   pub count : slab_len source' + slab_len target' ≡ slab_len source + slab_len target
   pub source_capacity : source'.capacity ≡ source.capacity
   pub target_capacity : target'.capacity ≡ target.capacity
+
+-- A pass moves those lines that go. The others stay.
+pub record Moves (IsLeft IsGone : Line → Type 0) (source target source' target' : Slab Line) : Type 0 where
+  pub left : (line : Line) → Holds source' line → Holds source line × IsLeft line
+  pub over : MovesOver IsGone source target source' target'
 
 -- The line is complete in these words, or it isn't.
 abbrev pub IsCompleteAs : Bool → (ℕ → Option Word) → Line → Type 0

@@ -1,5 +1,5 @@
 -- A row of entries, the first of which stands for 100 positions before the mark, and what it is seen as.
-use Rattle.std.specs.Prelude.{◌≡◌, ◌↔◌, ◌+◌, ◌-◌, ◌<◌, ◌≤◌, ◌^◌, ℕ, ℤ, zero, suc, Bool, true, false, List, take, drop, length, nat_lt, slice_index_or, Option, Some, None, IsSome, IsTrue, refl, if◌then◌else◌}
+use Rattle.std.specs.Prelude.{◌≡◌, ◌↔◌, ◌+◌, ◌-◌, ◌<◌, ◌≤◌, ◌^◌, ℕ, zero, suc, Bool, true, false, List, take, drop, length, nat_lt, slice_index_or, Option, Some, None, IsSome, IsTrue, refl, if◌then◌else◌}
 use Rattle.std.specs.Ordering.{nat_cmp}
 use Rattle.std.specs.Coded.{Coded, code_by, coded×, coded_ℕ, coded_list}
 use Rattle.std.specs.FinMap as map
@@ -10,12 +10,10 @@ use Rattle.fg_peel.specs.declared.Slot.TheVariants.{Empty, Media, Solved, Filled
 use Rattle.slab.specs.Slab.{Slab}
 use Rattle.fg_peel.specs.declared.Line.{Line}
 use Rattle.fg_words.specs.Word.{IsMedia}
-use Rattle.fg_peel.specs.declared.Verdict.{Verdict}
 use Rattle.fg_peel.specs.Closure.{InClosure}
 use Rattle.fg_peel.specs.Equation.{AllComeOut, AreMedia}
 use Rattle.fg_peel.specs.Peeling.{EndsPeeling}
-use Rattle.fg_peel.specs.Slots.{word_in, recovered_in, before_first, words_at, recovered_at, equations_of, OnlyFills}
-use Rattle.fg_peel.specs.Verdict.{IsVerdict}
+use Rattle.fg_peel.specs.Slots.{word_in, recovered_in, equations_of, OnlyFills}
 use Rattle.fg_window.specs.Words.{Words, kept_count}
 use Rattle.fg_window.specs.Row.{RowState}
 
@@ -150,15 +148,6 @@ words_of mark entries position = word_in (entry_at mark entries position)
 abbrev pub recovered_of : ℕ → List Slot → ℕ → Option Word
 recovered_of mark entries position = recovered_in (entry_at mark entries position)
 
--- What peeling leaves of entries the first of which stands for the position `low`.
-pub record Peels (low : ℤ) (lines : Slab Line) (old new : List Slot) (verdict : Verdict) : Type 0 where
-  pub fills : OnlyFills old new
-  pub below : before_first low new ≡ before_first low old
-  pub inside :
-      (position : ℕ) → IsSome (words_at low new position) → InClosure (words_at low old) (equations_of lines) position
-  pub peeling : EndsPeeling (equations_of lines) (words_at low old) (words_at low new)
-  pub tells : IsVerdict (recovered_at low new) (words_at low new) lines verdict
-
 -- What peeling leaves of the row's entries, and whether the words that were not received are media words and each complete
 -- equation comes out.
 pub record Recovers (mark : ℕ) (lines : Slab Line) (old new : List Slot) (answer : Bool) : Type 0 where
@@ -171,18 +160,12 @@ pub record Recovers (mark : ℕ) (lines : Slab Line) (old new : List Slot) (answ
   pub sound :
       IsTrue answer ↔ (AreMedia (recovered_of mark new) × AllComeOut (words_of mark new) (equations_of lines))
 
--- An entry without a word that stands alone, and one without a word that was not received.
-abbrev pub forgotten : Slot → Slot
-forgotten Empty = Empty
-forgotten (Media word) = Media word
-forgotten (Solved word) = Solved word
-forgotten (Filled word) = Empty
-
-abbrev pub cleared : Slot → Slot
-cleared Empty = Empty
-cleared (Media word) = Media word
-cleared (Solved word) = Empty
-cleared (Filled word) = Empty
+-- An entry without a word that stands alone and, where `solved` says so, without one that was solved.
+abbrev pub left_of : Bool → Slot → Slot
+left_of solved Empty = Empty
+left_of solved (Media word) = Media word
+left_of solved (Solved word) = (if solved then Empty else Solved word)
+left_of solved (Filled word) = Empty
 
 -- The entries at the mark and past it have become these.
 abbrev pub Becomes : (Slot → Slot) → List Slot → List Slot → Type 0
@@ -190,12 +173,13 @@ Becomes change old new =
     (i : ℕ) → slice_index_or new i Empty
     ≡ (if nat_lt i kept_count then slice_index_or old i Empty else change (slice_index_or old i Empty))
 
--- Words that stand alone are gone from them, and so are those that were solved.
-abbrev pub ForgetsCached : List Slot → List Slot → Type 0
-ForgetsCached = Becomes forgotten
+-- So have they where such words are forgotten,
+abbrev pub Forgets : Bool → List Slot → List Slot → Type 0
+Forgets solved = Becomes (left_of solved)
 
-abbrev pub ForgetsFound : List Slot → List Slot → Type 0
-ForgetsFound = Becomes cleared
+-- and the row is then this.
+abbrev pub forgets : Bool → RowState → RowState
+forgets solved row = record row { solved = (if solved then map.empty else row.solved); cached = map.empty }
 
 -- The last entry with a word, at the mark or past it.
 abbrev pub HasNoWordFrom : List Slot → ℕ → Type 0

@@ -9,9 +9,10 @@ ghost use Rattle.fg_shape.specs.Shape.{IsShape};
 ghost use Rattle.fg_peel.specs.Solution.{IsSolution};
 ghost use Rattle.fg_peel.specs.Equation.{AreMedia, IsComplete};
 ghost use Rattle.fg_peel.specs.Peeling.{EndsPeeling};
+ghost use Rattle.fg_peel.specs.Peels.{Peels};
 ghost use Rattle.fg_peel.specs.Slots.{word_in, words_at, equation_of, equations_of, AllFit};
 ghost use Rattle.fg_window.specs.Row.{opened_row, row_received, row_words, row_known, row_shared, IsRow, receives, publishes, AllLieIn, IsHighestWord, Advances};
-ghost use Rattle.fg_window.specs.RowEntries.{entry_at, words_of, row_of, live_entries, IsEmptyPast, StaysPast, received_in, solved_in, shared_in, is_found, AreEntries, Peels, Recovers, IsLastWord, HasNoWordFrom, ForgetsCached, ForgetsFound};
+ghost use Rattle.fg_window.specs.RowEntries.{entry_at, words_of, row_of, live_entries, IsEmptyPast, StaysPast, received_in, solved_in, shared_in, is_found, AreEntries, Recovers, IsLastWord, HasNoWordFrom, Forgets, forgets};
 
 use fg_peel::laws::{confluence, maximal_peelings_are_tested};
 use fg_peel::{Line, Slot, Verdict, peel, peel_media};
@@ -92,10 +93,9 @@ impl Row {
     pub fn received(&self, position: u64) -> Option<&Word>
         ensures { option_copied result ≡ get self.now.media position }
     {
-        if self.mark <= position {
-            received_word(self.mark, live(&self.slots, self.front), position)
-        } else {
-            None
+        match self.ahead(position) {
+            Some(Slot::Media(share)) => Some(share.word()),
+            _ => None,
         }
     }
 
@@ -164,8 +164,19 @@ impl Row {
     pub fn solved(&self, position: u64) -> Option<&Shared>
         ensures { option_copied result ≡ get self.now.solved position }
     {
+        match self.ahead(position) {
+            Some(Slot::Solved(share)) => Some(share),
+            _ => None,
+        }
+    }
+
+    /// The entry of a position that isn't played yet, where there is one.
+    fn ahead(&self, position: u64) -> Option<&Slot>
+        ensures { (received_in (unwrap_or (option_copied result) Slot.Empty) ≡ get self.now.media position)
+            × (solved_in (unwrap_or (option_copied result) Slot.Empty) ≡ get self.now.solved position) }
+    {
         if self.mark <= position {
-            solved_share(self.mark, live(&self.slots, self.front), position)
+            entry(self.mark, live(&self.slots, self.front), position)
         } else {
             None
         }
@@ -204,15 +215,23 @@ impl Row {
     pub fn forget_found(&mut self)
         ensures { self.new ≡ record self.old { solved = empty; cached = empty } }
     {
-        clear_live(&mut self.slots, self.front);
-        self.solved_media = true;
+        self.forget(true);
     }
 
     /// Forgets each word that was found ahead of its play.
     pub fn forget_cached(&mut self)
         ensures { self.new ≡ record self.old { cached = empty } }
     {
-        forget_live(&mut self.slots, self.front);
+        self.forget(false);
+    }
+
+    /// Forgets each word that was found ahead of its play and, where `solved` says so, each that was
+    /// solved.
+    fn forget(&mut self, solved: bool)
+        ensures { self.new ≡ forgets solved self.old }
+    {
+        forget_live(&mut self.slots, self.front, solved);
+        self.solved_media |= solved;
     }
 
     /// Finds each word that follows from the row's words and the lines, and tells whether they have
@@ -289,28 +308,6 @@ fn word_at(mark: u64, slots: &[Slot], position: u64) -> Option<&Word>
     match entry(mark, slots, position) {
         Some(slot) => slot.word(),
         None => None,
-    }
-}
-
-/// The received word at a position.
-fn received_word(mark: u64, slots: &[Slot], position: u64) -> Option<&Word>
-    requires { mark + length slots.now ≤ 2 ^ 62 }
-    ensures { option_copied result ≡ received_in (entry_at mark slots.now position) }
-{
-    match entry(mark, slots, position) {
-        Some(Slot::Media(share)) => Some(share.word()),
-        _ => None,
-    }
-}
-
-/// The share of the solved word at a position.
-fn solved_share(mark: u64, slots: &[Slot], position: u64) -> Option<&Shared>
-    requires { mark + length slots.now ≤ 2 ^ 62 }
-    ensures { option_copied result ≡ solved_in (entry_at mark slots.now position) }
-{
-    match entry(mark, slots, position) {
-        Some(Slot::Solved(share)) => Some(share),
-        _ => None,
     }
 }
 
@@ -412,26 +409,16 @@ fn recover_live(
     recover_words(mark, &mut slots[front..end], lines, all_media)
 }
 
-/// Empties each of the row's entries from the mark on whose word stands alone.
-fn forget_live(slots: &mut [Slot], front: usize)
+/// Empties each of the row's entries from the mark on whose word stands alone or, where `solved` says
+/// so, was solved.
+fn forget_live(slots: &mut [Slot], front: usize, solved: bool)
     requires front { front ≤ SLACK }
     requires some { SLACK ≤ length slots.old }
-    ensures forgets { ForgetsCached (live_entries front slots.old) (live_entries front slots.new) }
+    ensures forgets { Forgets solved (live_entries front slots.old) (live_entries front slots.new) }
     ensures past { StaysPast front slots.old slots.new }
 {
     let end = front + (slots.len() - SLACK);
-    forget_filled(&mut slots[front..end]);
-}
-
-/// Empties each of them whose word was not received.
-fn clear_live(slots: &mut [Slot], front: usize)
-    requires front { front ≤ SLACK }
-    requires some { SLACK ≤ length slots.old }
-    ensures forgets { ForgetsFound (live_entries front slots.old) (live_entries front slots.new) }
-    ensures past { StaysPast front slots.old slots.new }
-{
-    let end = front + (slots.len() - SLACK);
-    clear_found(&mut slots[front..end]);
+    forget_words(&mut slots[front..end], solved);
 }
 
 /// The last entry with a word, from the mark on.
@@ -447,23 +434,17 @@ fn last_word(slots: &[Slot]) -> Option<usize>
     None
 }
 
-/// Empties each entry from the mark on whose word stands alone.
-fn forget_filled(slots: &mut [Slot])
-    ensures { ForgetsCached slots.old slots.new }
+/// Empties each entry from the mark on whose word stands alone or, where `solved` says so, was solved.
+fn forget_words(slots: &mut [Slot], solved: bool)
+    ensures { Forgets solved slots.old slots.new }
 {
     for i in KEPT..slots.len() {
-        if let Slot::Filled(_) = slots[i] {
-            slots[i] = Slot::Empty;
-        }
-    }
-}
-
-/// Empties each entry from the mark on whose word was not received.
-fn clear_found(slots: &mut [Slot])
-    ensures { ForgetsFound slots.old slots.new }
-{
-    for i in KEPT..slots.len() {
-        if let Slot::Solved(_) | Slot::Filled(_) = slots[i] {
+        let goes = match slots[i] {
+            Slot::Filled(_) => true,
+            Slot::Solved(_) => solved,
+            Slot::Empty | Slot::Media(_) => false,
+        };
+        if goes {
             slots[i] = Slot::Empty;
         }
     }

@@ -26,7 +26,7 @@ pub fn xor_bytes(bytes: &mut [u8; PAYLOAD_LIMIT], other: &[u8; PAYLOAD_LIMIT])
 /// XORs bytes into the front of these.
 pub fn xor_front(bytes: &mut [u8; PAYLOAD_LIMIT], front: &[u8])
     requires { length front.now ≤ PAYLOAD_LIMIT }
-    ensures { bytes.new ≡ zip2 bit_xor bytes.old (front.now ++ replicate (1316 - length front.now) 0) }
+    ensures { bytes.new ≡ zip2 bit_xor bytes.old (front.now ++ replicate (PAYLOAD_LIMIT - length front.now) 0) }
 {
     let vectors = front.len() / LANES;
     xor_front_whole(bytes, front, vectors);
@@ -158,7 +158,7 @@ fn xor_rest(bytes: &mut [u8; PAYLOAD_LIMIT], other: &[u8; PAYLOAD_LIMIT])
 
 /// Whether all bytes are zero.
 pub fn is_zero(bytes: &[u8; PAYLOAD_LIMIT]) -> bool
-    ensures { IsTrue result ↔ (bytes.now ≡ replicate 1316 0) }
+    ensures { IsTrue result ↔ (bytes.now ≡ replicate PAYLOAD_LIMIT 0) }
 {
     union_of_whole(bytes) == 0 && is_zero_from(bytes, WHOLE)
 }

@@ -10,20 +10,15 @@ mod shared;
 #[cfg(test)]
 mod tests;
 
+use fg_ts::{PACKET_LENGTH, SYNC_BYTE};
 pub use shared::Shared;
 use std::alloc::{AllocError, Global};
 
 /// The RTP payload type of an MPEG transport stream (RFC 3551).
 pub const TRANSPORT_TYPE: u8 = 33;
 
-/// The length of a transport packet in bytes (ISO/IEC 13818-1).
-pub const PACKET_LENGTH: usize = 188;
-
 /// The most transport packets that a media datagram carries (SMPTE ST 2022-2).
 pub const PACKETS_LIMIT: usize = 7;
-
-/// The first byte of each transport packet (ISO/IEC 13818-1).
-pub const SYNC_BYTE: u8 = 0x47;
 
 /// The payload bytes that a word has room for: as many transport packets as a media datagram
 /// carries.
@@ -171,7 +166,7 @@ impl Word {
 /// Puts the payload at the front of the bytes, and zeros after it.
 fn put_padded(bytes: &mut [u8; PAYLOAD_LIMIT], payload: &[u8])
     requires { length payload.now ≤ PAYLOAD_LIMIT }
-    ensures { bytes.new ≡ payload.now ++ replicate (1316 - length payload.now) 0 }
+    ensures { bytes.new ≡ payload.now ++ replicate (PAYLOAD_LIMIT - length payload.now) 0 }
 {
     bytes[..payload.len()].copy_from_slice(payload);
     bytes[payload.len()..].fill(0);
@@ -179,8 +174,8 @@ fn put_padded(bytes: &mut [u8; PAYLOAD_LIMIT], payload: &[u8])
 
 /// Whether each of the first `packets` transport packets begins with the sync byte.
 fn begins_with_sync(bytes: &[u8; PAYLOAD_LIMIT], packets: usize) -> bool
-    requires { packets ≤ 7 }
-    ensures { IsTrue result ↔ ((i : ℕ) → i < packets → slice_index bytes.now (188 * i) ≡ 0x47) }
+    requires { packets ≤ PACKETS_LIMIT }
+    ensures { IsTrue result ↔ ((i : ℕ) → i < packets → slice_index bytes.now (PACKET_LENGTH * i) ≡ SYNC_BYTE) }
 {
     for packet in 0..packets {
         if bytes[PACKET_LENGTH * packet] != SYNC_BYTE {

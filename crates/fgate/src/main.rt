@@ -1,14 +1,14 @@
 //! The program: makes the real source, sinks and folder, and calls [`fg_run::run`].
 #![tactic(auto)]
 
-ghost use Rattle.std.specs.Prelude.{◌≡◌, ◌≢◌, ◌≤◌, ◌⊎◌, [], drop, map, string_bytes, IfOk, IfErr, IfSome, IsErr, OnErr};
+ghost use Rattle.std.specs.Prelude.{◌≡◌, ◌≤◌, ◌⊎◌, ◌∷◌, [], drop, map, string_bytes, IfOk, IfErr, IfSome, IsErr, OnErr};
 ghost use Rattle.std.specs.Io.KnownBytes.{IsAtEnd};
 ghost use Rattle.std.specs.IoError.{error_kind};
 ghost use Rattle.std.specs.Process.{exit_status};
 ghost use Rattle.std.specs.Str.{IsUtf8};
 ghost use Rattle.std.specs.Vec.Iter.{into_iter_items};
 ghost use Rattle.fg_cli.specs.declared.WordFault.{WordFault as AnyWordFault};
-ghost use Rattle.fg_io.specs.Faults.{CountsFault};
+ghost use Rattle.fg_io.specs.Faults.{CountsFault, CountsFaults};
 ghost use Rattle.fg_run.specs.declared.ended.Why.{Why as AnyWhy};
 ghost use Rattle.fg_run.specs.declared.request.Request.{Request as AnyRequest};
 ghost use Rattle.fg_run.specs.declared.request.Request.TheVariants.{Refused};
@@ -115,17 +115,9 @@ fn run_words<W: Threads + Wait + Sync, S: Source + Send, K: Sink + Send, E: Sink
         → ReadsAll request result.why → IsAtEnd (S.left input.new)) }
 
     // How faults are counted, whatever the words.
-    ensures read_fault { result.why ≡ Why.ReadFault
-        → CountsFault (S.faults input.old) (S.faults input.new) }
-    ensures write_fault { result.why ≡ Why.WriteFault
-        → CountsFault (K.faults out.old) (K.faults out.new)
-        ⊎ CountsFault (O.faults lanes.old) (O.faults lanes.new) }
-    ensures no_read_fault { result.why ≢ Why.ReadFault → S.faults input.new ≡ S.faults input.old }
-    ensures no_write_fault { result.why ≢ Why.WriteFault
-        → (K.faults out.new ≡ K.faults out.old) × (O.faults lanes.new ≡ O.faults lanes.old) }
-    ensures input_faults { S.faults input.old ≤ S.faults input.new }
-    ensures out_faults { K.faults out.old ≤ K.faults out.new }
-    ensures lanes_faults { O.faults lanes.old ≤ O.faults lanes.new }
+    ensures faults { CountsFaults (result.why ≡ Why.ReadFault) (result.why ≡ Why.WriteFault)
+        ((S.faults input.old, S.faults input.new) ∷ [])
+        ((K.faults out.old, K.faults out.new) ∷ (O.faults lanes.old, O.faults lanes.new) ∷ []) }
     ensures err_faults { E.faults err.old ≤ E.faults err.new }
     ensures err { TellsFault result.why (E.written err.old) (E.faults err.old)
         (E.written err.new) (E.faults err.new) }

@@ -19,7 +19,7 @@ pub(super) fn media(
 ) -> Option<Reply>
     requires { admitter.old.seat.turn ≡ board.now.name }
     ensures turn { admitter.new.seat.turn ≡ admitter.old.seat.turn }
-    ensures window { admitter.new.window ≡ admitter.old.window }
+    ensures window { admitter.new.playout.window ≡ admitter.old.playout.window }
 {
     if !admitter.room() || admitter.due(seq) || !share.word().is_media() {
         return None;
@@ -38,7 +38,7 @@ pub(super) fn parity(
 ) -> Option<(Reply, Option<Key>)>
     requires { admitter.old.seat.turn ≡ board.now.name }
     ensures turn { admitter.new.seat.turn ≡ admitter.old.seat.turn }
-    ensures window { admitter.new.window ≡ admitter.old.window }
+    ensures window { admitter.new.playout.window ≡ admitter.old.playout.window }
 {
     if !admitter.room() || !shape_ok(shape) {
         return None;
@@ -55,9 +55,9 @@ pub(super) fn play(
     seq: u16,
 ) -> Result<Option<(Played, Tray)>, AllocError>
     requires turn { admitter.old.seat.turn ≡ board.now.name }
-    requires window { admitter.old.window ≤ 100 }
+    requires window { admitter.old.playout.window ≤ 100 }
     ensures turn { admitter.new.seat.turn ≡ admitter.old.seat.turn }
-    ensures window { admitter.new.window ≡ admitter.old.window }
+    ensures window { admitter.new.playout.window ≡ admitter.old.playout.window }
 {
     let mut tray = Tray::new(alloc, 100)?;
     if !admitter.room() || !admitter.due(seq) {
@@ -75,9 +75,9 @@ pub(super) fn flush(
     admitter: &mut Admitter,
 ) -> Result<Option<(Played, Tray)>, AllocError>
     requires turn { admitter.old.seat.turn ≡ board.now.name }
-    requires window { admitter.old.window ≤ 100 }
+    requires window { admitter.old.playout.window ≤ 100 }
     ensures turn { admitter.new.seat.turn ≡ admitter.old.seat.turn }
-    ensures window { admitter.new.window ≡ admitter.old.window }
+    ensures window { admitter.new.playout.window ≡ admitter.old.playout.window }
 {
     let mut tray = Tray::new(alloc, 100)?;
     if !admitter.room() {

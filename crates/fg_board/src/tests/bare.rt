@@ -41,10 +41,7 @@ pub(super) fn flush(desk: &mut Desk, alloc: Global) -> Result<Option<(Played, Tr
     if !desk.room() {
         return Ok(None);
     }
-    match desk.flush_step(&mut tray) {
-        Some(played) => Ok(Some((played, tray))),
-        None => Ok(None),
-    }
+    Ok(desk.flush_step(&mut tray).map(|played| (played, tray)))
 }
 
 /// Whether two plays show the same, or neither was made.

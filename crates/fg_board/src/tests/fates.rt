@@ -5,7 +5,7 @@ use super::script::Step::{
     Attest, BackAndAttest, BackAndOffer, Flush, GiveBack, Look, Media, Parity, Play, Publish, Run,
     Take, Vouch,
 };
-use super::script::{FLIPPED, Shows, Sight, follows};
+use super::script::{FLIPPED, Sight, follows, to_show};
 use crate::Fate::{Beaten, Done, Gone};
 use fg_desk::Outcome::{Inconsistent, Repaired};
 use fg_desk::Reply::Admitted;
@@ -46,13 +46,7 @@ fn false_check_until_the_epoch_rises(rt: HostRuntime) -> Result<(), Fail> {
         Take(A, Some((1, None))),
         Vouch(A, false, Done),
         Take(C, None),
-        Flush(Shows {
-            outcome: Inconsistent,
-            count: 16,
-            missing: 0,
-            repaired: 0,
-            flipped: 1 << 5,
-        }),
+        Flush(to_show(Inconsistent, 16, 0, 0, 1 << 5)),
         Vouch(B, false, Gone { mark: 16, epoch: 2 }),
     ];
     follows(&rt, rt.alloc(), &script)
@@ -67,13 +61,7 @@ fn jobs_after_an_inconsistent_play(rt: HostRuntime) -> Result<(), Fail> {
         Parity(4, 1, 4, 4, Admitted),
         Take(A, Some((0, None))),
         Take(B, Some((1, Some(5)))),
-        Flush(Shows {
-            outcome: Inconsistent,
-            count: 16,
-            missing: 1 << 5,
-            repaired: 0,
-            flipped: 0,
-        }),
+        Flush(to_show(Inconsistent, 16, 1 << 5, 0, 0)),
         Publish(B, gone),
         Attest(A, false, gone),
         GiveBack(A, gone),
@@ -94,16 +82,7 @@ fn looks_at_all_kinds_of_positions(rt: HostRuntime) -> Result<(), Fail> {
         Take(B, Some((1, Some(105)))),
         Look(B, 1, 105, Sight::Nothing),
         Publish(B, Done),
-        Play(
-            400,
-            Shows {
-                outcome: Repaired,
-                count: 100,
-                missing: 0,
-                repaired: 1 << 90,
-                flipped: 0,
-            },
-        ),
+        Play(400, to_show(Repaired, 100, 0, 1 << 90, 0)),
         // Its equation has retired.
         Publish(
             A,

@@ -4,7 +4,7 @@ use super::scene::Who::{A, B, C};
 use super::script::Step::{
     Attest, Flush, GiveBack, Look, Media, Offer, Parity, Play, Publish, Run, Take, Vouch,
 };
-use super::script::{FLIPPED, Shows, Sight, follows};
+use super::script::{FLIPPED, Sight, follows, to_show};
 use crate::Fate::{Beaten, Done, Gone};
 use fg_desk::Outcome::{Inconsistent, Repaired};
 use fg_desk::Reply::Admitted;
@@ -47,13 +47,7 @@ fn word_of_an_older_epoch(rt: HostRuntime) -> Result<(), Fail> {
         Media(5, 5 + FLIPPED, Admitted),
         Vouch(B, true, gone),
         Publish(C, gone),
-        Flush(Shows {
-            outcome: Inconsistent,
-            count: 16,
-            missing: 0,
-            repaired: 0,
-            flipped: 1 << 5,
-        }),
+        Flush(to_show(Inconsistent, 16, 0, 0, 1 << 5)),
     ];
     follows(&rt, rt.alloc(), &script)
 }
@@ -73,13 +67,7 @@ fn job_given_back_and_looks(rt: HostRuntime) -> Result<(), Fail> {
         Look(A, 1, 5, Sight::Word),
         Play(
             400,
-            Shows {
-                outcome: Repaired,
-                count: 100,
-                missing: (1 << 100) - (1 << 16),
-                repaired: 1 << 5,
-                flipped: 0,
-            },
+            to_show(Repaired, 100, (1 << 100) - (1 << 16), 1 << 5, 0),
         ),
         Look(C, 0, 5, Sight::Gone(100, 0)),
     ];
@@ -95,13 +83,7 @@ fn equation_that_does_not_come_out(rt: HostRuntime) -> Result<(), Fail> {
         Vouch(A, false, Done),
         // Nobody has to check it again.
         Take(B, None),
-        Flush(Shows {
-            outcome: Inconsistent,
-            count: 8,
-            missing: 0,
-            repaired: 0,
-            flipped: 0,
-        }),
+        Flush(to_show(Inconsistent, 8, 0, 0, 0)),
         Look(A, 0, 4, Sight::Gone(8, 1)),
         Run(8, 4, 0),
         Parity(8, 1, 4, 8, Admitted),

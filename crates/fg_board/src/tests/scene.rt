@@ -242,7 +242,7 @@ pub(super) fn further_hand(board: &Board, admitter: &mut Admitter) -> Hand
     requires room { admitter.old.seat.made + 1 < board.now.seats }
     ensures admitter { admitter.new.seat.turn ≡ board.now.name }
     ensures made { admitter.new.seat.made ≡ admitter.old.seat.made + 1 }
-    ensures window { admitter.new.window ≡ admitter.old.window }
+    ensures window { admitter.new.playout.window ≡ admitter.old.playout.window }
     ensures pass { result.turn ≡ board.now.name }
 {
     let pass = board.pass(admitter);
@@ -278,7 +278,7 @@ pub(super) fn open(alloc: Global, window: u32, depth: u32) -> Result<(Board, Adm
     requires window { (1 ≤ window) × (window ≤ 100) }
     requires depth { (window ≤ depth) × (depth ≤ 1000) }
     ensures board { IfOk result (λ r. (r.1.seat.turn ≡ r.0.name) × (r.0.seats ≡ 4)) }
-    ensures admitter { IfOk result (λ r. (r.1.seat.made ≡ 0) × (r.1.window ≡ window)) }
+    ensures admitter { IfOk result (λ r. (r.1.seat.made ≡ 0) × (r.1.playout.window ≡ window)) }
 {
     Board::new(alloc, window, depth, 3)
 }
@@ -314,7 +314,7 @@ impl Model for Scene {
 
     ghost view = { λ s. s.board };
 
-    ghost invariant = { λ s. (s.admitter.seat.turn ≡ s.board.name) × (s.admitter.window ≤ 100)
+    ghost invariant = { λ s. (s.admitter.seat.turn ≡ s.board.name) × (s.admitter.playout.window ≤ 100)
         × (s.a.turn ≡ s.board.name) × (s.b.turn ≡ s.board.name) × (s.c.turn ≡ s.board.name) };
 }
 

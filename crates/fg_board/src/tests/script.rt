@@ -68,6 +68,23 @@ pub(super) struct Shows {
     pub flipped: u128,
 }
 
+/// What a play shows, as `Shows` tells it.
+pub(super) fn to_show(
+    outcome: Outcome,
+    count: u32,
+    missing: u128,
+    repaired: u128,
+    flipped: u128,
+) -> Shows {
+    Shows {
+        outcome,
+        count,
+        missing,
+        repaired,
+        flipped,
+    }
+}
+
 /// The media word of this number.
 pub(super) fn word_of(number: u32) -> Word {
     let mut word = Word::zero();

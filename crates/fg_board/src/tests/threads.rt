@@ -110,9 +110,9 @@ fn board_plays(
     log: &mut Log,
 ) -> Result<(), AllocError>
     requires turn { admitter.old.seat.turn ≡ board.now.name }
-    requires window { admitter.old.window ≤ 100 }
+    requires window { admitter.old.playout.window ≤ 100 }
     ensures turn { admitter.new.seat.turn ≡ admitter.old.seat.turn }
-    ensures window { admitter.new.window ≡ admitter.old.window }
+    ensures window { admitter.new.playout.window ≡ admitter.old.playout.window }
 {
     for _ in 0..WINDOWS {
         let Some(done) = admit::play(wait, alloc, board, admitter, seq)? else {
@@ -132,9 +132,9 @@ fn board_takes(
     log: &mut Log,
 ) -> Result<(), AllocError>
     requires turn { admitter.old.seat.turn ≡ board.now.name }
-    requires window { admitter.old.window ≤ 100 }
+    requires window { admitter.old.playout.window ≤ 100 }
     ensures turn { admitter.new.seat.turn ≡ admitter.old.seat.turn }
-    ensures window { admitter.new.window ≡ admitter.old.window }
+    ensures window { admitter.new.playout.window ≡ admitter.old.playout.window }
 {
     let reply = match *datagram {
         Datagram::Media(seq, word) => {
@@ -158,9 +158,9 @@ fn board_flushes(
     log: &mut Log,
 ) -> Result<(), AllocError>
     requires turn { admitter.old.seat.turn ≡ board.now.name }
-    requires window { admitter.old.window ≤ 100 }
+    requires window { admitter.old.playout.window ≤ 100 }
     ensures turn { admitter.new.seat.turn ≡ admitter.old.seat.turn }
-    ensures window { admitter.new.window ≡ admitter.old.window }
+    ensures window { admitter.new.playout.window ≡ admitter.old.playout.window }
 {
     for _ in 0..WINDOWS {
         let Some(done) = admit::flush(wait, alloc, board, admitter)? else {
@@ -196,7 +196,7 @@ fn board_is_fed<R: Wait + Clock>(
     taken: &AtomicBool,
 ) -> Result<Log, AllocError>
     requires turn { admitter.old.seat.turn ≡ board.now.name }
-    requires window { admitter.old.window ≤ 100 }
+    requires window { admitter.old.playout.window ≤ 100 }
     ensures turn { admitter.new.seat.turn ≡ admitter.old.seat.turn }
 {
     let mut log = Log::new(alloc);
@@ -267,7 +267,7 @@ fn admitter_works<R: Wait + Clock>(
     taken: &AtomicBool,
 ) -> (Admitter, Result<Log, AllocError>)
     requires turn { admitter.seat.turn ≡ board.now.name }
-    requires window { admitter.window ≤ 100 }
+    requires window { admitter.playout.window ≤ 100 }
     ensures { result.0.seat.turn ≡ board.now.name }
 {
     let log = board_is_fed(wait, alloc, board, &mut admitter, flow, taken);
@@ -369,7 +369,7 @@ fn worked<R: Threads + Wait + Clock + Sync>(
     let ((mut admitter, log), (one, two)) = join(
         rt,
         move ||
-            requires { (admitter.seat.turn ≡ shared.now.name) × (admitter.window ≤ 100) }
+            requires { (admitter.seat.turn ≡ shared.now.name) × (admitter.playout.window ≤ 100) }
             ensures { result.0.seat.turn ≡ shared.entry.now.name }
         { admitter_works(rt, alloc, shared, admitter, flow, done, taken) },
         move ||

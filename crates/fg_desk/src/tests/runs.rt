@@ -5,7 +5,8 @@ ghost use Rattle.std.specs.List.{All};
 ghost use Rattle.fg_desk.specs.Arrivals.{IsGiven};
 
 use super::script::word_of;
-use crate::{Datagram, FlowRun, Outcome, Reply, ShownPlay, Stream, run_flow};
+use crate::{Datagram, FlowRun, Outcome, Reply, ShownPlay, run_flow};
+use fg_shape::Kind;
 use std::process::Abort;
 use std::test::Fail;
 
@@ -45,10 +46,10 @@ fn shows(play: &ShownPlay, first: u64, count: usize, missing: u32) -> bool {
 /// How many datagrams of each kind came, of the replies that the test wants.
 fn counts(run: &FlowRun, datagrams: &[Datagram]) -> [u64; 4] {
     [
-        run.count(datagrams, Stream::Media, Some(Reply::Admitted)),
-        run.count(datagrams, Stream::Media, Some(Reply::Late)),
-        run.count(datagrams, Stream::Row, None),
-        run.count(datagrams, Stream::Column, None),
+        run.count(datagrams, Kind::Media, Some(Reply::Admitted)),
+        run.count(datagrams, Kind::Media, Some(Reply::Late)),
+        run.count(datagrams, Kind::Row, None),
+        run.count(datagrams, Kind::Column, None),
     ]
 }
 
@@ -59,7 +60,7 @@ fn late_datagram(rt: HostRuntime) -> Result<(), Fail> {
         media(0),
         media(1),
         media(3),
-        Datagram::Refused(Stream::Row),
+        Datagram::Refused(Kind::Row),
         media(4),
         media(2),
     ];

@@ -116,10 +116,7 @@ pub(super) fn flush(desk: &mut Desk, alloc: Global) -> Result<Option<(Played, Tr
     if !desk.room() {
         return Ok(None);
     }
-    match desk.flush_step(&mut tray) {
-        Some(played) => Ok(Some((played, tray))),
-        None => Ok(None),
-    }
+    Ok(desk.flush_step(&mut tray).map(|played| (played, tray)))
 }
 
 /// Whether a window of this many positions is played in place.
@@ -225,6 +222,16 @@ struct Shows {
     flipped: u128,
 }
 
+fn to_show(outcome: Outcome, count: u32, missing: u128, repaired: u128, flipped: u128) -> Shows {
+    Shows {
+        outcome,
+        count,
+        missing,
+        repaired,
+        flipped,
+    }
+}
+
 /// Whether a play shows this, from the mark before it on.
 fn is_shown(mark: u64, done: Option<(Played, Tray)>, want: Shows) -> bool {
     let Some((played, tray)) = done else {
@@ -299,26 +306,12 @@ fn answers(desk: &mut Desk, alloc: Global, step: Step) -> Result<bool, AllocErro
         Step::Parities(base, count) => parities_are_admitted(desk, alloc, base, count),
         Step::Plays(seq) => plays_on(desk, alloc, seq),
         Step::Play(outcome, count, missing, repaired, flipped) => {
-            let want = Shows {
-                outcome,
-                count,
-                missing,
-                repaired,
-                flipped,
-            };
-            let mark = desk.mark();
-            Ok(is_shown(mark, play(desk, alloc)?, want))
+            let want = to_show(outcome, count, missing, repaired, flipped);
+            Ok(is_shown(desk.mark(), play(desk, alloc)?, want))
         }
         Step::Flush(outcome, count, missing, repaired, flipped) => {
-            let want = Shows {
-                outcome,
-                count,
-                missing,
-                repaired,
-                flipped,
-            };
-            let mark = desk.mark();
-            Ok(is_shown(mark, flush(desk, alloc)?, want))
+            let want = to_show(outcome, count, missing, repaired, flipped);
+            Ok(is_shown(desk.mark(), flush(desk, alloc)?, want))
         }
         Step::Flushed => Ok(flush(desk, alloc)?.is_none()),
         Step::PlayInPlace(outcome, count) => Ok(plays_in_place(desk, outcome, count)),

@@ -7,7 +7,7 @@ use fg_desk::laws::{
 };
 use fg_peel::laws::true_words_solve;
 
-/// True datagrams of which no media datagram is missing peel, at every window and depth: each slot is
+/// True datagrams of which no media datagram is missing peel, at every playout: each slot is
 /// received before the play that closes it, and the flush closes the rest.
 pub fn full_arrivals_peel()
     ensures { FullArrivalsPeel }

@@ -25,7 +25,7 @@ pub fn thinned_comes_back()
     peeled_slots_are_shown();
 }
 
-/// Where nothing is left out, what is sent is the whole encoding. It peels at every window and depth,
+/// Where nothing is left out, what is sent is the whole encoding. It peels at every playout,
 /// and so the whole stream comes back.
 pub fn nothing_lost_peels()
     ensures few { NothingLostIsFew }

@@ -3,7 +3,8 @@ ghost use Rattle.std.specs.Prelude.{◌≡◌, ◌+◌, ◌*◌, ◌<◌, ◌≤
 ghost use Rattle.std.specs.List.{flat_map};
 ghost use Rattle.fg_ts.specs.Packets.{ArePackets};
 ghost use Rattle.fg_trace.specs.Trace.{magic, spelling};
-ghost use Rattle.fg_encode.specs.Encoder.{CanEncode, StandsAfter};
+ghost use Rattle.fg_encode.specs.Encoder.{StandsAfter};
+ghost use Rattle.fg_shape.specs.Settings.{CanEncode};
 ghost use Rattle.fg_encode.specs.Encoding.{records_at};
 ghost use Rattle.fg_drill.specs.Thinned.{is_lost, without};
 

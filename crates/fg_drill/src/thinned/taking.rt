@@ -1,18 +1,16 @@
 //! Taking payloads from a stream, until there is something to give.
-ghost use Rattle.std.specs.Prelude.{◌≡◌, ◌+◌, ◌*◌, ◌<◌, ◌≤◌, ◌⊎◌, ◌^◌, ℕ, Option, List, [], true, false, length, IfOk, OnOk, OnErr};
-ghost use Rattle.fg_io.specs.Faults.{CountsFault};
-ghost use Rattle.fg_encode.specs.Encoder.{CanEncode};
+ghost use Rattle.std.specs.Prelude.{◌≡◌, ◌+◌, ◌*◌, ◌<◌, ◌≤◌, ◌⊎◌, ◌^◌, ℕ, Option, List, [], ◌∷◌, true, false, length, IfOk, IfErr, OnOk, OnErr};
+ghost use Rattle.fg_io.specs.Faults.{Counts};
+ghost use Rattle.fg_shape.specs.Settings.{CanEncode};
 ghost use Rattle.fg_drill.specs.Thinned.{is_lost};
 ghost use Rattle.fg_drill.specs.Sending.{IsReadOut};
 ghost use Rattle.fg_drill.specs.Taking.{IsWay, KeepsWay, way_given, way_stream};
 
-use super::StreamFault;
 use super::history::History;
 use super::sender::Sender;
 use fg_encode::laws::a_payload_more_adds_its_records;
-use fg_encode::stream;
-use fg_encode::stream::{StreamReader, StreamStep};
-use fg_io::{Failed, Source};
+use fg_encode::stream::{StreamFault, StreamReader, StreamStep};
+use fg_io::{Fault, Source};
 use fg_shape::{Losses, Settings};
 use std::alloc::{AllocError, Global};
 
@@ -54,16 +52,15 @@ pub(crate) fn begin(
 }
 
 /// Takes payloads until there is something to give, or the stream's end is told.
-pub(crate) fn fill<S: Source>(taking: &mut Taking, from: &mut S) -> Result<(), Failed>
+pub(crate) fn fill<S: Source>(taking: &mut Taking, from: &mut S) -> Result<(), Fault>
     requires way { IsWay taking.old (S.left from.old) }
     requires read_out { IsReadOut taking.old.told taking.old.fault (S.left from.old) }
     ensures keeps { KeepsWay taking.old (S.left from.old) taking.new (S.left from.new) }
     ensures filled { OnOk result ((taking.new.told ≡ true) ⊎ (0 < length taking.new.sender.held)) }
     ensures stays { taking.old.told ≡ true → taking.new.told ≡ true }
     ensures failed { OnErr result (taking.new.told ≡ false) }
-    ensures counted { OnErr result (CountsFault (S.faults from.old) (S.faults from.new)) }
-    ensures no_fault { OnOk result (S.faults from.new ≡ S.faults from.old) }
-    ensures never_falls { S.faults from.old ≤ S.faults from.new }
+    ensures fault { IfErr result (λ fault. fault ≡ Fault.Read) }
+    ensures faults { Counts result ((S.faults from.old, S.faults from.new) ∷ []) [] }
     ensures fixed { S.fixed from.new ≡ S.fixed from.old }
 {
     while !taking.told && taking.sender.is_empty() {
@@ -73,7 +70,7 @@ pub(crate) fn fill<S: Source>(taking: &mut Taking, from: &mut S) -> Result<(), F
 }
 
 /// Takes the next payload, or tells the stream's end.
-fn advance<S: Source>(taking: &mut Taking, from: &mut S) -> Result<(), Failed>
+fn advance<S: Source>(taking: &mut Taking, from: &mut S) -> Result<(), Fault>
     requires way { IsWay taking.old (S.left from.old) }
     requires open { taking.old.told ≡ false }
     requires empty { taking.old.sender.held ≡ [] }
@@ -81,26 +78,19 @@ fn advance<S: Source>(taking: &mut Taking, from: &mut S) -> Result<(), Failed>
     ensures rises { taking.old.reader.place ≤ taking.new.reader.place }
     ensures progress { OnOk result ((taking.new.told ≡ true) ⊎ (taking.old.reader.place < taking.new.reader.place)) }
     ensures failed { OnErr result (taking.new.told ≡ false) }
-    ensures counted { OnErr result (CountsFault (S.faults from.old) (S.faults from.new)) }
-    ensures no_fault { OnOk result (S.faults from.new ≡ S.faults from.old) }
-    ensures never_falls { S.faults from.old ≤ S.faults from.new }
+    ensures fault { IfErr result (λ fault. fault ≡ Fault.Read) }
+    ensures faults { Counts result ((S.faults from.old, S.faults from.new) ∷ []) [] }
     ensures fixed { S.fixed from.new ≡ S.fixed from.old }
 {
     a_payload_more_adds_its_records();
-    match taking.reader.next(from) {
-        Ok(StreamStep::Payload) => {
+    match taking.reader.next(from)? {
+        StreamStep::Payload => {
             taking.sender.send(taking.reader.payload());
             taking.history = taking.history.then(&taking.reader);
         }
-        Ok(StreamStep::End) => taking.told = true,
-        Err(stream::StreamFault::ReadFault) => return Err(Failed),
-        Err(stream::StreamFault::NotTransport(fault)) => {
+        StreamStep::End(ending) => {
             taking.told = true;
-            taking.fault = Some(StreamFault::NotTransport(fault));
-        }
-        Err(stream::StreamFault::TooLong(place)) => {
-            taking.told = true;
-            taking.fault = Some(StreamFault::TooLong(place));
+            taking.fault = ending;
         }
     }
     Ok(())

@@ -1,11 +1,12 @@
 //! Thinned encodings by example.
 ghost use Rattle.std.specs.Prelude.{◌≡◌, ◌≤◌, ◌^◌, true};
-ghost use Rattle.fg_encode.specs.Encoder.{CanEncode};
+ghost use Rattle.fg_shape.specs.Settings.{CanEncode};
 
 use super::*;
 use fg_io::MemSource;
 use fg_shape::{Drops, Layout};
 use fg_trace::{Reader, Step, TraceFault};
+use fg_ts::TsFault;
 use std::process::Abort;
 use std::test::Fail;
 

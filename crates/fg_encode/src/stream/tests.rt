@@ -1,6 +1,6 @@
 //! Streams that are cut. Packet number n begins at byte 188 n, and seven packets have 1,316 bytes.
 ghost use Rattle.std.specs.Prelude.{◌≡◌, ◌≤◌, ◌^◌, ℕ, List, length, IfOk, IfSome};
-ghost use Rattle.fg_encode.specs.Stream.{IsCut, Whole};
+ghost use Rattle.fg_encode.specs.Stream.{IsCut};
 
 use super::*;
 use fg_io::{MemSource, SafeSource, Source};
@@ -19,11 +19,9 @@ fn stream(alloc: Global, length: usize, unsynced: usize) -> Result<Vec<u8>, Allo
 }
 
 /// How many payloads come, how many bytes they have in all, and then which other answer, of at most so many calls.
-fn walk<S: Source>(
-    reader: &mut StreamReader,
-    from: &mut S,
-    calls: usize,
-) -> (usize, usize, Result<StreamStep, StreamFault>) {
+type Walk = (usize, usize, Result<StreamStep, Fault>);
+
+fn walk<S: Source>(reader: &mut StreamReader, from: &mut S, calls: usize) -> Walk {
     let mut bytes = 0usize;
     for count in 0..calls {
         match reader.next(from) {
@@ -31,7 +29,7 @@ fn walk<S: Source>(
             answer => return (count, bytes, answer),
         }
     }
-    (calls, bytes, Err(StreamFault::ReadFault))
+    (calls, bytes, Err(Fault::Memory))
 }
 
 /// What comes of the bytes, over a source that gives pieces of this size.
@@ -41,101 +39,53 @@ fn walked(
     piece: usize,
     packets: u8,
     max: u64,
-) -> Result<(usize, usize, Result<StreamStep, StreamFault>), AllocError>
-    requires piece { 1 ≤ piece }
-    requires packets { (1 ≤ packets) × (packets ≤ 7) }
-    requires max { (8 ≤ max) × (max ≤ 2 ^ 40) }
-{
-    let mut source = SafeSource::new(alloc, bytes, piece)?;
-    let mut reader = StreamReader::new(alloc, packets, max)?;
+) -> Result<Walk, AllocError> {
+    let mut source = SafeSource::new(alloc, bytes, piece.max(1))?;
+    let mut reader = StreamReader::new(alloc, packets.clamp(1, 7), max.clamp(8, LARGE))?;
     Ok(walk(&mut reader, &mut source, 1000))
 }
 
 const LARGE: u64 = 1 << 40;
 
-fn no_sync(number: u64) -> Result<StreamStep, StreamFault> {
-    Err(StreamFault::NotTransport(TsFault::NoSync(number)))
+/// The answer at the end of a whole stream.
+const WHOLE: Result<StreamStep, Fault> = Ok(StreamStep::End(None));
+
+fn no_sync(number: u64) -> Result<StreamStep, Fault> {
+    Ok(StreamStep::End(Some(StreamFault::NotTransport(TsFault::NoSync(number)))))
 }
 
-fn ragged(length: u64) -> Result<StreamStep, StreamFault> {
-    Err(StreamFault::NotTransport(TsFault::Ragged(length)))
+fn ragged(length: u64) -> Result<StreamStep, Fault> {
+    Ok(StreamStep::End(Some(StreamFault::NotTransport(TsFault::Ragged(length)))))
 }
 
+fn too_long(place: u64) -> Result<StreamStep, Fault> {
+    Ok(StreamStep::End(Some(StreamFault::TooLong(place))))
+}
+
+// How many bytes the stream has, which packet lacks its sync byte, how many packets a payload has, and the limit; and then
+// what comes of it. A last payload is as it comes.
 #[test]
-fn the_packet_without_its_sync_byte_is_told(rt: HostRuntime) -> Result<(), Fail> {
-    let two = stream(rt.alloc(), 376, 1)?;
-    let many = stream(rt.alloc(), 2820, 13)?;
-    for piece in [1, 7, 4000] {
-        let piece = piece.max(1);
-        assert_eq!(rt;
-            walked(rt.alloc(), &two, piece, 1, LARGE)?,
-            (1, 188, no_sync(1))
-        );
-        assert_eq!(rt;
-            walked(rt.alloc(), &two, piece, 7, LARGE)?,
-            (0, 0, no_sync(1))
-        );
-        assert_eq!(rt;
-            walked(rt.alloc(), &many, piece, 7, LARGE)?,
-            (1, 1316, no_sync(13))
-        );
-    }
-    Ok(())
-}
-
-#[test]
-fn the_length_of_a_ragged_stream_is_told(rt: HostRuntime) -> Result<(), Fail> {
-    let short = stream(rt.alloc(), 190, 99)?;
-    let long = stream(rt.alloc(), 2821, 99)?;
-    for piece in [1, 7, 4000] {
-        let piece = piece.max(1);
-        assert_eq!(rt;
-            walked(rt.alloc(), &short, piece, 1, LARGE)?,
-            (1, 188, ragged(190))
-        );
-        assert_eq!(rt;
-            walked(rt.alloc(), &short, piece, 7, 190)?,
-            (0, 0, ragged(190))
-        );
-        assert_eq!(rt;
-            walked(rt.alloc(), &long, piece, 7, 2821)?,
-            (2, 2632, ragged(2821))
-        );
-    }
-    Ok(())
-}
-
-#[test]
-fn the_last_payload_is_as_it_comes(rt: HostRuntime) -> Result<(), Fail> {
-    let end = Ok(StreamStep::End);
-    let bytes = stream(rt.alloc(), 2820, 99)?;
-    for piece in [1, 7, 4000] {
-        let piece = piece.max(1);
-        assert_eq!(rt; walked(rt.alloc(), &[], piece, 7, 8)?, (0, 0, end));
-        assert_eq!(rt; walked(rt.alloc(), &bytes, piece, 7, 2820)?, (3, 2820, end));
-        assert_eq!(rt; walked(rt.alloc(), &bytes, piece, 5, 2820)?, (3, 2820, end));
-    }
-    Ok(())
-}
-
-/// Limits, and what fifteen packets give under them in payloads of seven.
-const LIMITS: [(u64, usize, u64); 6] = [
-    (8, 0, 0),
-    (1315, 0, 0),
-    (1316, 1, 1316),
-    (2631, 1, 1316),
-    (2632, 2, 2632),
-    (2819, 2, 2632),
-];
-
-#[test]
-fn limits_in_any_pieces(rt: HostRuntime) -> Result<(), Fail> {
-    let bytes = stream(rt.alloc(), 2820, 99)?;
-    for (max, payloads, place) in LIMITS {
+fn streams_in_any_pieces(rt: HostRuntime) -> Result<(), Fail> {
+    for (length, unsynced, packets, max, walk) in [
+        (376, 1, 1, LARGE, (1, 188, no_sync(1))),
+        (376, 1, 7, LARGE, (0, 0, no_sync(1))),
+        (2820, 13, 7, LARGE, (1, 1316, no_sync(13))),
+        (190, 99, 1, LARGE, (1, 188, ragged(190))),
+        (190, 99, 7, 190, (0, 0, ragged(190))),
+        (2821, 99, 7, 2821, (2, 2632, ragged(2821))),
+        (0, 99, 7, 8, (0, 0, WHOLE)),
+        (2820, 99, 7, 2820, (3, 2820, WHOLE)),
+        (2820, 99, 5, 2820, (3, 2820, WHOLE)),
+        (2820, 99, 7, 8, (0, 0, too_long(0))),
+        (2820, 99, 7, 1315, (0, 0, too_long(0))),
+        (2820, 99, 7, 1316, (1, 1316, too_long(1316))),
+        (2820, 99, 7, 2631, (1, 1316, too_long(1316))),
+        (2820, 99, 7, 2632, (2, 2632, too_long(2632))),
+        (2820, 99, 7, 2819, (2, 2632, too_long(2632))),
+    ] {
+        let bytes = stream(rt.alloc(), length, unsynced)?;
         for piece in [1, 7, 4000] {
-            let walk = walked(rt.alloc(), &bytes, piece.max(1), 7, max.clamp(8, LARGE))?;
-            assert_eq!(rt; walk.0, payloads);
-            assert_eq!(rt; walk.2, Err(StreamFault::TooLong(place)));
+            assert_eq!(rt; walked(rt.alloc(), &bytes, piece, packets, max)?, walk);
         }
     }
     Ok(())
@@ -145,15 +95,12 @@ fn limits_in_any_pieces(rt: HostRuntime) -> Result<(), Fail> {
 #[test]
 fn a_stream_goes_on_past_the_buffer(rt: HostRuntime) -> Result<(), Fail> {
     let bytes = stream(rt.alloc(), 600_096, 9999)?;
-    let end = Ok(StreamStep::End);
-    assert_eq!(rt;
-        walked(rt.alloc(), &bytes, 100_000, 7, LARGE)?,
-        (456, 600_096, end)
-    );
-    assert_eq!(rt;
-        walked(rt.alloc(), &bytes, 1_000_000, 6, LARGE)?,
-        (532, 600_096, end)
-    );
+    for (piece, packets, payloads) in [(100_000, 7, 456), (1_000_000, 6, 532)] {
+        assert_eq!(rt;
+            walked(rt.alloc(), &bytes, piece, packets, LARGE)?,
+            (payloads, 600_096, WHOLE)
+        );
+    }
     Ok(())
 }
 
@@ -162,18 +109,15 @@ fn goes_on_after_a_failed_read(rt: HostRuntime) -> Result<(), Fail> {
     let bytes = stream(rt.alloc(), 1504, 99)?;
     let mut source = MemSource::new(rt.alloc(), &bytes, 100, &[3, 15])?;
     let mut reader = StreamReader::new(rt.alloc(), 7, LARGE)?;
-    let fault = Err(StreamFault::ReadFault);
-    assert_eq!(rt; walk(&mut reader, &mut source, 9), (0, 0, fault));
-    assert_eq!(rt; walk(&mut reader, &mut source, 9), (1, 1316, fault));
-    assert_eq!(rt;
-        walk(&mut reader, &mut source, 9),
-        (1, 188, Ok(StreamStep::End))
-    );
+    for wanted in [
+        (0, 0, Err(Fault::Read)),
+        (1, 1316, Err(Fault::Read)),
+        (1, 188, WHOLE),
+        (0, 0, WHOLE),
+    ] {
+        assert_eq!(rt; walk(&mut reader, &mut source, 9), wanted);
+    }
     assert_eq!(rt; reader.payload(), b"".as_slice());
-    assert_eq!(rt;
-        walk(&mut reader, &mut source, 9),
-        (0, 0, Ok(StreamStep::End))
-    );
     Ok(())
 }
 
@@ -191,33 +135,33 @@ fn count_left<S: Source>(source: &mut S) -> usize {
 fn reads_one_byte_past_the_limit_and_no_more(rt: HostRuntime) -> Result<(), Fail> {
     let mut source = SafeSource::new(rt.alloc(), &stream(rt.alloc(), 2820, 99)?, 4096)?;
     let mut reader = StreamReader::new(rt.alloc(), 7, 2700)?;
-    let fault = Err(StreamFault::TooLong(2632));
-    assert_eq!(rt; walk(&mut reader, &mut source, 9), (2, 2632, fault));
-    assert_eq!(rt; walk(&mut reader, &mut source, 9), (0, 0, fault));
+    assert_eq!(rt;
+        walk(&mut reader, &mut source, 9),
+        (2, 2632, too_long(2632))
+    );
+    assert_eq!(rt; walk(&mut reader, &mut source, 9), (0, 0, too_long(2632)));
     assert_eq!(rt; count_left(&mut source), 2820 - 2701);
     Ok(())
 }
 
-/// How many payloads a stream has that is cut to its end: a loop over a reader, whose invariant is where the reader stands.
+/// How many payloads a stream has, and how it ends: a loop over a reader, whose invariant is where the reader stands.
 fn count_payloads<S: Source>(
     alloc: Global,
     from: &mut S,
     packets: u8,
     max: u64,
-) -> Result<Result<u64, StreamFault>, AllocError>
+) -> Result<(u64, Option<StreamFault>), Fault>
     requires packets { (1 ≤ packets) × (packets ≤ 7) }
     requires max { (8 ≤ max) × (max ≤ 2 ^ 40) }
-    ensures { IfOk result (λ counted. IfOk counted (λ count.
-        (payloads : List (List ℕ)) × (count ≡ length payloads)
-        × IfSome (S.left from.old) (λ bytes. IsCut packets max bytes payloads Whole))) }
+    ensures { IfOk result (λ counted. (payloads : List (List ℕ)) × (counted.0 ≡ length payloads)
+        × IfSome (S.left from.old) (λ bytes. IsCut packets max bytes payloads counted.1)) }
 {
     let mut reader = StreamReader::new(alloc, packets, max)?;
     let mut count = 0;
     loop {
-        match reader.next(from) {
-            Ok(StreamStep::Payload) => count += 1,
-            Ok(StreamStep::End) => return Ok(Ok(count)),
-            Err(fault) => return Ok(Err(fault)),
+        match reader.next(from)? {
+            StreamStep::Payload => count += 1,
+            StreamStep::End(ending) => return Ok((count, ending)),
         }
     }
 }
@@ -225,7 +169,8 @@ fn count_payloads<S: Source>(
 #[test]
 fn payloads_are_counted(rt: HostRuntime) -> Result<(), Fail> {
     let mut source = SafeSource::new(rt.alloc(), &stream(rt.alloc(), 2820, 99)?, 7)?;
-    assert_eq!(rt; count_payloads(rt.alloc(), &mut source, 7, LARGE)?, Ok(3));
+    let counted = count_payloads(rt.alloc(), &mut source, 7, LARGE);
+    assert_eq!(rt; counted, Ok((3, None)));
     Ok(())
 }
 

@@ -1,5 +1,4 @@
-use Rattle.std.proofs.Common.{List, ℕ, Option, subst, sym, ap}
-use Rattle.fg_words.specs.declared.Word.{Word}
+use Rattle.std.proofs.Common.{List, subst, sym}
 use Rattle.fg_peel.specs.declared.Slot.{Slot}
 use Rattle.fg_peel.specs.Equation.{AreMedia}
 use Rattle.fg_peel.specs.Slots.{words_from}

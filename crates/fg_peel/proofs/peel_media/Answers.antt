@@ -8,11 +8,5 @@ peel_slots-requires-clause-lines c = rw (to_z-of_z w64 c.args.low c.ranges.low) 
 pub peel_slots-requires-clause-media : goal.peel_slots-requires-clause-media
 peel_slots-requires-clause-media c = rw (to_z-of_z w64 c.args.low c.ranges.low) (λ _. c.requires.media)
 
-pub returns-clause-closure : goal.returns-clause-closure
-returns-clause-closure c = rw (to_z-of_z w64 c.args.low c.ranges.low) at c.peel_slots.ensures.closure
-
-pub returns-clause-verdict : goal.returns-clause-verdict
-returns-clause-verdict c = rw (to_z-of_z w64 c.args.low c.ranges.low) at c.peel_slots.ensures.verdict
-
-pub returns-clause-solution : goal.returns-clause-solution
-returns-clause-solution c = rw (to_z-of_z w64 c.args.low c.ranges.low) at c.peel_slots.ensures.solution
+pub returns : goal.returns
+returns c = rw (to_z-of_z w64 c.args.low c.ranges.low) at c.peel_slots.ensures

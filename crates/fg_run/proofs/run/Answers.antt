@@ -36,7 +36,7 @@ returns-clause-complete g c = elim c.match-read_request.branch [
   | in-Ok w ↦ rw (c.tell_end.ensures.why, w.why-is, w.input-is, w.out-is, w.lanes-is)
       (of_each_told c.one_request.ensures _ w.in-Ok.request _ (λ request bytes. (why : Why) → IsAnswer request bytes why → _ → _ → _ → (w.answer-why.result ≡ why) ⊎ (w.answer-why.result ≡ Memory))
       w.in-Ok.ensures.asked
-      (complete_told _ _ _ w.answer-why.result _ (IsAnswer w.in-Ok.request) w.answer-why.ensures.exactly w.answer-why.ensures.read_fault w.answer-why.ensures.write_fault))
+      (complete_told _ _ _ w.answer-why.result _ (IsAnswer w.in-Ok.request) w.answer-why.ensures.exactly w.answer-why.ensures.faults.read w.answer-why.ensures.faults.write))
   | in-Err w ↦ rw (c.tell_end.ensures.why, w.why-is) (memory_complete _ _ _ _ _)
 ]
 

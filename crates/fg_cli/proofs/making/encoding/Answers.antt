@@ -8,7 +8,10 @@ returns-clause-fits c =
     let rate = rate_in c.args.settings.now c.requires.ranges in
     let port = port_in c.args.settings.now c.requires.ranges in
     record {
-      packets = (omega (arith, packets, c.number-packets.ensures.value), omega (arith, packets, c.number-packets.ensures.value));
-      rate = (omega (arith, rate, c.number-rate.ensures.value), omega (arith, rate, c.number-rate.ensures.value));
-      port = (omega (arith, port, c.number-port.ensures.value), omega (arith, port, c.number-port.ensures.value));
+      can = record {
+        packets = (omega (arith, packets, c.number-packets.ensures.value), omega (arith, packets, c.number-packets.ensures.value));
+        rate = (omega (arith, rate, c.number-rate.ensures.value), omega (arith, rate, c.number-rate.ensures.value));
+        port = omega (arith, port, c.number-port.ensures.value);
+      };
+      some_port = omega (arith, port, c.number-port.ensures.value);
     }

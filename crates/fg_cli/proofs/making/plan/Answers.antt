@@ -9,11 +9,13 @@ returns-clause-fits c =
     let workers = workers_in c.args.settings.now c.requires.ranges in
     record {
       table = c.requires.table;
-      window = (omega (arith, window, c.number-window.ensures.value), omega (arith, window, c.number-window.ensures.value));
-      depth = (
-        omega (arith, c.requires.deep, c.number-window.ensures.value, c.number-depth.ensures.value),
-        omega (arith, depth, c.number-depth.ensures.value),
-      );
+      playout = record {
+        window = (omega (arith, window, c.number-window.ensures.value), omega (arith, window, c.number-window.ensures.value));
+        depth = (
+          omega (arith, c.requires.deep, c.number-window.ensures.value, c.number-depth.ensures.value),
+          omega (arith, depth, c.number-depth.ensures.value),
+        );
+      };
       workers = omega (arith, workers, c.number-workers.ensures.value);
       max = (c.requires.least, c.requires.greatest);
     }

@@ -36,5 +36,5 @@ loop-i-preserved c =
     let found = c.in-Some.ensures.found in
     let P : List Setting → Type 0 = λ l. AtMost (row c.in-Some.setting.key).most (length (values_of c.in-Some.setting.key l) + 1) in
     let Q : List Setting → Type 0 = λ l. IsLine (take (c.loop-i.i + 1) words) c.args.command l in
-    subst Q (sym c.in_ok-push.ensures.items)
+    subst Q (sym c.in_ok-add.ensures)
     (line_more words c.args.command c.loop-i.settings.items c.loop-i.i [] c.in-Some.setting below c.loop-i.invariant found.0 (word ∙ found.1) (subst P c.deref.ensures.value found.2))

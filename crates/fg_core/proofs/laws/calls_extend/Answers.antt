@@ -2,20 +2,4 @@ use Rattle.fg_core.proofs.Calls.{calls_extend}
 use Rattle.fg_core.proofs.laws.calls_extend.Goals as goal
 
 pub returns : goal.returns
-returns c = calls_extend (record {
-  media_keeps = c.facts_are_kept.ensures.media;
-  parity_keeps = c.facts_are_kept.ensures.parity;
-  play_keeps = c.facts_are_kept.ensures.play;
-  flush_keeps = c.facts_are_kept.ensures.flush;
-  media_adds = c.admissions_add.ensures.media;
-  parity_adds = c.admissions_add.ensures.parity;
-  take_words = c.peelings_stay.ensures.words;
-  take_equations = c.peelings_stay.ensures.equations;
-  plays = record {
-    kept = c.confluence.ensures.kept;
-    solutions = c.mark_makes_no_difference.ensures.solutions;
-    steps_are_ahead = c.mark_makes_no_difference.ensures.steps;
-    live_stand = c.live_equations.ensures;
-    stays = c.solved_stays_peeled.ensures;
-  };
-})
+returns c = calls_extend c.laws_of_calls.ensures

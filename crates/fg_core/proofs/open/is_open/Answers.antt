@@ -1,5 +1,9 @@
-use Rattle.std.proofs.Common.{true≢false, inl, inr, sym, ap, ◌∙◌, ⊎_elim, arith}
-use Rattle.fg_peel.specs.Slots.{equation_of}
+use Rattle.std.proofs.Common.{◌≢◌, ◌⊎◌, ℕ, Option, refl, true≢false, inl, inr, sym, ap, ◌∙◌, ⊎_elim, arith}
+use Rattle.fg_words.specs.declared.Word.{Word}
+use Rattle.fg_peel.specs.declared.row.Missing.{Missing}
+use Rattle.fg_peel.specs.declared.row.Missing.TheVariants.{Nothing, One, Several}
+use Rattle.fg_peel.specs.Equation.{Equation, IsComplete}
+use Rattle.fg_peel.specs.Slots.{equation_of, IsMissing}
 use Rattle.fg_window.specs.Lines.{live_of}
 use Rattle.fg_desk.specs.Contents.{known_in}
 use Rattle.fg_core.specs.Flow.{is_vouched, is_handed_out}
@@ -42,34 +46,27 @@ returns-then-mark-2 c =
           is_open.work,
     )
 
-pub returns-in-Nothing : goal.returns-in-Nothing
-returns-in-Nothing c =
-    let desk = c.args.desk.now in
-    let marks = c.args.marks.now in
-    let line = c.args.line.now in
-    let mark = c.mark_of-mark.result in
-    let facts = c.facts.ensures.facts in (
-      λ shared. opens desk marks line facts c.requires.within c.requires.bare mark
-          (flag_is desk marks line facts c.requires.within c.requires.bare mark is_handed_out c.key_of.result c.key_of.ensures
-          c.mark_of-mark.ensures.handed_out ∙ c.if-mark.false) (c.are_shared.ensures.0 shared)
-          (inr (
-            c.in-Nothing.ensures,
-            flag_is desk marks line facts c.requires.within c.requires.bare mark is_vouched c.key_of.result c.key_of.ensures
-                c.mark_of-mark.ensures.vouched ∙ c.if-mark-2.false,
-          )),
-      λ is_open. c.are_shared.ensures.1 (λ slot listed _. is_open.shared slot listed),
-    )
+-- One slot without a word, or none.
+some_work :
+    (words : ℕ → Option Word) (equation : Equation) (which : Missing) → IsMissing words equation which → which ≢ Several
+    → ((slot : ℕ) × IsMissing words equation (One slot)) ⊎ IsComplete words equation
+some_work words equation Nothing is few = inr is
+some_work words equation (One slot) is few = inl (slot, is)
+some_work words equation Several is few = absurd (few refl)
 
-pub returns-in-One : goal.returns-in-One
-returns-in-One c =
+pub returns-in_default : goal.returns-in_default
+returns-in_default c =
     let desk = c.args.desk.now in
     let marks = c.args.marks.now in
     let line = c.args.line.now in
     let mark = c.mark_of-mark.result in
-    let facts = c.facts.ensures.facts in (
+    let facts = c.facts.ensures.facts in
+    let flag = flag_is desk marks line facts c.requires.within c.requires.bare mark in (
       λ shared. opens desk marks line facts c.requires.within c.requires.bare mark
-          (flag_is desk marks line facts c.requires.within c.requires.bare mark is_handed_out c.key_of.result c.key_of.ensures
-          c.mark_of-mark.ensures.handed_out ∙ c.if-mark.false) (c.are_shared-in-One.ensures.0 shared)
-          (inl (c.in-One.field-0, c.in-One.ensures)),
-      λ is_open. c.are_shared-in-One.ensures.1 (λ slot listed _. is_open.shared slot listed),
+          (flag is_handed_out c.key_of.result c.key_of.ensures c.mark_of-mark.ensures.handed_out ∙ c.if-mark.false)
+          (c.are_shared.ensures.0 shared)
+          (⊎_elim inl
+          (λ all. inr (all, flag is_vouched c.key_of.result c.key_of.ensures c.mark_of-mark.ensures.vouched ∙ c.if-mark-2.false))
+          (some_work (known_in desk) (equation_of line) c.missing.result c.missing.ensures c.in_default.not-Several)),
+      λ is_open. c.are_shared.ensures.1 (λ slot listed _. is_open.shared slot listed),
     )

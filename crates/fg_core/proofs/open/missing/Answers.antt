@@ -1,8 +1,8 @@
 use Rattle.std.proofs.Common.{◌≡◌, None, sym, ◌∙◌, ap, not, arith}
 use Rattle.fg_peel.specs.Slots.{equation_of}
+use Rattle.fg_peel.proofs.Options.{none_of_copied}
 use Rattle.fg_desk.specs.Contents.{known_in}
-use Rattle.fg_core.proofs.Calling.{none_of_copied}
-use Rattle.fg_core.proofs.Misses.{misses_several_found, misses_one, misses_nothing}
+use Rattle.fg_peel.proofs.Misses.{misses_several_found, misses_one, misses_nothing}
 use Rattle.fg_core.proofs.open.missing.Goals as goal
 
 pub returns-then-is_some : goal.returns-then-is_some

@@ -1,6 +1,6 @@
 use Rattle.fg_shape.specs.Shape.{slots_of}
 use Rattle.fg_desk.specs.Contents.{known_in}
-use Rattle.fg_core.proofs.Misses.{MissesBelow}
+use Rattle.fg_peel.proofs.Misses.{MissesBelow}
 use Rattle.fg_core.proofs.open.missing.Given as goal
 
 abbrev pub invariant-loop-j : goal.invariant-loop-j

@@ -1,4 +1,5 @@
-use Rattle.std.proofs.Common.{◌^◌, refl, arith, ◌∙◌}
+use Rattle.std.proofs.Common.{◌^◌, refl, arith, ◌∙◌, ap}
+use Rattle.fg_shape.specs.Playout.{Playout}
 use Rattle.fg_desk.proofs.PlainRuns.{none_flushed, one_more_flushed, step_nearer}
 use Rattle.fg_desk.proofs.run.flush.Goals as goal
 
@@ -12,7 +13,7 @@ flush_step-requires-clause-room c =
 
 pub flush_step-requires-clause-tray : goal.flush_step-requires-clause-tray
 flush_step-requires-clause-tray c =
-    let window = c.loop-played.invariant.so.window in
+    let window = ap (λ (p : Playout). p.window) c.loop-played.invariant.so.playout in
     let tray = c.loop-played.invariant.tray in
     omega (arith, window, tray, c.requires.tray)
 

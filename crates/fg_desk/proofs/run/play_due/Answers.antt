@@ -1,4 +1,5 @@
-use Rattle.std.proofs.Common.{◌^◌, refl, arith, ◌∙◌}
+use Rattle.std.proofs.Common.{◌^◌, refl, arith, ◌∙◌, ap}
+use Rattle.fg_shape.specs.Playout.{Playout}
 use Rattle.fg_desk.specs.Admission.{IsDue}
 use Rattle.fg_desk.proofs.PlainRuns.{none_played, one_more_played, nearer, fails}
 use Rattle.fg_desk.proofs.run.play_due.Goals as goal
@@ -13,7 +14,7 @@ play-played-requires-clause-room c =
 
 pub play-played-requires-clause-tray : goal.play-played-requires-clause-tray
 play-played-requires-clause-tray c =
-    let window = c.loop-alloc.invariant.so.window in
+    let window = ap (λ (p : Playout). p.window) c.loop-alloc.invariant.so.playout in
     let tray = c.loop-alloc.invariant.tray in
     omega (arith, window, tray, c.requires.tray)
 
@@ -24,7 +25,7 @@ pub loop-alloc-smaller : goal.loop-alloc-smaller
 loop-alloc-smaller c =
     let so = c.loop-alloc.invariant.so in
     let within = c.requires.within c.args.seq so.due c.loop-alloc.desk.state so.played in
-    nearer (2 ^ 61) c.loop-alloc.desk.state.mark c.play-played.new.self.state.mark c.loop-alloc.desk.state.window
+    nearer (2 ^ 61) c.loop-alloc.desk.state.mark c.play-played.new.self.state.mark c.loop-alloc.desk.state.playout.window
     c.play-played.ensures.play.mark within.0.window.0 within.1.mark
 
 pub loop-alloc-preserved : goal.loop-alloc-preserved
@@ -51,8 +52,8 @@ returns-clause-room c =
     let so = c.loop-alloc.invariant.so in
     (c.requires.within c.args.seq so.due c.loop-alloc.desk.state so.played).1
 
-pub returns-clause-window : goal.returns-clause-window
-returns-clause-window c = c.loop-alloc.invariant.so.window
+pub returns-clause-playout : goal.returns-clause-playout
+returns-clause-playout c = c.loop-alloc.invariant.so.playout
 
 pub returns-clause-tray : goal.returns-clause-tray
 returns-clause-tray c = c.loop-alloc.invariant.tray

@@ -1,6 +1,7 @@
 use Rattle.std.proofs.Common.{◌≡◌, ◌+◌, ◌^◌, List, [], map, take, get_or, ap, subst, ◌∙◌, arith}
 use Rattle.std.proofs.lemmas.List.{take_more, take_all}
 use Rattle.std.proofs.lemmas.List.Elements.{All-nil}
+use Rattle.fg_shape.specs.Playout.{Playout}
 use Rattle.fg_desk.specs.Laws.{IsRead}
 use Rattle.fg_desk.specs.declared.run.Datagram.{Datagram}
 use Rattle.fg_desk.specs.declared.run.Datagram.TheVariants as datagram
@@ -23,7 +24,7 @@ loop-datagram-init c = record {
       ap (λ (desk : Contents). desk.state) c.in_ok-desk.ensures,
     );
     read = All-nil IsRead;
-    window = ap (λ (desk : Contents). desk.state.window) c.in_ok-desk.ensures;
+    same = ap (λ (desk : Contents). desk.state.playout) c.in_ok-desk.ensures;
   };
   tray = ap (λ (tray : Holding). tray.window) c.in_ok-tray.ensures;
 }
@@ -31,14 +32,14 @@ loop-datagram-init c = record {
 pub take-requires-clause-within : goal.take-requires-clause-within
 take-requires-clause-within c seq due new played =
     let so = c.loop-datagram.invariant.so in
-    c.runs_stay_within.ensures.taking c.args.window c.args.depth seq (map arrival_of (take c.loop-datagram.datagram-index c.args.datagrams.now))
+    c.runs_stay_within.ensures.taking (record { window = c.args.window; depth = c.args.depth }) seq (map arrival_of (take c.loop-datagram.datagram-index c.args.datagrams.now))
     (map play_of c.loop-datagram.plays.items) due c.loop-datagram.replies.items c.loop-datagram.desk.state new
     c.requires.window.0 c.requires.window.1 c.requires.depth.0 so.read
     (few_arrivals (2 ^ 44) c.loop-datagram.datagram-index c.args.datagrams.now c.requires.limit) so.takes played
 
 pub take-requires-clause-tray : goal.take-requires-clause-tray
 take-requires-clause-tray c =
-    let window = c.loop-datagram.invariant.so.window in
+    let window = ap (λ (p : Playout). p.window) c.loop-datagram.invariant.so.same in
     let tray = c.loop-datagram.invariant.tray in
     omega (arith, window, tray)
 
@@ -46,27 +47,27 @@ pub loop-datagram-preserved : goal.loop-datagram-preserved
 loop-datagram-preserved c =
     let takes = c.in_ok-reply.ensures.takes in
     record {
-      so = one_more_taken c.args.window c.args.depth (take c.loop-datagram.datagram-index c.args.datagrams.now)
+      so = one_more_taken (record { window = c.args.window; depth = c.args.depth }) (take c.loop-datagram.datagram-index c.args.datagrams.now)
           (take (c.loop-datagram.datagram-index + 1) c.args.datagrams.now)
           (get_or c.args.datagrams.now c.loop-datagram.datagram-index no_datagram)
           c.loop-datagram.desk.state c.take.new.desk.state c.loop-datagram.plays.items c.take.new.plays.items takes.0
           c.loop-datagram.replies.items c.push.new.self.items c.in_ok-reply.reply c.runs_join.ensures.takings c.loop-datagram.invariant.so
           (take_more c.args.datagrams.now c.loop-datagram.datagram-index no_datagram c.loop-datagram-test.true)
-          takes.2 c.in_ok-reply.ensures.read takes.1 c.in_ok-push.ensures.items c.in_ok-reply.ensures.window;
+          takes.2 c.in_ok-reply.ensures.read takes.1 c.in_ok-push.ensures.items c.in_ok-reply.ensures.playout;
       tray = c.in_ok-reply.ensures.tray ∙ c.loop-datagram.invariant.tray;
     }
 
 pub flush-requires-clause-within : goal.flush-requires-clause-within
 flush-requires-clause-within c flushed new steps =
     let so = c.loop-datagram.invariant.so in
-    c.runs_stay_within.ensures.flushing c.args.window c.args.depth (map arrival_of (take c.loop-datagram.datagram-index c.args.datagrams.now))
+    c.runs_stay_within.ensures.flushing (record { window = c.args.window; depth = c.args.depth }) (map arrival_of (take c.loop-datagram.datagram-index c.args.datagrams.now))
     (map play_of c.loop-datagram.plays.items) flushed c.loop-datagram.replies.items c.loop-datagram.desk.state new
     c.requires.window.0 c.requires.window.1 c.requires.depth.0 c.requires.depth.1 so.read
     (few_arrivals (2 ^ 44) c.loop-datagram.datagram-index c.args.datagrams.now c.requires.limit) so.takes steps
 
 pub flush-requires-clause-tray : goal.flush-requires-clause-tray
 flush-requires-clause-tray c =
-    let window = c.loop-datagram.invariant.so.window in
+    let window = ap (λ (p : Playout). p.window) c.loop-datagram.invariant.so.same in
     let tray = c.loop-datagram.invariant.tray in
     omega (arith, window, tray)
 
@@ -82,7 +83,7 @@ returns c =
       filled = c.loop-datagram.desk.state;
       empty = flush.1;
       takes =
-          subst (λ (ds : List Datagram). TakesAll (opening c.args.window c.args.depth) (map arrival_of ds) (map play_of c.loop-datagram.plays.items) c.loop-datagram.replies.items c.loop-datagram.desk.state)
+          subst (λ (ds : List Datagram). TakesAll (opening (record { window = c.args.window; depth = c.args.depth })) (map arrival_of ds) (map play_of c.loop-datagram.plays.items) c.loop-datagram.replies.items c.loop-datagram.desk.state)
           all so.takes;
       flush = flush.3;
       plays_are = flush.2;

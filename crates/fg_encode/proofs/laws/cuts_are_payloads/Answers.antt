@@ -1,4 +1,4 @@
-use Rattle.fg_encode.proofs.StreamPayloads.{cuts_are_payloads}
+use Rattle.fg_encode.proofs.StreamPayloadLemmas.{cuts_are_payloads}
 use Rattle.fg_encode.proofs.laws.cuts_are_payloads.Goals as goal
 
 pub returns : goal.returns

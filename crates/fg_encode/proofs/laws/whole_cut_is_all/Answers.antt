@@ -1,4 +1,4 @@
-use Rattle.fg_encode.proofs.StreamPayloads.{whole_cut_is_all}
+use Rattle.fg_encode.proofs.StreamPayloadLemmas.{whole_cut_is_all}
 use Rattle.fg_encode.proofs.laws.whole_cut_is_all.Goals as goal
 
 pub returns : goal.returns

@@ -1,4 +1,4 @@
-use Rattle.fg_encode.proofs.StreamCuts.{one_cut}
+use Rattle.fg_encode.proofs.CutLemmas.{one_cut}
 use Rattle.fg_encode.proofs.stream.one_cut.Goals as goal
 
 pub returns : goal.returns

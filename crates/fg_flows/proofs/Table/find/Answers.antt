@@ -1,5 +1,5 @@
 use Rattle.std.proofs.Common.{List, ℕ, IfSome, IfNone, ◌∙◌, subst}
-use Rattle.fg_flows.specs.declared.Kind.{Kind}
+use Rattle.fg_shape.specs.declared.kind.Kind.{Kind}
 use Rattle.fg_flows.specs.Flows.{IsPortOf}
 use Rattle.fg_flows.proofs.FlowLemmas.{found_by_index, none_by_index}
 use Rattle.fg_flows.proofs.Table.find.Goals as goal

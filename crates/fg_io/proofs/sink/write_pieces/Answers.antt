@@ -1,25 +1,16 @@
 -- The pieces before this one, and then what was written of it.
-use Rattle.std.proofs.Common.{rules, ◌≡◌, ℕ, suc, ◌<◌, List, ◌++◌, length, take, drop, get_or, Option, sym, ap, ◌∙◌, subst}
-use Rattle.std.proofs.Math.Seq.{drop-cons}
+use Rattle.std.proofs.Common.{rules, ℕ, suc, ◌<◌, List, ◌++◌, length, take, drop, get_or, Option, sym, subst}
 use Rattle.std.specs.List.{flat_map}
-use Rattle.std.proofs.lemmas.Grind.{flat_map-append}
-use Rattle.std.proofs.lemmas.List.{take-append-drop}
 use Rattle.fg_io.specs.Sink.{Gains, GainsPart}
 use Rattle.fg_io.proofs.SinkLemmas.{GainsPart-longer, GainsPart-trans}
+use Rattle.fg_io.proofs.TextLemmas.{flat_map-at}
 use Rattle.fg_io.proofs.sink.write_pieces.Goals as goal
-
--- all pieces are those before one of them, that one, and the others
-flat_map_at : {X : Type 0} (f : X → List ℕ) (xs : List X) (i : ℕ) (d : X) → i < length xs
-    → flat_map f xs ≡ flat_map f (take i xs) ++ (f (get_or xs i d) ++ flat_map f (drop (suc i) xs))
-flat_map_at f xs i d within =
-    ap (flat_map f) (sym (take-append-drop i xs)) ∙ flat_map-append f (take i xs) (drop i xs)
-    ∙ ap (λ rest. flat_map f (take i xs) ++ flat_map f rest) (drop-cons xs i d within)
 
 -- part of one piece, after those before it
 part_at : {X : Type 0} (f : X → List ℕ) (xs : List X) (i : ℕ) (d : X) (before now after : Option (List ℕ)) → i < length xs
     → Gains before (flat_map f (take i xs)) now → GainsPart now (f (get_or xs i d)) after → GainsPart before (flat_map f xs) after
 part_at f xs i d before now after within gained part =
-    subst (λ bytes. GainsPart before bytes after) (sym (flat_map_at f xs i d within))
+    subst (λ bytes. GainsPart before bytes after) (sym (flat_map-at f xs i d within))
     (GainsPart-trans before now after (flat_map f (take i xs)) (f (get_or xs i d) ++ flat_map f (drop (suc i) xs)) gained
     (GainsPart-longer now after (f (get_or xs i d)) (flat_map f (drop (suc i) xs)) part))
 

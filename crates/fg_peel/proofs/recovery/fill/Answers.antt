@@ -1,13 +1,13 @@
 use Rattle.std.proofs.Common.{◌≢◌, ◌<◌, length, get_or, sym, ◌∙◌, arith}
 use Rattle.std.proofs.lemmas.List.Elements.{Contains-get_or}
 use Rattle.fg_shape.proofs.ShapeLemmas.{length-slots_of}
-use Rattle.fg_peel.proofs.Peelings.{some_word}
 use Rattle.fg_peel.specs.Equation.{slots}
 use Rattle.fg_peel.specs.Slots.{equation_of, words_from}
 use Rattle.fg_peel.proofs.Entries.{fits_base, fits_slot}
 use Rattle.fg_peel.proofs.Filling.{filling_first, filling_skips, filling_adds, filling_done}
 use Rattle.fg_peel.proofs.recovery.fill.Goals as goal
 use Rattle.fg_peel.proofs.recovery.fill.Goals.{then-other-position, else-other-position}
+use Rattle.fg_peel.proofs.Options.{value_of}
 
 pub overflow_sub-target : goal.overflow_sub-target
 overflow_sub-target c = (c.requires.line.within c.args.position c.requires.missing.0).0
@@ -54,7 +54,7 @@ loop-j-preserved c =
     elim c.if-other-position.branch [
       | then-other-position w ↦
           let differs : get_or xs j 0 ≢ c.args.position = λ same. w.if-other-position.true (c.slot-other.ensures ∙ same) in
-          let known = some_word (words (get_or xs j 0)) (c.requires.missing.2 (get_or xs j 0) (Contains-get_or xs j 0 within) differs) in
+          let known = value_of (words (get_or xs j 0)) (c.requires.missing.2 (get_or xs j 0) (Contains-get_or xs j 0 within) differs) in
           rw w.slots-is (filling_adds c.args.start c.args.slots.now c.args.position xs c.args.line.now.parity j c.loop-j.slots w.add_word.new.slots known.0 within (omega arith) from.0
           (fits_slot c.args.start (length c.args.slots.now) c.args.line.now j c.requires.line c.loop-j-test.true).0 differs known.1
           (rw c.slot-other.ensures at w.add_word.ensures) c.loop-j.invariant)

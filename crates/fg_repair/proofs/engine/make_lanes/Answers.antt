@@ -12,7 +12,7 @@ pub returns-in_err-put-clause-part : goal.returns-in_err-put-clause-part
 returns-in_err-put-clause-part g c =
     let i = c.loop-i.i in
     let below : i < length c.args.table.now = omega arith in
-    let failed : PutsPart (g.O.Outlet.lanes c.loop-i.lanes) (slice_index c.args.table.now i) [] (g.O.Outlet.lanes c.put.new.self) = subst (λ (p : ℕ). PutsPart (g.O.Outlet.lanes c.loop-i.lanes) p [] (g.O.Outlet.lanes c.put.new.self)) c.port.ensures c.in_err-put.ensures.failed in
+    let failed : PutsPart (g.O.Outlet.lanes c.loop-i.lanes) (slice_index c.args.table.now i) [] (g.O.Outlet.lanes c.put.new.lanes) = subst (λ (p : ℕ). PutsPart (g.O.Outlet.lanes c.loop-i.lanes) p [] (g.O.Outlet.lanes c.put.new.lanes)) c.port.ensures c.in_err-put.ensures.failed in
     on_err _ _ (grow_still _ _ _ c.args.table.now (λ _. []) (slice_index c.args.table.now i) (contains_at c.args.table.now i below) c.loop-i.invariant.grow
     (puts_part_grows (slice_index c.args.table.now i) _ _ failed))
 
@@ -20,7 +20,7 @@ pub returns-in_err-put-clause-first : goal.returns-in_err-put-clause-first
 returns-in_err-put-clause-first g c =
     let i = c.loop-i.i in
     let below : i < length c.args.table.now = omega arith in
-    let failed : PutsPart (g.O.Outlet.lanes c.loop-i.lanes) (slice_index c.args.table.now i) [] (g.O.Outlet.lanes c.put.new.self) = subst (λ (p : ℕ). PutsPart (g.O.Outlet.lanes c.loop-i.lanes) p [] (g.O.Outlet.lanes c.put.new.self)) c.port.ensures c.in_err-put.ensures.failed in
+    let failed : PutsPart (g.O.Outlet.lanes c.loop-i.lanes) (slice_index c.args.table.now i) [] (g.O.Outlet.lanes c.put.new.lanes) = subst (λ (p : ℕ). PutsPart (g.O.Outlet.lanes c.loop-i.lanes) p [] (g.O.Outlet.lanes c.put.new.lanes)) c.port.ensures c.in_err-put.ensures.failed in
     let grows = puts_part_grows (slice_index c.args.table.now i) _ _ failed in
     on_err _ _ (makes_first c.args.table.now i _ _ _ below
     (grow_still _ _ _ c.args.table.now (λ _. []) (slice_index c.args.table.now i) (contains_at c.args.table.now i below) c.loop-i.invariant.grow grows)
@@ -30,13 +30,13 @@ pub loop-i-preserved : goal.loop-i-preserved
 loop-i-preserved g c =
     let i = c.loop-i.i in
     let below : i < length c.args.table.now = omega arith in
-    let puts : Puts (g.O.Outlet.lanes c.loop-i.lanes) (slice_index c.args.table.now i) [] (g.O.Outlet.lanes c.put.new.self) = subst (λ (p : ℕ). Puts (g.O.Outlet.lanes c.loop-i.lanes) p [] (g.O.Outlet.lanes c.put.new.self)) c.port.ensures c.in_ok-put.ensures.puts in
+    let puts : Puts (g.O.Outlet.lanes c.loop-i.lanes) (slice_index c.args.table.now i) [] (g.O.Outlet.lanes c.put.new.lanes) = subst (λ (p : ℕ). Puts (g.O.Outlet.lanes c.loop-i.lanes) p [] (g.O.Outlet.lanes c.put.new.lanes)) c.port.ensures c.in_ok-put.ensures.puts in
     record {
       grow = grow_still _ _ _ c.args.table.now (λ _. []) (slice_index c.args.table.now i) (contains_at c.args.table.now i below) c.loop-i.invariant.grow
           (puts_grows (slice_index c.args.table.now i) _ _ puts);
       others = others_more c.args.table.now i _ _ _ below c.loop-i.invariant.others (puts_grows (slice_index c.args.table.now i) _ _ puts);
       made = made_more c.args.table.now _ _ i c.loop-i.invariant.made puts;
-      faults = c.in_ok-put.ensures.no_fault ∙ c.loop-i.invariant.faults;
+      faults = c.in_ok-put.ensures.faults.no_write (λ e. e) ∙ c.loop-i.invariant.faults;
     }
 
 pub returns-clause-there : goal.returns-clause-there

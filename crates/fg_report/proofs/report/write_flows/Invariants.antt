@@ -7,7 +7,7 @@ use Rattle.fg_report.proofs.report.write_flows.Given as goal
 abbrev pub invariant-loop-flow : goal.invariant-loop-flow
 invariant-loop-flow g l = record {
   sent : Sent (g.K.Sink.written l.initial.out)
-      (l.initial.text.items ++ flat_map flow_text (take l.flow-index l.flows))
-      l.text.items (g.K.Sink.written l.out);
+      (l.initial.held ++ flat_map flow_text (take l.flow-index l.flows))
+      l.held (g.K.Sink.written l.out);
   faults : g.K.Sink.faults l.out ≡ g.K.Sink.faults l.initial.out;
 }

@@ -1,6 +1,7 @@
 use Rattle.std.proofs.Common.{refl}
 use Rattle.fg_run.specs.Run.{IsNoTrace}
 use Rattle.fg_run.proofs.Reading.{also, stays}
+use Rattle.fg_run.proofs.Stopping.{fault_of}
 use Rattle.fg_run.proofs.answer.answer.Goals as goal
 
 pub returns-in-Ordered-Inspect-clause-exactly : goal.returns-in-Ordered-Inspect-clause-exactly
@@ -13,7 +14,7 @@ returns-in-Ordered-Encode-clause-exactly g c =
 
 pub returns-in-Ordered-Drill-clause-exactly : goal.returns-in-Ordered-Drill-clause-exactly
 returns-in-Ordered-Drill-clause-exactly g c =
-    rw (c.in-Ordered-Drill.is, c.in-Ordered-Drill.field-0-is) c.drill.ensures.exactly
+    rw (c.in-Ordered-Drill.is, c.in-Ordered-Drill.field-0-is) c.run_drill.ensures.exactly
 
 pub returns-in-Ordered-Repair-clause-exactly : goal.returns-in-Ordered-Repair-clause-exactly
 returns-in-Ordered-Repair-clause-exactly g c =
@@ -29,7 +30,7 @@ returns-in-Ordered-Encode-clause-reads g c =
 
 pub returns-in-Ordered-Drill-clause-reads : goal.returns-in-Ordered-Drill-clause-reads
 returns-in-Ordered-Drill-clause-reads g c =
-    rw (c.in-Ordered-Drill.is, c.in-Ordered-Drill.field-0-is) c.drill.ensures.reads
+    rw (c.in-Ordered-Drill.is, c.in-Ordered-Drill.field-0-is) c.run_drill.ensures.reads
 
 pub returns-in-Ordered-Inspect-clause-reads : goal.returns-in-Ordered-Inspect-clause-reads
 returns-in-Ordered-Inspect-clause-reads g c =
@@ -51,3 +52,7 @@ returns-in-Ordered-Repair-clause-no_input g c =
 pub returns-in-Ordered-Inspect-clause-no_input : goal.returns-in-Ordered-Inspect-clause-no_input
 returns-in-Ordered-Inspect-clause-no_input g c =
     rw (c.in-Ordered-Inspect.is, c.in-Ordered-Inspect.field-0-is) (also _ (IsNoTrace c.in-Ordered-Inspect.max) _ _ refl c.run_inspect.ensures.refused)
+
+pub returns-in-Ordered-Sample-clause-part : goal.returns-in-Ordered-Sample-clause-part
+returns-in-Ordered-Sample-clause-part g c =
+    rw (c.in-Ordered-Sample.is, c.in-Ordered-Sample.field-0-is, c.into.ensures) (λ fault. c.sample.ensures.part (fault_of c.sample.result fault))

@@ -3,9 +3,9 @@ use Rattle.std.proofs.lemmas.List.{get_or_default}
 use Rattle.std.proofs.lemmas.List.Elements.{Contains-get_or}
 use Rattle.std.specs.FinMap.{get}
 use Rattle.fg_shape.specs.Shape.{slots_of}
+use Rattle.fg_peel.proofs.Options.{none_of_copied}
 use Rattle.fg_window.proofs.LinesBounds.{known_before}
-use Rattle.fg_window.proofs.RowLoops.{none_of_copied}
-use Rattle.fg_window.proofs.SlotRange.{length-slots_of}
+use Rattle.fg_shape.proofs.ShapeLemmas.{length-slots_of}
 use Rattle.fg_window.proofs.lines.lost_slot.Goals as goal
 
 pub returns-then-is_none : goal.returns-then-is_none

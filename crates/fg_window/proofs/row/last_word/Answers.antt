@@ -3,8 +3,9 @@ use Rattle.std.proofs.lemmas.List.{get_or_default}
 use Rattle.fg_peel.specs.declared.Slot.{Slot}
 use Rattle.fg_peel.specs.declared.Slot.TheVariants.{Empty}
 use Rattle.fg_peel.specs.Slots.{word_in}
+use Rattle.fg_peel.proofs.Options.{none_of_copied, some_of_copied}
 use Rattle.fg_window.specs.RowEntries.{HasNoWordFrom}
-use Rattle.fg_window.proofs.RowLoops.{no_word_at, last_word_at, none_of_copied, some_of_copied}
+use Rattle.fg_window.proofs.RowLoops.{no_word_at, last_word_at}
 use Rattle.fg_window.proofs.row.last_word.Goals as goal
 
 pub loop-i-preserved : goal.loop-i-preserved

@@ -4,4 +4,4 @@ use Rattle.fg_board.proofs.board.Board.new.Given as goal
 
 -- the calls begin with the window and the depth
 abbrev pub ghosts-new : goal.ghosts-new
-ghosts-new a = record { entries = opening_code a.state.desk.state.window a.state.desk.state.depth ∷ [] }
+ghosts-new a = record { entries = opening_code a.state.desk.state.playout ∷ [] }

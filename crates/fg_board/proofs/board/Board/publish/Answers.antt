@@ -12,8 +12,8 @@ use Rattle.fg_core.specs.declared.key.Key.{Key}
 use Rattle.fg_board.proofs.Bringing.{job_worked}
 use Rattle.fg_board.proofs.board.Board.publish.Goals as goal
 
-pub publish_inside-requires-clause-worked : goal.publish_inside-requires-clause-worked
-publish_inside-requires-clause-worked g c =
+pub bring_inside-requires-clause-worked : goal.bring_inside-requires-clause-worked
+bring_inside-requires-clause-worked g c =
     let job = c.args.job.job in
     let seat = c.pass.inside.seat in (
       job.equation,

@@ -11,8 +11,8 @@ use Rattle.fg_core.specs.declared.key.Key.{Key}
 use Rattle.fg_board.proofs.Bringing.{job_checked}
 use Rattle.fg_board.proofs.board.Board.vouch.Goals as goal
 
-pub vouch_inside-requires-clause-checked : goal.vouch_inside-requires-clause-checked
-vouch_inside-requires-clause-checked g c =
+pub check_inside-requires-clause-checked : goal.check_inside-requires-clause-checked
+check_inside-requires-clause-checked g c =
     let job = c.args.job.job in
     let seat = c.pass.inside.seat in (
       job.equation,

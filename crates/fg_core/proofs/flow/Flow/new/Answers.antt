@@ -8,10 +8,10 @@ use Rattle.fg_core.proofs.flow.Flow.new.Goals as goal
 pub invariant_of-result : goal.invariant_of-result
 invariant_of-result c =
     subst (λ (d : Contents). AreKept d c.in_ok-new-3.field-0) (sym (c.in_ok-new-2.ensures.ok ∙ c.in_ok-new.ensures))
-    (subst (λ (marks : List Mark). AreKept (opened c.args.window c.args.depth) marks) (sym c.in_ok-new-3.ensures)
-    (opened_kept c.args.window c.args.depth))
+    (subst (λ (marks : List Mark). AreKept (opened (record { window = c.args.window; depth = c.args.depth })) marks) (sym c.in_ok-new-3.ensures)
+    (opened_kept (record { window = c.args.window; depth = c.args.depth })))
 
 pub returns : goal.returns
 returns c =
     ap (λ (d : Contents). board_of d c.in_ok-new-3.field-0) (c.in_ok-new-2.ensures.ok ∙ c.in_ok-new.ensures)
-    ∙ opened_is c.args.window c.args.depth c.in_ok-new-3.field-0
+    ∙ opened_is (record { window = c.args.window; depth = c.args.depth }) c.in_ok-new-3.field-0

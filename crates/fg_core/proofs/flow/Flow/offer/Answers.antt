@@ -1,8 +1,8 @@
 use Rattle.std.proofs.Common.{◌≡◌, sym, ap, subst, ◌∙◌, None}
+use Rattle.fg_peel.proofs.Options.{none_of_copied}
 use Rattle.fg_desk.specs.Contents.{Contents, CanFill, IsLiveAt, known_in, filled}
 use Rattle.fg_core.specs.Board.{BoardState, IsHeld, with_word}
 use Rattle.fg_core.specs.Flow.{board_of}
-use Rattle.fg_core.proofs.Calling.{none_of_copied}
 use Rattle.fg_core.proofs.flow.Flow.offer.Goals as goal
 
 pub fill-requires : goal.fill-requires

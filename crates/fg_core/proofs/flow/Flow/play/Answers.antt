@@ -16,5 +16,5 @@ returns-clause-play c =
     let play : Play = play_of c.play.result c.play.new.tray.shown in
     subst (λ (b : BoardState). PlaysOn b play (board_of new f.marks)) c.self.view_is
     (plays_on old new f.marks c.self.invariant play
-    (subst (λ (d : Contents). IsPlay d.state.window d.state play new.state) value c.play.ensures.play)
+    (subst (λ (d : Contents). IsPlay d.state.playout.window d.state play new.state) value c.play.ensures.play)
     (subst (λ (d : Contents). ChangesInPlay c.play.result.verdict d new) value c.play.ensures.changes))

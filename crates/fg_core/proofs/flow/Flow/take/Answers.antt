@@ -30,5 +30,5 @@ returns-clause-taken c =
     (subst (λ (d : Contents). IsReady d key opened.0 → IsJobOf (board_of d []) opened.0 work) desk_is (c.in_ok-work.ensures.job opened.0) ready) in
     subst (λ (k : Key). ((live : Live) × IsOpen now k.serial live × IsJobOf now live work)
     × ((serial : ℕ) (live : Live) → IsOpen now serial live → k.serial ≤ serial)
-    × (c.hand_out.new.self ≡ record now { handed_out = insert now.handed_out k.serial })) (sym c.in_ok-work.ensures.key)
-    ((opened.0, opened.1, job), least, c.hand_out.ensures)
+    × (c.hand.new.self ≡ record now { handed_out = insert now.handed_out k.serial })) (sym c.in_ok-work.ensures.key)
+    ((opened.0, opened.1, job), least, c.hand.ensures)

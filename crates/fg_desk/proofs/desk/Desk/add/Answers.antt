@@ -1,5 +1,6 @@
 use Rattle.std.proofs.Common.{◌≢◌, ◌<◌, ◌^◌, None, IsSome, sym, subst}
 use Rattle.fg_peel.specs.Equation.{Equation}
+use Rattle.fg_peel.proofs.Options.{none_has_no_value}
 use Rattle.fg_desk.specs.declared.reply.Reply.TheVariants.{Admitted}
 use Rattle.fg_desk.specs.Admission.{IsEquationReply}
 use Rattle.fg_desk.specs.Contents.{Contents}
@@ -7,7 +8,6 @@ use Rattle.fg_desk.specs.Inside.{AreSound, state_of}
 use Rattle.fg_window.specs.Lines.{LinesState}
 use Rattle.fg_desk.specs.Parts.{parts_of}
 use Rattle.fg_desk.proofs.DeskAdds.{next_is_fresh, with_line, sound_with_line}
-use Rattle.fg_window.proofs.Options.{none_has_no_value}
 use Rattle.fg_desk.proofs.desk.Desk.add.Goals as goal
 
 pub insert-place-requires-clause-fresh : goal.insert-place-requires-clause-fresh

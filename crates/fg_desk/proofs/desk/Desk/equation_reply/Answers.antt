@@ -15,10 +15,10 @@ module _ (c : After-from) where
   last : c.last.result ≡ c.args.base + (c.args.shape.na - 1) * c.args.shape.offset
   last = last_at c.args.base c.args.shape.offset c.args.shape.na c.last.result c.requires.shape c.last.ensures.slot c.last.ensures.greatest
 
-  limit : c.mark.result + c.from.result + 100 ≡ c.args.self.now.state.mark + c.args.self.now.state.depth + 100
+  limit : c.mark.result + c.from.result + 100 ≡ c.args.self.now.state.mark + c.args.self.now.state.playout.depth + 100
   limit =
       let mark = ap (λ (s : Contents). s.state.mark) c.self.view_is in
-      let depth = ap (λ (s : Contents). s.state.depth) c.self.view_is in
+      let depth = ap (λ (s : Contents). s.state.playout.depth) c.self.view_is in
       omega (arith, mark, depth, c.mark.ensures.value, c.from.ensures)
 
 pub returns-then-last-mark : goal.returns-then-last-mark

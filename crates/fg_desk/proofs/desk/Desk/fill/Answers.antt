@@ -4,34 +4,26 @@ use Rattle.fg_desk.specs.Inside.{AreSound, state_of, contents_of}
 use Rattle.fg_window.specs.Lines.{SettlesAt}
 use Rattle.fg_desk.specs.Parts.{parts_of}
 use Rattle.fg_window.specs.Row.{RowState, publishes}
-use Rattle.fg_desk.proofs.DeskFills.{fills_here, slot_ahead, slot_near, slot_no_media, slot_unsolved, filled_sound, filled_contents}
+use Rattle.fg_desk.proofs.DeskFills.{fills_here, can_put, filled_sound, filled_contents}
 use Rattle.fg_desk.proofs.DeskWays.{with_row}
 use Rattle.fg_desk.proofs.desk.Desk.fill.Goals as goal
 use Rattle.fg_desk.proofs.desk.Desk.fill.Goals.{After-settle_at}
 
 pub publish-requires-clause-ahead : goal.publish-requires-clause-ahead
 publish-requires-clause-ahead c =
-    let parts = parts_of c.self.inside in
-    let a = fills_here (contents_of parts) c.args.self.now c.args.place c.args.slot c.args.share c.self.view_is c.requires in
-    slot_ahead parts c.self.invariant a.0 a.1 a.2 c.args.slot a.4.missing
+    (can_put (parts_of c.self.inside) c.self.invariant c.args.self.now c.args.place c.args.slot c.args.share c.self.view_is c.requires).ahead
 
 pub publish-requires-clause-near : goal.publish-requires-clause-near
 publish-requires-clause-near c =
-    let parts = parts_of c.self.inside in
-    let a = fills_here (contents_of parts) c.args.self.now c.args.place c.args.slot c.args.share c.self.view_is c.requires in
-    slot_near parts c.self.invariant a.0 a.1 a.2 c.args.slot a.4.missing
+    (can_put (parts_of c.self.inside) c.self.invariant c.args.self.now c.args.place c.args.slot c.args.share c.self.view_is c.requires).near
 
 pub publish-requires-clause-none : goal.publish-requires-clause-none
 publish-requires-clause-none c =
-    let parts = parts_of c.self.inside in
-    let a = fills_here (contents_of parts) c.args.self.now c.args.place c.args.slot c.args.share c.self.view_is c.requires in
-    slot_no_media parts c.self.invariant a.0 a.1 a.2 c.args.slot a.4.missing
+    (can_put (parts_of c.self.inside) c.self.invariant c.args.self.now c.args.place c.args.slot c.args.share c.self.view_is c.requires).none
 
 pub publish-requires-clause-unsolved : goal.publish-requires-clause-unsolved
 publish-requires-clause-unsolved c =
-    let parts = parts_of c.self.inside in
-    let a = fills_here (contents_of parts) c.args.self.now c.args.place c.args.slot c.args.share c.self.view_is c.requires in
-    slot_unsolved parts c.self.invariant a.0 a.1 a.2 c.args.slot a.4.missing
+    (can_put (parts_of c.self.inside) c.self.invariant c.args.self.now c.args.place c.args.slot c.args.share c.self.view_is c.requires).unsolved
 
 module _ (c : After-settle_at) where
   -- The live equation that gives the word.

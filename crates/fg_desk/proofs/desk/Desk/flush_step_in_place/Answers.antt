@@ -154,7 +154,7 @@ returns-clause-some c =
     let some = some_played c.self.inside.window c.in-Some.highest c.self.inside.row.mark window more in
     let least = min-le_left c.self.inside.window (c.in-Some.highest + 1 - c.self.inside.row.mark) in (
       omega (arith, is, some),
-      subst (λ (s : Contents). c.min-count.result ≤ s.state.window) c.self.view_is (omega (arith, is, least)),
+      subst (λ (s : Contents). c.min-count.result ≤ s.state.playout.window) c.self.view_is (omega (arith, is, least)),
       subst
           (λ (s : Contents). ChangesInPlay c.close-verdict.result s
           (contents_of (record (played (parts_of c.self.inside) c.close-verdict.result c.close-verdict.new.row c.close-verdict.new.lines) { epoch = c.next_epoch-self-inside.result })))

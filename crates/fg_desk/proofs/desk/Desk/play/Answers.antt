@@ -20,6 +20,6 @@ returns-clause-play c =
     ∙ shown_is_kept c.self.inside.row first count (λ q some. (c.self.invariant.beside q some).0) within
     ∙ ap (λ (s : Contents). kept_from s first count) c.self.view_is in
     subst
-    (λ (xs : List Shown). IsPlay c.args.self.now.state.window c.args.self.now.state
+    (λ (xs : List Shown). IsPlay c.args.self.now.state.playout.window c.args.self.now.state
     (record { first = first; shown = xs; outcome = played.result.verdict }) new.state)
     (sym shown) plays

@@ -1,4 +1,5 @@
 use Rattle.std.proofs.Common.{◌≢◌, ◌<◌, ◌^◌, ℕ, None, IsSome, sym, ap, subst, ◌∙◌}
+use Rattle.fg_peel.proofs.Options.{none_has_no_value}
 use Rattle.fg_desk.specs.Contents.{Contents, ChangesInPlay}
 use Rattle.fg_desk.specs.Facts.{Holds}
 use Rattle.fg_desk.specs.Inside.{AreSound, state_of, contents_of}
@@ -9,7 +10,6 @@ use Rattle.fg_desk.proofs.DeskPlayed.{closed_play, closed_sound, closed_changes,
 use Rattle.fg_desk.proofs.DeskPlays.{played}
 use Rattle.fg_desk.proofs.DeskRecovers.{are_in_row, still_in_row, settled_are_complete}
 use Rattle.fg_desk.proofs.DeskWords.{shown_in, known_are_media}
-use Rattle.fg_window.proofs.Options.{none_has_no_value}
 use Rattle.fg_desk.proofs.PlayKeeps.{play_keeps}
 use Rattle.fg_desk.proofs.desk.Desk.play_in_place.Goals as goal
 use Rattle.fg_desk.proofs.desk.Desk.play_in_place.Goals.{After-close-verdict}
@@ -76,7 +76,7 @@ returns-clause-play c =
     let d = (goal.at.returns-clause-play c).After-close-verdict in
     let new = state_of (played (parts_of c.self.inside) c.close-verdict.result c.close-verdict.new.row c.close-verdict.new.lines) in
     subst
-    (λ (s : Contents). IsPlay s.state.window s.state
+    (λ (s : Contents). IsPlay s.state.playout.window s.state
     (record { first = c.mark-first.result; shown = shown_in c.close-verdict.new.row c.mark-first.result c.self.inside.window; outcome = c.close-verdict.result }) new)
     c.self.view_is
     (subst

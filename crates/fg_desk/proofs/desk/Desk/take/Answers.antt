@@ -44,14 +44,14 @@ module _ (c : After-raised_epoch-self-inside) where
   sound : AreSound after
   sound =
       let near : c.args.position < c.self.inside.row.mark + c.self.inside.depth =
-      subst (λ (s : Contents). c.args.position < s.state.mark + s.state.depth) (sym c.self.view_is) c.requires.near in
+      subst (λ (s : Contents). c.args.position < s.state.mark + s.state.playout.depth) (sym c.self.view_is) c.requires.near in
       let calls : c.self.inside.calls < 2 ^ 62 =
       subst (λ (s : Contents). s.state.calls < 2 ^ 62) (sym c.self.view_is) c.requires.calls in
       takes_sound (parts_of c.self.inside) c.self.invariant c.args.position c.args.seq c.args.share ahead none near
       c.requires.media c.requires.limit calls c.peelings_stay.ensures.words c.receive-withdrawn.result
       c.receive-withdrawn.ensures.0 c.receive-withdrawn.new.lines c.raised_epoch-self-inside.result
       (subst (λ (epoch : ℕ). epoch ≤ c.self.inside.calls + 1) (sym c.raised_epoch-self-inside.ensures)
-      (raised_within c.self.inside.epoch c.self.inside.calls c.receive-withdrawn.result c.self.invariant.epoch_limit))
+      (raised_within c.self.inside.epoch c.self.inside.calls c.receive-withdrawn.result c.self.invariant.limits.epoch_limit))
       c.receive-withdrawn.ensures.1
 
   state : state_of after ≡ with_media c.args.self.now.state c.args.seq c.args.position c.args.share

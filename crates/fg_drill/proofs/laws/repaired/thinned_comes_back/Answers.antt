@@ -7,11 +7,11 @@ returns c =
     let records = c.sent_records_are_true.ensures in
     let few = c.few_arrive.ensures in
     record {
-      consistent = λ window depth settings payloads lost result can is.
-          nothing_inconsistent window depth settings payloads lost can media records few result is c.true_runs_are_repaired.ensures.repaired;
-      shown = λ window depth settings payloads lost result can is.
-          what_is_shown window depth settings payloads lost can media records few result is c.true_runs_are_repaired.ensures.truth;
-      whole = λ window depth settings payloads lost result can is.
-          all_comes_back window depth settings payloads lost can media records few result is
+      consistent = λ playout settings payloads lost result can is.
+          nothing_inconsistent playout settings payloads lost can media records few result is c.true_runs_are_repaired.ensures.repaired;
+      shown = λ playout settings payloads lost result can is.
+          what_is_shown playout settings payloads lost can media records few result is c.true_runs_are_repaired.ensures.truth;
+      whole = λ playout settings payloads lost result can is.
+          all_comes_back playout settings payloads lost can media records few result is
           c.true_runs_are_repaired.ensures.truth c.peeled_slots_are_shown.ensures c.records_arrive_one_way.ensures;
     }

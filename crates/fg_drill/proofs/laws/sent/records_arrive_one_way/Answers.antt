@@ -1,4 +1,4 @@
-use Rattle.fg_repair.specs.Flow.{records_of}
+use Rattle.fg_results.specs.Flow.{records_of}
 use Rattle.fg_drill.proofs.OneWay.{same_arrivals}
 use Rattle.fg_drill.proofs.laws.sent.records_arrive_one_way.Goals as goal
 

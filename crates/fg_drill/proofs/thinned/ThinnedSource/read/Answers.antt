@@ -6,8 +6,8 @@ use Rattle.fg_drill.specs.ThinnedSource.{ThinnedState, trace_left}
 use Rattle.fg_drill.proofs.TakenLemmas.{after_give, at_end, gives_front, left_of, same_left}
 use Rattle.fg_drill.proofs.thinned.ThinnedSource.read.Goals as goal
 
-pub invariant_of-self-2 : goal.invariant_of-self-2
-invariant_of-self-2 g c =
+pub invariant_of-self : goal.invariant_of-self
+invariant_of-self g c =
     let taking = c.fill.new.taking in
     let rest = g.S.Source.left c.fill.new.from in (
       subst (λ (s : SenderState). IsUnderWay taking.reader s taking.history.payloads taking.told taking.fault rest) (sym c.give.ensures.left)
@@ -15,8 +15,8 @@ invariant_of-self-2 g c =
       c.fill.ensures.keeps.read_out,
     )
 
-pub returns-clause-gives : goal.returns-clause-gives
-returns-clause-gives g c =
+pub returns-in-Ok-clause-gives : goal.returns-in-Ok-clause-gives
+returns-in-Ok-clause-gives g c =
     let was = c.self.inside.taking in
     let taking = c.fill.new.taking in
     let before = g.S.Source.left c.self.inside.inner in
@@ -33,13 +33,13 @@ returns-clause-gives g c =
     ∙ ap (λ (t : List ℕ). prepend_known t (left_of taking.reader (record taking.sender { held = drop count taking.sender.held }) taking.history.payloads rest)) (sym c.give.ensures.bytes)
     ∙ ap (λ (s : SenderState). prepend_known piece (left_of taking.reader s taking.history.payloads rest)) (sym c.give.ensures.left)
 
-pub returns-clause-end : goal.returns-clause-end
-returns-clause-end g c = λ zero room.
+pub returns-in-Ok-clause-end : goal.returns-in-Ok-clause-end
+returns-in-Ok-clause-end g c = λ zero room.
     let taking = c.fill.new.taking in
     let rest = g.S.Source.left c.fill.new.from in
     let told : taking.told ≡ true = ⊎_elim (λ (is : taking.told ≡ true). is)
     (λ (some : 0 < length taking.sender.held). absurd (omega (arith, zero, room, some, c.give.ensures.count, c.give.auto.into)))
-    c.in_ok-fill.ensures.filled in
+    c.in-Ok.ensures.filled in
     subst (λ (s : SenderState). IsAtEnd (left_of taking.reader s taking.history.payloads rest)) (sym c.give.ensures.left)
     (at_end taking.reader (record taking.sender { held = drop c.give.result taking.sender.held }) taking.history.payloads taking.told taking.fault rest c.payloads_are_the_cut.ensures.cut
     (after_give taking.reader taking.sender taking.history.payloads taking.told taking.fault rest c.give.result c.fill.ensures.keeps.way) told)

@@ -1,8 +1,9 @@
 use Rattle.std.proofs.Common.{◌≡◌, length, None, sym, ◌∙◌, ap, not, arith}
 use Rattle.fg_peel.specs.Slots.{equation_of, words_from}
 use Rattle.fg_peel.proofs.Entries.{fits_base, fits_slot}
-use Rattle.fg_peel.proofs.Misses.{misses_several_found, misses_one, misses_nothing, none_of_copied}
+use Rattle.fg_peel.proofs.Misses.{misses_several_found, misses_one, misses_nothing}
 use Rattle.fg_peel.proofs.row.Row.missing.Goals as goal
+use Rattle.fg_peel.proofs.Options.{none_of_copied}
 
 pub slot-position-requires-clause-base : goal.slot-position-requires-clause-base
 slot-position-requires-clause-base c = fits_base c.args.self.now.start (length c.args.self.now.slots.now) c.args.line.now c.requires c.args.self.now.limit

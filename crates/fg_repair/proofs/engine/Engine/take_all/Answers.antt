@@ -3,7 +3,7 @@ use Rattle.fg_io.specs.Outlet.{Lanes}
 use Rattle.fg_repair.specs.Engine.{HasWalked, LanesPart}
 use Rattle.fg_repair.proofs.Results.{on_err, same_cause}
 use Rattle.fg_repair.proofs.Walking.{same_part}
-use Rattle.fg_repair.specs.declared.fault.Fault.TheVariants.{Read}
+use Rattle.fg_io.specs.declared.fault.Fault.TheVariants.{Read}
 use Rattle.fg_repair.proofs.engine.Engine.take_all.Goals as goal
 
 pub returns-in_err-tail-clause-part : goal.returns-in_err-tail-clause-part

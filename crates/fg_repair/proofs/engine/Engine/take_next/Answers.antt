@@ -6,7 +6,7 @@ use Rattle.fg_io.specs.Outlet.{Lanes}
 use Rattle.fg_repair.specs.Engine.{HasWalked, LanesPart}
 use Rattle.fg_repair.proofs.Results.{on_err, same_cause}
 use Rattle.fg_repair.proofs.Walking.{running, part_at_record, part_at_fault, took_all}
-use Rattle.fg_repair.specs.declared.fault.Fault.TheVariants.{Read}
+use Rattle.fg_io.specs.declared.fault.Fault.TheVariants.{Read}
 use Rattle.fg_repair.proofs.engine.Engine.take_next.Goals as goal
 
 pub take-requires-clause-running : goal.take-requires-clause-running
@@ -17,7 +17,7 @@ take-requires-clause-running g c =
 
 pub returns-in_err-take-in-Ok-Datagram-clause-part : goal.returns-in_err-take-in-Ok-Datagram-clause-part
 returns-in_err-take-in-Ok-Datagram-clause-part g c =
-    let part : (first : Option (List ℕ)) (before : Option Lanes) → HasWalked c.args.plan.now first (g.S.Source.left c.args.input.now) c.args.reader.now c.args.self.now before (g.O.Outlet.lanes c.args.lanes.now) → LanesPart c.args.plan.now (c.from_residual.result ≡ Err Read) first before (g.O.Outlet.lanes c.take.new.lanes) = λ first before h. part_at_record c.walks_the_front.ensures c.args.plan.now (c.from_residual.result ≡ Err Read) (λ read. c.in_err-take-in-Ok-Datagram.ensures.not_read (ap Err (same_cause c.from_residual.result c.in_err-take-in-Ok-Datagram.field-0.0 Read c.from_residual.ensures.1 read))) first _ _ c.args.reader.now c.next.new.self c.args.self.now before _ _ c.next.result c.in-Ok-Datagram.field-0-0 c.in-Ok-Datagram.port c.in-Ok-Datagram.field-0-2 c.payload.result.now
+    let part : (first : Option (List ℕ)) (before : Option Lanes) → HasWalked c.args.plan.now first (g.S.Source.left c.args.input.now) c.args.reader.now c.args.self.now before (g.O.Outlet.lanes c.args.lanes.now) → LanesPart c.args.plan.now (c.from_residual.result ≡ Err Read) first before (g.O.Outlet.lanes c.take.new.lanes) = λ first before h. part_at_record c.walks_the_front.ensures c.args.plan.now (c.from_residual.result ≡ Err Read) (λ read. c.in_err-take-in-Ok-Datagram.ensures.faults.read ((same_cause c.from_residual.result c.in_err-take-in-Ok-Datagram.field-0.0 Read c.from_residual.ensures.1 read))) first _ _ c.args.reader.now c.next.new.self c.args.self.now before _ _ c.next.result c.in-Ok-Datagram.field-0-0 c.in-Ok-Datagram.port c.in-Ok-Datagram.field-0-2 c.payload.result.now
     (c.next.ensures.max ∙ c.requires.max) (c.in-Ok-Datagram.is ∙ ap Ok c.in-Ok-Datagram.field-0-is) c.payload.ensures (c.next.ensures.walks first) (c.in_err-take-in-Ok-Datagram.ensures.breaks before) h in
     on_err _ _ part
 
@@ -38,5 +38,5 @@ returns-in-Err-TooLong-clause-ends g c = λ first before h.
 
 pub returns-in-Err-ReadFault-clause-part : goal.returns-in-Err-ReadFault-clause-part
 returns-in-Err-ReadFault-clause-part g c = λ first before h.
-    part_at_fault c.walks_the_front.ensures c.taken_is_front.ensures c.args.plan.now _ first _ _ c.args.reader.now c.next.new.self c.args.self.now before _ c.in-Err-ReadFault.field-0
+    part_at_fault c.walks_the_front.ensures c.shown_is_front.ensures c.args.plan.now _ first _ _ c.args.reader.now c.next.new.self c.args.self.now before _ c.in-Err-ReadFault.field-0
     (c.next.ensures.max ∙ c.requires.max) (c.in-Err-ReadFault.ensures.walks first) h

@@ -4,7 +4,7 @@ use Rattle.fg_trace.specs.Reader.{StandsAfter}
 use Rattle.fg_repair.specs.Engine.{LanesPart}
 use Rattle.fg_repair.proofs.Results.{on_err, same_cause}
 use Rattle.fg_repair.proofs.Walking.{same_part}
-use Rattle.fg_repair.specs.declared.fault.Fault.TheVariants.{Read}
+use Rattle.fg_io.specs.declared.fault.Fault.TheVariants.{Read}
 use Rattle.fg_repair.proofs.Writing.{nothing_part, begun, ready, took_flushing, flush_part, all_whole}
 use Rattle.fg_repair.proofs.engine.Engine.write_lanes.Goals as goal
 
@@ -34,7 +34,7 @@ returns-in_err-flush-clause-part g c =
     let part : (first : Option (List ℕ)) → StandsAfter c.args.reader.now first (g.S.Source.left c.args.input.now) [] → LanesPart c.args.plan.now (c.from_residual-in_err-flush.result ≡ Err Read) first before (g.O.Outlet.lanes c.flush.new.lanes) = λ first h.
     let took = c.in_ok-tail.ensures.whole first before (begun c.args.plan.now first _ c.args.reader.now c.args.self.now before _ c.requires.new c.in_ok-make_lanes.ensures.made c.in_ok-make_lanes.ensures.there h) in
     let flushing = took_flushing c.args.plan.now first c.take_all.new.self c.in_ok-tail.tail before _ c.deref_mut.result.now c.deref_mut.ensures.value took in
-    flush_part c.one_trace.ensures c.args.plan.now _ (λ read. c.in_err-flush.ensures.not_read (ap Err (same_cause c.from_residual-in_err-flush.result c.in_err-flush.field-0.0 Read c.from_residual-in_err-flush.ensures.1 read))) first c.take_all.new.self c.in_ok-tail.tail before _ _ took
+    flush_part c.one_trace.ensures c.args.plan.now _ (λ read. c.in_err-flush.ensures.faults.read ((same_cause c.from_residual-in_err-flush.result c.in_err-flush.field-0.0 Read c.from_residual-in_err-flush.ensures.1 read))) first c.take_all.new.self c.in_ok-tail.tail before _ _ took
     (c.in_err-flush.ensures.breaks c.args.plan.now took.records before c.requires.fits flushing) in
     on_err _ _ part
 

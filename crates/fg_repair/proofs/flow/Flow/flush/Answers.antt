@@ -6,22 +6,22 @@ use Rattle.fg_repair.proofs.flow.Flow.flush.Goals as goal
 pub play_rest-requires-clause-within : goal.play_rest-requires-clause-within
 play_rest-requires-clause-within g c =
     let state = c.args.self.now.desk.state in
-    flushes_within c.runs_stay_within.ensures.flushing state.window state.depth c.args.self.now.sum.port state c.args.self.now.sum c.requires.underway
+    flushes_within c.runs_stay_within.ensures.flushing state.playout c.args.self.now.sum.port state c.args.self.now.sum c.requires.underway
 
 pub play_rest-requires-clause-counts : goal.play_rest-requires-clause-counts
 play_rest-requires-clause-counts g c =
     let state = c.args.self.now.desk.state in
-    counts_within c.plays_reach_the_mark.ensures.taken state.window state.depth c.args.self.now.sum.port state c.args.self.now.sum c.requires.underway
+    counts_within c.plays_reach_the_mark.ensures.taken state.playout c.args.self.now.sum.port state c.args.self.now.sum c.requires.underway
 
 pub returns-clause-ends : goal.returns-clause-ends
 returns-clause-ends g c =
     let old = c.args.self.now in
-    on_ok_weaker _ (flow_ends c.plays_reach_the_mark.ensures.taken old.desk.state.window old.desk.state.depth old.desk.state old.sum c.play_rest.new.self.sum
-    (g.O.Outlet.lanes c.args.lanes.now) (g.O.Outlet.lanes c.play_rest.new.lanes) c.requires.underway.window_fits.0) c.play_rest.ensures.plays
+    on_ok_weaker _ (flow_ends c.plays_reach_the_mark.ensures.taken old.desk.state.playout old.desk.state old.sum c.play_rest.new.self.sum
+    (g.O.Outlet.lanes c.args.lanes.now) (g.O.Outlet.lanes c.play_rest.new.lanes) c.requires.underway.fits.window.0) c.play_rest.ensures.plays
 
 pub returns-clause-breaks : goal.returns-clause-breaks
 returns-clause-breaks g c =
     let old = c.args.self.now in
     on_err_weaker _ (flow_breaks c.media_datagrams_read_one_way.ensures.one_way c.parity_datagrams_read_one_way.ensures c.flush_steps_come_next.ensures
-    old.desk.state.window old.desk.state.depth old.sum.port old.desk.state old.sum
+    old.desk.state.playout old.sum.port old.desk.state old.sum
     (g.O.Outlet.lanes c.args.lanes.now) (g.O.Outlet.lanes c.play_rest.new.lanes)) c.play_rest.ensures.breaks

@@ -18,15 +18,14 @@ loop-self-preserved g c =
     let holds = (c.requires.within c.args.seq now.invariant.so.plays now.self.desk.state now.invariant.so.are).0 in
     record {
       so = one_more_shown (HavePlayed old.desk.state c.args.seq) old.desk.state old.sum (g.O.Outlet.lanes c.args.lanes.now)
-          now.self.desk.state.window now.self.desk.state c.play_in_place-played.new.self.state now.self.sum c.put_play.new.sum
+          now.self.desk.state.playout.window now.self.desk.state c.play_in_place-played.new.self.state now.self.sum c.put_play.new.sum
           (g.O.Outlet.lanes now.lanes) (g.O.Outlet.lanes c.put_play.new.lanes) play
           now.invariant.so join c.play_in_place-played.ensures.play now.invariant.port c.in_ok-put_play.ensures.counts c.in_ok-put_play.ensures.puts;
-      counts = within_one_more now.self.desk.state.window now.self.desk.state c.play_in_place-played.new.self.state now.self.sum c.put_play.new.sum play
+      counts = within_one_more now.self.desk.state.playout.window now.self.desk.state c.play_in_place-played.new.self.state now.self.sum c.put_play.new.sum play
           now.invariant.counts c.play_in_place-played.ensures.play holds.window.0 c.in_ok-put_play.ensures.counts;
       port = c.in_ok-put_play.ensures.port ∙ now.invariant.port;
-      window = ap (λ (s : State). s.window) c.play_in_place-played.ensures.play.rest ∙ now.invariant.window;
-      depth = ap (λ (s : State). s.depth) c.play_in_place-played.ensures.play.rest ∙ now.invariant.depth;
-      faults = c.in_ok-put_play.ensures.no_fault ∙ now.invariant.faults;
+      playout = ap (λ (s : State). s.playout) c.play_in_place-played.ensures.play.rest ∙ now.invariant.playout;
+      faults = c.in_ok-put_play.ensures.faults.no_write (λ e. e) ∙ now.invariant.faults;
     }
 
 pub returns-in_err-put_play-clause-breaks : goal.returns-in_err-put_play-clause-breaks

@@ -15,7 +15,7 @@ loop-played-preserved g c =
     let step = c.in-Some.ensures.flushes in
     let join = step_after old.desk.state now.self.desk.state c.flush_step_in_place.new.self.state play c.flushes_end.ensures.joined step in
     let holds = (c.requires.within now.invariant.so.plays now.self.desk.state now.invariant.so.are).0 in
-    let count = min now.self.desk.state.window (step.highest + 1 - now.self.desk.state.mark) in
+    let count = min now.self.desk.state.playout.window (step.highest + 1 - now.self.desk.state.mark) in
     record {
       so = one_more_shown (AreFlushSteps old.desk.state) old.desk.state old.sum (g.O.Outlet.lanes c.args.lanes.now)
           count now.self.desk.state c.flush_step_in_place.new.self.state now.self.sum c.put_play.new.sum
@@ -25,8 +25,8 @@ loop-played-preserved g c =
           now.invariant.counts step.plays (step_shows now.self.desk.state c.flush_step_in_place.new.self.state play step holds.window.0)
           c.in_ok-put_play.ensures.counts;
       port = c.in_ok-put_play.ensures.port ∙ now.invariant.port;
-      window = ap (λ (s : State). s.window) step.plays.rest ∙ now.invariant.window;
-      faults = c.in_ok-put_play.ensures.no_fault ∙ now.invariant.faults;
+      playout = ap (λ (s : State). s.playout) step.plays.rest ∙ now.invariant.playout;
+      faults = c.in_ok-put_play.ensures.faults.no_write (λ e. e) ∙ now.invariant.faults;
     }
 
 pub returns-in_err-put_play-clause-breaks : goal.returns-in_err-put_play-clause-breaks

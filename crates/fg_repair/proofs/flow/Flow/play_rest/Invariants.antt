@@ -9,7 +9,7 @@ invariant-loop-played g l = record {
       l.self.desk.state l.self.sum (g.O.Outlet.lanes l.lanes);
   counts : CountsWithin l.self.sum l.self.desk.state.mark;
   port : l.self.sum.port ≡ l.fn.self.sum.port;
-  window : l.self.desk.state.window ≡ l.fn.self.desk.state.window;
+  playout : l.self.desk.state.playout ≡ l.fn.self.desk.state.playout;
   faults : g.O.Outlet.faults l.lanes ≡ g.O.Outlet.faults l.fn.lanes;
 }
 

@@ -8,33 +8,33 @@ use Rattle.fg_repair.proofs.flow.Flow.take.Goals as goal
 pub admit-requires-clause-within : goal.admit-requires-clause-within
 admit-requires-clause-within g c =
     let state = c.args.self.now.desk.state in
-    stays_within c.runs_stay_within.ensures.taking state.window state.depth c.args.self.now.sum.port state c.args.self.now.sum c.requires.underway
+    stays_within c.runs_stay_within.ensures.taking state.playout c.args.self.now.sum.port state c.args.self.now.sum c.requires.underway
 
 pub admit-requires-clause-counts : goal.admit-requires-clause-counts
 admit-requires-clause-counts g c =
     let state = c.args.self.now.desk.state in
-    counts_within c.plays_reach_the_mark.ensures.taken state.window state.depth c.args.self.now.sum.port state c.args.self.now.sum c.requires.underway
+    counts_within c.plays_reach_the_mark.ensures.taken state.playout c.args.self.now.sum.port state c.args.self.now.sum c.requires.underway
 
 pub count_answer-requires : goal.count_answer-requires
 count_answer-requires g c =
     let state = c.args.self.now.desk.state in
     subst RepliesHaveRoom (sym c.in_ok-reply.ensures.admits.counts)
-    (replies_have_room c.counts_stay_within.ensures state.window state.depth c.args.self.now.sum.port state c.args.self.now.sum c.requires.underway)
+    (replies_have_room c.counts_stay_within.ensures state.playout c.args.self.now.sum.port state c.args.self.now.sum c.requires.underway)
 
 pub returns-in_err-reply-clause-breaks : goal.returns-in_err-reply-clause-breaks
 returns-in_err-reply-clause-breaks g c =
     let old = c.args.self.now in
     on_err _ (record_breaks c.media_datagrams_read_one_way.ensures.one_way c.parity_datagrams_read_one_way.ensures
     c.due_plays_come_next.ensures c.taken_plays_come_first.ensures c.runs_only_add.ensures.later c.one_taking.ensures c.one_outcome.ensures.play
-    old.desk.state.window old.desk.state.depth old.sum.port c.args.kind c.args.datagram.now old.desk.state old.sum
+    old.desk.state.playout old.sum.port c.args.kind c.args.datagram.now old.desk.state old.sum
     (g.O.Outlet.lanes c.args.lanes.now) (g.O.Outlet.lanes c.admit.new.lanes)
-    (stays_within c.runs_stay_within.ensures.taking old.desk.state.window old.desk.state.depth old.sum.port old.desk.state old.sum c.requires.underway) c.in_err-reply.ensures.breaks)
+    (stays_within c.runs_stay_within.ensures.taking old.desk.state.playout old.sum.port old.desk.state old.sum c.requires.underway) c.in_err-reply.ensures.breaks)
 
 pub returns-clause-takes : goal.returns-clause-takes
 returns-clause-takes g c =
     let old = c.args.self.now in
     record_taken c.plays_reach_the_mark.ensures.taken c.runs_join.ensures.takings c.counts_add.ensures c.each_gets_a_reply.ensures
-    old.desk.state.window old.desk.state.depth c.args.kind c.args.datagram.now old.desk.state c.admit.new.self.desk.state
+    old.desk.state.playout c.args.kind c.args.datagram.now old.desk.state c.admit.new.self.desk.state
     old.sum c.admit.new.self.sum c.count_answer.new.sum c.in_ok-reply.reply
-    (g.O.Outlet.lanes c.args.lanes.now) (g.O.Outlet.lanes c.admit.new.lanes) c.requires.underway.window_fits.0
+    (g.O.Outlet.lanes c.args.lanes.now) (g.O.Outlet.lanes c.admit.new.lanes) c.requires.underway.fits.window.0
     c.in_ok-reply.ensures.admits c.count_answer.ensures

@@ -1,16 +1,35 @@
-use Rattle.std.proofs.Common.{◌≡◌, None, arith}
-use Rattle.fg_trace.specs.Walk.{HoldsRecord, HoldsNone}
-use Rattle.fg_trace.proofs.Walking.{after_taking, walks_record}
+-- A record is answered where it lies, and an ending is kept.
+use Rattle.std.proofs.Common.{◌+◌, Some, refl, sym, subst}
+use Rattle.fg_trace.specs.declared.step.Step.TheVariants.{Datagram}
+use Rattle.fg_trace.specs.Reader.{ReaderState, Walks}
+use Rattle.fg_trace.specs.Walk.{reader_of, reader_at}
 use Rattle.fg_trace.proofs.Stopping.{walks_ending}
+use Rattle.fg_trace.proofs.Viewing.{none_answered, taking, answering, payload_length}
+use Rattle.fg_trace.proofs.Walking.{after_taking, walks_record}
 use Rattle.fg_trace.proofs.reader.Reader.next.Goals as goal
 
-pub returns-in-Some-2-clause-walks : goal.returns-in-Some-2-clause-walks
-returns-in-Some-2-clause-walks g c =
-    let unkept : c.look.new.self.kept ≡ None = grind arith in
-    let holds : HoldsRecord c.look.new.self c.in-Some-2.header.time c.in-Some-2.header.port c.in-Some-2.header.size = rw c.in-Some-2.is at c.in_ok-header.ensures.found in
-    λ first records h. walks_record c.look.new.self c.take_record.new.self first _ records _ _ _ c.take_record.result (after_taking c.args.self.now c.look.new.self first _ _ records h c.in_ok-header.ensures.takes) unkept holds c.take_record.ensures.step c.take_record.ensures.taken
+pub returns-in-Next-clause-walks : goal.returns-in-Next-clause-walks
+returns-in-Next-clause-walks g c =
+    let inside = c.self.inside in
+    let input = c.look.new.input in
+    let found = rw c.in-Next.is at c.in_ok-header.ensures.finds in
+    let takes = taking c.args.self.now inside.input c.step.new.self input inside.answered inside.started inside.kept _ _ c.self.view_is c.step.ensures c.in_ok-header.ensures.takes c.in_ok-header.ensures.same in
+    λ first records h. walks_record (reader_at input inside.started inside.kept) (reader_of input (12 + c.from.result) inside.started inside.kept) first _ records
+    c.in-Next.header.time c.in-Next.header.port c.in-Next.header.size (Datagram c.in-Next.header.time c.in-Next.header.port c.in-Next.header.size)
+    (after_taking c.args.self.now (reader_at input inside.started inside.kept) first _ _ records h takes) c.in_default.is found.0 refl (answering input c.in-Next.header.size c.from.result inside.started inside.kept c.from.ensures)
 
-pub returns-in-None-clause-walks : goal.returns-in-None-clause-walks
-returns-in-None-clause-walks g c =
-    let holds : HoldsNone c.look.new.self (g.S.Source.left c.look.new.from) = rw c.in-None.is at c.in_ok-header.ensures.none in
-    λ first records h. walks_ending c.look.new.self c.end.new.self first _ records c.end.result (after_taking c.args.self.now c.look.new.self first _ _ records h c.in_ok-header.ensures.takes) holds c.end.ensures.answer c.end.ensures.kept
+pub returns-in-Next-clause-payload : goal.returns-in-Next-clause-payload
+returns-in-Next-clause-payload g c =
+    let found = rw c.in-Next.is at c.in_ok-header.ensures.finds in
+    payload_length c.look.new.input.held c.in-Next.header.size c.from.result c.from.ensures found.0.whole
+
+pub returns-in-Ends-clause-walks : goal.returns-in-Ends-clause-walks
+returns-in-Ends-clause-walks g c =
+    let inside = c.self.inside in
+    let input = c.look.new.input in
+    let found = rw c.in-Ends.is at c.in_ok-header.ensures.finds in
+    let takes = taking c.args.self.now inside.input c.step.new.self input inside.answered inside.started inside.kept _ _ c.self.view_is c.step.ensures c.in_ok-header.ensures.takes c.in_ok-header.ensures.same in
+    λ first records h. subst (λ (t : ReaderState). Walks c.in-Ends.answer t first (g.S.Source.left c.look.new.from) records)
+    (sym (none_answered input 0 inside.started (Some c.in-Ends.answer) refl))
+    (walks_ending (reader_at input inside.started inside.kept) (reader_at input inside.started (Some c.in-Ends.answer)) first _ records c.in-Ends.answer
+    (after_taking c.args.self.now (reader_at input inside.started inside.kept) first _ _ records h takes) found.0 found.1 refl)

@@ -1,10 +1,10 @@
 use Rattle.std.proofs.Common.{◌≡◌, ◌<◌, ℕ, length, Contains, None, true, false, refl, sym, ◌∙◌, ap, not, subst, arith}
 use Rattle.std.proofs.lemmas.List.Elements.{Contains-get_or}
 use Rattle.fg_shape.specs.Shape.{slots_of}
+use Rattle.fg_peel.proofs.Options.{none_has_no_value, none_of_copied}
 use Rattle.fg_window.specs.Row.{row_words}
-use Rattle.fg_window.proofs.RowViews.{none_not_some}
-use Rattle.fg_window.proofs.RowLoops.{none_of_copied, all_have_words}
-use Rattle.fg_window.proofs.SlotRange.{length-slots_of}
+use Rattle.fg_window.proofs.RowLoops.{all_have_words}
+use Rattle.fg_shape.proofs.ShapeLemmas.{length-slots_of}
 use Rattle.fg_window.proofs.row.Row.is_complete.Goals as goal
 
 pub returns-then-is_none : goal.returns-then-is_none
@@ -16,7 +16,7 @@ returns-then-is_none c =
     none_of_copied _ c.any_word.result c.any_word.ensures (c.is_none.ensures ∙ ap not c.if-is_none.true) in
     let member : Contains xs c.slot.result =
     subst (λ (q : ℕ). Contains xs q) (sym c.slot.ensures) (Contains-get_or xs c.loop-j.j 0 within) in
-    (λ no. let e : false ≡ true = no in absurd (cc), λ all. absurd (none_not_some _ none (all c.slot.result member)))
+    (λ no. let e : false ≡ true = no in absurd (cc), λ all. absurd (none_has_no_value _ none (all c.slot.result member)))
 
 pub returns : goal.returns
 returns c =

@@ -1,0 +1,154 @@
+//! The drill of a stream.
+ghost use Rattle.std.specs.Prelude.{◌≡◌, ◌⊎◌, ◌≤◌, ◌^◌, ◌∷◌, [], ℕ, Ok, List, IfSome};
+ghost use Rattle.std.specs.Io.KnownBytes.{IsAtEnd};
+ghost use Rattle.fg_io.specs.Faults.{CountsFaults};
+ghost use Rattle.fg_shape.specs.Settings.{CanEncode};
+ghost use Rattle.fg_shape.specs.Losses.{MayLose};
+ghost use Rattle.fg_encode.specs.Reading.{IsStreamReadFor};
+ghost use Rattle.fg_encode.specs.Stream.{LeavesNothing, StreamEnding as AnyEnding, IsCut};
+ghost use Rattle.fg_flows.specs.Plan.{PlanFits};
+ghost use Rattle.fg_results.specs.Repair.{OutputsPart};
+ghost use Rattle.fg_drill.specs.Drill.{Drills, DrillsPart, IsFault, StopsLanes, StreamComesBack, answer_to, ending_of, records_sent};
+ghost use Rattle.fg_drill.specs.DrillSteps.{DrillsTrace, IsEndingsAnswer, StopsTrace, TellsAll, TellsEnding};
+ghost use Rattle.fg_drill.specs.ThinnedSource.{fixed_of, trace_left};
+
+use crate::laws::drills::{drills_come_back, repairs_are_drills};
+use crate::laws::payloads::{payloads_are_the_cut, thinned_traces_are_traces};
+use crate::thinned::{StreamFault, Thinned, Thinning};
+use fg_flows::Plan;
+use fg_io::laws::parts_of_writes;
+use fg_io::{Failed, Outlet, Sink, Source};
+use fg_results::Repair;
+use fg_results::laws::one_result;
+use fg_shape::{Losses, Settings};
+use fg_trace::Finish;
+use fg_trace::laws::one_trace;
+use std::alloc::Global;
+
+/// Encodes the stream in the input, which may have at most `max` bytes, 8 to 2^40, leaves out the records that are lost, and has
+/// the rest repaired.
+///
+/// The lanes and `out` gain what a repair gives for the rest. A `StreamFault` tells how the stream ends early; what comes before is
+/// sent and repaired all the same. After a fault the lanes have gained prefixes, and the report is begun only once all lanes are
+/// whole.
+pub fn drill<R: Repair, S: Source + Send, K: Sink + Send, O: Outlet + Send>(
+    by: &R,
+    alloc: Global,
+    settings: Settings,
+    plan: &Plan,
+    losses: Losses,
+    max: u64,
+    input: &mut S,
+    out: &mut K,
+    lanes: &mut O,
+) -> Result<Finish, StreamFault>
+    requires settings { CanEncode settings }
+    requires plan { PlanFits plan.now }
+    requires flow { plan.now.table ≡ settings.port ∷ [] }
+    requires inner { plan.now.max ≡ 2 ^ 42 }
+    requires losses { MayLose losses }
+    requires max { (8 ≤ max) × (max ≤ 2 ^ 40) }
+
+    // Every answer but a fault's or want of memory's is that of the stream's ending, and then the outputs are whole.
+    ensures whole { IsFault result ⊎ Drills settings plan.now losses max result (S.left input.old)
+        (O.lanes lanes.old) (O.lanes lanes.new) (K.written out.old) (K.written out.new) }
+    ensures exactly { IfSome (S.left input.old) (λ bytes. (payloads : List (List ℕ)) (ending : AnyEnding)
+        → IsCut settings.packets max bytes payloads ending → IsFault result ⊎ (result ≡ answer_to ending)) }
+    ensures all_read { IfSome (ending_of result) (λ ending. LeavesNothing ending → IsAtEnd (S.left input.new)) }
+
+    // The input is read as far as the answer needs, and at most a byte past the limit.
+    ensures reads { IfSome (S.left input.old) (λ bytes.
+        IsStreamReadFor max (ending_of result) bytes (S.left input.new)) }
+
+    // After a fault or want of memory they are parts, and the lanes stand at a stage of the repair.
+    ensures part { IsFault result → DrillsPart settings plan.now losses max (S.left input.old)
+        (O.lanes lanes.old) (O.lanes lanes.new) K.written out.old out.new }
+    ensures stops { IsFault result → IfSome (S.left input.old) (λ bytes. (payloads : List (List ℕ)) (ending : AnyEnding)
+        → IsCut settings.packets max bytes payloads ending
+        → StopsLanes plan.now result (records_sent settings losses payloads)
+        (O.lanes lanes.old) (O.lanes lanes.new)) }
+
+    // With no fault the stream comes back.
+    ensures comes_back { IfSome (S.left input.old) (λ bytes. IsFault result
+        ⊎ StreamComesBack settings plan.now losses max bytes (O.lanes lanes.old) (O.lanes lanes.new)) }
+    ensures faults { CountsFaults (result ≡ Ok Finish.ReadFault) (result ≡ Ok Finish.WriteFault)
+        ((S.faults input.old, S.faults input.new) ∷ [])
+        ((K.faults out.old, K.faults out.new) ∷ (O.faults lanes.old, O.faults lanes.new) ∷ []) }
+{
+    repairs_are_drills();
+    drills_come_back();
+    payloads_are_the_cut();
+    thinned_traces_are_traces();
+    let Ok(thinning) = Thinning::new(alloc, settings, losses, max) else {
+        return Ok(Finish::Memory);
+    };
+    let mut source = thinning.of(&mut *input);
+    let answer = repair_sent(by, alloc, plan, &mut source, out, lanes);
+    let _input = source.into_inner();
+    answer
+}
+
+/// Has what is sent of a stream repaired, and answers how the stream ends.
+fn repair_sent<R: Repair, S: Source + Send, K: Sink + Send, O: Outlet + Send>(
+    by: &R,
+    alloc: Global,
+    plan: &Plan,
+    source: &mut Thinned<S>,
+    out: &mut K,
+    lanes: &mut O,
+) -> Result<Finish, StreamFault>
+    requires { PlanFits plan.now }
+    ensures whole { IsFault result ⊎ DrillsTrace plan.now source.old.settings.packets source.old.max
+        source.old.stream (trace_left source.old) result
+        (O.lanes lanes.old) (O.lanes lanes.new) (K.written out.old) (K.written out.new) }
+    ensures all_read { IfSome (ending_of result) (λ ending. LeavesNothing ending
+        → IsAtEnd (S.left source.new.inner)) }
+    ensures part { IsFault result → OutputsPart plan.now (trace_left source.old)
+        (O.lanes lanes.old) (O.lanes lanes.new) K.written out.old out.new }
+    ensures stops { IsFault result → StopsTrace plan.now (trace_left source.old) result
+        (O.lanes lanes.old) (O.lanes lanes.new) }
+    ensures tells { TellsAll plan.now (trace_left source.old) result source.new.told source.new.fault }
+    ensures same { fixed_of S.fixed source.new ≡ fixed_of S.fixed source.old }
+    ensures faults { CountsFaults (result ≡ Ok Finish.ReadFault) (result ≡ Ok Finish.WriteFault)
+        ((S.faults source.old.inner, S.faults source.new.inner) ∷ [])
+        ((K.faults out.old, K.faults out.new) ∷ (O.faults lanes.old, O.faults lanes.new) ∷ []) }
+    ensures fixed { S.fixed source.new.inner ≡ S.fixed source.old.inner }
+{
+    one_result();
+    one_trace();
+    parts_of_writes();
+    match by.repair(alloc, plan, source, out, lanes) {
+        Finish::Done => ending(source),
+        finish => Ok(finish),
+    }
+}
+
+/// How a stream ends, of which all that is sent was given.
+fn ending<S: Source>(source: &mut Thinned<S>) -> Result<Finish, StreamFault>
+    requires { IsAtEnd (trace_left source.old) }
+    ensures answer { (result ≡ Ok Finish.ReadFault)
+        ⊎ IsEndingsAnswer source.old.settings.packets source.old.max source.old.stream result }
+    ensures tells { (result ≡ Ok Finish.ReadFault)
+        ⊎ IfSome source.old.stream (λ bytes. TellsEnding result source.new.told source.new.fault) }
+    ensures all_read { IfSome (ending_of result) (λ ending. LeavesNothing ending
+        → IsAtEnd (S.left source.new.inner)) }
+    ensures same { fixed_of S.fixed source.new ≡ fixed_of S.fixed source.old }
+    ensures faults { CountsFaults (result ≡ Ok Finish.ReadFault) (result ≡ Ok Finish.WriteFault)
+        ((S.faults source.old.inner, S.faults source.new.inner) ∷ []) [] }
+    ensures fixed { S.fixed source.new.inner ≡ S.fixed source.old.inner }
+{
+    match source.read(&mut [0]) {
+        Ok(_) => answer_for(source.fault()),
+        Err(Failed) => Ok(Finish::ReadFault),
+    }
+}
+
+/// The answer to a stream that ends so.
+fn answer_for(ending: Option<StreamFault>) -> Result<Finish, StreamFault>
+    ensures { result ≡ answer_to ending }
+{
+    match ending {
+        None => Ok(Finish::Done),
+        Some(fault) => Err(fault),
+    }
+}

@@ -1,0 +1,144 @@
+//! The repair of a sample.
+ghost use Rattle.std.specs.Prelude.{◌≡◌, ◌≢◌, ◌⊎◌, ◌≤◌, ◌^◌, ◌++◌, ◌∷◌, [], Ok, IfOk, OnOk, codes};
+ghost use Rattle.std.specs.Fmt.{decimal};
+ghost use Rattle.fg_io.specs.Faults.{CountsFaults};
+ghost use Rattle.fg_flows.specs.Plan.{PlanFits};
+ghost use Rattle.fg_trace.specs.Finish.{IsFault};
+ghost use Rattle.fg_results.specs.Repair.{Finishes, OutputsPart};
+ghost use Rattle.fg_drill.specs.Drill.{StopsLanes};
+ghost use Rattle.fg_drill.specs.DrillSteps.{StopsTrace};
+ghost use Rattle.fg_drill.specs.Sample.{SampleComesBack, Samples, SamplesPart, sample_sent};
+ghost use Rattle.fg_drill.specs.ThinnedSource.{trace_left};
+
+use crate::drawing::{drawn, sample_settings};
+use crate::laws::drills::{samples_are_traces, samples_come_back};
+use crate::made::Made;
+use crate::thinned::Thinned;
+use fg_flows::Plan;
+use fg_io::laws::{parts_of_writes, writes_join};
+use fg_io::{Outlet, Sink, write_all};
+use fg_results::Repair;
+use fg_trace::Finish;
+use fg_trace::laws::one_trace;
+use itoa::Buffer;
+use std::alloc::{AllocError, Global};
+
+/// More bytes than a made stream has.
+const STREAM_LIMIT: u64 = 1_099_511_627_776;
+
+/// Makes the stream of a seed with so many datagrams, 1 to 20,000, leaves out some of its records, about `loss` percent, 0 to 20,
+/// and has the rest repaired.
+///
+/// `out` gains a line of these numbers, and then the report. After a fault the lanes and `out` have gained prefixes: no lane is
+/// touched before the line is whole, and the report is begun only once all lanes are. No read fails.
+pub fn sample<R: Repair, K: Sink + Send, O: Outlet + Send>(
+    by: &R,
+    alloc: Global,
+    seed: u64,
+    datagrams: u32,
+    loss: u32,
+    plan: &Plan,
+    out: &mut K,
+    lanes: &mut O,
+) -> Finish
+    requires datagrams { (1 ≤ datagrams) × (datagrams ≤ 20000) }
+    requires loss { loss ≤ 20 }
+    requires plan { PlanFits plan.now }
+    requires flow { plan.now.table ≡ 5000 ∷ [] }
+    requires inner { plan.now.max ≡ 2 ^ 42 }
+
+    // Every answer but a fault's or want of memory's is that all was done, and then the outputs are whole; else they are parts,
+    // and the line comes before any lane.
+    ensures whole { IsFault result ⊎ ((result ≡ Finish.Done) × Samples seed datagrams loss plan.now
+        (O.lanes lanes.old) (O.lanes lanes.new) (K.written out.old) (K.written out.new)) }
+    ensures part { IsFault result → SamplesPart seed datagrams loss plan.now
+        (O.lanes lanes.old) (O.lanes lanes.new) (K.written out.old) (K.written out.new) }
+
+    // After a fault the lanes stand at a stage of the repair.
+    ensures stops { IsFault result → StopsLanes plan.now (Ok result) (sample_sent seed datagrams loss)
+        (O.lanes lanes.old) (O.lanes lanes.new) }
+
+    // With no fault the made stream comes back.
+    ensures comes_back { IsFault result
+        ⊎ SampleComesBack seed datagrams loss plan.now (O.lanes lanes.old) (O.lanes lanes.new) }
+    ensures no_read { result ≢ Finish.ReadFault }
+    ensures faults { CountsFaults (result ≡ Finish.ReadFault) (result ≡ Finish.WriteFault) []
+        ((K.faults out.old, K.faults out.new) ∷ (O.faults lanes.old, O.faults lanes.new) ∷ []) }
+{
+    samples_are_traces();
+    samples_come_back();
+    one_trace();
+    parts_of_writes();
+    writes_join();
+    let Ok((records, losses)) = drawn(alloc, seed, datagrams, loss) else {
+        return Finish::Memory;
+    };
+    let lost = losses.drops.count() as u64;
+    let Ok(line) = sample_line(alloc, seed, datagrams, records, lost) else {
+        return Finish::Memory;
+    };
+    let made = Made::new(seed, datagrams);
+    let Ok(mut source) = Thinned::new(alloc, sample_settings(), losses, STREAM_LIMIT, made) else {
+        return Finish::Memory;
+    };
+    match write_all(out, &line) {
+        Ok(()) => repair_made(by, alloc, plan, &mut source, out, lanes),
+        Err(_) => Finish::WriteFault,
+    }
+}
+
+/// Has what is sent of a made stream repaired, whose reads don't fail.
+fn repair_made<R: Repair, K: Sink + Send, O: Outlet + Send>(
+    by: &R,
+    alloc: Global,
+    plan: &Plan,
+    source: &mut Thinned<Made>,
+    out: &mut K,
+    lanes: &mut O,
+) -> Finish
+    requires { PlanFits plan.now }
+    ensures whole { IsFault result ⊎ Finishes plan.now result (trace_left source.old)
+        (O.lanes lanes.old) (O.lanes lanes.new) (K.written out.old) (K.written out.new) }
+    ensures part { IsFault result → OutputsPart plan.now (trace_left source.old)
+        (O.lanes lanes.old) (O.lanes lanes.new) K.written out.old out.new }
+    ensures stops { IsFault result → StopsTrace plan.now (trace_left source.old) (Ok result)
+        (O.lanes lanes.old) (O.lanes lanes.new) }
+    ensures no_read { result ≢ Finish.ReadFault }
+    ensures faults { CountsFaults (result ≡ Finish.ReadFault) (result ≡ Finish.WriteFault) []
+        ((K.faults out.old, K.faults out.new) ∷ (O.faults lanes.old, O.faults lanes.new) ∷ []) }
+{
+    by.repair(alloc, plan, source, out, lanes)
+}
+
+/// The line that tells these numbers.
+fn sample_line(
+    alloc: Global,
+    seed: u64,
+    datagrams: u32,
+    records: u64,
+    lost: u64,
+) -> Result<Vec<u8>, AllocError>
+    ensures { IfOk result (λ line. line.items
+        ≡ codes "sample seed " ++ decimal seed ++ codes " datagrams " ++ decimal datagrams ++ codes " records "
+        ++ decimal records ++ codes " lost " ++ decimal lost ++ codes "\n") }
+{
+    let mut line = Vec::from_slice(alloc, b"sample seed ")?;
+    push_number(&mut line, seed)?;
+    line.extend_from_slice(b" datagrams ")?;
+    push_number(&mut line, u64::from(datagrams))?;
+    line.extend_from_slice(b" records ")?;
+    push_number(&mut line, records)?;
+    line.extend_from_slice(b" lost ")?;
+    push_number(&mut line, lost)?;
+    line.push(b'\n')?;
+    Ok(line)
+}
+
+/// Pushes a number.
+fn push_number(line: &mut Vec<u8>, number: u64) -> Result<(), AllocError>
+    ensures { OnOk result (line.new.items ≡ line.old.items ++ decimal number) }
+{
+    let mut digits = Buffer::new();
+    line.extend_from_slice(digits.format(number).as_bytes())?;
+    Ok(())
+}

@@ -1,0 +1,162 @@
+-- The records of a flow arrive in one way.
+use Rattle.std.proofs.Common.{◌≡◌, ◌≤◌, ◌==◌, ◌||◌, ℕ, Bool, true, false, cond, List, [], ◌∷◌, ◌++◌, length, refl, sym, ap, subst, ◌∙◌, arith}
+use Rattle.std.specs.List.{All, AllZip}
+use Rattle.std.proofs.lemmas.Bool.Decides.{nat_tests}
+use Rattle.std.proofs.lemmas.List.Elements.{filter-append}
+use Rattle.std.proofs.lemmas.List.Sums.{length-filter, count_by-le-length}
+use Rattle.fg_rtp.specs.Laws.{ReadsOneWay as MediaReadsOneWay}
+use Rattle.fg_fechead.specs.declared.Parity.{Parity as ParityRead}
+use Rattle.fg_fechead.specs.ParityDatagram.{IsParityDatagram}
+use Rattle.fg_fechead.specs.Laws.{ReadsOneWay as ParityReadsOneWay}
+use Rattle.fg_trace.specs.Trace.{Record}
+use Rattle.fg_shape.specs.declared.kind.Kind.{Kind}
+use Rattle.fg_shape.specs.declared.kind.Kind.TheVariants as kind
+use Rattle.fg_shape.specs.Kind.{port_of}
+use Rattle.fg_desk.specs.Admission.{Parity}
+use Rattle.fg_desk.specs.Run.{Arrival, carries, protects, refused}
+use Rattle.fg_desk.specs.Laws.{IsRead}
+use Rattle.fg_results.specs.Flow.{is_of, records_of, parity_of, IsReadAs, Arrives}
+use Rattle.fg_results.proofs.Zips.{zip_one, zip_begins, zip_length, zip_all}
+
+-- The flow's records among more of them.
+
+test_true : (a b : ℕ) → a ≡ b → (a == b) ≡ true
+test_true a b same = grind (arith, nat_tests)
+
+or_first : (a b c : Bool) → a ≡ true → (a || b || c) ≡ true
+or_first true b c is = refl
+or_first false b c is = cc
+
+or_second : (a b c : Bool) → b ≡ true → (a || b || c) ≡ true
+or_second true b c is = refl
+or_second false true c is = refl
+or_second false false c is = cc
+
+or_third : (a b c : Bool) → c ≡ true → (a || b || c) ≡ true
+or_third true b c is = refl
+or_third false true c is = refl
+or_third false false true is = refl
+or_third false false false is = is
+
+is_of_its_flow : (flow : ℕ) (kind : Kind) (r : Record) → port_of flow kind ≡ r.port → is_of flow r ≡ true
+is_of_its_flow flow kind.Media r on = or_first _ _ _ (test_true (port_of flow kind.Media) r.port on)
+is_of_its_flow flow kind.Column r on = or_second (port_of flow kind.Media == r.port) _ _ (test_true (port_of flow kind.Column) r.port on)
+is_of_its_flow flow kind.Row r on =
+    or_third (port_of flow kind.Media == r.port) (port_of flow kind.Column == r.port) _ (test_true (port_of flow kind.Row) r.port on)
+
+pub one_more_record :
+    (flow : ℕ) (kind : Kind) (records : List Record) (r : Record) → port_of flow kind ≡ r.port
+    → records_of flow (records ++ r ∷ []) ≡ records_of flow records ++ r ∷ []
+one_more_record flow kind records r on =
+    filter-append (is_of flow) records (r ∷ [])
+    ∙ ap (λ (b : Bool). records_of flow records ++ cond b (r ∷ []) []) (is_of_its_flow flow kind r on)
+
+pub and_later_records :
+    (flow : ℕ) (kind : Kind) (records later : List Record) (r : Record) → port_of flow kind ≡ r.port
+    → records_of flow ((records ++ r ∷ []) ++ later) ≡ (records_of flow records ++ r ∷ []) ++ records_of flow later
+and_later_records flow kind records later r on =
+    filter-append (is_of flow) (records ++ r ∷ []) later
+    ∙ ap (λ (some : List Record). some ++ records_of flow later) (one_more_record flow kind records r on)
+
+pub few_arrive : (flow : ℕ) (records : List Record) (arrivals : List Arrival) → AllZip (Arrives flow) (records_of flow records) arrivals → length arrivals ≤ length records
+few_arrive flow records arrivals arrive =
+    let same = zip_length (Arrives flow) (records_of flow records) arrivals arrive in
+    let kept = length-filter (is_of flow) records in
+    let fewer = count_by-le-length (is_of flow) records in
+    omega (arith, same, kept, fewer)
+
+-- What is read is a media word or a shape that is read.
+
+parity_is_good : (parity : Parity) (read : ParityRead) {bytes : List ℕ} → IsParityDatagram bytes read → parity ≡ parity_of read → IsRead (protects kind.Column parity)
+parity_is_good parity read is same =
+    subst (λ (p : Parity). IsRead (protects kind.Column p)) (sym same) (is.base_size, is.shape)
+
+is_read : (kind : Kind) (bytes : List ℕ) (arrival : Arrival) → IsReadAs kind bytes arrival → IsRead arrival
+is_read kind.Media bytes (carries seq word) read = (read.1.seq_size, read.1.media)
+is_read kind.Media bytes (protects by parity) read = absurd read
+is_read kind.Media bytes (refused by) read = tt
+is_read kind.Column bytes (carries seq word) read = absurd read
+is_read kind.Column bytes (protects by parity) read = parity_is_good parity read.1.0 read.1.1 read.1.2
+is_read kind.Column bytes (refused by) read = tt
+is_read kind.Row bytes (carries seq word) read = absurd read
+is_read kind.Row bytes (protects by parity) read = parity_is_good parity read.1.0 read.1.1 read.1.2
+is_read kind.Row bytes (refused by) read = tt
+
+pub arrivals_are_read :
+    (flow : ℕ) (records : List Record) (arrivals : List Arrival) → AllZip (Arrives flow) (records_of flow records) arrivals
+    → All IsRead arrivals
+arrivals_are_read flow records arrivals arrive =
+    zip_all (Arrives flow) IsRead (λ (r : Record) (arrival : Arrival) arrives. is_read arrives.0 r.datagram arrival arrives.2)
+    (records_of flow records) arrivals arrive
+
+-- Each record is read in one way.
+
+one_kind : (flow port : ℕ) (one other : Kind) → port_of flow one ≡ port → port_of flow other ≡ port → one ≡ other
+one_kind flow port kind.Media kind.Media a b = refl
+one_kind flow port kind.Media kind.Column a b = absurd (omega (arith, a, b))
+one_kind flow port kind.Media kind.Row a b = absurd (omega (arith, a, b))
+one_kind flow port kind.Column kind.Media a b = absurd (omega (arith, a, b))
+one_kind flow port kind.Column kind.Column a b = refl
+one_kind flow port kind.Column kind.Row a b = absurd (omega (arith, a, b))
+one_kind flow port kind.Row kind.Media a b = absurd (omega (arith, a, b))
+one_kind flow port kind.Row kind.Column a b = absurd (omega (arith, a, b))
+one_kind flow port kind.Row kind.Row a b = refl
+
+module _ (media : MediaReadsOneWay) (parity : ParityReadsOneWay) where
+  one_parity :
+      (bytes : List ℕ) (by by' is : Kind) (one other : Parity) → by ≡ is → by' ≡ is
+      → (read : ParityRead) × IsParityDatagram bytes read × (one ≡ parity_of read)
+      → (read : ParityRead) × IsParityDatagram bytes read × (other ≡ parity_of read)
+      → protects by one ≡ protects by' other
+  one_parity bytes by by' is one other p q a b =
+      let streams : by ≡ by' = p ∙ sym q in
+      let parities : one ≡ other = a.2 ∙ ap parity_of (parity bytes a.0 b.0 a.1 b.1) ∙ sym b.2 in
+      λ i. protects (streams i) (parities i)
+
+  one_refused : (by by' is : Kind) → by ≡ is → by' ≡ is → refused by ≡ refused by'
+  one_refused by by' is p q = ap refused (p ∙ sym q)
+
+  one_reading :
+      (kind : Kind) (bytes : List ℕ) (one other : Arrival) → IsReadAs kind bytes one → IsReadAs kind bytes other → one ≡ other
+  one_reading kind.Media bytes (carries seq word) (carries seq' word') a b =
+      let same = media bytes seq a.0 seq' b.0 word word' a.1 b.1 in
+      λ i. carries (same.0 i) (same.2 i)
+  one_reading kind.Media bytes (carries seq word) (protects by' parity') a b = absurd b
+  one_reading kind.Media bytes (carries seq word) (refused by') a b = absurd (b.1 seq a.0 word a.1)
+  one_reading kind.Media bytes (protects by parity) other a b = absurd a
+  one_reading kind.Media bytes (refused by) (carries seq' word') a b = absurd (a.1 seq' b.0 word' b.1)
+  one_reading kind.Media bytes (refused by) (protects by' parity') a b = absurd b
+  one_reading kind.Media bytes (refused by) (refused by') a b = one_refused by by' kind.Media a.0 b.0
+  one_reading kind.Column bytes (carries seq word) other a b = absurd a
+  one_reading kind.Column bytes (protects by parity) (carries seq' word') a b = absurd b
+  one_reading kind.Column bytes (protects by parity) (protects by' parity') a b =
+      one_parity bytes by by' kind.Column parity parity' a.0 b.0 a.1 b.1
+  one_reading kind.Column bytes (protects by parity) (refused by') a b = absurd (b.1 a.1.0 a.1.1)
+  one_reading kind.Column bytes (refused by) (carries seq' word') a b = absurd b
+  one_reading kind.Column bytes (refused by) (protects by' parity') a b = absurd (a.1 b.1.0 b.1.1)
+  one_reading kind.Column bytes (refused by) (refused by') a b = one_refused by by' kind.Column a.0 b.0
+  one_reading kind.Row bytes (carries seq word) other a b = absurd a
+  one_reading kind.Row bytes (protects by parity) (carries seq' word') a b = absurd b
+  one_reading kind.Row bytes (protects by parity) (protects by' parity') a b =
+      one_parity bytes by by' kind.Row parity parity' a.0 b.0 a.1 b.1
+  one_reading kind.Row bytes (protects by parity) (refused by') a b = absurd (b.1 a.1.0 a.1.1)
+  one_reading kind.Row bytes (refused by) (carries seq' word') a b = absurd b
+  one_reading kind.Row bytes (refused by) (protects by' parity') a b = absurd (a.1 b.1.0 b.1.1)
+  one_reading kind.Row bytes (refused by) (refused by') a b = one_refused by by' kind.Row a.0 b.0
+
+  pub one_arrival : (flow : ℕ) (r : Record) (one other : Arrival) → Arrives flow r one → Arrives flow r other → one ≡ other
+  one_arrival flow r one other a b =
+      let kinds : a.0 ≡ b.0 = one_kind flow r.port a.0 b.0 a.1 b.1 in
+      one_reading b.0 r.datagram one other (subst (λ (k : Kind). IsReadAs k r.datagram one) kinds a.2) b.2
+
+  -- The same records are the same arrivals.
+  pub one_list_arrives :
+      (flow : ℕ) (records : List Record) (one other : List Arrival) → AllZip (Arrives flow) records one
+      → AllZip (Arrives flow) records other → one ≡ other
+  one_list_arrives flow records one other a b = zip_one (Arrives flow) (one_arrival flow) records one other a b
+
+  pub arrivals_begin :
+      (flow : ℕ) (records more : List Record) (one other : List Arrival) → AllZip (Arrives flow) records one
+      → AllZip (Arrives flow) (records ++ more) other
+      → (rest : List Arrival) × (other ≡ one ++ rest) × AllZip (Arrives flow) more rest
+  arrivals_begin flow records more one other a b = zip_begins (Arrives flow) (one_arrival flow) records more one other a b

@@ -1,0 +1,36 @@
+-- What a repair of a trace is: how its answer, its lanes and its report follow from the input. This project's own. Threads
+-- are no part of it.
+use Rattle.std.specs.Prelude.{◌≡◌, ◌⊎◌, ℕ, Option, IfSome, List, []}
+use Rattle.std.specs.Io.KnownBytes.{IsAtEnd}
+use Rattle.fg_io.specs.Outlet.{Lanes}
+use Rattle.fg_trace.specs.declared.step.Finish.{Finish}
+use Rattle.fg_trace.specs.declared.step.Finish.TheVariants as finish
+use Rattle.fg_trace.specs.Finish.{IsFault, ReadsAll, finish_of}
+use Rattle.fg_trace.specs.Reading.{IsReadFor}
+use Rattle.fg_trace.specs.Trace.{Record, Ending, NotTrace, IsTrace}
+use Rattle.fg_flows.specs.declared.Plan.{Plan}
+use Rattle.fg_results.specs.Repair.{Finishes, OutputsPart}
+use Rattle.fg_results.specs.Stops.{Stops}
+
+-- The call that answers so is a repair by this plan. `input` are the bytes of the source before it, `input'` those that are
+-- left after it, `lanes_of` tells an outlet's lanes, and `written` what a sink has.
+pub record IsRepair {O K : Type 0}
+    (plan : Plan) (answer : Finish) (input input' : Option (List ℕ)) (lanes_of : O → Option Lanes) (lanes lanes' : O)
+    (written : K → Option (List ℕ)) (out out' : K) : Type 0 where
+  -- Every answer but a fault's or want of memory's is that of the trace's ending, and then the outputs are whole.
+  pub whole : IsFault answer ⊎ Finishes plan answer input (lanes_of lanes) (lanes_of lanes') (written out) (written out')
+  pub exactly : IfSome input (λ bytes. (records : List Record) (end : Ending)
+      → IsTrace bytes plan.max records end → IsFault answer ⊎ (answer ≡ finish_of end))
+  pub all_read : ReadsAll answer → IsAtEnd input'
+  -- Whatever the answer, the input is read as far as it needs, and at most a byte past the limit.
+  pub reads : IfSome input (λ bytes. IsReadFor plan.max answer bytes input')
+  -- What is no trace makes nothing, whatever the answer.
+  pub refused : IfSome input (λ bytes. (place : ℕ)
+      → IsTrace bytes plan.max [] (NotTrace place) → (lanes' ≡ lanes) × (out' ≡ out))
+  -- After a fault or want of memory the outputs are parts.
+  pub part : IsFault answer → OutputsPart plan input (lanes_of lanes) (lanes_of lanes') written out out'
+  -- The first fault ends the call: each lane has gained exactly what was shown up to there, but for the one that it broke.
+  pub stops : IsFault answer → IfSome input (λ bytes. (records : List Record) (end : Ending)
+      → IsTrace bytes plan.max records end → Stops plan answer records (lanes_of lanes) (lanes_of lanes'))
+  -- After a read fault no report was begun.
+  pub no_report : answer ≡ finish.ReadFault → out' ≡ out

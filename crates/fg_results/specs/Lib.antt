@@ -1,0 +1,8 @@
+-- The definitions that the contracts of this crate cite.
+pub mod Contract
+pub mod Existence
+pub mod Flow
+pub mod Lanes
+pub mod Laws
+pub mod Repair
+pub mod Stops

@@ -1,0 +1,85 @@
+-- Where a fault stops a repair. This project's own.
+use Rattle.std.specs.Prelude.{◌≡◌, ◌⊎◌, ◌+◌, ℕ, List, [], Option, None, Some, take}
+use Rattle.std.specs.List.{AllZip, Contains}
+use Rattle.fg_io.specs.Prefix.{IsPrefix}
+use Rattle.fg_io.specs.Outlet.{Lanes}
+use Rattle.fg_trace.specs.declared.step.Finish.{Finish}
+use Rattle.fg_trace.specs.declared.step.Finish.TheVariants as finish
+use Rattle.fg_trace.specs.Trace.{Record}
+use Rattle.fg_flows.specs.declared.Plan.{Plan}
+use Rattle.fg_flows.specs.Plan.{playout_of}
+use Rattle.fg_shape.specs.Playout.{Playout}
+use Rattle.fg_desk.specs.declared.reply.Reply.{Reply}
+use Rattle.fg_desk.specs.State.{State, opening}
+use Rattle.fg_desk.specs.Play.{Play}
+use Rattle.fg_desk.specs.Run.{Arrival, TakesAll}
+use Rattle.fg_results.specs.Flow.{FlowResult, IsFlowResult, Arrives, records_of, lane_of}
+use Rattle.fg_results.specs.Lanes.{PutsAll}
+
+-- What a flow's plays have shown once these records were taken, and before its flush.
+pub record HasShown (playout : Playout) (flow : ℕ) (records : List Record) (bytes : List ℕ) : Type 0 where
+  pub arrivals : List Arrival
+  pub plays : List Play
+  pub replies : List (Option Reply)
+  pub state : State
+  pub arrive : AllZip (Arrives flow) (records_of flow records) arrivals
+  pub takes : TakesAll (opening playout) arrivals plays replies state
+  pub bytes_are : bytes ≡ lane_of plays
+
+-- The whole lane of a flow.
+pub record HasLane (playout : Playout) (flow : ℕ) (records : List Record) (bytes : List ℕ) : Type 0 where
+  pub result : FlowResult
+  pub is_result : IsFlowResult playout records flow result
+  pub bytes_are : bytes ≡ result.lane
+
+-- How far a repair has come: the lanes of so many flows were made; or all were, and so many records were taken; or all
+-- records were, and so many flows were flushed. Flows are made and flushed in their order.
+pub data Stage : Type 0 where
+  Making : ℕ → Stage
+  Taking : ℕ → Stage
+  Flushing : ℕ → Stage
+
+abbrev pub next_stage : Stage → Stage
+next_stage (Making n) = Making (n + 1)
+next_stage (Taking n) = Taking (n + 1)
+next_stage (Flushing n) = Flushing (n + 1)
+
+-- The flows whose lanes are made.
+abbrev pub made_at : Plan → Stage → List ℕ
+made_at plan (Making n) = take n plan.table
+made_at plan (Taking n) = plan.table
+made_at plan (Flushing n) = plan.table
+
+-- What a flow's lane has gained at a stage, exactly.
+abbrev pub HasGained : Plan → List Record → Stage → ℕ → List ℕ → Type 0
+HasGained plan records (Making n) flow bytes = bytes ≡ []
+HasGained plan records (Taking n) flow bytes = HasShown (playout_of plan) flow (take n records) bytes
+HasGained plan records (Flushing n) flow bytes =
+    (Contains (take n plan.table) flow × HasLane (playout_of plan) flow records bytes)
+    ⊎ ((¬ Contains (take n plan.table) flow) × HasShown (playout_of plan) flow records bytes)
+
+-- The bytes are such bytes and then a part of what comes next.
+pub record LiesBetween (Are Next : List ℕ → Type 0) (bytes : List ℕ) : Type 0 where
+  pub first : List ℕ
+  pub are : Are first
+  pub begins : IsPrefix first bytes
+  pub next : (more : List ℕ) → Next more → IsPrefix bytes more
+
+-- What a broken lane has gained at a stage: that, and a part of what the next stage adds.
+abbrev pub HasGainedPart : Plan → List Record → Stage → ℕ → List ℕ → Type 0
+HasGainedPart plan records stage flow bytes =
+    LiesBetween (HasGained plan records stage flow) (HasGained plan records (next_stage stage) flow) bytes
+
+-- A repair of these records stopped at a stage. Each flow whose lane is made has gained exactly what stands there, but for
+-- one at most, at which a put failed or memory was wanting: it has gained that and a part of what comes next. After a read
+-- fault there is no such one. All other lanes are as they were.
+pub record Stops (plan : Plan) (answer : Finish) (records : List Record) (before after : Option Lanes) : Type 0 where
+  pub stage : Stage
+  pub broken : Option ℕ
+  pub unbroken : answer ≡ finish.ReadFault → broken ≡ None
+  pub pieces : List (List ℕ)
+  pub gained : AllZip
+      (λ flow piece. HasGained plan records stage flow piece
+      ⊎ ((broken ≡ Some flow) × HasGainedPart plan records stage flow piece))
+      (made_at plan stage) pieces
+  pub puts : PutsAll before (made_at plan stage) pieces after

@@ -1,0 +1,8 @@
+//! What the records of a trace come to: each flow's lane and counts, the report, and what a fault leaves of them. The laws
+//! that show this to be right, and what a repair promises, whoever does it.
+#![tactic(auto)]
+
+pub mod laws;
+mod repair;
+
+pub use repair::Repair;

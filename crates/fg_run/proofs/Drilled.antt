@@ -1,0 +1,137 @@
+-- The answer of a drill, as the program's.
+use Rattle.std.proofs.Common.{◌≡◌, ◌⊎◌, inl, inr, ℕ, Option, None, Some, IfSome, Ok, Err, List, refl, sym, ap, ◌∙◌, subst}
+use Rattle.std.specs.Io.KnownBytes.{IsAtEnd}
+use Rattle.fg_io.specs.Faults.{CountsFaults}
+use Rattle.fg_io.specs.Outlet.{Lanes}
+use Rattle.fg_ts.specs.declared.TsFault.TheVariants as packets
+use Rattle.fg_shape.specs.declared.encoding.Losses.{Losses}
+use Rattle.fg_shape.specs.declared.encoding.Settings.{Settings}
+use Rattle.fg_trace.specs.declared.step.Finish.TheVariants as finish
+use Rattle.fg_flows.specs.declared.Plan.{Plan}
+use Rattle.fg_encode.specs.declared.stream.StreamFault.TheVariants.{NotTransport, TooLong}
+use Rattle.fg_encode.specs.Reading.{IsStreamReadFor}
+use Rattle.fg_encode.specs.Stream.{LeavesNothing, StreamEnding, IsCut}
+use Rattle.fg_drill.specs.Drill.{Answer, Drills, IsFault as IsDrillFault, StopsLanes as DrillStops, answer_to, ending_of, records_sent}
+use Rattle.fg_drill.proofs.DrillReading.{told_none, told_of}
+use Rattle.fg_run.specs.declared.ended.Why.{Why}
+use Rattle.fg_run.specs.declared.ended.Why.TheVariants as why
+use Rattle.fg_run.specs.Encode.{EndsStream, IsStreamAnswer}
+use Rattle.fg_run.specs.Ended.{IsFault}
+use Rattle.fg_run.specs.Endings.{why_of_drill, why_of_stream}
+use Rattle.fg_run.specs.Reading.{ReadsStream}
+use Rattle.fg_run.specs.Run.{DrillsFor}
+use Rattle.fg_run.specs.Stopping.{StopsLanes}
+use Rattle.fg_run.proofs.Stopping.{fault_of, is_fault}
+
+-- a fault's answer is that of a fault
+no_fault : (end : StreamEnding) → IsFault (why_of_stream end) → ⊥
+no_fault None h = h
+no_fault (Some (TooLong n)) h = h
+no_fault (Some (NotTransport fault)) h = h
+
+pub drill_fault_of : (answer : Answer) → IsFault (why_of_drill answer) → IsDrillFault answer
+drill_fault_of (Ok finish) h = fault_of finish h
+drill_fault_of (Err fault) h = absurd (no_fault (Some fault) h)
+
+is_drill_fault : (answer : Answer) → IsDrillFault answer → IsFault (why_of_drill answer)
+is_drill_fault (Ok finish) h = is_fault finish h
+is_drill_fault (Err fault) h = absurd h
+
+pub told_unless_fault : (answer : Answer) (input : Option (List ℕ)) (P : List ℕ → Type 0) → IfSome input (λ bytes. IsDrillFault answer ⊎ P bytes) → IfSome input (λ bytes. IsFault (why_of_drill answer) ⊎ P bytes)
+told_unless_fault answer None P h = tt
+told_unless_fault answer (Some bytes) P (inl fault) = inl (is_drill_fault answer fault)
+told_unless_fault answer (Some bytes) P (inr p) = inr p
+
+-- the outputs are whole
+pub drills_for : (settings : Settings) (plan : Plan) (losses : Losses) (max : ℕ) (answer : Answer) (input : Option (List ℕ)) (lanes lanes' : Option Lanes) (written written' : Option (List ℕ))
+    → IsDrillFault answer ⊎ Drills settings plan losses max answer input lanes lanes' written written'
+    → IsFault (why_of_drill answer) ⊎ DrillsFor settings plan losses max (why_of_drill answer) input lanes lanes' written written'
+drills_for settings plan losses max answer input lanes lanes' written written' (inl fault) = inl (is_drill_fault answer fault)
+drills_for settings plan losses max answer input lanes lanes' written written' (inr h) = inr (answer, refl, h)
+
+-- the answer to a stream
+same_why : (end : StreamEnding) → why_of_drill (answer_to end) ≡ why_of_stream end
+same_why None = refl
+same_why (Some fault) = refl
+
+due_of : (answer : Answer) (end : StreamEnding) (due : Why) → IsDrillFault answer ⊎ (answer ≡ answer_to end) → due ≡ why_of_stream end → IsFault (why_of_drill answer) ⊎ (why_of_drill answer ≡ due)
+due_of answer end due (inl fault) is = inl (is_drill_fault answer fault)
+due_of answer end due (inr same) is = inr (ap why_of_drill same ∙ same_why end ∙ sym is)
+
+pub exactly : (packets max : ℕ) (answer : Answer) (input : Option (List ℕ))
+    → IfSome input (λ bytes. (payloads : List (List ℕ)) (end : StreamEnding) → IsCut packets max bytes payloads end → IsDrillFault answer ⊎ (answer ≡ answer_to end))
+    → IfSome input (λ bytes. (due : Why) → IsStreamAnswer packets max bytes due → IsFault (why_of_drill answer) ⊎ (why_of_drill answer ≡ due))
+exactly packets max answer None h = tt
+exactly packets max answer (Some bytes) h = λ due k. due_of answer k.1 due (h k.0 k.1 k.2) k.3
+
+-- how far the stream was read
+pub reads : (settings : Settings) (plan : Plan) (losses : Losses) (max : ℕ) (answer : Answer) (input now : Option (List ℕ)) (lanes lanes' : Option Lanes) (written written' : Option (List ℕ))
+    → IsDrillFault answer ⊎ Drills settings plan losses max answer input lanes lanes' written written'
+    → IfSome input (λ bytes. IsStreamReadFor max (ending_of answer) bytes now) → IfSome input (λ bytes. ReadsStream max (why_of_drill answer) bytes now)
+reads settings plan losses max answer None now lanes lanes' written written' d h = tt
+reads settings plan losses max answer (Some bytes) now lanes lanes' written written' (inl fault) h =
+    inl (is_drill_fault answer fault, subst (λ (e : Option StreamEnding). IsStreamReadFor max e bytes now) (told_none answer fault) h)
+reads settings plan losses max answer (Some bytes) now lanes lanes' written written' (inr d) h =
+    inr (d.end, ap why_of_drill d.answer_is ∙ same_why d.end, subst (λ (e : Option StreamEnding). IsStreamReadFor max e bytes now) (ap ending_of d.answer_is ∙ told_of d.end) h)
+
+pub all_read : (answer : Answer) (now : Option (List ℕ)) → IfSome (ending_of answer) (λ ending. LeavesNothing ending → IsAtEnd now) → EndsStream (why_of_drill answer) → IsAtEnd now
+all_read (Ok finish.Done) now h ends = h tt
+all_read (Ok finish.ReadFault) now h (inl e) = absurd (let a = e in cc)
+all_read (Ok finish.ReadFault) now h (inr e) = absurd (let a = e.1 in cc)
+all_read (Ok finish.WriteFault) now h (inl e) = absurd (let a = e in cc)
+all_read (Ok finish.WriteFault) now h (inr e) = absurd (let a = e.1 in cc)
+all_read (Ok (finish.NotTrace n)) now h (inl e) = absurd (let a = e in cc)
+all_read (Ok (finish.NotTrace n)) now h (inr e) = absurd (let a = e.1 in cc)
+all_read (Ok (finish.Cut n)) now h (inl e) = absurd (let a = e in cc)
+all_read (Ok (finish.Cut n)) now h (inr e) = absurd (let a = e.1 in cc)
+all_read (Ok (finish.TooLong n)) now h (inl e) = absurd (let a = e in cc)
+all_read (Ok (finish.TooLong n)) now h (inr e) = absurd (let a = e.1 in cc)
+all_read (Ok finish.Memory) now h (inl e) = absurd (let a = e in cc)
+all_read (Ok finish.Memory) now h (inr e) = absurd (let a = e.1 in cc)
+all_read (Err (TooLong n)) now h (inl e) = absurd (let a = e in cc)
+all_read (Err (TooLong n)) now h (inr e) = absurd (let a = e.1 in cc)
+all_read (Err (NotTransport (packets.Ragged n))) now h ends = h tt
+all_read (Err (NotTransport (packets.NoSync n))) now h (inl e) = absurd (let a = e in cc)
+all_read (Err (NotTransport (packets.NoSync n))) now h (inr e) = absurd (let a = e.1 in cc)
+
+-- where it stops
+pub stops : (settings : Settings) (plan : Plan) (losses : Losses) (max : ℕ) (answer : Answer) (input : Option (List ℕ)) (lanes lanes' : Option Lanes)
+    → IfSome input (λ bytes. (payloads : List (List ℕ)) (end : StreamEnding) → IsCut settings.packets max bytes payloads end → DrillStops plan answer (records_sent settings losses payloads) lanes lanes')
+    → IfSome input (λ bytes. (payloads : List (List ℕ)) (end : StreamEnding) → IsCut settings.packets max bytes payloads end → StopsLanes plan (why_of_drill answer) (records_sent settings losses payloads) lanes lanes')
+stops settings plan losses max answer None lanes lanes' h = tt
+stops settings plan losses max answer (Some bytes) lanes lanes' h = λ payloads end cut.
+    let at = h payloads end cut in (at.0, ap why_of_drill at.1, at.2)
+
+-- how faults are counted
+read_of : (answer : Answer) → why_of_drill answer ≡ why.ReadFault → answer ≡ Ok finish.ReadFault
+read_of (Ok finish.Done) e = absurd (let a = e in cc)
+read_of (Ok finish.ReadFault) e = refl
+read_of (Ok finish.WriteFault) e = absurd (let a = e in cc)
+read_of (Ok (finish.NotTrace n)) e = absurd (let a = e in cc)
+read_of (Ok (finish.Cut n)) e = absurd (let a = e in cc)
+read_of (Ok (finish.TooLong n)) e = absurd (let a = e in cc)
+read_of (Ok finish.Memory) e = absurd (let a = e in cc)
+read_of (Err (TooLong n)) e = absurd (let a = e in cc)
+read_of (Err (NotTransport fault)) e = absurd (let a = e in cc)
+
+write_of : (answer : Answer) → why_of_drill answer ≡ why.WriteFault → answer ≡ Ok finish.WriteFault
+write_of (Ok finish.Done) e = absurd (let a = e in cc)
+write_of (Ok finish.ReadFault) e = absurd (let a = e in cc)
+write_of (Ok finish.WriteFault) e = refl
+write_of (Ok (finish.NotTrace n)) e = absurd (let a = e in cc)
+write_of (Ok (finish.Cut n)) e = absurd (let a = e in cc)
+write_of (Ok (finish.TooLong n)) e = absurd (let a = e in cc)
+write_of (Ok finish.Memory) e = absurd (let a = e in cc)
+write_of (Err (TooLong n)) e = absurd (let a = e in cc)
+write_of (Err (NotTransport fault)) e = absurd (let a = e in cc)
+
+pub faults : (answer : Answer) (sources sinks : List (ℕ × ℕ)) → CountsFaults (answer ≡ Ok finish.ReadFault) (answer ≡ Ok finish.WriteFault) sources sinks
+    → CountsFaults (why_of_drill answer ≡ why.ReadFault) (why_of_drill answer ≡ why.WriteFault) sources sinks
+faults answer sources sinks h = record {
+  read = λ e. h.read (read_of answer e);
+  write = λ e. h.write (write_of answer e);
+  no_read = λ no. h.no_read (λ e. no (ap why_of_drill e));
+  no_write = λ no. h.no_write (λ e. no (ap why_of_drill e));
+  rise = h.rise;
+  sinks_rise = h.sinks_rise;
+}

@@ -1,8 +1,0 @@
-use Rattle.fg_run.proofs.ComingBack.{samples_come_back}
-use Rattle.fg_run.proofs.laws.samples_come_back.Goals as goal
-
-pub returns : goal.returns
-returns c =
-    samples_come_back c.losses_are_few.ensures c.cuts_are_payloads.ensures c.whole_cut_is_all.ensures
-    c.thinned_comes_back.ensures.consistent c.thinned_comes_back.ensures.shown c.thinned_comes_back.ensures.whole
-    c.made_streams_are_cut.ensures c.made_streams_are_packets.ensures
