@@ -10,13 +10,13 @@ use Rattle.std.specs.FinMap.{get, entries}
 use Rattle.fg_words.specs.declared.Word.{Word}
 use Rattle.fg_words.specs.Word.{zero_word, word_xor, word_sum, HasRoom}
 use Rattle.fg_words.specs.Laws.{XorAssociates, XorCommutes, XorHasZero, XorUndoesItself}
-use Rattle.fg_peel.specs.declared.row.Missing.TheVariants.{One}
+use Rattle.fg_peel.specs.declared.span.Missing.TheVariants.{One}
 use Rattle.fg_peel.specs.Equation.{Equation, slots, others, sum_at, IsComplete, IsSettled}
 use Rattle.fg_peel.specs.Slots.{IsMissing}
 use Rattle.fg_peel.proofs.Lists.{Contains-here, Contains-there, Contains-map}
 use Rattle.fg_peel.proofs.Options.{value_of}
 use Rattle.fg_peel.proofs.Maps.{entry_of_get}
-use Rattle.fg_desk.specs.State.{Live}
+use Rattle.fg_playout.specs.State.{Live}
 use Rattle.fg_turn.specs.Standing.{Standing}
 use Rattle.fg_desk.specs.Contents.{CanFill, known_in}
 use Rattle.fg_core.specs.Board.{BoardState, JobState, IsCurrent, job_sum}

@@ -6,7 +6,7 @@ use Rattle.std.specs.Prelude.{length, IfSome, option_map}
 use Rattle.std.specs.List.{All}
 use Rattle.fg_shape.specs.Playout.{Playout}
 use Rattle.fg_desk.specs.declared.desk.Played.{Played}
-use Rattle.fg_desk.specs.Play.{Shown}
+use Rattle.fg_playout.specs.Play.{Shown}
 use Rattle.fg_turn.specs.Standing.{Standing}
 use Rattle.fg_core.specs.Board.{BoardState, PlaysOn, FlushesOn, mark_of}
 use Rattle.fg_core.specs.Views.{Told, IsBorneOut, seen_of}

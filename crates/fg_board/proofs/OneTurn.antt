@@ -9,7 +9,7 @@ use mathlib.Core.List.{IsPrefix}
 use Rattle.fg_shape.specs.Playout.{Playout}
 use Rattle.fg_peel.specs.Equation.{Equation}
 use Rattle.fg_peel.proofs.Lists.{Contains-here, Contains-there}
-use Rattle.fg_desk.specs.State.{Live}
+use Rattle.fg_playout.specs.State.{Live}
 use Rattle.fg_turn.specs.Standing.{Standing}
 use Rattle.fg_core.specs.Board.{BoardState, IsLive, IsHeld, Looks, Asks, look_of, equation_with}
 use Rattle.fg_core.specs.Views.{Told, IsBorneOut, word_at, equation_is, seen_of, WasAnswered}

@@ -3,11 +3,11 @@ use Rattle.std.proofs.Common.{◌≡◌, ◌<◌, ℕ, Option, Some, None, refl,
 use Rattle.std.specs.Prelude.{IsSomeAnd}
 use Rattle.std.specs.FinMap.{get}
 use Rattle.fg_words.specs.declared.Word.{Word}
-use Rattle.fg_desk.specs.declared.reply.Reply.{Reply}
-use Rattle.fg_desk.specs.declared.reply.Reply.TheVariants.{Admitted}
-use Rattle.fg_desk.specs.State.{State, Live}
-use Rattle.fg_desk.specs.Admission.{Parity, AdmitsMedia, AdmitsParity, live_limit}
-use Rattle.fg_desk.specs.Facts.{Holds}
+use Rattle.fg_playout.specs.declared.reply.Reply.{Reply}
+use Rattle.fg_playout.specs.declared.reply.Reply.TheVariants.{Admitted}
+use Rattle.fg_playout.specs.State.{State, Live}
+use Rattle.fg_playout.specs.Admission.{Parity, AdmitsMedia, AdmitsParity, live_limit}
+use Rattle.fg_playout.specs.Facts.{Holds}
 use Rattle.fg_core.specs.declared.key.Key.{Key}
 use Rattle.fg_core.specs.Board.{BoardState, opened_board}
 use Rattle.fg_core.specs.Core.{Call, media, parity}

@@ -6,10 +6,10 @@ use mathlib.Core.List.{IsPrefix}
 use Rattle.std.specs.FinMap.{get}
 use Rattle.fg_words.specs.declared.Word.{Word}
 use Rattle.fg_shape.specs.Playout.{Playout}
-use Rattle.fg_desk.specs.declared.reply.Reply.{Reply}
-use Rattle.fg_desk.specs.declared.reply.Reply.TheVariants.{Admitted}
-use Rattle.fg_desk.specs.State.{State}
-use Rattle.fg_desk.specs.Admission.{live_limit}
+use Rattle.fg_playout.specs.declared.reply.Reply.{Reply}
+use Rattle.fg_playout.specs.declared.reply.Reply.TheVariants.{Admitted}
+use Rattle.fg_playout.specs.State.{State}
+use Rattle.fg_playout.specs.Admission.{live_limit}
 use Rattle.fg_peel.specs.Equation.{Equation}
 use Rattle.fg_turn.specs.Standing.{Standing}
 use Rattle.fg_core.specs.Board.{BoardState, JobState, opened_board}

@@ -1,7 +1,7 @@
 -- What one turn did, as its arguments and its answer say, and what it tells. No public contract cites it.
 use Rattle.std.specs.Prelude.{ℕ, Bool, true, false, List, [], ◌∷◌, ◌++◌, map, Option, Some, None}
 use Rattle.std.specs.FinMap.{get}
-use Rattle.fg_desk.specs.State.{Live}
+use Rattle.fg_playout.specs.State.{Live}
 use Rattle.fg_turn.specs.Standing.{Standing}
 use Rattle.fg_core.specs.Board.{BoardState, look_of}
 use Rattle.fg_core.specs.Views.{Told, word_at, equation_is, seen_of, told_of_job}

@@ -1,7 +1,8 @@
 -- What an admitter knows of its own desk. No public contract cites it.
 use Rattle.std.specs.Prelude.{◌≡◌, ◌≤◌, ◌<◌, ◌^◌, false, ℕ, Option, IfSome, option_map}
+use Rattle.fg_shape.specs.Shape.{position_limit}
 use Rattle.fg_shape.specs.Playout.{Playout}
-use Rattle.fg_desk.specs.State.{State, Top}
+use Rattle.fg_playout.specs.State.{State, Top}
 use Rattle.fg_board.specs.Actors.{AdmitterState, desk_of, IsOwnBoard}
 
 -- The farthest position and its sequence number, as the desk has them.
@@ -14,7 +15,7 @@ pub record Knows (playout : Playout) (top : Option (ℕ × ℕ)) (mark calls : �
   pub top_is : top_of top ≡ desk.top
   pub mark_is : mark ≡ desk.mark
   pub calls_is : calls ≡ desk.calls
-  pub top_limit : IfSome desk.top (λ t. t.position ≤ 2 ^ 62)
+  pub top_limit : IfSome desk.top (λ t. t.position ≤ position_limit)
 
 -- What an admitter has between its calls.
 pub record KnowsItsDesk (admitter : AdmitterState) (top : Option (ℕ × ℕ)) (mark calls : ℕ) : Type 0 where

@@ -3,10 +3,11 @@
 ghost use Rattle.std.specs.Prelude.{◌≡◌, ◌↔◌, ◌+◌, ◌<◌, ◌≤◌, ◌^◌, [], ◌∷◌, length, false, true, Some, None, IsTrue, IsSome, IfSome, IfNone, option_map};
 ghost use Rattle.fg_words.specs.Word.{IsMedia};
 ghost use Rattle.fg_shape.specs.Shape.{IsShape};
-ghost use Rattle.fg_desk.specs.Admission.{IsDue, AdmitsMedia, AdmitsParity};
-ghost use Rattle.fg_desk.specs.Contents.{HasRoom, AreSolved};
-ghost use Rattle.fg_desk.specs.Facts.{Holds};
-ghost use Rattle.fg_desk.specs.Play.{IsPlay, Flushes};
+ghost use Rattle.fg_playout.specs.Admission.{IsDue, AdmitsMedia, AdmitsParity};
+ghost use Rattle.fg_playout.specs.Room.{HasRoom, call_limit};
+ghost use Rattle.fg_desk.specs.Contents.{AreSolved};
+ghost use Rattle.fg_playout.specs.Facts.{Holds};
+ghost use Rattle.fg_playout.specs.Play.{IsPlay, Flushes};
 ghost use Rattle.fg_board.specs.Actors.{MakesCall, board_of, desk_of, IsOwnBoard, GivesKeyOf};
 ghost use Rattle.fg_core.specs.Codes.{opening_code, IsOwnedBy, GrowsFrom};
 ghost use Rattle.fg_core.specs.Core.{media, parity, play, flush, play_of};
@@ -17,6 +18,7 @@ use crate::turns::{Made, settle_owner};
 use fg_core::laws::{calls_make_one_desk, opening_is_owned};
 use fg_core::{Flow, Key};
 use fg_desk::{Played, Reply, Tray};
+use fg_playout::{CALL_LIMIT, FARTHEST_LIMIT};
 use fg_shape::Shape;
 use fg_turn::{Owner, Turn};
 use fg_unwrap::position;
@@ -24,12 +26,6 @@ use fg_words::Shared;
 use std::marker::Model;
 use std::snapshot::Snapshot;
 use std::sync::Wait;
-
-/// The mark and the farthest position are below this where a desk may change.
-const POSITIONS: u64 = 1 << 61;
-
-/// Fewer calls than this were made where a desk may change.
-const CALLS: u64 = 1 << 62;
 
 /// What an admitter knows of its desk without a turn.
 #[derive(Clone, Copy)]
@@ -42,7 +38,7 @@ struct Near {
 impl Near {
     // After one call more.
     fn after(self, flow: &Flow) -> Near
-        requires { self.calls < 2 ^ 62 }
+        requires { self.calls < call_limit }
         ensures top { top_of result.top ≡ flow.now.desk.state.top }
         ensures mark { result.mark ≡ flow.now.desk.state.mark }
         ensures calls { result.calls ≡ self.calls + 1 }
@@ -171,10 +167,10 @@ impl Admitter {
         ensures playout { (desk_of self.now).playout ≡ self.now.playout }
     {
         let top_has_room = match self.near.top {
-            Some((top, _)) => top < POSITIONS,
+            Some((top, _)) => top < FARTHEST_LIMIT,
             None => true,
         };
-        top_has_room && self.near.mark < POSITIONS && self.near.calls < CALLS
+        top_has_room && self.near.mark < FARTHEST_LIMIT && self.near.calls < CALL_LIMIT
     }
 
     /// How many passes are out.

@@ -3,11 +3,11 @@
 ghost use Rattle.std.specs.Prelude.{◌≡◌, ◌↔◌, ◌+◌, ◌-◌, ◌<◌, ◌≤◌, ℕ, [], ◌∷◌, map, false, Some, None, IfOk, IfErr, IfSome, IsSomeAnd, IsTrue, option_map};
 ghost use Rattle.std.specs.FinMap.{get};
 ghost use Rattle.fg_words.specs.Word.{zero_word};
-ghost use Rattle.fg_peel.specs.declared.row.Missing.TheVariants.{One};
+ghost use Rattle.fg_peel.specs.declared.span.Missing.TheVariants.{One};
 ghost use Rattle.fg_peel.specs.Equation.{Equation, IsComplete, IsSettled};
 ghost use Rattle.fg_peel.specs.Slots.{IsMissing};
 ghost use Rattle.fg_turn.specs.Standing.{owner_of, newcomer_of};
-ghost use Rattle.fg_desk.specs.State.{Live};
+ghost use Rattle.fg_playout.specs.State.{Live};
 ghost use Rattle.fg_desk.specs.Contents.{CanFill, known_in};
 ghost use Rattle.fg_core.specs.Board.{IsCurrent, job_sum, look_of, TellsEquation, TellsReadable};
 ghost use Rattle.fg_core.specs.Codes.{told_from, opening_code};

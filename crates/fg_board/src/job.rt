@@ -3,7 +3,7 @@
 ghost use Rattle.std.specs.Prelude.{◌≡◌, ◌↔◌, ℕ, IsTrue, IfOk, IfSome, IfNone};
 ghost use Rattle.std.specs.FinMap.{get};
 ghost use Rattle.fg_words.specs.Word.{zero_word};
-ghost use Rattle.fg_peel.specs.declared.row.Missing.TheVariants.{One};
+ghost use Rattle.fg_peel.specs.declared.span.Missing.TheVariants.{One};
 ghost use Rattle.fg_peel.specs.Equation.{IsComplete};
 ghost use Rattle.fg_peel.specs.Slots.{IsMissing};
 ghost use Rattle.fg_board.specs.Actors.{WasTold, IsWorkedBy, IsCheckedBy};

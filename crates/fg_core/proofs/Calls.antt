@@ -6,10 +6,10 @@ use Rattle.std.specs.FinMap.{get}
 use Rattle.std.specs.FinSet.{contains}
 use Rattle.fg_peel.specs.Equation.{IsSettled}
 use Rattle.fg_peel.proofs.Options.{value_of, none_has_no_value}
-use Rattle.fg_desk.specs.State.{State, Live}
-use Rattle.fg_desk.specs.Facts.{Holds}
+use Rattle.fg_playout.specs.State.{State, Live}
+use Rattle.fg_playout.specs.Facts.{Holds}
 use Rattle.fg_desk.specs.Contents.{AreSolved, known_in}
-use Rattle.fg_core.specs.Board.{BoardState, IsLive, KeepsMarks}
+use Rattle.fg_core.specs.Board.{BoardState, IsLive, KeepsNotes}
 use Rattle.fg_core.specs.Views.{Told, saw, word_at, equation_is, IsBorneOut}
 use Rattle.fg_core.specs.Core.{Call, media, parity, play, flush, play_of, IsCallOn, CanCallOn, AreCallsOn, KeyIsOf, CanCall, IsCall}
 use Rattle.fg_core.specs.Below.{CallLaws}
@@ -36,13 +36,13 @@ call_on old new (play played) is = (is.0, is.1.state, is.2)
 call_on old new (flush None) is = is.0
 call_on old new (flush (Some played)) is = (is.0, is.1.0, is.2)
 
--- Its marks stay as each call says.
-marks_kept : (old new : BoardState) (call : Call) → IsCall old call new → KeepsMarks old new
-marks_kept old new (media seq word reply) is = is.marks
-marks_kept old new (parity datagram reply key) is = is.marks
-marks_kept old new (play played) is = is.1.marks
-marks_kept old new (flush None) is = is.2
-marks_kept old new (flush (Some played)) is = is.1.2
+-- Its notes stay as each call says.
+notes_kept : (old new : BoardState) (call : Call) → IsCall old call new → KeepsNotes old new
+notes_kept old new (media seq word reply) is = is.notes
+notes_kept old new (parity datagram reply key) is = is.notes
+notes_kept old new (play played) is = is.1.notes
+notes_kept old new (flush None) is = is.2
+notes_kept old new (flush (Some played)) is = is.1.2
 
 -- The key that it gives is of the board's epoch.
 key_is_of : (old new : BoardState) (call : Call) → IsCall old call new → KeyIsOf new.desk.epoch call
@@ -127,13 +127,13 @@ module _
 
   -- Each vouched equation is one of before.
   vouched_after :
-      KeepsMarks old new
+      KeepsNotes old new
       → ((serial : ℕ) → contains old.vouched serial ≡ true
       → (live : Live) × IsLive old serial live × IsSettled (known_in old.desk) live.equation)
       → (serial : ℕ) → contains new.vouched serial ≡ true
       → (live : Live) × IsLive new serial live × IsSettled (known_in new.desk) live.equation
-  vouched_after marks vouched serial is =
-      let kept = (marks.vouched serial).0 is in
+  vouched_after notes vouched serial is =
+      let kept = (notes.vouched serial).0 is in
       let was = vouched serial kept.0 in
       let now = value_of (get new.desk.state.equations serial) kept.2 in
       let settled = subst (λ (l : Live). IsSettled (known_in old.desk) l.equation) (same_live serial was.0 now.0 was.1 now.1) was.2 in
@@ -143,7 +143,7 @@ pub calls_extend : CallLaws → CallsExtend
 calls_extend laws playout calls call old new owned can is =
     let holds = facts_hold laws old new call owned.facts can is in
     let next = desk_is_next laws old new call owned.facts owned.solved owned.bare is in
-    let marks = marks_kept old new call is in
+    let notes = notes_kept old new call is in
     let one_more = next.one_more in
     let few = owned.epoch in
     let longer : length (calls ++ call ∷ []) ≡ length calls + 1 = length-append calls (call ∷ []) in
@@ -151,8 +151,8 @@ calls_extend laws playout calls call old new owned can is =
       desk = calls_and_one _ old.desk.state new.desk.state calls call owned.desk (can, call_on old new call is);
       facts = holds;
       solved = next.solved;
-      vouched = vouched_after old new owned.facts holds next marks owned.vouched;
-      handed_out = λ serial is. ((marks.handed_out serial).0 is).2;
+      vouched = vouched_after old new owned.facts holds next notes owned.vouched;
+      handed_out = λ serial is. ((notes.handed_out serial).0 is).2;
       bare = next.bare;
       keys = All-push (KeyIsOf new.desk.epoch) calls call
           (All-weaker (KeyIsOf old.desk.epoch) (KeyIsOf new.desk.epoch) (later_epoch old.desk.epoch new.desk.epoch next.epoch) calls owned.keys)

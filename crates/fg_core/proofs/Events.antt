@@ -8,8 +8,8 @@ use Rattle.fg_peel.specs.Equation.{Equation, IsSettled}
 use Rattle.fg_peel.specs.Laws.{PeelingsAppend}
 use Rattle.fg_peel.proofs.Options.{has_value}
 use Rattle.fg_peel.proofs.Maps.{was_or_inserted, was_in}
-use Rattle.fg_desk.specs.State.{Live}
-use Rattle.fg_desk.specs.Laws.{LiveStandUnderSerials}
+use Rattle.fg_playout.specs.State.{Live}
+use Rattle.fg_playout.specs.Laws.{LiveStandUnderSerials}
 use Rattle.fg_desk.specs.Contents.{CanFill, known_in, filled}
 use Rattle.fg_core.specs.Board.{BoardState, JobState, IsLive, IsHeld, Takes, Offers, Publishes, Attests, Vouches, GivesBack, Looks, with_word, with_vouched, with_back}
 use Rattle.fg_core.specs.Views.{Told, Grows, IsWorked, IsChecked}
@@ -86,10 +86,10 @@ module _ (playout : Playout) (calls : List Call) (board : BoardState) (owned : I
     desk = owned.desk;
     facts = owned.facts;
     solved = owned.solved;
-    vouched = λ other marked. ⊎_elim
+    vouched = λ other noted. ⊎_elim
         (λ same. (live, ap (get board.desk.state.equations) same ∙ is, settled))
         (λ was. owned.vouched other was)
-        (was_or_inserted board.vouched serial other marked);
+        (was_or_inserted board.vouched serial other noted);
     handed_out = owned.handed_out;
     bare = owned.bare;
     keys = owned.keys;

@@ -11,7 +11,7 @@ use Rattle.fg_peel.specs.Laws.{PeelingsAppend}
 use Rattle.fg_peel.proofs.Options.{value_of, has_value}
 use Rattle.fg_peel.proofs.Maps.{beside_inserted, inserted}
 use Rattle.fg_peel.proofs.Sums.{sum_at-agree}
-use Rattle.fg_desk.specs.State.{known, live_equations}
+use Rattle.fg_playout.specs.State.{known, live_equations}
 use Rattle.fg_desk.specs.Contents.{Contents, AreSolved, CanFill, known_in, filled}
 
 -- Where neither of two options has a value, none of them has.

@@ -1,17 +1,17 @@
--- What each call of the admitter keeps of a desk, as far as marks and shares go.
+-- What each call of the admitter keeps of a desk, as far as notes and shares go.
 use Rattle.std.proofs.Common.{◌≡◌, ◌<◌, ◌≤◌, ℕ, Some, sym, ap, ◌∙◌, ⊎_elim, arith}
 use Rattle.std.specs.Ordering.{nat_cmp}
 use Rattle.std.specs.FinMap.{FinMap, get}
 use Rattle.fg_words.specs.declared.Word.{Word}
 use Rattle.fg_peel.proofs.Options.{some_and}
 use Rattle.fg_peel.proofs.Maps.{beside_inserted}
-use Rattle.fg_desk.specs.declared.reply.Reply.{Reply}
-use Rattle.fg_desk.specs.declared.reply.Reply.TheVariants.{Admitted}
-use Rattle.fg_desk.specs.declared.reply.Outcome.{Outcome}
-use Rattle.fg_desk.specs.declared.reply.Outcome.TheVariants.{Repaired, Inconsistent}
-use Rattle.fg_desk.specs.State.{State, Live}
-use Rattle.fg_desk.specs.Admission.{Parity, AdmitsMedia, AdmitsParity, IsAfterMedia, IsAfterParity, IsLeastFree, counted, position_on, with_media, with_equation, equation_at}
-use Rattle.fg_desk.specs.Play.{Play, IsPlay}
+use Rattle.fg_playout.specs.declared.reply.Reply.{Reply}
+use Rattle.fg_playout.specs.declared.reply.Reply.TheVariants.{Admitted}
+use Rattle.fg_playout.specs.declared.reply.Outcome.{Outcome}
+use Rattle.fg_playout.specs.declared.reply.Outcome.TheVariants.{Repaired, Inconsistent}
+use Rattle.fg_playout.specs.State.{State, Live}
+use Rattle.fg_playout.specs.Admission.{Parity, AdmitsMedia, AdmitsParity, IsAfterMedia, IsAfterParity, IsLeastFree, counted, position_on, with_media, with_equation, equation_at}
+use Rattle.fg_playout.specs.Play.{Play, IsPlay}
 use Rattle.fg_desk.specs.Contents.{Contents, GivesWay, IsAfterArrival, ChangesInPlay, epoch_after}
 use Rattle.fg_core.proofs.Next.{AreBareKept}
 use Rattle.fg_core.proofs.Played.{bare_is_kept}

@@ -9,8 +9,8 @@ use Rattle.fg_words.specs.declared.Word.{Word}
 use Rattle.fg_peel.specs.Equation.{Equation}
 use Rattle.fg_peel.proofs.Options.{has_value}
 use Rattle.fg_peel.proofs.Maps.{get_of_entry}
-use Rattle.fg_desk.specs.State.{Live}
-use Rattle.fg_desk.specs.Facts.{Holds}
+use Rattle.fg_playout.specs.State.{Live}
+use Rattle.fg_playout.specs.Facts.{Holds}
 use Rattle.fg_desk.specs.Contents.{Contents, known_in, filled}
 use Rattle.fg_core.specs.Board.{BoardState, JobState, IsLive, IsHeld, IsJobOf, Takes, Offers, Publishes, Attests, Vouches, GivesBack, Looks, mark_of, with_word, with_back}
 use Rattle.fg_core.specs.Views.{Told, saw, word_at, equation_is, IsBorneOut, seen_of, told_of_job}

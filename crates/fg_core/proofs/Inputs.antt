@@ -9,7 +9,7 @@ use Rattle.fg_words.specs.Word.{zero_word, word_xor, word_sum, HasRoom}
 use Rattle.fg_words.specs.Laws.{XorAssociates, XorHasZero}
 use Rattle.fg_shape.specs.Shape.{slots_of}
 use Rattle.fg_shape.proofs.ShapeLemmas.{get_or-slots_of, slot_of_number, number_of_slot}
-use Rattle.fg_peel.specs.declared.row.Missing.TheVariants.{One}
+use Rattle.fg_peel.specs.declared.span.Missing.TheVariants.{One}
 use Rattle.fg_peel.specs.Equation.{sum_at, IsComplete}
 use Rattle.fg_peel.specs.Slots.{IsMissing}
 use Rattle.fg_peel.proofs.Options.{none_or_some, has_value, none_has_no_value}

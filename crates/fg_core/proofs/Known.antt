@@ -11,12 +11,12 @@ use Rattle.fg_peel.specs.Peeling.{Step, after_step, given_word, end_of}
 use Rattle.fg_peel.proofs.Sums.{sum_at-agree}
 use Rattle.fg_peel.proofs.Options.{value_of, has_value, none_has_no_value, or_first, or_second, or_none, same_functions}
 use Rattle.fg_peel.proofs.Maps.{in_empty}
-use Rattle.fg_desk.specs.State.{State, Live, known}
-use Rattle.fg_desk.specs.Admission.{kept_count}
-use Rattle.fg_desk.specs.Facts.{Holds}
-use Rattle.fg_desk.specs.Laws.{StepsAreAhead}
+use Rattle.fg_playout.specs.State.{State, Live, known}
+use Rattle.fg_playout.specs.Admission.{kept_count}
+use Rattle.fg_playout.specs.Facts.{Holds}
+use Rattle.fg_playout.specs.Laws.{StepsAreAhead}
 use Rattle.fg_desk.specs.Contents.{Contents, AreSolved, known_in, opened}
-use Rattle.fg_desk.proofs.Orderly.{known_below}
+use Rattle.fg_playout.proofs.Orderly.{known_below}
 
 -- The words that need no equation come before those solved.
 module _ (desk : Contents) (position : ℕ) where

@@ -7,7 +7,7 @@ mod Follows
 mod Growing
 mod Inputs
 mod Known
-mod Marking
+mod Noting
 mod Next
 mod OneDesk
 mod Opening

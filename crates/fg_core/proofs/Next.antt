@@ -3,8 +3,8 @@ use Rattle.std.proofs.Common.{◌≡◌, ◌+◌, ◌<◌, ◌≤◌, ℕ, true,
 use Rattle.std.specs.FinMap.{get}
 use Rattle.std.specs.FinSet.{contains}
 use Rattle.fg_words.specs.declared.Word.{Word}
-use Rattle.fg_desk.specs.State.{State, Live}
-use Rattle.fg_desk.specs.Admission.{kept_count, counted}
+use Rattle.fg_playout.specs.State.{State, Live}
+use Rattle.fg_playout.specs.Admission.{kept_count, counted}
 use Rattle.fg_desk.specs.Contents.{Contents, AreSolved, known_in}
 
 -- Each bare position is a kept one.

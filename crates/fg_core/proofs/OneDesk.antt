@@ -1,8 +1,8 @@
 -- The admitter's calls with their answers make one desk.
 use Rattle.std.proofs.Common.{◌≡◌, List, [], ◌∷◌, Some, None, sym, subst, ◌∙◌}
 use Rattle.fg_peel.proofs.Options.{none_has_no_value}
-use Rattle.fg_desk.specs.State.{State, opening}
-use Rattle.fg_desk.specs.Facts.{Holds}
+use Rattle.fg_playout.specs.State.{State, opening}
+use Rattle.fg_playout.specs.Facts.{Holds}
 use Rattle.fg_core.specs.Core.{Call, media, parity, play, flush, play_of, IsCallOn, CanCallOn, AreCallsOn}
 use Rattle.fg_core.specs.Below.{CallLaws}
 use Rattle.fg_core.specs.Laws.{CallsMakeOneDesk}

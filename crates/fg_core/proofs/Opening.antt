@@ -12,23 +12,23 @@ use Rattle.fg_words.specs.Word.{HasRoom}
 use Rattle.fg_shape.specs.Shape.{IsShape}
 use Rattle.fg_shape.proofs.ShapeLemmas.{get_or-slots_of, slot_of_number, number_of_slot, slots_apart}
 use Rattle.fg_peel.specs.declared.Line.{Line}
-use Rattle.fg_peel.specs.declared.row.Missing.TheVariants.{One}
+use Rattle.fg_peel.specs.declared.span.Missing.TheVariants.{One}
 use Rattle.fg_peel.specs.Equation.{Equation, slots, IsComplete}
 use Rattle.fg_peel.specs.Slots.{equation_of, lines_of, IsMissing}
 use Rattle.fg_peel.proofs.Lists.{Contains-here, Contains-there, Contains-cases, Contains-nil}
 use Rattle.fg_peel.proofs.Options.{value_of, has_value, none_has_no_value, or_first}
-use Rattle.fg_desk.specs.State.{Live, known}
-use Rattle.fg_desk.specs.Facts.{Holds}
-use Rattle.fg_window.specs.Lines.{live_of}
+use Rattle.fg_playout.specs.State.{Live, known}
+use Rattle.fg_playout.specs.Facts.{Holds}
+use Rattle.fg_buffer.specs.LiveEquations.{live_of}
 use Rattle.fg_desk.specs.Contents.{Contents, known_in, shared_at}
 use Rattle.fg_core.specs.Board.{BoardState, JobState, IsOpen, IsCurrent, IsJobOf}
 use Rattle.fg_core.specs.Work.{job_of, IsWork, MissOne, inputs_from}
-use Rattle.fg_core.specs.Flow.{says, mark_at, marked, is_vouched, is_handed_out, board_of, BareAreKept, IsWithin, AreShared, IsOpenLine, IsKeyOfOpen, IsAtMost, AreSharesAt, IsReady}
+use Rattle.fg_core.specs.Flow.{says, note_at, noted, is_vouched, is_handed_out, board_of, BareAreKept, IsWithin, AreShared, IsOpenLine, IsKeyOfOpen, IsAtMost, AreSharesAt, IsReady}
 use Rattle.fg_core.specs.declared.key.Key.{Key}
-use Rattle.fg_core.specs.declared.marks.Mark.{Mark}
+use Rattle.fg_core.specs.declared.notes.Note.{Note}
 use Rattle.fg_core.proofs.Inputs.{input_of_number, input_is_slot}
-use Rattle.fg_desk.proofs.Orderly.{known_below}
-use Rattle.fg_core.proofs.Marking.{marked_is}
+use Rattle.fg_playout.proofs.Orderly.{known_below}
+use Rattle.fg_core.proofs.Noting.{noted_is}
 
 -- Shares
 
@@ -159,34 +159,34 @@ lower_all :
 lower_all None best key less lower = tt
 lower_all (Some b) best key less lower = at_most_lower best key b.serial less lower
 
-module _ (desk : Contents) (marks : List Mark) (lines : Slab Line) (first : Option Key) where
+module _ (desk : Contents) (notes : List Note) (lines : Slab Line) (first : Option Key) where
   -- It is open, and no later one than the first or any line that was passed and is open.
   pub record IsBest (best : Option Key) (rest : List (ℕ × Line)) : Type 0 where
-    pub opened : IfSome best (IsKeyOfOpen (board_of desk marks))
+    pub opened : IfSome best (IsKeyOfOpen (board_of desk notes))
     pub lower : IfSome first (λ b. IsAtMost best b.serial)
-    pub walks : Walks lines (λ line. IsOpenLine desk marks line → IsAtMost best line.serial) rest
+    pub walks : Walks lines (λ line. IsOpenLine desk notes line → IsAtMost best line.serial) rest
 
-  pub best_at_first : IfSome first (IsKeyOfOpen (board_of desk marks)) → (rest : List (ℕ × Line)) → rest ≡ entries lines → IsBest first rest
+  pub best_at_first : IfSome first (IsKeyOfOpen (board_of desk notes)) → (rest : List (ℕ × Line)) → rest ≡ entries lines → IsBest first rest
   best_at_first opened rest whole = record {
     opened = opened;
     lower = at_most_itself first;
-    walks = walk_begins lines (λ line. IsOpenLine desk marks line → IsAtMost first line.serial) rest whole;
+    walks = walk_begins lines (λ line. IsOpenLine desk notes line → IsAtMost first line.serial) rest whole;
   }
 
   module _ (best : Option Key) (all : List (ℕ × Line)) (entry : ℕ × Line) (rest : List (ℕ × Line)) (cut : all ≡ entry ∷ rest) (is : IsBest best all) where
     pub line_here : Contains (lines_of lines) entry.1
-    line_here = walk_here lines (λ line. IsOpenLine desk marks line → IsAtMost best line.serial) all entry rest cut is.walks
+    line_here = walk_here lines (λ line. IsOpenLine desk notes line → IsAtMost best line.serial) all entry rest cut is.walks
 
-    pub best_passed : (IsOpenLine desk marks entry.1 → IsAtMost best entry.1.serial) → IsBest best rest
+    pub best_passed : (IsOpenLine desk notes entry.1 → IsAtMost best entry.1.serial) → IsBest best rest
     best_passed here = record {
       opened = is.opened;
       lower = is.lower;
-      walks = walk_goes_on lines (λ line. IsOpenLine desk marks line → IsAtMost best line.serial)
-          (λ line. IsOpenLine desk marks line → IsAtMost best line.serial) all entry rest cut (λ line done. done) here is.walks;
+      walks = walk_goes_on lines (λ line. IsOpenLine desk notes line → IsAtMost best line.serial)
+          (λ line. IsOpenLine desk notes line → IsAtMost best line.serial) all entry rest cut (λ line done. done) here is.walks;
     }
 
     pub best_found :
-        IfSome best (λ b. entry.1.serial < b.serial) → IsWithin desk entry.1 → IsOpenLine desk marks entry.1 → (key : Key)
+        IfSome best (λ b. entry.1.serial < b.serial) → IsWithin desk entry.1 → IsOpenLine desk notes entry.1 → (key : Key)
         → key ≡ record { place = entry.1.place; serial = entry.1.serial; epoch = desk.epoch } → IsBest (Some key) rest
     best_found less within opened key key_is =
         subst (λ (k : Key). IsBest (Some k) rest) (sym key_is)
@@ -194,8 +194,8 @@ module _ (desk : Contents) (marks : List Mark) (lines : Slab Line) (first : Opti
         record {
           opened = (live_of entry.1, opened, record { live_is = within.live_is; place_is = refl; epoch_is = refl });
           lower = lower_all first best own less is.lower;
-          walks = walk_goes_on lines (λ line. IsOpenLine desk marks line → IsAtMost best line.serial)
-              (λ line. IsOpenLine desk marks line → IsAtMost (Some own) line.serial) all entry rest cut
+          walks = walk_goes_on lines (λ line. IsOpenLine desk notes line → IsAtMost best line.serial)
+              (λ line. IsOpenLine desk notes line → IsAtMost (Some own) line.serial) all entry rest cut
               (λ line done is_open. at_most_lower best own line.serial less (done is_open)) (λ is_open. omega arith) is.walks;
         })
 
@@ -212,21 +212,21 @@ pub one_not_complete : (words : ℕ → Option Word) (equation : Equation) (slot
 one_not_complete words equation slot one complete = none_has_no_value (words slot) one.1 (complete slot one.0)
 
 module _
-    (desk : Contents) (marks : List Mark) (line : Line) (facts : Holds desk.state) (within : IsWithin desk line) (bare : BareAreKept desk)
-    (mark : Mark) where
+    (desk : Contents) (notes : List Note) (line : Line) (facts : Holds desk.state) (within : IsWithin desk line) (bare : BareAreKept desk)
+    (note : Note) where
   pub flag_is :
-      (which : Mark → Bool) (key : Key) → key ≡ record { place = line.place; serial = line.serial; epoch = desk.epoch }
-      → which mark ≡ says which key.epoch key.serial (mark_at marks key.place)
-      → contains (marked which marks desk) line.serial ≡ which mark
+      (which : Note → Bool) (key : Key) → key ≡ record { place = line.place; serial = line.serial; epoch = desk.epoch }
+      → which note ≡ says which key.epoch key.serial (note_at notes key.place)
+      → contains (noted which notes desk) line.serial ≡ which note
   flag_is which key key_is is =
-      marked_is which marks desk line.serial (live_of line) (facts.live line.serial (live_of line) within.live_is).numbered within.live_is
-      ∙ sym (is ∙ ap (λ (k : Key). says which k.epoch k.serial (mark_at marks k.place)) key_is)
+      noted_is which notes desk line.serial (live_of line) (facts.live line.serial (live_of line) within.live_is).numbered within.live_is
+      ∙ sym (is ∙ ap (λ (k : Key). says which k.epoch k.serial (note_at notes k.place)) key_is)
 
   pub opens :
-      contains (marked is_handed_out marks desk) line.serial ≡ false → AreShared desk line
+      contains (noted is_handed_out notes desk) line.serial ≡ false → AreShared desk line
       → ((slot : ℕ) × IsMissing (known_in desk) (equation_of line) (One slot))
-      ⊎ (IsComplete (known_in desk) (equation_of line) × (contains (marked is_vouched marks desk) line.serial ≡ false))
-      → IsOpenLine desk marks line
+      ⊎ (IsComplete (known_in desk) (equation_of line) × (contains (noted is_vouched notes desk) line.serial ≡ false))
+      → IsOpenLine desk notes line
   opens free shared work = record {
     live_is = within.live_is;
     free = free;

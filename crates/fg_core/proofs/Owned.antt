@@ -3,7 +3,7 @@ use Rattle.std.proofs.Common.{◌≡◌, ℕ, true, refl, sym, ◌∙◌, arith,
 use Rattle.std.proofs.lemmas.List.Elements.{All-nil}
 use Rattle.std.specs.Ordering.{nat_cmp}
 use Rattle.std.specs.FinSet.{contains, empty, contains-empty}
-use Rattle.fg_desk.specs.Laws.{OpeningHolds}
+use Rattle.fg_playout.specs.Laws.{OpeningHolds}
 use Rattle.fg_core.specs.Core.{KeyIsOf}
 use Rattle.fg_core.specs.Laws.{OpeningIsOwned}
 use Rattle.fg_core.proofs.Known.{opened_is_solved}

@@ -7,17 +7,17 @@ use Rattle.fg_peel.specs.Equation.{Keeps}
 use Rattle.fg_peel.specs.Laws.{SolutionsKeepPeelings}
 use Rattle.fg_peel.proofs.Options.{none_has_no_value, same_functions}
 use Rattle.fg_peel.proofs.Maps.{in_empty}
-use Rattle.fg_desk.specs.declared.reply.Outcome.{Outcome}
-use Rattle.fg_desk.specs.declared.reply.Outcome.TheVariants.{Repaired, Inconsistent}
-use Rattle.fg_desk.specs.State.{State, Live, Words, known, live_equations}
-use Rattle.fg_desk.specs.Admission.{kept_count}
-use Rattle.fg_desk.specs.Solution.{IsSolution}
-use Rattle.fg_desk.specs.Play.{Play, Decides, IsPlay}
-use Rattle.fg_desk.specs.Facts.{Holds}
-use Rattle.fg_desk.specs.Laws.{SolvedStaysPeeled, SolutionsArePeelings, StepsAreAhead, LiveStandUnderSerials}
+use Rattle.fg_playout.specs.declared.reply.Outcome.{Outcome}
+use Rattle.fg_playout.specs.declared.reply.Outcome.TheVariants.{Repaired, Inconsistent}
+use Rattle.fg_playout.specs.State.{State, Live, Words, known, live_equations}
+use Rattle.fg_playout.specs.Admission.{kept_count}
+use Rattle.fg_playout.specs.Solution.{IsSolution}
+use Rattle.fg_playout.specs.Play.{Play, Decides, IsPlay}
+use Rattle.fg_playout.specs.Facts.{Holds}
+use Rattle.fg_playout.specs.Laws.{SolvedStaysPeeled, SolutionsArePeelings, StepsAreAhead, LiveStandUnderSerials}
 use Rattle.fg_core.specs.Below.{PlayLaws}
 use Rattle.fg_desk.specs.Contents.{Contents, AreSolved, ChangesInPlay, IsSolvedAfter, known_in}
-use Rattle.fg_desk.proofs.Orderly.{orderly_from_holds, known_below, known_ahead, admissible}
+use Rattle.fg_playout.proofs.Orderly.{orderly_from_holds, known_below, known_ahead, admissible}
 use Rattle.fg_core.proofs.Known.{known_alone, nothing_solved, kept_below}
 use Rattle.fg_core.proofs.Next.{IsNext, AreBareKept}
 

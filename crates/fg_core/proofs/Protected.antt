@@ -5,12 +5,12 @@ use Rattle.fg_peel.specs.Equation.{Equation}
 use Rattle.fg_peel.specs.Laws.{PeelingsTakeEquations}
 use Rattle.fg_peel.proofs.Options.{some_and}
 use Rattle.fg_peel.proofs.Maps.{beside_inserted}
-use Rattle.fg_desk.specs.declared.reply.Reply.{Reply}
-use Rattle.fg_desk.specs.declared.reply.Reply.TheVariants.{Admitted}
-use Rattle.fg_desk.specs.State.{State, known, live_equations}
-use Rattle.fg_desk.specs.Admission.{Parity, AdmitsParity, IsParityReply, IsAfterParity, IsLeastFree, position_on, with_equation, equation_at}
-use Rattle.fg_desk.specs.Facts.{Holds}
-use Rattle.fg_desk.specs.Laws.{ParityAdds}
+use Rattle.fg_playout.specs.declared.reply.Reply.{Reply}
+use Rattle.fg_playout.specs.declared.reply.Reply.TheVariants.{Admitted}
+use Rattle.fg_playout.specs.State.{State, known, live_equations}
+use Rattle.fg_playout.specs.Admission.{Parity, AdmitsParity, IsParityReply, IsAfterParity, IsLeastFree, position_on, with_equation, equation_at}
+use Rattle.fg_playout.specs.Facts.{Holds}
+use Rattle.fg_playout.specs.Laws.{ParityAdds}
 use Rattle.fg_desk.specs.Contents.{Contents, AreSolved}
 use Rattle.fg_core.proofs.Next.{IsNext, AreBareKept, is_next_counted}
 

@@ -11,12 +11,12 @@ use Rattle.fg_peel.specs.Peeling.{Step, IsPeeling, end_of}
 use Rattle.fg_peel.specs.Laws.{PeelingsTakeWords}
 use Rattle.fg_peel.proofs.Options.{none_or_some, none_has_no_value, some_and, some_and_from, or_first, or_twice, same_functions}
 use Rattle.fg_peel.proofs.Maps.{in_empty, removed, beside_removed}
-use Rattle.fg_desk.specs.declared.reply.Reply.{Reply}
-use Rattle.fg_desk.specs.declared.reply.Reply.TheVariants.{Admitted}
-use Rattle.fg_desk.specs.State.{State, Live, Words, known, live_equations}
-use Rattle.fg_desk.specs.Admission.{AdmitsMedia, IsMediaReply, IsAfterMedia, position_on, with_media}
-use Rattle.fg_desk.specs.Facts.{Holds}
-use Rattle.fg_desk.specs.Laws.{MediaAdds}
+use Rattle.fg_playout.specs.declared.reply.Reply.{Reply}
+use Rattle.fg_playout.specs.declared.reply.Reply.TheVariants.{Admitted}
+use Rattle.fg_playout.specs.State.{State, Live, Words, known, live_equations}
+use Rattle.fg_playout.specs.Admission.{AdmitsMedia, IsMediaReply, IsAfterMedia, position_on, with_media}
+use Rattle.fg_playout.specs.Facts.{Holds}
+use Rattle.fg_playout.specs.Laws.{MediaAdds}
 use Rattle.fg_desk.specs.Contents.{Contents, AreSolved, GivesWay, IsContradicted, IsAfterArrival, known_in}
 use Rattle.fg_core.proofs.Known.{known_first, solved_second, nothing_solved}
 use Rattle.fg_core.proofs.Next.{IsNext, AreBareKept, is_next_counted}

@@ -3,7 +3,7 @@ use Rattle.std.proofs.Common.{◌≡◌, ◌==◌, ◌++◌, ℕ, Bool, true, fa
 use Rattle.std.proofs.lemmas.List.Elements.{All-nil, All-push, All-append}
 use Rattle.std.specs.List.{All}
 use Rattle.fg_shape.specs.Playout.{Playout}
-use Rattle.fg_desk.specs.State.{State, opening}
+use Rattle.fg_playout.specs.State.{State, opening}
 use Rattle.fg_core.specs.Board.{BoardState, opened_board}
 use Rattle.fg_core.specs.Views.{Told, IsBorneOut, Grows, seen_of}
 use Rattle.fg_core.specs.Core.{Call, media, parity, play, flush, IsCallOn, AreCallsOn, IsOwned, CanCall, IsCall, Event, CanDo, IsEvent, Tells, World, opened_world, with_told, Turn, admitter, pass, IsTurn, IsRun}

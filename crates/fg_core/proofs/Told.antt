@@ -10,10 +10,10 @@ use Rattle.fg_peel.specs.Equation.{Equation, slots, others, IsSettled}
 use Rattle.fg_peel.proofs.Options.{value_of, has_value}
 use Rattle.fg_peel.proofs.Lists.{others-element}
 use Rattle.fg_peel.proofs.Sums.{sum_at-agree}
-use Rattle.fg_desk.specs.State.{Live, live_equations}
-use Rattle.fg_desk.specs.Admission.{kept_count}
-use Rattle.fg_desk.specs.Facts.{Holds}
-use Rattle.fg_desk.specs.Laws.{LiveStandUnderSerials}
+use Rattle.fg_playout.specs.State.{Live, live_equations}
+use Rattle.fg_playout.specs.Admission.{kept_count}
+use Rattle.fg_playout.specs.Facts.{Holds}
+use Rattle.fg_playout.specs.Laws.{LiveStandUnderSerials}
 use Rattle.fg_desk.specs.Contents.{CanFill, known_in}
 use Rattle.fg_core.specs.Board.{BoardState, IsLive, IsCurrent, mark_of}
 use Rattle.fg_core.specs.Views.{Told, word_at, equation_is, IsBorneOut, Grows, IsWorked, IsChecked}

@@ -1,6 +1,6 @@
 -- What of the laws of the crates below those of calls rest on. No public contract cites it.
 use Rattle.fg_peel.specs.Laws.{PeelingsTakeWords, PeelingsTakeEquations, SolutionsKeepPeelings}
-use Rattle.fg_desk.specs.Laws.{FactsAreKept, OneOutcome, MediaAdds, ParityAdds, SolutionsArePeelings, StepsAreAhead, LiveStandUnderSerials, SolvedStaysPeeled}
+use Rattle.fg_playout.specs.Laws.{FactsAreKept, OneOutcome, MediaAdds, ParityAdds, SolutionsArePeelings, StepsAreAhead, LiveStandUnderSerials, SolvedStaysPeeled}
 
 -- Of a play.
 pub record PlayLaws : Type 0 where

@@ -7,17 +7,17 @@ use Rattle.std.specs.FinSet.{FinSet, contains, insert, remove, empty}
 use Rattle.fg_words.specs.declared.Word.{Word}
 use Rattle.fg_words.specs.Word.{word_xor}
 use Rattle.fg_shape.specs.declared.Shape.{Shape}
-use Rattle.fg_shape.specs.Shape.{IsShape}
+use Rattle.fg_shape.specs.Shape.{IsShape, position_limit}
 use Rattle.fg_shape.specs.Playout.{Playout}
-use Rattle.fg_peel.specs.declared.row.Missing.TheVariants.{One}
+use Rattle.fg_peel.specs.declared.span.Missing.TheVariants.{One}
 use Rattle.fg_peel.specs.Equation.{Equation, slots, sum_at, IsComplete}
 use Rattle.fg_peel.specs.Slots.{IsMissing}
-use Rattle.fg_desk.specs.declared.reply.Reply.{Reply}
-use Rattle.fg_desk.specs.declared.reply.Reply.TheVariants as reply
-use Rattle.fg_desk.specs.State.{State, Live, Words}
-use Rattle.fg_desk.specs.Admission.{Parity, AdmitsMedia, AdmitsParity}
+use Rattle.fg_playout.specs.declared.reply.Reply.{Reply}
+use Rattle.fg_playout.specs.declared.reply.Reply.TheVariants as reply
+use Rattle.fg_playout.specs.State.{State, Live, Words}
+use Rattle.fg_playout.specs.Admission.{Parity, AdmitsMedia, AdmitsParity}
 use Rattle.fg_desk.specs.Contents.{Contents, opened, known_in, filled, IsAfterArrival, ChangesInPlay}
-use Rattle.fg_desk.specs.Play.{Play, IsPlay, IsFlushStep, Flushes}
+use Rattle.fg_playout.specs.Play.{Play, IsPlay, IsFlushStep, Flushes}
 use Rattle.fg_core.specs.declared.key.Key.{Key}
 use Rattle.fg_core.specs.declared.fate.Fate.{Fate}
 use Rattle.fg_core.specs.declared.fate.Fate.TheVariants.{Done, Beaten, Gone}
@@ -59,16 +59,16 @@ IsHeld board key = (live : Live) × IsCurrent board key live
 abbrev pub IsGone : BoardState → Key → Type 0
 IsGone board key = (live : Live) → ¬ IsCurrent board key live
 
--- The marks that stay: those of equations that are still live, and none where the epoch rose.
-abbrev pub AreMarksAfter : BoardState → BoardState → FinSet nat_cmp → FinSet nat_cmp → Type 0
-AreMarksAfter old new marks marks' =
-    (serial : ℕ) → IsTrue (contains marks' serial)
-    ↔ (IsTrue (contains marks serial) × (new.desk.epoch ≡ old.desk.epoch)
+-- The notes that stay: those of equations that are still live, and none where the epoch rose.
+abbrev pub AreNotesAfter : BoardState → BoardState → FinSet nat_cmp → FinSet nat_cmp → Type 0
+AreNotesAfter old new notes notes' =
+    (serial : ℕ) → IsTrue (contains notes' serial)
+    ↔ (IsTrue (contains notes serial) × (new.desk.epoch ≡ old.desk.epoch)
     × IsSome (get new.desk.state.equations serial))
 
-pub record KeepsMarks (old new : BoardState) : Type 0 where
-  pub vouched : AreMarksAfter old new old.vouched new.vouched
-  pub handed_out : AreMarksAfter old new old.handed_out new.handed_out
+pub record KeepsNotes (old new : BoardState) : Type 0 where
+  pub vouched : AreNotesAfter old new old.vouched new.vouched
+  pub handed_out : AreNotesAfter old new old.handed_out new.handed_out
 
 -- What the admitter does
 
@@ -76,7 +76,7 @@ pub record KeepsMarks (old new : BoardState) : Type 0 where
 pub record AdmitsMediaOn (old : BoardState) (seq : ℕ) (word : Word) (reply : Reply) (new : BoardState) : Type 0 where
   pub state : AdmitsMedia old.desk.state seq word reply new.desk.state
   pub solved : IsAfterArrival old.desk seq word reply new.desk
-  pub marks : KeepsMarks old new
+  pub notes : KeepsNotes old new
 
 -- A key is given with an equation that is admitted, and with no other reply: of its serial number and its place.
 abbrev pub GivesKey : State → Reply → Option Key → State → Type 0
@@ -93,21 +93,21 @@ pub record AdmitsParityOn (old : BoardState) (parity : Parity) (reply : Reply) (
   pub solved : new.desk ≡ record old.desk { state = new.desk.state }
   pub key_is : GivesKey old.desk.state reply key new.desk.state
   pub key_epoch : IfSome key (λ key. key.epoch ≡ new.desk.epoch)
-  pub marks : KeepsMarks old new
+  pub notes : KeepsNotes old new
 
 -- It plays a window.
 pub record PlaysOn (old : BoardState) (play : Play) (new : BoardState) : Type 0 where
   pub state : IsPlay old.desk.state.playout.window old.desk.state play new.desk.state
   pub changes : ChangesInPlay play.outcome old.desk new.desk
-  pub marks : KeepsMarks old new
+  pub notes : KeepsNotes old new
 
 -- It makes a flush step, where one is defined.
 abbrev pub FlushesOn : BoardState → Option Play → BoardState → Type 0
 FlushesOn old None new =
     Flushes old.desk.state None new.desk.state × (new.desk ≡ record old.desk { state = new.desk.state })
-    × KeepsMarks old new
+    × KeepsNotes old new
 FlushesOn old (Some play) new =
-    IsFlushStep old.desk.state play new.desk.state × ChangesInPlay play.outcome old.desk new.desk × KeepsMarks old new
+    IsFlushStep old.desk.state play new.desk.state × ChangesInPlay play.outcome old.desk new.desk × KeepsNotes old new
 
 -- What passes do
 
@@ -233,7 +233,7 @@ TellsEquation board key (asked.Gone mark epoch) = ⊤
 
 -- And its shape is one that is read, and its base at most 2^62.
 abbrev pub TellsReadable : Asked → Type 0
-TellsReadable (asked.Live base shape parity) = IsShape shape.offset shape.na × (base ≤ 2 ^ 62)
+TellsReadable (asked.Live base shape parity) = IsShape shape.offset shape.na × (base ≤ position_limit)
 TellsReadable (asked.Gone mark epoch) = ⊤
 
 -- The key's equation is asked for.

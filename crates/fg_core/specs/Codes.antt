@@ -4,12 +4,12 @@ use Rattle.std.specs.Prelude.{◌≡◌, ℕ, zero, suc, List, [], ◌∷◌, ma
 use Rattle.fg_words.specs.declared.Word.{Word}
 use Rattle.fg_words.specs.Word.{zero_word}
 use Rattle.fg_shape.specs.Playout.{Playout}
-use Rattle.fg_desk.specs.declared.reply.Reply.{Reply}
-use Rattle.fg_desk.specs.declared.reply.Reply.TheVariants.{Admitted, Duplicate, Conflict, Late, NotStarted, BeforeStart, Ahead, Crowded}
-use Rattle.fg_desk.specs.declared.reply.Outcome.{Outcome}
-use Rattle.fg_desk.specs.declared.reply.Outcome.TheVariants.{Repaired, Inconsistent}
+use Rattle.fg_playout.specs.declared.reply.Reply.{Reply}
+use Rattle.fg_playout.specs.declared.reply.Reply.TheVariants.{Admitted, Duplicate, Conflict, Late, NotStarted, BeforeStart, Ahead, Crowded}
+use Rattle.fg_playout.specs.declared.reply.Outcome.{Outcome}
+use Rattle.fg_playout.specs.declared.reply.Outcome.TheVariants.{Repaired, Inconsistent}
 use Rattle.fg_desk.specs.declared.desk.Played.{Played}
-use Rattle.fg_desk.specs.Admission.{Parity}
+use Rattle.fg_playout.specs.Admission.{Parity}
 use Rattle.fg_core.specs.Board.{BoardState}
 use Rattle.fg_core.specs.Views.{Told, saw, word_at, equation_is, Grows}
 use Rattle.fg_core.specs.Core.{Call, media, parity, play, flush, IsOwned}

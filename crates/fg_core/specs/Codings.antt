@@ -5,8 +5,8 @@ use Rattle.std.specs.Coded.{Coded, code_by, coded×, coded_ℕ}
 use Rattle.std.specs.FinSet as set
 use Rattle.fg_words.specs.declared.Word.{Word}
 use Rattle.fg_peel.specs.Equation.{Equation}
-use Rattle.fg_desk.specs.State.{Words}
-use Rattle.fg_window.specs.RowEntries.{word_code, words_code}
+use Rattle.fg_playout.specs.State.{Words}
+use Rattle.fg_buffer.specs.BufferEntries.{word_code, words_code}
 use Rattle.fg_desk.specs.Contents.{Contents}
 use Rattle.fg_desk.specs.Inside.{contents_code}
 use Rattle.fg_core.specs.Board.{BoardState, JobState}

@@ -8,13 +8,14 @@ use Rattle.fg_words.specs.Word.{IsMedia}
 use Rattle.fg_shape.specs.Shape.{IsShape}
 use Rattle.fg_shape.specs.Playout.{Playout}
 use Rattle.fg_peel.specs.Equation.{Equation, IsSettled}
-use Rattle.fg_desk.specs.declared.reply.Reply.{Reply}
+use Rattle.fg_playout.specs.declared.reply.Reply.{Reply}
 use Rattle.fg_desk.specs.declared.desk.Played.{Played}
-use Rattle.fg_desk.specs.State.{State, Live, opening}
-use Rattle.fg_desk.specs.Admission.{Parity, AdmitsMedia, AdmitsParity, IsDue}
-use Rattle.fg_desk.specs.Contents.{HasRoom, AreSolved, known_in}
-use Rattle.fg_desk.specs.Facts.{Holds}
-use Rattle.fg_desk.specs.Play.{Play, Shown, IsPlay, Flushes}
+use Rattle.fg_playout.specs.State.{State, Live, opening}
+use Rattle.fg_playout.specs.Admission.{Parity, AdmitsMedia, AdmitsParity, IsDue}
+use Rattle.fg_playout.specs.Room.{HasRoom}
+use Rattle.fg_desk.specs.Contents.{AreSolved, known_in}
+use Rattle.fg_playout.specs.Facts.{Holds}
+use Rattle.fg_playout.specs.Play.{Play, Shown, IsPlay, Flushes}
 use Rattle.fg_core.specs.Board.{BoardState, JobState, IsLive, opened_board, GivesKey, AdmitsMediaOn, AdmitsParityOn, PlaysOn, FlushesOn, Takes, Publishes, Offers, Vouches, Attests, GivesBack, Looks}
 use Rattle.fg_core.specs.Views.{Told, word_at, equation_is, seen_of, IsWorked, IsChecked, told_of_job}
 use Rattle.fg_core.specs.declared.key.Key.{Key}

@@ -4,7 +4,7 @@ use Rattle.std.specs.List.{Contains}
 use Rattle.fg_words.specs.declared.Word.{Word}
 use Rattle.fg_shape.specs.Playout.{Playout}
 use Rattle.fg_peel.specs.Equation.{Equation, slots, IsSettled}
-use Rattle.fg_desk.specs.State.{State, Live, opening}
+use Rattle.fg_playout.specs.State.{State, Live, opening}
 use Rattle.fg_desk.specs.Contents.{CanFill, known_in}
 use Rattle.fg_core.specs.Board.{BoardState, IsCurrent, IsHeld, Looks, opened_board}
 use Rattle.fg_core.specs.Views.{Told, word_at, equation_is, Grows, seen_of, IsWorked, IsChecked}

@@ -5,8 +5,8 @@ use Rattle.std.specs.FinMap.{entries}
 use Rattle.fg_words.specs.declared.Word.{Word}
 use Rattle.fg_words.specs.Word.{word_xor}
 use Rattle.fg_peel.specs.Equation.{Equation, ComesOut, slots, others, sum_at}
-use Rattle.fg_desk.specs.State.{Live}
-use Rattle.fg_desk.specs.Admission.{kept_count}
+use Rattle.fg_playout.specs.State.{Live}
+use Rattle.fg_playout.specs.Admission.{kept_count}
 use Rattle.fg_desk.specs.Contents.{known_in}
 use Rattle.fg_core.specs.Board.{BoardState, JobState, IsLive, mark_of, equation_with}
 use Rattle.fg_core.specs.declared.key.Key.{Key}

@@ -4,8 +4,8 @@ use Rattle.std.specs.FinMap.{insert, empty}
 use Rattle.fg_words.specs.declared.Word.{Word}
 use Rattle.fg_words.specs.Word.{HasRoom}
 use Rattle.fg_shape.specs.declared.Shape.{Shape}
-use Rattle.fg_shape.specs.Shape.{IsShape}
-use Rattle.fg_desk.specs.State.{Words}
+use Rattle.fg_shape.specs.Shape.{IsShape, position_limit}
+use Rattle.fg_playout.specs.State.{Words}
 use Rattle.fg_core.specs.Board.{JobState}
 use Rattle.fg_core.specs.declared.key.Key.{Key}
 
@@ -35,7 +35,7 @@ HaveRoom shares = (j : ℕ) (word : Word) → slice_index_or shares j None ≡ S
 -- What is true of the parts.
 pub record IsWork (base : ℕ) (shape : Shape) (parity : Word) (shares : List (Option Word)) : Type 0 where
   pub read : IsShape shape.offset shape.na
-  pub near : base ≤ 2 ^ 62
+  pub near : base ≤ position_limit
   pub count : length shares ≡ shape.na
   pub one : MissOne shares
   pub parity_room : HasRoom parity

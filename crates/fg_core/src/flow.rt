@@ -5,17 +5,18 @@ ghost use Rattle.std.specs.FinMap.{get};
 ghost use Rattle.fg_words.specs.Word.{IsMedia};
 ghost use Rattle.fg_shape.specs.Shape.{IsShape};
 ghost use Rattle.fg_peel.specs.Equation.{IsSettled};
-ghost use Rattle.fg_desk.specs.State.{Live};
-ghost use Rattle.fg_desk.specs.Admission.{IsDue};
-ghost use Rattle.fg_desk.specs.Contents.{HasRoom, CanFill, known_in};
+ghost use Rattle.fg_playout.specs.State.{Live};
+ghost use Rattle.fg_playout.specs.Admission.{IsDue};
+ghost use Rattle.fg_playout.specs.Room.{HasRoom};
+ghost use Rattle.fg_desk.specs.Contents.{CanFill, known_in};
 ghost use Rattle.fg_core.specs.Board.{opened_board, IsCurrent, IsHeld, AdmitsMediaOn, AdmitsParityOn, PlaysOn, FlushesOn, Takes, Offers, Publishes, Attests, Vouches, GivesBack, Looks, Asks, TellsReadable, with_vouched, VouchedAreComplete};
 ghost use Rattle.fg_core.specs.Flow.{with_handed};
 ghost use Rattle.fg_core.specs.Core.{play_of};
 
 use crate::fate::{Asked, Fate, Look};
 use crate::key::Key;
-use crate::marks::Marks;
-use crate::open::{equation_at, facts, mark_of, next_open, work_of};
+use crate::notes::Notes;
+use crate::open::{equation_at, facts, next_open, note_of, work_of};
 use crate::work::Work;
 use fg_desk::{Desk, Played, Reply, Tray};
 use fg_shape::Shape;
@@ -30,7 +31,7 @@ use std::marker::Model;
 #[derive(Drop)]
 pub struct Flow {
     desk: Box<Desk>,
-    marks: Marks,
+    notes: Notes,
 }
 
 impl Model for Flow {
@@ -42,9 +43,9 @@ impl Model for Flow {
 
     ghost coded = { board_code };
 
-    ghost view = { λ f. board_of f.desk.value f.marks };
+    ghost view = { λ f. board_of f.desk.value f.notes };
 
-    ghost invariant = { λ f. AreKept f.desk.value f.marks };
+    ghost invariant = { λ f. AreKept f.desk.value f.notes };
 }
 
 /// Whether a key's equation is live and no solved word was withdrawn since the key was given.
@@ -68,7 +69,7 @@ impl Flow {
     {
         Ok(Flow {
             desk: Box::new(alloc, Desk::new(alloc, window, depth)?)?,
-            marks: Marks::new(alloc)?,
+            notes: Notes::new(alloc)?,
         })
     }
 
@@ -152,7 +153,7 @@ impl Flow {
         ensures taken { IfOk result (λ job. Takes self.old job self.new) }
         ensures none { IfErr result (λ _. self.new ≡ self.old) }
     {
-        let Some(key) = next_open(&self.desk, &self.marks) else {
+        let Some(key) = next_open(&self.desk, &self.notes) else {
             return Ok(None);
         };
         let work = work_of(alloc, &self.desk, key)?;
@@ -291,19 +292,19 @@ impl Flow {
     {
         facts(&self.desk);
         self.desk.vouch(key.place);
-        let mut mark = mark_of(&self.marks, key);
-        mark.vouched = true;
-        self.marks.put(key.place, mark);
+        let mut note = note_of(&self.notes, key);
+        note.vouched = true;
+        self.notes.put(key.place, note);
     }
 
-    /// Marks an equation as handed out, or as handed out no more.
+    /// Notes an equation as handed out, or as handed out no more.
     fn hand(&mut self, key: Key, out: bool)
         requires { IsHeld self.old key }
         ensures { self.new ≡ with_handed self.old key.serial out }
     {
         facts(&self.desk);
-        let mut mark = mark_of(&self.marks, key);
-        mark.handed_out = out;
-        self.marks.put(key.place, mark);
+        let mut note = note_of(&self.notes, key);
+        note.handed_out = out;
+        self.notes.put(key.place, note);
     }
 }

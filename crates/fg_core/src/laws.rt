@@ -5,11 +5,11 @@ ghost use Rattle.fg_core.specs.Codes.{CallsAreReadBack, ToldIsReadBack};
 ghost use Rattle.fg_core.specs.Laws.{OpeningIsOwned, CallsExtend, CallsKeepTold, EventsKeepOwned, EventsKeepTold, EventsLeaveTheState, AnswersHold};
 ghost use Rattle.fg_core.specs.Laws.{CoreHolds, LaterTurnsKeepCalls, ToldWordsAreFound, WordsOfEquationsAreFound, WorkedWordsFollow, CheckedComeOut, CallsMakeOneDesk};
 
-use fg_desk::laws::{
+use fg_peel::laws::{confluence, peelings_fill_the_closure, peelings_stay};
+use fg_playout::laws::{
     admissions_add, facts_are_kept, live_equations, mark_makes_no_difference, one_outcome,
     solved_stays_peeled,
 };
-use fg_peel::laws::{confluence, peelings_fill_the_closure, peelings_stay};
 
 /// A new board is what no calls make of it.
 pub fn opening_is_owned()

@@ -9,7 +9,7 @@ mod flow;
 mod guard;
 mod key;
 pub mod laws;
-mod marks;
+mod notes;
 mod open;
 mod work;
 

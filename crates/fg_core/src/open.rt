@@ -4,18 +4,19 @@ ghost use Rattle.std.specs.Prelude.{◌≡◌, ◌↔◌, ◌<◌, ◌≤◌, �
 ghost use Rattle.std.specs.List.{Contains};
 ghost use Rattle.fg_words.specs.declared.Word.{Word as WordState};
 ghost use Rattle.fg_words.specs.Word.{HasRoom};
-ghost use Rattle.fg_shape.specs.Shape.{IsShape};
+ghost use Rattle.fg_shape.specs.Shape.{IsShape, position_limit};
 ghost use Rattle.fg_peel.specs.declared.Line.{Line as LiveLine};
 ghost use Rattle.fg_peel.specs.Slots.{equation_of, lines_of, IsMissing};
-ghost use Rattle.fg_desk.specs.State.{Live};
-ghost use Rattle.fg_desk.specs.Facts.{Holds};
+ghost use Rattle.fg_peel.specs.Live.{live_limit};
+ghost use Rattle.fg_playout.specs.State.{Live};
+ghost use Rattle.fg_playout.specs.Facts.{Holds};
 ghost use Rattle.fg_desk.specs.Contents.{known_in, shared_at};
 ghost use Rattle.fg_core.specs.Board.{IsOpen, IsJobOf, TellsReadable, VouchedAreComplete};
-ghost use Rattle.fg_core.specs.Flow.{mark_at, says, is_vouched, is_handed_out, board_of, BareAreKept, IsWithin, AreShared, IsOpenLine, IsKeyOfOpen, IsAtMost, AreSharesAt, IsReady, IsStanding, IsSpelled};
+ghost use Rattle.fg_core.specs.Flow.{note_at, says, is_vouched, is_handed_out, board_of, BareAreKept, IsWithin, AreShared, IsOpenLine, IsKeyOfOpen, IsAtMost, AreSharesAt, IsReady, IsStanding, IsSpelled};
 
 use crate::fate::Asked;
 use crate::key::Key;
-use crate::marks::{Mark, Marks};
+use crate::notes::{Note, Notes};
 use crate::work::Work;
 use fg_desk::Desk;
 use fg_peel::{Line, Missing};
@@ -31,19 +32,19 @@ pub(crate) fn facts(desk: &Desk)
     let _room = desk.room();
 }
 
-/// What a key's equation is marked with: what is noted at its place, where that is of it.
-pub(crate) fn mark_of(marks: &Marks, key: Key) -> Mark
-    requires { key.place < 512 }
+/// What a key's equation is noted with: what is noted at its place, where that is of it.
+pub(crate) fn note_of(notes: &Notes, key: Key) -> Note
+    requires { key.place < live_limit }
     ensures serial { result.serial ≡ key.serial }
     ensures epoch { result.epoch ≡ key.epoch }
-    ensures vouched { result.vouched ≡ says is_vouched key.epoch key.serial (mark_at marks.now key.place) }
-    ensures handed_out { result.handed_out ≡ says is_handed_out key.epoch key.serial (mark_at marks.now key.place) }
+    ensures vouched { result.vouched ≡ says is_vouched key.epoch key.serial (note_at notes.now key.place) }
+    ensures handed_out { result.handed_out ≡ says is_handed_out key.epoch key.serial (note_at notes.now key.place) }
 {
-    let mark = marks.at(key.place);
-    if mark.serial == key.serial && mark.epoch == key.epoch {
-        mark
+    let note = notes.at(key.place);
+    if note.serial == key.serial && note.epoch == key.epoch {
+        note
     } else {
-        Mark {
+        Note {
             serial: key.serial,
             epoch: key.epoch,
             vouched: false,
@@ -66,7 +67,7 @@ fn key_of(desk: &Desk, line: &Line) -> Key
 /// Which slots of a line have no known word.
 fn missing(desk: &Desk, line: &Line) -> Missing
     requires shape { IsShape line.now.shape.offset line.now.shape.na }
-    requires base { line.now.base ≤ 2 ^ 62 }
+    requires base { line.now.base ≤ position_limit }
     ensures { IsMissing (known_in desk.now) (equation_of line.now) result }
 {
     let mut found = None;
@@ -96,7 +97,7 @@ fn is_alone(desk: &Desk, position: u64) -> bool
 /// Whether no word known at a line's slots stands alone.
 fn are_shared(desk: &Desk, line: &Line) -> bool
     requires shape { IsShape line.now.shape.offset line.now.shape.na }
-    requires base { line.now.base ≤ 2 ^ 62 }
+    requires base { line.now.base ≤ position_limit }
     ensures { IsTrue result ↔ AreShared desk.now line.now }
 {
     for j in 0..line.shape.na {
@@ -107,20 +108,20 @@ fn are_shared(desk: &Desk, line: &Line) -> bool
     true
 }
 
-/// Whether a live equation is open. Its mark is quick to see, and its slots are looked at only where it says nothing: up to
+/// Whether a live equation is open. Its note is quick to see, and its slots are looked at only where it says nothing: up to
 /// the second without a word.
-fn is_open(desk: &Desk, marks: &Marks, line: &Line) -> bool
+fn is_open(desk: &Desk, notes: &Notes, line: &Line) -> bool
     requires within { IsWithin desk.now line.now }
     requires bare { BareAreKept desk.now }
-    requires vouched { VouchedAreComplete (board_of desk.now marks.now) }
-    ensures { IsTrue result ↔ IsOpenLine desk.now marks.now line.now }
+    requires vouched { VouchedAreComplete (board_of desk.now notes.now) }
+    ensures { IsTrue result ↔ IsOpenLine desk.now notes.now line.now }
 {
     facts(desk);
-    let mark = mark_of(marks, key_of(desk, line));
-    if mark.handed_out {
+    let note = note_of(notes, key_of(desk, line));
+    if note.handed_out {
         return false;
     }
-    if mark.vouched {
+    if note.vouched {
         return false;
     }
     match missing(desk, line) {
@@ -141,19 +142,19 @@ fn is_less(serial: u64, best: Option<Key>) -> bool
 }
 
 /// The key of the open one of the least serial number among these lines and the best so far.
-fn least_open(desk: &Desk, marks: &Marks, lines: &Slab<Line>, best: Option<Key>) -> Option<Key>
+fn least_open(desk: &Desk, notes: &Notes, lines: &Slab<Line>, best: Option<Key>) -> Option<Key>
     requires within { (line : LiveLine) → Contains (lines_of lines.now) line → IsWithin desk.now line }
     requires bare { BareAreKept desk.now }
-    requires vouched { VouchedAreComplete (board_of desk.now marks.now) }
-    requires best { IfSome best (IsKeyOfOpen (board_of desk.now marks.now)) }
-    ensures open { IfSome result (IsKeyOfOpen (board_of desk.now marks.now)) }
+    requires vouched { VouchedAreComplete (board_of desk.now notes.now) }
+    requires best { IfSome best (IsKeyOfOpen (board_of desk.now notes.now)) }
+    ensures open { IfSome result (IsKeyOfOpen (board_of desk.now notes.now)) }
     ensures best { IfSome best (λ best. IsAtMost result best.serial) }
     ensures least { (line : LiveLine) → Contains (lines_of lines.now) line
-        → IsOpenLine desk.now marks.now line → IsAtMost result line.serial }
+        → IsOpenLine desk.now notes.now line → IsAtMost result line.serial }
 {
     let mut least = best;
     for (_, line) in lines.iter() {
-        if is_less(line.serial, least) && is_open(desk, marks, line) {
+        if is_less(line.serial, least) && is_open(desk, notes, line) {
             least = Some(key_of(desk, line));
         }
     }
@@ -161,16 +162,16 @@ fn least_open(desk: &Desk, marks: &Marks, lines: &Slab<Line>, best: Option<Key>)
 }
 
 /// The key of the open equation of the least serial number.
-pub(crate) fn next_open(desk: &Desk, marks: &Marks) -> Option<Key>
+pub(crate) fn next_open(desk: &Desk, notes: &Notes) -> Option<Key>
     requires bare { BareAreKept desk.now }
-    requires vouched { VouchedAreComplete (board_of desk.now marks.now) }
-    ensures open { IfSome result (IsKeyOfOpen (board_of desk.now marks.now)) }
-    ensures least { (serial : ℕ) (live : Live) → IsOpen (board_of desk.now marks.now) serial live
+    requires vouched { VouchedAreComplete (board_of desk.now notes.now) }
+    ensures open { IfSome result (IsKeyOfOpen (board_of desk.now notes.now)) }
+    ensures least { (serial : ℕ) (live : Live) → IsOpen (board_of desk.now notes.now) serial live
         → IsAtMost result serial }
 {
     let (open, settled) = desk.live_lines();
-    let best = least_open(desk, marks, open, None);
-    least_open(desk, marks, settled, best)
+    let best = least_open(desk, notes, open, None);
+    least_open(desk, notes, settled, best)
 }
 
 /// The live equation of a key.
@@ -210,7 +211,7 @@ fn share_at(desk: &Desk, position: u64) -> Result<Option<Shared>, AllocError>
 /// The shares of the words known at a line's slots.
 fn shares_of(alloc: Global, desk: &Desk, line: &Line) -> Result<Vec<Option<Shared>>, AllocError>
     requires shape { IsShape line.now.shape.offset line.now.shape.na }
-    requires base { line.now.base ≤ 2 ^ 62 }
+    requires base { line.now.base ≤ position_limit }
     ensures { IfOk result (λ shares. AreSharesAt desk.now line.now line.now.shape.na shares.items) }
 {
     let mut shares = Vec::with_capacity(alloc, usize::from(line.shape.na))?;

@@ -4,7 +4,7 @@ ghost use Rattle.std.specs.Prelude.{◌≡◌, ℕ, Some, IfSome, IfNone};
 ghost use Rattle.std.specs.FinMap.{get};
 ghost use Rattle.fg_words.specs.declared.Word.{Word as WordState};
 ghost use Rattle.fg_words.specs.Word.{HasRoom};
-ghost use Rattle.fg_peel.specs.declared.row.Missing.TheVariants.{One};
+ghost use Rattle.fg_peel.specs.declared.span.Missing.TheVariants.{One};
 ghost use Rattle.fg_peel.specs.Equation.{IsComplete};
 ghost use Rattle.fg_peel.specs.Slots.{IsMissing};
 ghost use Rattle.fg_core.specs.Board.{job_sum};

@@ -10,18 +10,18 @@ use Rattle.fg_peel.specs.Equation.{Equation}
 use Rattle.fg_peel.specs.Laws.{PeelingsTakeEquations}
 use Rattle.fg_peel.proofs.Options.{none_or_some, none_has_no_value}
 use Rattle.fg_peel.proofs.Maps.{inserted, beside_inserted}
-use Rattle.fg_desk.specs.declared.reply.Reply.TheVariants.{Admitted}
-use Rattle.fg_desk.specs.State.{Live, known, live_equations}
-use Rattle.fg_desk.specs.Admission.{IsEquationReply, IsLeastFree, live_limit, with_equation}
-use Rattle.fg_desk.specs.Facts.{Holds}
+use Rattle.fg_playout.specs.declared.reply.Reply.TheVariants.{Admitted}
+use Rattle.fg_playout.specs.State.{Live, known, live_equations}
+use Rattle.fg_playout.specs.Admission.{IsEquationReply, IsLeastFree, live_limit, with_equation}
+use Rattle.fg_playout.specs.Facts.{Holds}
 use Rattle.fg_desk.specs.Inside.{AreLimited, Parts, AreSound, state_of}
-use Rattle.fg_window.specs.Row.{row_known, row_words}
-use Rattle.fg_window.specs.Lines.{LinesState, AreLines}
-use Rattle.fg_desk.proofs.Added.{added}
-use Rattle.fg_desk.proofs.AdmissionsAdd.{stays_listed}
+use Rattle.fg_buffer.specs.PlayoutBuffer.{buffer_known, buffer_words}
+use Rattle.fg_buffer.specs.LiveEquations.{LiveState, AreLive}
+use Rattle.fg_playout.proofs.Added.{added}
+use Rattle.fg_playout.proofs.AdmissionsAdd.{stays_listed}
 use Rattle.fg_desk.proofs.DeskPlays.{ComeByPeeling, sound_from}
-use Rattle.fg_desk.proofs.Parities.{IsNew, with_equation_holds}
-use Rattle.fg_window.proofs.Places.{free_place}
+use Rattle.fg_playout.proofs.Parities.{IsNew, with_equation_holds}
+use Rattle.fg_peel.proofs.Places.{free_place}
 
 -- No equation has the number that the next one gets.
 pub next_is_fresh : (parts : Parts) → AreSound parts → get parts.lines.live parts.admitted ≡ None
@@ -30,15 +30,15 @@ next_is_fresh parts sound = ⊎_elim
     (λ some. let numbered = (sound.facts.live parts.admitted some.0 some.1).numbered in absurd (omega (arith, numbered)))
     (none_or_some (get parts.lines.live parts.admitted))
 
-abbrev pub lines_with : Parts → ℕ → Equation → LinesState
+abbrev pub lines_with : Parts → ℕ → Equation → LiveState
 lines_with parts place equation =
     record parts.lines { live = insert parts.lines.live parts.admitted (record { place = place; equation = equation }) }
 
-abbrev pub with_line : Parts → LinesState → Parts
+abbrev pub with_line : Parts → LiveState → Parts
 with_line parts lines = record parts { lines = lines; admitted = parts.admitted + 1; calls = parts.calls + 1 }
 
 module _
-    (parts : Parts) (sound : AreSound parts) (lines : AreLines parts.lines) (place : ℕ) (equation : Equation)
+    (parts : Parts) (sound : AreSound parts) (lines : AreLive parts.lines) (place : ℕ) (equation : Equation)
     (shape : IsShape equation.offset equation.count) (base_limit : equation.base ≤ 2 ^ 62)
     (replies : IsEquationReply (state_of parts) equation Admitted) (least : IsLeastFree parts.lines.live place)
     (opened : parts.top ≢ None) (calls : parts.calls < 2 ^ 62) where
@@ -89,7 +89,7 @@ module _
       PeelingsTakeEquations → HasRoom equation.parity → AreSound (with_line parts (lines_with parts place equation))
   sound_with_line take room =
       sound_from (with_line parts (lines_with parts place equation)) limited holds_with sound.cached
-      (peeled_still take (row_known parts.row) sound.solved) (peeled_still take (row_words parts.row) sound.peeled)
+      (peeled_still take (buffer_known parts.buffer) sound.solved) (peeled_still take (buffer_words parts.buffer) sound.peeled)
       (λ serial live is settled. ⊎_elim
       (λ here.
       let some : IsSome (get parts.lines.live serial) = lines.settled serial settled in

@@ -6,15 +6,15 @@ use Rattle.fg_unwrap.specs.Position.{position_of}
 use Rattle.fg_peel.specs.Equation.{Equation}
 use Rattle.fg_peel.proofs.Maps.{inserted}
 use Rattle.fg_peel.proofs.Options.{some_and_from}
-use Rattle.fg_desk.specs.declared.reply.Reply.{Reply}
-use Rattle.fg_desk.specs.declared.reply.Reply.TheVariants.{Admitted, NotStarted, BeforeStart}
-use Rattle.fg_desk.specs.State.{State, Top, Live}
-use Rattle.fg_desk.specs.Admission.{Parity, IsEquationReply, IsParityReply, equation_at, IsAfterMedia, IsAfterParity, counted, with_equation}
+use Rattle.fg_playout.specs.declared.reply.Reply.{Reply}
+use Rattle.fg_playout.specs.declared.reply.Reply.TheVariants.{Admitted, NotStarted, BeforeStart}
+use Rattle.fg_playout.specs.State.{State, Top, Live}
+use Rattle.fg_playout.specs.Admission.{Parity, IsEquationReply, IsParityReply, equation_at, IsAfterMedia, IsAfterParity, counted, with_equation}
 use Rattle.fg_desk.specs.Contents.{IsPlaceAfter}
 use Rattle.fg_desk.specs.Inside.{Parts, AreSound, state_of}
-use Rattle.fg_desk.proofs.Added.{added}
+use Rattle.fg_playout.proofs.Added.{added}
 use Rattle.fg_desk.proofs.DeskPlays.{sound_from}
-use Rattle.fg_desk.proofs.Opened.{counted_holds}
+use Rattle.fg_playout.proofs.Opened.{counted_holds}
 
 abbrev pub counted_parts : Parts → Parts
 counted_parts parts = record parts { calls = parts.calls + 1 }

@@ -10,7 +10,7 @@ use Rattle.std.specs.Simd.Lanes.{zip2}
 use Rattle.fg_words.specs.declared.Word.{Word}
 use Rattle.fg_words.specs.Word.{HasRoom, word_xor, word_sum}
 use Rattle.fg_words.specs.Laws.{XorAssociates, XorCommutes, XorHasZero, XorUndoesItself}
-use Rattle.fg_peel.specs.declared.row.Missing.TheVariants.{One}
+use Rattle.fg_peel.specs.declared.span.Missing.TheVariants.{One}
 use Rattle.fg_peel.specs.Equation.{Equation, Keeps, Agree, IsSettled, slots, others, sum_at}
 use Rattle.fg_peel.specs.Peeling.{Step, CanFollow, ArePeeled, after_step, given_word, end_of}
 use Rattle.fg_peel.specs.Slots.{IsMissing}
@@ -20,7 +20,7 @@ use Rattle.fg_peel.proofs.Slots.{slots_distinct}
 use Rattle.fg_peel.proofs.Sums.{sum_at-agree, sum_at-split}
 use Rattle.fg_peel.proofs.Options.{has_value, or_first}
 use Rattle.fg_peel.proofs.Maps.{beside_removed}
-use Rattle.fg_window.specs.Words.{Words}
+use Rattle.fg_peel.specs.Words.{Words}
 use Rattle.fg_peel.proofs.Peelings.{end_of-keeps}
 
 -- The later words have one more, or the same word anew.

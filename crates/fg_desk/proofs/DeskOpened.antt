@@ -6,17 +6,17 @@ use Rattle.std.specs.Ordering.{nat_cmp}
 use Rattle.fg_shape.specs.Playout.{Playout}
 use Rattle.fg_peel.proofs.Maps.{nothing_in_empty}
 use Rattle.fg_desk.specs.Inside.{Parts, AreSound}
-use Rattle.fg_window.specs.Lines.{no_lines}
-use Rattle.fg_window.specs.Row.{opened_row}
+use Rattle.fg_buffer.specs.LiveEquations.{no_equations}
+use Rattle.fg_buffer.specs.PlayoutBuffer.{opened_buffer}
 use Rattle.fg_desk.proofs.DeskPlays.{sound_without_found}
-use Rattle.fg_desk.proofs.Opened.{opening_holds}
+use Rattle.fg_playout.proofs.Opened.{opening_holds}
 
 abbrev pub opened_parts : Playout → Parts
 opened_parts playout = record {
   playout = playout;
   top = None;
-  row = opened_row (playout.depth + 100);
-  lines = no_lines;
+  buffer = opened_buffer (playout.depth + 100);
+  lines = no_equations;
   admitted = 0;
   calls = 0;
   epoch = 0;

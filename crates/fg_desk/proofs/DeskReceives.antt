@@ -11,27 +11,27 @@ use Rattle.fg_peel.specs.Equation.{AreMedia}
 use Rattle.fg_peel.specs.Laws.{PeelingsTakeWords}
 use Rattle.fg_peel.proofs.Options.{or_first, or_second, some_and, none_has_no_value}
 use Rattle.fg_peel.proofs.Maps.{beside_inserted, removed, beside_removed}
-use Rattle.fg_desk.specs.State.{State, Top, Live, known, live_equations}
-use Rattle.fg_desk.specs.Admission.{farther, with_media}
+use Rattle.fg_playout.specs.State.{State, Top, Live, known, live_equations}
+use Rattle.fg_playout.specs.Admission.{farther, with_media}
 use Rattle.fg_desk.specs.Contents.{GivesWay}
-use Rattle.fg_desk.specs.Facts.{Holds}
+use Rattle.fg_playout.specs.Facts.{Holds}
 use Rattle.fg_desk.specs.Inside.{AreLimited, Parts, AreSound, state_of, contents_of, raised}
-use Rattle.fg_window.specs.Row.{RowState, row_received, row_known, row_words, receives}
-use Rattle.fg_window.specs.Lines.{LinesState, Reopens}
-use Rattle.fg_desk.specs.Window.{MakesWay, without_cached, without_found}
-use Rattle.fg_desk.proofs.AdmissionsAdd.{known_with_media}
+use Rattle.fg_buffer.specs.PlayoutBuffer.{BufferState, buffer_received, buffer_known, buffer_words, receives}
+use Rattle.fg_buffer.specs.LiveEquations.{LiveState, Reopens}
+use Rattle.fg_desk.specs.Storage.{MakesWay, without_cached, without_found}
+use Rattle.fg_playout.proofs.AdmissionsAdd.{known_with_media}
 use Rattle.fg_desk.proofs.DeskOneWord.{IsWith, with_removed, words_stay, peeled_with_known}
 use Rattle.fg_desk.proofs.DeskPlays.{StandBeside, sound_from}
-use Rattle.fg_desk.proofs.DeskWays.{Agrees, with_row, sound_without_cached, sound_without_all, agrees_uncached, agrees_unfound}
+use Rattle.fg_desk.proofs.DeskWays.{Agrees, with_buffer, sound_without_cached, sound_without_all, agrees_uncached, agrees_unfound}
 use Rattle.fg_desk.proofs.DeskWords.{or_neither, received_ahead}
-use Rattle.fg_desk.proofs.Opened.{with_media_holds}
+use Rattle.fg_playout.proofs.Opened.{with_media_holds}
 use Rattle.fg_desk.proofs.SettledWords.{settled_keeps}
 
 -- The parts after the call.
-abbrev pub taken : Parts → ℕ → ℕ → Word → RowState → LinesState → ℕ → Parts
+abbrev pub taken : Parts → ℕ → ℕ → Word → BufferState → LiveState → ℕ → Parts
 taken parts position seq word between left epoch = record parts {
   top = farther parts.top (record { position = position; seq = seq });
-  row = receives between position word;
+  buffer = receives between position word;
   lines = left;
   calls = parts.calls + 1;
   epoch = epoch;
@@ -64,11 +64,11 @@ nothing_removed k = same_map nat_cmp_total nat_cmp-IsAntisymmetric (remove (empt
     (cases_eq q k))
 
 module _
-    (parts : Parts) (sound : AreSound parts) (position seq : ℕ) (word : Word) (ahead : parts.row.mark ≤ position)
-    (near : position < parts.row.mark + parts.playout.depth) (none : get parts.row.media position ≡ None) (media : IsMedia word)
+    (parts : Parts) (sound : AreSound parts) (position seq : ℕ) (word : Word) (ahead : parts.buffer.mark ≤ position)
+    (near : position < parts.buffer.mark + parts.playout.depth) (none : get parts.buffer.media position ≡ None) (media : IsMedia word)
     (limit : position < 2 ^ 61 + 2 ^ 16) (calls : parts.calls < 2 ^ 62) (take : PeelingsTakeWords) (epoch : ℕ)
-    (epoch_limit : epoch ≤ parts.calls + 1) (agrees : Agrees position word (row_words parts.row)) where
-  limited : AreLimited (taken parts position seq word parts.row parts.lines epoch)
+    (epoch_limit : epoch ≤ parts.calls + 1) (agrees : Agrees position word (buffer_words parts.buffer)) where
+  limited : AreLimited (taken parts position seq word parts.buffer parts.lines epoch)
   limited =
       let admitted = sound.limits.admitted_limit in
       record {
@@ -85,7 +85,7 @@ module _
   facts = with_media_holds (state_of parts) seq position word sound.facts (record { media = media; ahead = ahead; near = near })
 
   -- What is known then, what is solved beside, and all words.
-  received_is : IsWith position word (row_received parts.row) (row_received (receives parts.row position word))
+  received_is : IsWith position word (buffer_received parts.buffer) (buffer_received (receives parts.buffer position word))
   received_is = record {
     here = λ q here.
         (known_with_media (state_of parts) seq position word ahead q
@@ -95,150 +95,150 @@ module _
         ∙ cond-false (q == position) (Some word) (known (state_of parts) q) (ne_eqb q position beside));
   }
 
-  known_is : IsWith position word (row_known parts.row) (row_known (receives parts.row position word))
-  known_is = with_removed position word (row_received parts.row) (row_received (receives parts.row position word)) parts.row.solved received_is
+  known_is : IsWith position word (buffer_known parts.buffer) (buffer_known (receives parts.buffer position word))
+  known_is = with_removed position word (buffer_received parts.buffer) (buffer_received (receives parts.buffer position word)) parts.buffer.solved received_is
 
-  words_are : IsWith position word (row_words parts.row) (row_words (receives parts.row position word))
-  words_are = with_removed position word (row_known parts.row) (row_known (receives parts.row position word)) parts.row.cached known_is
+  words_are : IsWith position word (buffer_words parts.buffer) (buffer_words (receives parts.buffer position word))
+  words_are = with_removed position word (buffer_known parts.buffer) (buffer_known (receives parts.buffer position word)) parts.buffer.cached known_is
 
   unknown : known (state_of parts) position ≡ None
-  unknown = received_ahead parts.row position ahead ∙ none
+  unknown = received_ahead parts.buffer position ahead ∙ none
 
-  cached_media : AreMedia (get (remove parts.row.cached position))
+  cached_media : AreMedia (get (remove parts.buffer.cached position))
   cached_media q found is = ⊎_elim
-      (λ here. absurd (none-some found (sym (removed parts.row.cached position q here) ∙ is)))
-      (λ beside. sound.cached q found (sym (beside_removed parts.row.cached position q beside) ∙ is))
+      (λ here. absurd (none-some found (sym (removed parts.buffer.cached position q here) ∙ is)))
+      (λ beside. sound.cached q found (sym (beside_removed parts.buffer.cached position q beside) ∙ is))
       (cases_eq q position)
 
-  solved_beside : StandBeside (taken parts position seq word parts.row parts.lines epoch)
+  solved_beside : StandBeside (taken parts position seq word parts.buffer parts.lines epoch)
   solved_beside q some = ⊎_elim
       (λ here.
-      absurd (none_has_no_value (get (remove parts.row.solved position) q) (removed parts.row.solved position q here) some))
+      absurd (none_has_no_value (get (remove parts.buffer.solved position) q) (removed parts.buffer.solved position q here) some))
       (λ beside.
-      let was = sound.beside q (subst (λ (o : Option Word). IsSome o) (beside_removed parts.row.solved position q beside) some) in
-      (was.0, beside_inserted parts.row.media position word q beside ∙ was.1))
+      let was = sound.beside q (subst (λ (o : Option Word). IsSome o) (beside_removed parts.buffer.solved position q beside) some) in
+      (was.0, beside_inserted parts.buffer.media position word q beside ∙ was.1))
       (cases_eq q position)
 
-  pub sound_with_word : AreSound (taken parts position seq word parts.row parts.lines epoch)
+  pub sound_with_word : AreSound (taken parts position seq word parts.buffer parts.lines epoch)
   sound_with_word =
-      sound_from (taken parts position seq word parts.row parts.lines epoch) limited facts cached_media
+      sound_from (taken parts position seq word parts.buffer parts.lines epoch) limited facts cached_media
       (peeled_with_known take (live_equations (state_of parts)) (known (state_of parts))
-      (known (with_media (state_of parts) seq position word)) (row_known parts.row) (row_known (receives parts.row position word))
+      (known (with_media (state_of parts) seq position word)) (buffer_known parts.buffer) (buffer_known (receives parts.buffer position word))
       position word unknown received_is known_is
-      (λ found is. agrees found (or_first (row_known parts.row position) (get parts.row.cached position) found is)) sound.solved)
+      (λ found is. agrees found (or_first (buffer_known parts.buffer position) (get parts.buffer.cached position) found is)) sound.solved)
       (peeled_with_known take (live_equations (state_of parts)) (known (state_of parts))
-      (known (with_media (state_of parts) seq position word)) (row_words parts.row) (row_words (receives parts.row position word))
+      (known (with_media (state_of parts) seq position word)) (buffer_words parts.buffer) (buffer_words (receives parts.buffer position word))
       position word unknown received_is words_are agrees sound.peeled)
       (λ serial live is settled.
-      settled_keeps (row_words parts.row) (row_words (receives parts.row position word)) live.equation
-      (words_stay position word (row_words parts.row) (row_words (receives parts.row position word)) words_are agrees)
+      settled_keeps (buffer_words parts.buffer) (buffer_words (receives parts.buffer position word)) live.equation
+      (words_stay position word (buffer_words parts.buffer) (buffer_words (receives parts.buffer position word)) words_are agrees)
       (sound.settled serial live is settled))
       sound.rooms solved_beside
 
 module _
-    (parts : Parts) (sound : AreSound parts) (position seq : ℕ) (word : Word) (ahead : parts.row.mark ≤ position)
-    (none : get parts.row.media position ≡ None) where
+    (parts : Parts) (sound : AreSound parts) (position seq : ℕ) (word : Word) (ahead : parts.buffer.mark ≤ position)
+    (none : get parts.buffer.media position ≡ None) where
   -- Whatever way is made, the desk is sound then.
   pub takes_sound :
-      position < parts.row.mark + parts.playout.depth → IsMedia word → position < 2 ^ 61 + 2 ^ 16 → parts.calls < 2 ^ 62
-      → PeelingsTakeWords → (answer : Bool) (between : RowState) (left : LinesState) (epoch : ℕ) → epoch ≤ parts.calls + 1
-      → MakesWay answer position word parts.row between parts.lines left
+      position < parts.buffer.mark + parts.playout.depth → IsMedia word → position < 2 ^ 61 + 2 ^ 16 → parts.calls < 2 ^ 62
+      → PeelingsTakeWords → (answer : Bool) (between : BufferState) (left : LiveState) (epoch : ℕ) → epoch ≤ parts.calls + 1
+      → MakesWay answer position word parts.buffer between parts.lines left
       → AreSound (taken parts position seq word between left epoch)
   takes_sound near media limit calls take true between left epoch epoch_limit way =
-      subst (λ (r : RowState). AreSound (taken parts position seq word r left epoch)) (sym way.row_is)
-      (sound_with_word (with_row parts (without_found parts.row) left)
+      subst (λ (r : BufferState). AreSound (taken parts position seq word r left epoch)) (sym way.buffer_is)
+      (sound_with_word (with_buffer parts (without_found parts.buffer) left)
       (sound_without_all parts sound left
-      (subst (λ (r : RowState). Reopens (row_words r) parts.lines left) way.row_is way.lines_are))
+      (subst (λ (r : BufferState). Reopens (buffer_words r) parts.lines left) way.buffer_is way.lines_are))
       position seq word ahead near none media limit calls take epoch epoch_limit
-      (agrees_unfound parts.row position word (received_ahead parts.row position ahead ∙ none)))
+      (agrees_unfound parts.buffer position word (received_ahead parts.buffer position ahead ∙ none)))
   takes_sound near media limit calls take false between left epoch epoch_limit way = ⊎_elim
       (λ same.
-      subst (λ (r : RowState). AreSound (taken parts position seq word r left epoch)) (sym same.row_is)
-      (subst (λ (l : LinesState). AreSound (taken parts position seq word parts.row l epoch)) (sym same.lines_are)
+      subst (λ (r : BufferState). AreSound (taken parts position seq word r left epoch)) (sym same.buffer_is)
+      (subst (λ (l : LiveState). AreSound (taken parts position seq word parts.buffer l epoch)) (sym same.lines_are)
       (sound_with_word parts sound position seq word ahead near none media limit calls take epoch epoch_limit same.agrees)))
       (λ anew.
-      subst (λ (r : RowState). AreSound (taken parts position seq word r left epoch)) (sym anew.row_is)
-      (sound_with_word (with_row parts (without_cached parts.row) left)
+      subst (λ (r : BufferState). AreSound (taken parts position seq word r left epoch)) (sym anew.buffer_is)
+      (sound_with_word (with_buffer parts (without_cached parts.buffer) left)
       (sound_without_cached parts sound left
-      (subst (λ (r : RowState). Reopens (row_words r) parts.lines left) anew.row_is anew.lines_are))
+      (subst (λ (r : BufferState). Reopens (buffer_words r) parts.lines left) anew.buffer_is anew.lines_are))
       position seq word ahead near none media limit calls take epoch epoch_limit
-      (agrees_uncached parts.row position word anew.unknown)))
+      (agrees_uncached parts.buffer position word anew.unknown)))
       way
 
   -- The state has the word, and nothing else of it changes.
   pub takes_state :
-      (answer : Bool) (between : RowState) (left : LinesState) (epoch : ℕ)
-      → MakesWay answer position word parts.row between parts.lines left
+      (answer : Bool) (between : BufferState) (left : LiveState) (epoch : ℕ)
+      → MakesWay answer position word parts.buffer between parts.lines left
       → state_of (taken parts position seq word between left epoch) ≡ with_media (state_of parts) seq position word
   takes_state true between left epoch way =
-      ap (λ (r : RowState). state_of (taken parts position seq word r left epoch)) way.row_is
+      ap (λ (r : BufferState). state_of (taken parts position seq word r left epoch)) way.buffer_is
       ∙ ap (λ (m : FinMap nat_cmp Live). record (with_media (state_of parts) seq position word) { equations = m }) way.lines_are.live
   takes_state false between left epoch way = ⊎_elim
       (λ same.
-      ap (λ (r : RowState). state_of (taken parts position seq word r left epoch)) same.row_is
-      ∙ ap (λ (l : LinesState). record (with_media (state_of parts) seq position word) { equations = l.live }) same.lines_are)
+      ap (λ (r : BufferState). state_of (taken parts position seq word r left epoch)) same.buffer_is
+      ∙ ap (λ (l : LiveState). record (with_media (state_of parts) seq position word) { equations = l.live }) same.lines_are)
       (λ anew.
-      ap (λ (r : RowState). state_of (taken parts position seq word r left epoch)) anew.row_is
+      ap (λ (r : BufferState). state_of (taken parts position seq word r left epoch)) anew.buffer_is
       ∙ ap (λ (m : FinMap nat_cmp Live). record (with_media (state_of parts) seq position word) { equations = m }) anew.lines_are.live)
       way
 
   -- What was solved gives way.
   pub takes_give_way :
-      (answer : Bool) (between : RowState) (left : LinesState) (epoch : ℕ) → epoch ≡ raised parts.epoch answer
-      → MakesWay answer position word parts.row between parts.lines left
+      (answer : Bool) (between : BufferState) (left : LiveState) (epoch : ℕ) → epoch ≡ raised parts.epoch answer
+      → MakesWay answer position word parts.buffer between parts.lines left
       → GivesWay (contents_of parts) position word (contents_of (taken parts position seq word between left epoch))
   takes_give_way true between left epoch is way =
-      subst (λ (r : RowState). GivesWay (contents_of parts) position word (contents_of (taken parts position seq word r left epoch)))
-      (sym way.row_is)
+      subst (λ (r : BufferState). GivesWay (contents_of parts) position word (contents_of (taken parts position seq word r left epoch)))
+      (sym way.buffer_is)
       (record {
         withdrawn = λ _. (
-            let state : State = state_of (taken parts position seq word (without_found parts.row) left epoch) in
+            let state : State = state_of (taken parts position seq word (without_found parts.buffer) left epoch) in
             let e = nothing_removed position in
             λ i. record {
               state = state;
               solved = e i;
-              bare = parts.row.bare;
-              repaired = parts.row.repaired;
+              bare = parts.buffer.bare;
+              repaired = parts.buffer.repaired;
               epoch = is i;
             });
         agreed = λ not. absurd (not way.contradicts);
       })
   takes_give_way false between left epoch is way = ⊎_elim
       (λ same.
-      subst (λ (r : RowState). GivesWay (contents_of parts) position word (contents_of (taken parts position seq word r left epoch)))
-      (sym same.row_is)
+      subst (λ (r : BufferState). GivesWay (contents_of parts) position word (contents_of (taken parts position seq word r left epoch)))
+      (sym same.buffer_is)
       (record {
         withdrawn = λ contradicted. (
-            let s = some_and (get parts.row.solved position) (λ other. other ≢ word) contradicted in
+            let s = some_and (get parts.buffer.solved position) (λ other. other ≢ word) contradicted in
             absurd (s.2 (same.agrees s.0
-            (or_first (row_known parts.row position) (get parts.row.cached position) s.0
-            (or_second (row_received parts.row position) (get parts.row.solved position)
-            (received_ahead parts.row position ahead ∙ none) ∙ s.1)))));
+            (or_first (buffer_known parts.buffer position) (get parts.buffer.cached position) s.0
+            (or_second (buffer_received parts.buffer position) (get parts.buffer.solved position)
+            (received_ahead parts.buffer position ahead ∙ none) ∙ s.1)))));
         agreed = λ _. (
-            let state : State = state_of (taken parts position seq word parts.row left epoch) in
+            let state : State = state_of (taken parts position seq word parts.buffer left epoch) in
             λ i. record {
               state = state;
-              solved = remove parts.row.solved position;
-              bare = parts.row.bare;
-              repaired = parts.row.repaired;
+              solved = remove parts.buffer.solved position;
+              bare = parts.buffer.bare;
+              repaired = parts.buffer.repaired;
               epoch = is i;
             });
       }))
       (λ anew.
-      subst (λ (r : RowState). GivesWay (contents_of parts) position word (contents_of (taken parts position seq word r left epoch)))
-      (sym anew.row_is)
+      subst (λ (r : BufferState). GivesWay (contents_of parts) position word (contents_of (taken parts position seq word r left epoch)))
+      (sym anew.buffer_is)
       (record {
         withdrawn = λ contradicted. (
-            let s = some_and (get parts.row.solved position) (λ other. other ≢ word) contradicted in
-            let unsolved = (or_neither (row_received parts.row position) (get parts.row.solved position) anew.unknown).1 in
+            let s = some_and (get parts.buffer.solved position) (λ other. other ≢ word) contradicted in
+            let unsolved = (or_neither (buffer_received parts.buffer position) (get parts.buffer.solved position) anew.unknown).1 in
             absurd (none-some s.0 (sym unsolved ∙ s.1)));
         agreed = λ _. (
-            let state : State = state_of (taken parts position seq word (without_cached parts.row) left epoch) in
+            let state : State = state_of (taken parts position seq word (without_cached parts.buffer) left epoch) in
             λ i. record {
               state = state;
-              solved = remove parts.row.solved position;
-              bare = parts.row.bare;
-              repaired = parts.row.repaired;
+              solved = remove parts.buffer.solved position;
+              bare = parts.buffer.bare;
+              repaired = parts.buffer.repaired;
               epoch = is i;
             });
       }))

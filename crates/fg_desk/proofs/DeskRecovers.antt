@@ -1,4 +1,4 @@
--- What a desk's row has once the words that follow are found.
+-- What a desk's buffer has once the words that follow are found.
 use Rattle.std.proofs.Common.{◌↔◌, ◌++◌, ℕ, Bool, Option, IsSome, IsTrue, sym, ap, subst, ◌∙◌, arith}
 use Rattle.fg_words.specs.declared.Word.{Word}
 use Rattle.fg_peel.specs.Equation.{AreMedia, Keeps, IsComplete}
@@ -6,21 +6,21 @@ use Rattle.fg_peel.specs.Closure.{InClosure as Follows}
 use Rattle.fg_peel.specs.Solution.{IsSolution as Solves}
 use Rattle.fg_peel.specs.Peeling.{IsPeeling, ArePeeled, end_of}
 use Rattle.fg_peel.specs.Laws.{FoundKeepsSolutions, FoundKeepsClosure, MaximalPeelingsEndAtClosure, PeelingsAppend, PeelingsKeepWords, SolutionsKeepPeelings}
-use Rattle.fg_desk.specs.declared.reply.Outcome.TheVariants.{Repaired}
-use Rattle.fg_desk.specs.State.{known, live_equations}
-use Rattle.fg_desk.specs.Solution.{InClosure, IsSolution}
+use Rattle.fg_playout.specs.declared.reply.Outcome.TheVariants.{Repaired}
+use Rattle.fg_playout.specs.State.{known, live_equations}
+use Rattle.fg_playout.specs.Solution.{InClosure, IsSolution}
 use Rattle.fg_desk.specs.Inside.{Parts, AreSound, state_of}
-use Rattle.fg_window.specs.Row.{RowState, row_words}
-use Rattle.fg_desk.specs.Window.{AreInRow, EachSettled, IsRecovered}
-use Rattle.fg_desk.proofs.Orderly.{IsOrderly, orderly_from_holds, admissible}
-use Rattle.fg_desk.proofs.Peeled.{closure_to_peel, closure_from_peel, solution_to_peel, solution_from_peel}
-use Rattle.fg_desk.proofs.Plays.{words_are_media}
+use Rattle.fg_buffer.specs.PlayoutBuffer.{BufferState, buffer_words}
+use Rattle.fg_desk.specs.Storage.{AreInBuffer, EachSettled, IsRecovered}
+use Rattle.fg_playout.proofs.Orderly.{IsOrderly, orderly_from_holds, admissible}
+use Rattle.fg_playout.proofs.Peeled.{closure_to_peel, closure_from_peel, solution_to_peel, solution_from_peel}
+use Rattle.fg_playout.proofs.Plays.{words_are_media}
 use Rattle.fg_desk.proofs.SettledWords.{complete_keeps}
-use Rattle.fg_window.proofs.SlotRange.{slot_is_near}
+use Rattle.fg_peel.proofs.SlotRange.{slot_is_near}
 
--- The live equations can be asked of the row.
-pub are_in_row : (parts : Parts) → AreSound parts → AreInRow parts.row parts.lines
-are_in_row parts sound serial live is =
+-- The live equations can be asked of the buffer.
+pub are_in_buffer : (parts : Parts) → AreSound parts → AreInBuffer parts.buffer parts.lines
+are_in_buffer parts sound serial live is =
     let k = sound.facts.live serial live is in
     let near = k.near in
     let reach = sound.limits.reach_is in
@@ -31,22 +31,22 @@ are_in_row parts sound serial live is =
     }
 
 module _
-    (parts : Parts) (sound : AreSound parts) (row : RowState) (answer : Bool)
-    (recovered : IsRecovered (live_equations (state_of parts)) parts.row row answer) where
+    (parts : Parts) (sound : AreSound parts) (buffer : BufferState) (answer : Bool)
+    (recovered : IsRecovered (live_equations (state_of parts)) parts.buffer buffer answer) where
   orderly : IsOrderly (state_of parts)
   orderly = orderly_from_holds (state_of parts) sound.facts
 
-  pub words_kept : PeelingsKeepWords → Keeps (row_words parts.row) (row_words row)
+  pub words_kept : PeelingsKeepWords → Keeps (buffer_words parts.buffer) (buffer_words buffer)
   words_kept keep =
       let e = recovered.peeling in
-      subst (λ (f : ℕ → Option Word). Keeps (row_words parts.row) f) (sym e.2)
-      (keep (row_words parts.row) (live_equations (state_of parts)) e.0 e.1.peeling)
+      subst (λ (f : ℕ → Option Word). Keeps (buffer_words parts.buffer) f) (sym e.2)
+      (keep (buffer_words parts.buffer) (live_equations (state_of parts)) e.0 e.1.peeling)
 
   -- What was found before may be taken as known, where it is media words.
   found_solves :
-      FoundKeepsSolutions → AreMedia (row_words parts.row) → (words : ℕ → Option Word)
+      FoundKeepsSolutions → AreMedia (buffer_words parts.buffer) → (words : ℕ → Option Word)
       → Solves (known (state_of parts)) (live_equations (state_of parts)) words
-      ↔ Solves (row_words parts.row) (live_equations (state_of parts)) words
+      ↔ Solves (buffer_words parts.buffer) (live_equations (state_of parts)) words
   found_solves found media words =
       let p = sound.peeled in
       subst
@@ -57,11 +57,11 @@ module _
       (λ q w none is. media q w (ap (λ (f : ℕ → Option Word). f q) p.2 ∙ is)) words)
 
   -- If the answer is yes, all words are media words, and so are those that were there before.
-  pub desk_solution : FoundKeepsSolutions → PeelingsKeepWords → IsTrue answer → IsSolution (state_of parts) (row_words row)
+  pub desk_solution : FoundKeepsSolutions → PeelingsKeepWords → IsTrue answer → IsSolution (state_of parts) (buffer_words buffer)
   desk_solution found keep solved =
       let s = recovered.solved solved in
-      let media : AreMedia (row_words parts.row) = λ q w is. s.0 q w (words_kept keep q w is) in
-      solution_from_peel (state_of parts) orderly (row_words row) ((found_solves found media (row_words row)).1 s.1)
+      let media : AreMedia (buffer_words parts.buffer) = λ q w is. s.0 q w (words_kept keep q w is) in
+      solution_from_peel (state_of parts) orderly (buffer_words buffer) ((found_solves found media (buffer_words buffer)).1 s.1)
 
   -- If there is a solution, it has all that was found, so that is media words.
   pub desk_solvable :
@@ -73,13 +73,13 @@ module _
       let all : Keeps (end_of (known (state_of parts)) p.0) solution =
       kept (known (state_of parts)) (live_equations (state_of parts)) (admissible (state_of parts) orderly) solution solves p.0
       p.1 in
-      let media : AreMedia (row_words parts.row) =
+      let media : AreMedia (buffer_words parts.buffer) =
       λ q w at. words_are_media (state_of parts) Repaired solution orderly is q w
       (all q w (sym (ap (λ (f : ℕ → Option Word). f q) p.2) ∙ at)) in
       recovered.solvable media solution ((found_solves found media solution).0 solves)
 
-  -- All that the row has now was found by one peeling.
-  pub all_peeled : PeelingsAppend → ArePeeled (live_equations (state_of parts)) (known (state_of parts)) (row_words row)
+  -- All that the buffer has now was found by one peeling.
+  pub all_peeled : PeelingsAppend → ArePeeled (live_equations (state_of parts)) (known (state_of parts)) (buffer_words buffer)
   all_peeled append =
       let p = sound.peeled in
       let e = recovered.peeling in
@@ -91,15 +91,15 @@ module _
   -- It has words at exactly the positions of the closure.
   pub has_closure :
       FoundKeepsClosure → MaximalPeelingsEndAtClosure → (position : ℕ)
-      → IsSome (row_words row position) ↔ InClosure (state_of parts) position
+      → IsSome (buffer_words buffer position) ↔ InClosure (state_of parts) position
   has_closure found filled position =
       let p = sound.peeled in
       let e = recovered.peeling in
-      let ends : IsSome (row_words row position) ↔ Follows (row_words parts.row) (live_equations (state_of parts)) position =
-      subst (λ (f : ℕ → Option Word). IsSome (f position) ↔ Follows (row_words parts.row) (live_equations (state_of parts)) position)
-      (sym e.2) (filled (row_words parts.row) (live_equations (state_of parts)) e.0 e.1 position) in
+      let ends : IsSome (buffer_words buffer position) ↔ Follows (buffer_words parts.buffer) (live_equations (state_of parts)) position =
+      subst (λ (f : ℕ → Option Word). IsSome (f position) ↔ Follows (buffer_words parts.buffer) (live_equations (state_of parts)) position)
+      (sym e.2) (filled (buffer_words parts.buffer) (live_equations (state_of parts)) e.0 e.1 position) in
       let same : Follows (known (state_of parts)) (live_equations (state_of parts)) position
-      ↔ Follows (row_words parts.row) (live_equations (state_of parts)) position =
+      ↔ Follows (buffer_words parts.buffer) (live_equations (state_of parts)) position =
       subst
       (λ (f : ℕ → Option Word).
       Follows (known (state_of parts)) (live_equations (state_of parts)) position ↔ Follows f (live_equations (state_of parts)) position)
@@ -108,13 +108,13 @@ module _
         λ inside. ends.1 (same.0 (closure_to_peel (state_of parts) position inside)),
       )
 
-  -- The live equations can still be asked of the row, and those that are settled are complete.
-  pub still_in_row : AreInRow row parts.lines
-  still_in_row =
-      subst (λ (r : RowState). AreInRow r parts.lines) (sym recovered.rest)
+  -- The live equations can still be asked of the buffer, and those that are settled are complete.
+  pub still_in_buffer : AreInBuffer buffer parts.lines
+  still_in_buffer =
+      subst (λ (r : BufferState). AreInBuffer r parts.lines) (sym recovered.rest)
       (λ serial live is.
-      let i = are_in_row parts sound serial live is in record { shape = i.shape; near = i.near; based = i.based })
+      let i = are_in_buffer parts sound serial live is in record { shape = i.shape; near = i.near; based = i.based })
 
-  pub settled_are_complete : PeelingsKeepWords → EachSettled parts.lines (IsComplete (row_words row))
+  pub settled_are_complete : PeelingsKeepWords → EachSettled parts.lines (IsComplete (buffer_words buffer))
   settled_are_complete keep serial live is settled =
-      complete_keeps (row_words parts.row) (row_words row) live.equation (words_kept keep) (sound.settled serial live is settled).0
+      complete_keeps (buffer_words parts.buffer) (buffer_words buffer) live.equation (words_kept keep) (sound.settled serial live is settled).0

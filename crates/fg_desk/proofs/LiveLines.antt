@@ -4,15 +4,15 @@ use Rattle.std.specs.FinSet as set
 use Rattle.slab.specs.Slab.{Slab}
 use Rattle.fg_shape.specs.Shape.{IsShape}
 use Rattle.fg_peel.specs.declared.Line.{Line}
-use Rattle.fg_desk.specs.Facts.{Holds}
+use Rattle.fg_playout.specs.Facts.{Holds}
 use Rattle.fg_desk.specs.Inside.{Parts, state_of}
-use Rattle.fg_window.specs.Lines.{LinesState, AreOpen, AreSettled, IsAmong, IsLiveLine, live_of}
+use Rattle.fg_buffer.specs.LiveEquations.{LiveState, AreOpen, AreSettled, IsAmong, IsLiveLine, live_of}
 
 true_or_false : (b : Bool) → (b ≡ true) ⊎ (b ≡ false)
 true_or_false true = inl refl
 true_or_false false = inr refl
 
-module _ (lines : LinesState) (first second : Slab Line) (open_lines : AreOpen lines first) (settled_lines : AreSettled lines second)
+module _ (lines : LiveState) (first second : Slab Line) (open_lines : AreOpen lines first) (settled_lines : AreSettled lines second)
     (line : Line) where
   pub live_among : IsAmong first second line ↔ IsLiveLine lines line
   live_among = (

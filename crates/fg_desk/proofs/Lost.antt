@@ -6,8 +6,8 @@ use Rattle.std.specs.List.{Contains}
 use Rattle.std.specs.FinMap.{get}
 use Rattle.fg_shape.specs.Shape.{slots_of}
 use Rattle.fg_peel.proofs.Options.{none_has_no_value}
-use Rattle.fg_window.specs.Words.{Words}
-use Rattle.fg_window.specs.Lines.{IsLost}
+use Rattle.fg_peel.specs.Words.{Words}
+use Rattle.fg_buffer.specs.LiveEquations.{IsLost}
 
 pub found_or_not :
     (r : Option ℕ) (P : Type 0) (Q : ℕ → Type 0) → IfSome r Q → IfNone r P

@@ -5,15 +5,15 @@ use Rattle.std.proofs.lemmas.List.{append-nil, length-map, map-append, take_more
 use Rattle.std.proofs.lemmas.List.Elements.{All-push}
 use Rattle.fg_words.specs.declared.Word.{Word}
 use Rattle.fg_shape.specs.Playout.{Playout}
-use Rattle.fg_desk.specs.declared.reply.Reply.{Reply}
+use Rattle.fg_playout.specs.declared.reply.Reply.{Reply}
 use Rattle.fg_desk.specs.declared.run.Datagram.{Datagram}
 use Rattle.fg_desk.specs.declared.run.ShownPlay.{ShownPlay}
-use Rattle.fg_desk.specs.State.{State, opening}
-use Rattle.fg_desk.specs.Admission.{IsDue}
+use Rattle.fg_playout.specs.State.{State, opening}
+use Rattle.fg_playout.specs.Admission.{IsDue}
 use Rattle.fg_desk.specs.declared.run.ShownWord.{ShownWord}
-use Rattle.fg_desk.specs.Play.{Play, Shown, nothing_shown, IsPlay, IsFlushStep}
-use Rattle.fg_desk.specs.Run.{Arrival, Takes, TakesAll}
-use Rattle.fg_desk.specs.Laws.{IsRead, HavePlayed, AreFlushSteps, PlaysDueJoin, FlushStepsJoin, TakingsJoin}
+use Rattle.fg_playout.specs.Play.{Play, Shown, nothing_shown, IsPlay, IsFlushStep}
+use Rattle.fg_playout.specs.Run.{Arrival, Takes, TakesAll}
+use Rattle.fg_playout.specs.Laws.{IsRead, HavePlayed, AreFlushSteps, PlaysDueJoin, FlushStepsJoin, TakingsJoin}
 use Rattle.fg_desk.specs.Arrivals.{arrival_of, play_of, shown_word}
 
 -- A copy more.

@@ -15,10 +15,10 @@ use Rattle.fg_peel.specs.Peeling.{Step, CanFollow, EndsPeeling, end_of}
 use Rattle.fg_peel.specs.Laws.{AddsSettled, PeelingsTakeEquations, PeelingsKeepWords}
 use Rattle.fg_peel.proofs.Lists.{Contains-nil, Contains-map, Contains-from_map}
 use Rattle.fg_peel.proofs.Options.{value_of, has_value}
-use Rattle.fg_desk.specs.State.{State, Live, opening}
-use Rattle.fg_window.specs.Lines.{LinesState, AreOpen, live_of}
-use Rattle.fg_desk.specs.Window.{EachSettled, equations_in}
-use Rattle.fg_desk.proofs.Equations.{serial_of, live_at}
+use Rattle.fg_playout.specs.State.{State, Live, opening}
+use Rattle.fg_buffer.specs.LiveEquations.{LiveState, AreOpen, live_of}
+use Rattle.fg_desk.specs.Storage.{EachSettled, equations_in}
+use Rattle.fg_playout.proofs.Equations.{serial_of, live_at}
 
 -- No step follows of an equation that is complete already.
 no_step_of_complete :
@@ -66,19 +66,19 @@ pub ends_of_none : (known : ℕ → Option Word) → EndsPeeling [] known known
 ends_of_none known = ([], record { peeling = tt; no_more = λ step can. Contains-nil step.equation can.listed }, refl)
 
 -- A desk of which these are the live equations.
-abbrev pub desk_of : LinesState → State
+abbrev pub desk_of : LiveState → State
 desk_of lines = record (opening (record { window = 0; depth = 0 })) { equations = lines.live }
 
-pub serial_in : (lines : LinesState) (equation : Equation) → Contains (equations_in lines) equation
+pub serial_in : (lines : LiveState) (equation : Equation) → Contains (equations_in lines) equation
     → (serial : ℕ) × (live : Live) × (get lines.live serial ≡ Some live) × (live.equation ≡ equation)
 serial_in lines equation c = serial_of (desk_of lines) equation c
 
-pub live_in_at : (lines : LinesState) (serial : ℕ) (live : Live) → get lines.live serial ≡ Some live → Contains (equations_in lines) live.equation
+pub live_in_at : (lines : LiveState) (serial : ℕ) (live : Live) → get lines.live serial ≡ Some live → Contains (equations_in lines) live.equation
 live_in_at lines serial live is = live_at (desk_of lines) serial live is
 
 -- Where all are settled, they add nothing to none.
 pub all_add_nothing :
-    (lines : LinesState) (known : ℕ → Option Word) → EachSettled lines (IsSettled known)
+    (lines : LiveState) (known : ℕ → Option Word) → EachSettled lines (IsSettled known)
     → ((serial : ℕ) → IsSome (get lines.live serial) → IsTrue (set.contains lines.settled serial))
     → AddsSettled known [] (equations_in lines)
 all_add_nothing lines known settled all = record {
@@ -100,13 +100,13 @@ line_with serial live = record {
 
 -- A line of the open ones is live.
 pub open_is_live :
-    (lines : LinesState) (open_lines : Slab Line) → AreOpen lines open_lines → (line : Line) → Contains (lines_of open_lines) line
+    (lines : LiveState) (open_lines : Slab Line) → AreOpen lines open_lines → (line : Line) → Contains (lines_of open_lines) line
     → get lines.live line.serial ≡ Some (live_of line)
 open_is_live lines open_lines are line c = ((are line).0 c).0
 
 -- Settled ones add nothing to the open ones.
 pub settled_add_nothing :
-    (lines : LinesState) (open_lines : Slab Line) (known : ℕ → Option Word) → AreOpen lines open_lines
+    (lines : LiveState) (open_lines : Slab Line) (known : ℕ → Option Word) → AreOpen lines open_lines
     → EachSettled lines (IsSettled known) → AddsSettled known (equations_of open_lines) (equations_in lines)
 settled_add_nothing lines open_lines known are settled = record {
   listed = λ equation c.

@@ -4,7 +4,7 @@ use Rattle.std.proofs.lemmas.List.{get_or_default, get_or-take, length-map, leng
 use Rattle.std.proofs.Math.ListN.{get_or-map}
 use Rattle.fg_words.specs.Word.{zero_word}
 use Rattle.fg_desk.specs.declared.tray.Place.{Place}
-use Rattle.fg_desk.specs.Shown.{nothing_shown}
+use Rattle.fg_playout.specs.Shown.{nothing_shown}
 use Rattle.fg_desk.specs.TrayPlaces.{shown_of}
 
 abbrev no_place : Place

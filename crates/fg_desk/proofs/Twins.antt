@@ -6,13 +6,13 @@ use Rattle.std.specs.Ordering.{nat_cmp}
 use Rattle.fg_words.specs.declared.Word.{Word}
 use Rattle.fg_peel.specs.declared.Line.{Line}
 use Rattle.fg_peel.specs.Equation.{Equation}
-use Rattle.fg_desk.specs.State.{State, Live}
+use Rattle.fg_playout.specs.State.{State, Live}
 use Rattle.fg_peel.specs.Slots.{equation_of}
-use Rattle.fg_desk.specs.Admission.{HasSlots, HasTwin}
-use Rattle.fg_window.specs.Lines.{LinesState, IsLiveLine, live_of}
+use Rattle.fg_playout.specs.Admission.{HasSlots, HasTwin}
+use Rattle.fg_buffer.specs.LiveEquations.{LiveState, IsLiveLine, live_of}
 use Rattle.fg_desk.proofs.SettledEquations.{line_with}
 
-module _ (desk : State) (lines : LinesState) (same : lines.live ≡ desk.equations) (equation : Equation) where
+module _ (desk : State) (lines : LiveState) (same : lines.live ≡ desk.equations) (equation : Equation) where
   stands : (serial : ℕ) → get lines.live serial ≡ get desk.equations serial
   stands serial = ap (λ (m : FinMap nat_cmp Live). get m serial) same
 

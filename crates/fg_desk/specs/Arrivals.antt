@@ -6,12 +6,12 @@ use Rattle.fg_desk.specs.declared.run.Datagram.{Datagram}
 use Rattle.fg_desk.specs.declared.run.Datagram.TheVariants as datagram
 use Rattle.fg_desk.specs.declared.run.ShownWord.{ShownWord}
 use Rattle.fg_desk.specs.declared.run.ShownPlay.{ShownPlay}
-use Rattle.fg_desk.specs.State.{State}
-use Rattle.fg_desk.specs.Facts.{Holds}
-use Rattle.fg_desk.specs.Contents.{HasRoom}
-use Rattle.fg_desk.specs.Play.{Play, Shown}
-use Rattle.fg_desk.specs.Run.{Arrival, carries, protects, refused}
-use Rattle.fg_desk.specs.Laws.{HavePlayed, AreFlushSteps}
+use Rattle.fg_playout.specs.State.{State}
+use Rattle.fg_playout.specs.Facts.{Holds}
+use Rattle.fg_playout.specs.Room.{HasRoom}
+use Rattle.fg_playout.specs.Play.{Play, Shown}
+use Rattle.fg_playout.specs.Run.{Arrival, carries, protects, refused}
+use Rattle.fg_playout.specs.Laws.{HavePlayed, AreFlushSteps}
 
 -- The datagram that arrives.
 abbrev pub arrival_of : Datagram → Arrival

@@ -8,18 +8,18 @@ use Rattle.std.specs.FinMap.{get, insert, remove}
 use Rattle.std.specs.FinSet.{FinSet, contains, empty}
 use Rattle.fg_words.specs.declared.Word.{Word}
 use Rattle.fg_shape.specs.Playout.{Playout}
-use Rattle.fg_peel.specs.declared.row.Missing.TheVariants.{One}
+use Rattle.fg_peel.specs.declared.span.Missing.TheVariants.{One}
 use Rattle.fg_peel.specs.Equation.{Equation}
 use Rattle.fg_peel.specs.Peeling.{ArePeeled, given_word}
 use Rattle.fg_peel.specs.Slots.{IsMissing}
-pub use Rattle.fg_desk.specs.Shown.{Holding, kept_shown}
-use Rattle.fg_desk.specs.declared.reply.Reply.{Reply}
-use Rattle.fg_desk.specs.declared.reply.Reply.TheVariants.{Admitted}
-use Rattle.fg_desk.specs.declared.reply.Outcome.{Outcome}
-use Rattle.fg_desk.specs.declared.reply.Outcome.TheVariants.{Repaired, Inconsistent}
-use Rattle.fg_desk.specs.State.{State, Live, Words, known, live_equations, opening}
-use Rattle.fg_desk.specs.Admission.{position_on}
-use Rattle.fg_desk.specs.Play.{Shown}
+pub use Rattle.fg_playout.specs.Shown.{Holding, kept_shown}
+use Rattle.fg_playout.specs.declared.reply.Reply.{Reply}
+use Rattle.fg_playout.specs.declared.reply.Reply.TheVariants.{Admitted}
+use Rattle.fg_playout.specs.declared.reply.Outcome.{Outcome}
+use Rattle.fg_playout.specs.declared.reply.Outcome.TheVariants.{Repaired, Inconsistent}
+use Rattle.fg_playout.specs.State.{State, Live, Words, known, live_equations, opening}
+use Rattle.fg_playout.specs.Admission.{position_on}
+use Rattle.fg_playout.specs.Play.{Shown}
 
 -- A desk, with what was found and published between its plays.
 pub record Contents : Type 0 where
@@ -37,12 +37,6 @@ pub record Contents : Type 0 where
 abbrev pub opened : Playout → Contents
 opened playout =
     record { state = opening playout; solved = map.empty; bare = empty; repaired = empty; epoch = 0 }
-
--- The limits within which a desk may change.
-pub record HasRoom (desk : State) : Type 0 where
-  pub mark : desk.mark < 2 ^ 61
-  pub top : IfSome desk.top (λ top. top.position < 2 ^ 61)
-  pub calls : desk.calls < 2 ^ 62
 
 -- The words known at positions: those kept and received, and those solved.
 abbrev pub known_in : Contents → ℕ → Option Word

@@ -11,13 +11,14 @@ use Rattle.fg_shape.specs.Shape.{slots_of}
 use Rattle.fg_shape.specs.Playout.{Playout}
 use Rattle.fg_peel.specs.Equation.{AreMedia, IsSettled}
 use Rattle.fg_peel.specs.Peeling.{ArePeeled}
-use Rattle.fg_desk.specs.State.{State, Top, Live, Words, known, live_equations}
-use Rattle.fg_desk.specs.Facts.{Holds}
+use Rattle.fg_playout.specs.State.{State, Top, Live, Words, known, live_equations}
+use Rattle.fg_playout.specs.Facts.{Holds}
+use Rattle.fg_playout.specs.Room.{farthest_limit, call_limit}
 use Rattle.fg_desk.specs.Contents.{Contents}
-use Rattle.fg_window.specs.Row.{RowState, row_known, row_words}
-use Rattle.fg_window.specs.RowEntries.{words_code}
-use Rattle.fg_window.specs.Lines.{LinesState}
-use Rattle.fg_window.specs.LinesInside.{live_code}
+use Rattle.fg_buffer.specs.PlayoutBuffer.{BufferState, buffer_known, buffer_words}
+use Rattle.fg_buffer.specs.BufferEntries.{words_code}
+use Rattle.fg_buffer.specs.LiveEquations.{LiveState}
+use Rattle.fg_buffer.specs.LiveInside.{live_code}
 
 -- How contents are told apart.
 abbrev pub top_code : Coded Top
@@ -73,8 +74,8 @@ contents_code =
 pub record Parts : Type 0 where
   pub playout : Playout
   pub top : Option Top
-  pub row : RowState
-  pub lines : LinesState
+  pub buffer : BufferState
+  pub lines : LiveState
   pub admitted : ℕ
   pub calls : ℕ
   pub epoch : ℕ
@@ -84,9 +85,9 @@ abbrev pub state_of : Parts → State
 state_of parts = record {
   playout = parts.playout;
   top = parts.top;
-  mark = parts.row.mark;
-  kept = parts.row.kept;
-  media = parts.row.media;
+  mark = parts.buffer.mark;
+  kept = parts.buffer.kept;
+  media = parts.buffer.media;
   equations = parts.lines.live;
   admitted = parts.admitted;
   calls = parts.calls;
@@ -95,45 +96,45 @@ state_of parts = record {
 abbrev pub contents_of : Parts → Contents
 contents_of parts = record {
   state = state_of parts;
-  solved = parts.row.solved;
-  bare = parts.row.bare;
-  repaired = parts.row.repaired;
+  solved = parts.buffer.solved;
+  bare = parts.buffer.bare;
+  repaired = parts.buffer.repaired;
   epoch = parts.epoch;
 }
 
--- A settled equation is complete in the row's words, and comes out.
+-- A settled equation is complete in the buffer's words, and comes out.
 abbrev pub SettledComeOut : Parts → Type 0
 SettledComeOut parts =
     (serial : ℕ) (live : Live) → get parts.lines.live serial ≡ Some live
-    → IsTrue (set.contains parts.lines.settled serial) → IsSettled (row_words parts.row) live.equation
+    → IsTrue (set.contains parts.lines.settled serial) → IsSettled (buffer_words parts.buffer) live.equation
 
 -- What keeps numbers within their limits, whatever words and equations there are.
 pub record IsLimited (playout : Playout) (reach mark : ℕ) (top : Option Top) (admitted calls epoch : ℕ) : Type 0 where
   pub depth_limit : playout.depth ≤ 1000
   pub reach_is : reach ≡ playout.depth + 100
-  pub mark_limit : mark < 2 ^ 61 + 200
-  pub top_limit : (farthest : Top) → top ≡ Some farthest → farthest.position < 2 ^ 61 + 2 ^ 16
+  pub mark_limit : mark < farthest_limit + 200
+  pub top_limit : (farthest : Top) → top ≡ Some farthest → farthest.position < farthest_limit + 2 ^ 16
   pub admitted_limit : admitted ≤ calls
-  pub calls_limit : calls ≤ 2 ^ 62
+  pub calls_limit : calls ≤ call_limit
   pub epoch_limit : epoch ≤ calls
 
 abbrev pub AreLimited : Parts → Type 0
 AreLimited parts =
-    IsLimited parts.playout parts.row.reach parts.row.mark parts.top parts.admitted parts.calls parts.epoch
+    IsLimited parts.playout parts.buffer.reach parts.buffer.mark parts.top parts.admitted parts.calls parts.epoch
 
 -- What holds of the parts between calls.
 pub record AreSound (parts : Parts) : Type 0 where
   pub facts : Holds (state_of parts)
   pub limits : AreLimited parts
   -- Words that were found and not told are media words. Those that were solved need not be.
-  pub cached : AreMedia (get parts.row.cached)
+  pub cached : AreMedia (get parts.buffer.cached)
   -- What was solved, and all that was found, come from peelings of the words received and kept.
-  pub solved : ArePeeled (live_equations (state_of parts)) (known (state_of parts)) (row_known parts.row)
-  pub peeled : ArePeeled (live_equations (state_of parts)) (known (state_of parts)) (row_words parts.row)
+  pub solved : ArePeeled (live_equations (state_of parts)) (known (state_of parts)) (buffer_known parts.buffer)
+  pub peeled : ArePeeled (live_equations (state_of parts)) (known (state_of parts)) (buffer_words parts.buffer)
   -- They stand at the mark and past it, where none was received.
   pub beside :
-      (position : ℕ) → IsSome (get parts.row.solved position)
-      → (parts.row.mark ≤ position) × (get parts.row.media position ≡ None)
+      (position : ℕ) → IsSome (get parts.buffer.solved position)
+      → (parts.buffer.mark ≤ position) × (get parts.buffer.media position ≡ None)
   pub settled : SettledComeOut parts
   -- So an equation comes out once it has given a word.
   pub rooms :

@@ -1,16 +1,6 @@
-pub mod Admission
 pub mod Arrivals
 pub mod Contents
-pub mod Existence
-pub mod Facts
 pub mod Inside
-pub mod Laws
 pub mod Parts
-pub mod Play
-pub mod PlayedOn
-pub mod Run
-pub mod Shown
-pub mod Solution
-pub mod State
 pub mod TrayPlaces
-pub mod Window
+pub mod Storage

@@ -2,7 +2,7 @@
 use Rattle.std.specs.Prelude.{option_map}
 use Rattle.fg_desk.specs.declared.desk.Farthest.{Farthest}
 use Rattle.fg_desk.specs.declared.desk.Desk.TheInside.{Inside}
-use Rattle.fg_desk.specs.State.{Top}
+use Rattle.fg_playout.specs.State.{Top}
 use Rattle.fg_desk.specs.Inside.{Parts}
 
 -- The farthest datagram as a state has it.
@@ -13,7 +13,7 @@ abbrev pub parts_of : Inside → Parts
 parts_of a = record {
   playout = record { window = a.window; depth = a.depth };
   top = option_map top_of a.top;
-  row = a.row;
+  buffer = a.buffer;
   lines = a.lines;
   admitted = a.admitted;
   calls = a.calls;

@@ -1,12 +1,12 @@
--- What a place of a tray shows, and what a tray shows of a row. No public contract cites it.
+-- What a place of a tray shows, and what a tray shows of a buffer. No public contract cites it.
 use Rattle.std.specs.Prelude.{ℕ, Bool, List, map, Option, Some, None, refl, if◌then◌else◌}
 use Rattle.std.specs.List.{range_with_len}
 use Rattle.std.specs.Coded.{Coded, code_by, coded×, coded_ℕ, coded_bool, coded_list, coded_option}
 use Rattle.fg_words.specs.declared.Word.{Word}
-use Rattle.fg_window.specs.Row.{RowState, row_known}
-use Rattle.fg_window.specs.RowEntries.{word_code}
+use Rattle.fg_buffer.specs.PlayoutBuffer.{BufferState, buffer_known}
+use Rattle.fg_buffer.specs.BufferEntries.{word_code}
 use Rattle.fg_desk.specs.declared.tray.Place.{Place}
-use Rattle.fg_desk.specs.Shown.{Shown, Holding, kept_shown}
+use Rattle.fg_playout.specs.Shown.{Shown, Holding, kept_shown}
 
 abbrev pub shown_of : Place → Shown
 shown_of place = record {
@@ -14,9 +14,9 @@ shown_of place = record {
   repaired = place.repaired;
 }
 
--- What a row keeps at `count` positions from a first one on.
-abbrev pub row_kept_from : RowState → ℕ → ℕ → List Shown
-row_kept_from row first count = map (kept_shown (row_known row) row.repaired) (range_with_len first count)
+-- What a buffer keeps at `count` positions from a first one on.
+abbrev pub buffer_kept_from : BufferState → ℕ → ℕ → List Shown
+buffer_kept_from buffer first count = map (kept_shown (buffer_known buffer) buffer.repaired) (range_with_len first count)
 
 -- How what is shown and a tray are told apart.
 abbrev pub shown_code : Coded Shown

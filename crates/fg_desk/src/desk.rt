@@ -5,40 +5,35 @@ ghost use Rattle.std.specs.Option.{option_copied};
 ghost use Rattle.std.specs.FinMap.{get, len};
 ghost use Rattle.std.specs.FinSet.{contains};
 ghost use Rattle.fg_words.specs.Word.{HasRoom as WordHasRoom, IsMedia};
-ghost use Rattle.fg_shape.specs.Shape.{IsShape};
+ghost use Rattle.fg_shape.specs.Shape.{IsShape, position_limit};
 ghost use Rattle.fg_peel.specs.Equation.{IsSettled};
 ghost use Rattle.fg_peel.specs.declared.Line.{Line as LiveLine};
-ghost use Rattle.fg_desk.specs.State.{known, Top as TopState, Live};
-ghost use Rattle.fg_desk.specs.Facts.{Holds};
-ghost use Rattle.fg_window.specs.Lines.{live_of, IsAmong};
-ghost use Rattle.fg_desk.specs.Contents.{opened, HasRoom, AreSolved, CanFill, IsLiveAt, IsPlaceAfter, GivesWay, IsAfterArrival, ChangesInPlay, filled, known_in, shared_at, kept_from, epoch_after};
-ghost use Rattle.fg_desk.specs.Admission.{IsDue, IsReplyAt, IsEquationReply, IsLeastFree, AdmitsMedia, AdmitsParity, farther as farther_top, with_media, with_equation};
-ghost use Rattle.fg_desk.specs.Play.{IsPlay, Flushes};
+ghost use Rattle.fg_playout.specs.State.{known, Top as TopState, Live};
+ghost use Rattle.fg_playout.specs.Facts.{Holds};
+ghost use Rattle.fg_buffer.specs.LiveEquations.{live_of, IsAmong};
+ghost use Rattle.fg_playout.specs.Room.{HasRoom, farthest_limit, call_limit};
+ghost use Rattle.fg_desk.specs.Contents.{opened, AreSolved, CanFill, IsLiveAt, IsPlaceAfter, GivesWay, IsAfterArrival, ChangesInPlay, filled, known_in, shared_at, kept_from, epoch_after};
+ghost use Rattle.fg_playout.specs.Admission.{IsDue, IsReplyAt, IsEquationReply, IsLeastFree, AdmitsMedia, AdmitsParity, farther as farther_top, with_media, with_equation};
+ghost use Rattle.fg_playout.specs.Play.{IsPlay, Flushes};
 ghost use Rattle.fg_desk.specs.Inside.{IsLateAt, raised};
 ghost use Rattle.fg_desk.specs.Parts.{top_of};
 
-use crate::laws::solved_stays_peeled;
-use crate::reply::{Outcome, Reply};
+use crate::storage::{close, publish, receive, recover};
 use crate::tray::Tray;
-use crate::window::{close, publish, receive, recover};
+use fg_buffer::{KEPT, LIVE_LIMIT, LiveEquations, PlayoutBuffer, lost_slot};
 use fg_peel::Line;
 use fg_peel::laws::{
     confluence, found_words_may_be_known, peelings_fill_the_closure, peelings_stay,
 };
+use fg_playout::laws::solved_stays_peeled;
+use fg_playout::{CALL_LIMIT, FARTHEST_LIMIT, Outcome, Reply};
 use fg_shape::{Shape, last};
 use fg_unwrap::position;
-use fg_window::{KEPT, LIVE_LIMIT, Lines, Row, lost_slot};
 use fg_words::laws::xor_is_a_group;
 use fg_words::{Shared, Word};
 use slab::Slab;
 use std::alloc::{AllocError, Global};
 use std::marker::Model;
-
-/// The mark and the farthest position are below this where a desk may change.
-const POSITIONS: u64 = 1 << 61;
-
-/// Fewer calls than this were made where a desk may change.
-const CALLS: u64 = 1 << 62;
 
 /// The farthest datagram of a flow: its position and its sequence number.
 #[derive(Clone, Copy)]
@@ -53,8 +48,8 @@ pub struct Desk {
     window: u32,
     depth: u32,
     top: Option<Farthest>,
-    row: Row,
-    lines: Lines,
+    buffer: PlayoutBuffer,
+    lines: LiveEquations,
     admitted: u64,
     calls: u64,
     epoch: u64,
@@ -101,8 +96,8 @@ impl Desk {
             window,
             depth,
             top: None,
-            row: Row::new(alloc, depth)?,
-            lines: Lines::new(alloc)?,
+            buffer: PlayoutBuffer::new(alloc, depth)?,
+            lines: LiveEquations::new(alloc)?,
             admitted: 0,
             calls: 0,
             epoch: 0,
@@ -113,7 +108,7 @@ impl Desk {
     pub fn mark(&self) -> u64
         ensures { result ≡ self.now.state.mark }
     {
-        self.row.mark()
+        self.buffer.mark()
     }
 
     /// How often solved words were withdrawn: at each inconsistent play, and where a media word came for a
@@ -142,7 +137,7 @@ impl Desk {
     pub fn word(&self, slot: u64) -> Option<&Word>
         ensures { option_copied result ≡ known_in self.now slot }
     {
-        self.row.word(slot)
+        self.buffer.word(slot)
     }
 
     /// The word that the desk's own datagrams and plays gave at a position: kept or received. A word that
@@ -150,10 +145,10 @@ impl Desk {
     pub fn own_word(&self, slot: u64) -> Option<&Word>
         ensures { option_copied result ≡ known self.now.state slot }
     {
-        if slot < self.row.mark() {
-            self.row.word(slot)
+        if slot < self.buffer.mark() {
+            self.buffer.word(slot)
         } else {
-            self.row.received(slot)
+            self.buffer.received(slot)
         }
     }
 
@@ -162,14 +157,14 @@ impl Desk {
     pub fn share(&self, slot: u64) -> Option<&Shared>
         ensures { option_copied result ≡ shared_at self.now slot }
     {
-        self.row.share(slot)
+        self.buffer.share(slot)
     }
 
     /// Whether the word kept at a position was repaired: it was not received when it was shown.
     pub fn repaired(&self, slot: u64) -> bool
         ensures { result ≡ contains self.now.repaired slot }
     {
-        self.row.is_repaired(slot)
+        self.buffer.is_repaired(slot)
     }
 
     /// The position and the sequence number of the farthest media datagram. None before the first
@@ -200,7 +195,7 @@ impl Desk {
         ensures live { (line : LiveLine) → IsAmong result.0.now result.1.now line
             ↔ (get self.now.state.equations line.serial ≡ Some (live_of line)) }
         ensures within { (line : LiveLine) → IsAmong result.0.now result.1.now line
-            → IsShape line.shape.offset line.shape.na × (line.base ≤ 2 ^ 62) }
+            → IsShape line.shape.offset line.shape.na × (line.base ≤ position_limit) }
     {
         (self.lines.open(), self.lines.settled())
     }
@@ -213,10 +208,10 @@ impl Desk {
         ensures solved { AreSolved self.now }
     {
         let top_has_room = match self.top {
-            Some(top) => top.position < POSITIONS,
+            Some(top) => top.position < FARTHEST_LIMIT,
             None => true,
         };
-        top_has_room && self.row.mark() < POSITIONS && self.calls < CALLS
+        top_has_room && self.buffer.mark() < FARTHEST_LIMIT && self.calls < CALL_LIMIT
     }
 
     /// Whether a play is due before a datagram of this sequence number is admitted: it lies the
@@ -228,7 +223,7 @@ impl Desk {
             return false;
         };
         match position(top.position, top.seq, seq) {
-            Some(position) => position >= self.row.mark() + u64::from(self.depth),
+            Some(position) => position >= self.buffer.mark() + u64::from(self.depth),
             None => false,
         }
     }
@@ -322,7 +317,7 @@ impl Desk {
         ensures changes { ChangesInPlay result.verdict self.old self.new }
     {
         let played = self.play_in_place();
-        tray.show_kept(&self.row, played.first, played.count);
+        tray.show_kept(&self.buffer, played.first, played.count);
         played
     }
 
@@ -344,9 +339,9 @@ impl Desk {
         peelings_fill_the_closure();
         solved_stays_peeled();
         confluence();
-        let solved = recover(&mut self.row, &self.lines);
-        let first = self.row.mark();
-        let verdict = close(&mut self.row, &mut self.lines, solved, self.window);
+        let solved = recover(&mut self.buffer, &self.lines);
+        let first = self.buffer.mark();
+        let verdict = close(&mut self.buffer, &mut self.lines, solved, self.window);
         self.calls += 1;
         self.epoch = next_epoch(self.epoch, verdict);
         Played {
@@ -375,7 +370,7 @@ impl Desk {
         let Some(step) = self.flush_step_in_place() else {
             return None;
         };
-        tray.show_kept(&self.row, step.first, step.count);
+        tray.show_kept(&self.buffer, step.first, step.count);
         Some(step)
     }
 
@@ -397,14 +392,14 @@ impl Desk {
         peelings_fill_the_closure();
         solved_stays_peeled();
         confluence();
-        let solved = recover(&mut self.row, &self.lines);
-        let first = self.row.mark();
+        let solved = recover(&mut self.buffer, &self.lines);
+        let first = self.buffer.mark();
         self.calls += 1;
-        let Some(highest) = self.row.highest() else {
+        let Some(highest) = self.buffer.highest() else {
             return None;
         };
         let count = u64::from(self.window).min(highest + 1 - first) as u32;
-        let verdict = close(&mut self.row, &mut self.lines, solved, count);
+        let verdict = close(&mut self.buffer, &mut self.lines, solved, count);
         self.epoch = next_epoch(self.epoch, verdict);
         Some(Played {
             first,
@@ -421,7 +416,7 @@ impl Desk {
     {
         peelings_fill_the_closure();
         xor_is_a_group();
-        publish(&mut self.row, &mut self.lines, slot, share);
+        publish(&mut self.buffer, &mut self.lines, slot, share);
         self.lines.settle_at(place);
     }
 
@@ -440,13 +435,13 @@ impl Desk {
         requires near { position < self.old.state.mark + self.old.state.playout.depth }
         requires none { get self.old.state.media position ≡ None }
         requires media { IsMedia share }
-        requires limit { position < 2 ^ 61 + 2 ^ 16 }
-        requires calls { self.old.state.calls < 2 ^ 62 }
+        requires limit { position < farthest_limit + 2 ^ 16 }
+        requires calls { self.old.state.calls < call_limit }
         ensures state { self.new.state ≡ with_media self.old.state seq position share }
         ensures rest { GivesWay self.old position share self.new }
     {
         peelings_stay();
-        let withdrawn = receive(&mut self.row, &mut self.lines, position, share);
+        let withdrawn = receive(&mut self.buffer, &mut self.lines, position, share);
         self.top = Some(farther(self.top, Farthest { position, seq }));
         self.calls += 1;
         self.epoch = raised_epoch(self.epoch, withdrawn);
@@ -455,12 +450,12 @@ impl Desk {
     /// Adds an equation to the live ones, and tells its place.
     fn add(&mut self, base: u64, shape: Shape, share: Shared) -> u32
         requires shape { IsShape shape.offset shape.na }
-        requires base { base ≤ 2 ^ 62 }
+        requires base { base ≤ position_limit }
         requires started { IsSome self.old.state.top }
         requires admitted { IsEquationReply self.old.state
             (record { base = base; offset = shape.offset; count = shape.na; parity = share })
             Reply.Admitted }
-        requires calls { self.old.state.calls < 2 ^ 62 }
+        requires calls { self.old.state.calls < call_limit }
         requires room { WordHasRoom share }
         ensures { IsLeastFree self.old.state.equations result × (self.new ≡ record self.old {
           state = with_equation self.old.state result
@@ -476,7 +471,7 @@ impl Desk {
 
     /// The reply to an equation.
     fn equation_reply(&self, base: u64, shape: Shape, parity: &Word) -> Reply
-        requires base { base ≤ 2 ^ 62 }
+        requires base { base ≤ position_limit }
         requires shape { IsShape shape.offset shape.na }
         ensures { IsEquationReply self.now.state
             (record { base = base; offset = shape.offset; count = shape.na; parity = parity.now })
@@ -485,7 +480,7 @@ impl Desk {
         if self.is_late(base, shape) {
             return Reply::Late;
         }
-        if last(base, shape) >= self.row.mark() + u64::from(self.depth) + KEPT as u64 {
+        if last(base, shape) >= self.buffer.mark() + u64::from(self.depth) + KEPT as u64 {
             return Reply::Ahead;
         }
         match self.lines.find(base, shape) {
@@ -498,21 +493,21 @@ impl Desk {
 
     /// Whether all slots of an equation are played, or the word at one that is played isn't kept.
     fn is_late(&self, base: u64, shape: Shape) -> bool
-        requires base { base ≤ 2 ^ 62 }
+        requires base { base ≤ position_limit }
         requires shape { IsShape shape.offset shape.na }
         ensures { IsTrue result ↔ IsLateAt self.now.state base shape.offset shape.na }
     {
-        last(base, shape) < self.row.mark() || lost_slot(base, shape, &self.row).is_some()
+        last(base, shape) < self.buffer.mark() || lost_slot(base, shape, &self.buffer).is_some()
     }
 
     /// The reply to a word that comes for a position.
     fn reply_at(&self, position: u64, word: &Word) -> Reply
         ensures { IsReplyAt self.now.state position word.now result }
     {
-        if position < self.row.mark() {
+        if position < self.buffer.mark() {
             return Reply::Late;
         }
-        match self.row.received(position) {
+        match self.buffer.received(position) {
             None => Reply::Admitted,
             Some(other) if other.same(word) => Reply::Duplicate,
             Some(_) => Reply::Conflict,
@@ -532,7 +527,7 @@ fn farther(top: Option<Farthest>, new: Farthest) -> Farthest
 
 /// The epoch after a call that withdrew solved words, or did not.
 fn raised_epoch(epoch: u64, withdrawn: bool) -> u64
-    requires { epoch ≤ 2 ^ 62 }
+    requires { epoch ≤ call_limit }
     ensures { result ≡ raised epoch withdrawn }
 {
     if withdrawn { epoch + 1 } else { epoch }
@@ -540,7 +535,7 @@ fn raised_epoch(epoch: u64, withdrawn: bool) -> u64
 
 /// The epoch after a play.
 fn next_epoch(epoch: u64, verdict: Outcome) -> u64
-    requires { epoch ≤ 2 ^ 62 }
+    requires { epoch ≤ call_limit }
     ensures { result ≡ epoch_after epoch verdict }
 {
     match verdict {

@@ -2,15 +2,13 @@
 #![tactic(auto)]
 
 mod desk;
-pub mod laws;
-mod reply;
 mod run;
+mod storage;
 #[cfg(test)]
 mod tests;
 mod tray;
-mod window;
 
 pub use desk::{Desk, Played};
-pub use reply::{Outcome, Reply};
+pub use fg_playout::{Outcome, Reply};
 pub use run::{Datagram, FlowRun, ShownPlay, ShownWord, run_flow};
 pub use tray::Tray;

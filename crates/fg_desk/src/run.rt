@@ -2,18 +2,18 @@
 
 ghost use Rattle.std.specs.Prelude.{◌≡◌, ◌↔◌, ◌<◌, ◌≤◌, ◌^◌, ◌++◌, List, map, length, Option, Some, IsTrue, IsSomeAnd, IfOk};
 ghost use Rattle.std.specs.List.{All};
-ghost use Rattle.fg_desk.specs.State.{State};
-ghost use Rattle.fg_desk.specs.Admission.{IsDue};
-ghost use Rattle.fg_desk.specs.Play.{Play};
-ghost use Rattle.fg_desk.specs.Contents.{HasRoom};
-ghost use Rattle.fg_desk.specs.Laws.{IsRead};
-ghost use Rattle.fg_desk.specs.Run.{Takes, ArePlaysDue, IsFlush, IsRun, came_by, is_counted, count_of};
+ghost use Rattle.fg_playout.specs.State.{State};
+ghost use Rattle.fg_playout.specs.Admission.{IsDue};
+ghost use Rattle.fg_playout.specs.Play.{Play};
+ghost use Rattle.fg_playout.specs.Room.{HasRoom};
+ghost use Rattle.fg_playout.specs.Laws.{IsRead};
+ghost use Rattle.fg_playout.specs.Run.{Takes, ArePlaysDue, IsFlush, IsRun, came_by, is_counted, count_of};
 ghost use Rattle.fg_desk.specs.Arrivals.{arrival_of, play_of, IsGiven, StaysWithin, FlushesWithin};
 
 use crate::desk::{Desk, Played};
-use crate::laws::{flushes_end, runs_join, runs_stay_within};
-use crate::reply::{Outcome, Reply};
 use crate::tray::Tray;
+use fg_playout::laws::{flushes_end, runs_join, runs_stay_within};
+use fg_playout::{Outcome, Reply};
 use fg_shape::{Kind, Shape, shape_ok};
 use fg_words::Word;
 use std::alloc::{AllocError, Global};

@@ -2,10 +2,11 @@
 
 ghost use Rattle.std.specs.Prelude.{◌≡◌, ◌+◌, ◌<◌, ◌≤◌, ◌^◌, ◌++◌, ◌∷◌, [], length, slice_index_or, IfOk, IsSome, IsTrue};
 ghost use Rattle.std.specs.Option.{option_copied};
-ghost use Rattle.fg_desk.specs.Shown.{nothing_shown};
-ghost use Rattle.fg_desk.specs.TrayPlaces.{shown_of, row_kept_from};
+ghost use Rattle.fg_shape.specs.Shape.{position_limit};
+ghost use Rattle.fg_playout.specs.Shown.{nothing_shown};
+ghost use Rattle.fg_desk.specs.TrayPlaces.{shown_of, buffer_kept_from};
 
-use fg_window::Row;
+use fg_buffer::PlayoutBuffer;
 use fg_words::Word;
 use std::alloc::{AllocError, Global};
 use std::marker::Model;
@@ -54,7 +55,7 @@ pub struct Tray {
 
 impl Model for Tray {
     ghost use Rattle.std.specs.Prelude.{◌≤◌, map, take, length};
-    ghost use Rattle.fg_desk.specs.Shown.{Holding, OnlyWordsAreRepaired};
+    ghost use Rattle.fg_playout.specs.Shown.{Holding, OnlyWordsAreRepaired};
     ghost use Rattle.fg_desk.specs.TrayPlaces.{shown_of, holding_code};
 
     ghost Value = { Holding };
@@ -110,17 +111,17 @@ impl Tray {
         i < self.count && self.places[i].repaired
     }
 
-    /// Shows what a row keeps at `count` positions from a first one on, and no more of the last play.
-    pub(crate) fn show_kept(&mut self, row: &Row, first: u64, count: u32)
+    /// Shows what a buffer keeps at `count` positions from a first one on, and no more of the last play.
+    pub(crate) fn show_kept(&mut self, buffer: &PlayoutBuffer, first: u64, count: u32)
         requires room { count ≤ self.old.window }
-        requires limit { first + count ≤ 2 ^ 62 }
+        requires limit { first + count ≤ position_limit }
         ensures { self.new
-            ≡ record { window = self.old.window; shown = row_kept_from row.now first count } }
+            ≡ record { window = self.old.window; shown = buffer_kept_from buffer.now first count } }
     {
         self.clear();
         for i in 0..count {
             let position = first + u64::from(i);
-            self.show(row.word(position), row.is_repaired(position));
+            self.show(buffer.word(position), buffer.is_repaired(position));
         }
     }
 

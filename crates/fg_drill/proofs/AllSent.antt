@@ -11,7 +11,7 @@ use Rattle.fg_trace.specs.Trace.{Record}
 use Rattle.fg_shape.specs.declared.kind.Kind.{Kind}
 use Rattle.fg_shape.specs.declared.kind.Kind.TheVariants as kind
 use Rattle.fg_shape.specs.Kind.{port_of}
-use Rattle.fg_desk.specs.Run.{Arrival, carries}
+use Rattle.fg_playout.specs.Run.{Arrival, carries}
 use Rattle.fg_encode.specs.Ends.{column_bases, columns_ending, row_bases, rows_ending}
 use Rattle.fg_encode.specs.Encoding.{column_record, encoding, records_at, row_record, sequence_of, word_at}
 use Rattle.fg_encode.specs.Payloads.{ArePayloads}

@@ -11,7 +11,7 @@ use Rattle.fg_shape.specs.declared.encoding.Settings.{Settings}
 use Rattle.fg_shape.specs.Layout.{column_base, row_base, ColumnEnds, RowEnds}
 use Rattle.fg_shape.specs.Laws.{NumbersItsSlots}
 use Rattle.fg_trace.specs.Trace.{Record}
-use Rattle.fg_desk.specs.Run.{Arrival}
+use Rattle.fg_playout.specs.Run.{Arrival}
 use Rattle.fg_encode.specs.Ends.{column_bases, columns_ending, row_bases, rows_ending}
 use Rattle.fg_encode.specs.Encoding.{column_record, encoding, payload_at, records_at, row_record}
 use Rattle.fg_encode.specs.Laws.{ColumnsAreTheLayouts, RowsAreTheLayouts}

@@ -10,10 +10,10 @@ use Rattle.fg_shape.specs.Playout.{Playout}
 use Rattle.fg_words.specs.declared.Word.{Word}
 use Rattle.fg_shape.specs.declared.encoding.Settings.{Settings}
 use Rattle.fg_rtp.specs.MediaDatagram.{payload_of}
-use Rattle.fg_desk.specs.declared.reply.Outcome.{Outcome}
-use Rattle.fg_desk.specs.declared.reply.Outcome.TheVariants.{Repaired}
-use Rattle.fg_desk.specs.Play.{Play, Shown, nothing_shown}
-use Rattle.fg_desk.specs.Run.{Arrival}
+use Rattle.fg_playout.specs.declared.reply.Outcome.{Outcome}
+use Rattle.fg_playout.specs.declared.reply.Outcome.TheVariants.{Repaired}
+use Rattle.fg_playout.specs.Play.{Play, Shown, nothing_shown}
+use Rattle.fg_playout.specs.Run.{Arrival}
 use Rattle.fg_encode.specs.Encoding.{payload_at, word_at}
 use Rattle.fg_report.specs.declared.flow_sum.FlowSum.{FlowSum}
 use Rattle.fg_results.specs.Flow.{Arrives, FlowResult, IsFlowResult, all_shown, is_inconsistent, lane_of, records_of, shown_payload}

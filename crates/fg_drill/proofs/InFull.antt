@@ -10,16 +10,16 @@ use Rattle.std.specs.FinMap.{get}
 use Rattle.fg_shape.specs.Playout.{Playout}
 use Rattle.fg_words.specs.declared.Word.{Word}
 use Rattle.fg_peel.specs.Laws.{TruthIsSolvable, SolutionsAreTrue}
-use Rattle.fg_desk.specs.declared.reply.Reply.{Reply}
-use Rattle.fg_desk.specs.declared.reply.Reply.TheVariants.{Admitted}
-use Rattle.fg_desk.specs.State.{State, known, opening}
-use Rattle.fg_desk.specs.Admission.{Parity, AdmitsMedia, AdmitsParity, IsLeastFree, equation_at, position_on, with_equation, with_media}
-use Rattle.fg_desk.specs.Solution.{InClosure, given}
-use Rattle.fg_desk.specs.Play.{Play, IsPlay}
-use Rattle.fg_desk.specs.Run.{Arrival, carries, protects, refused, ArePlaysDue, Takes, TakesAll, IsFlush, IsRun}
-use Rattle.fg_desk.specs.Existence.{RunsExist}
-use Rattle.fg_desk.specs.Facts.{Holds}
-use Rattle.fg_desk.specs.Laws.{IsRead, LiveStandUnderSerials, SolutionsArePeelings, MediaAdds, ParityAdds, RunsStayWithin, TakingsJoin, HavePlayed, PlaysDueJoin, AreFlushSteps, FlushStepsJoin}
+use Rattle.fg_playout.specs.declared.reply.Reply.{Reply}
+use Rattle.fg_playout.specs.declared.reply.Reply.TheVariants.{Admitted}
+use Rattle.fg_playout.specs.State.{State, known, opening}
+use Rattle.fg_playout.specs.Admission.{Parity, AdmitsMedia, AdmitsParity, IsLeastFree, equation_at, position_on, with_equation, with_media}
+use Rattle.fg_playout.specs.Solution.{InClosure, given}
+use Rattle.fg_playout.specs.Play.{Play, IsPlay}
+use Rattle.fg_playout.specs.Run.{Arrival, carries, protects, refused, ArePlaysDue, Takes, TakesAll, IsFlush, IsRun}
+use Rattle.fg_playout.specs.Existence.{RunsExist}
+use Rattle.fg_playout.specs.Facts.{Holds}
+use Rattle.fg_playout.specs.Laws.{IsRead, LiveStandUnderSerials, SolutionsArePeelings, MediaAdds, ParityAdds, RunsStayWithin, TakingsJoin, HavePlayed, PlaysDueJoin, AreFlushSteps, FlushStepsJoin}
 use Rattle.fg_drill.specs.Repaired.{MakesPlay, due, flushed, Closes, ArrivalsPeel}
 use Rattle.fg_drill.specs.True.{number_of, AreInFull, IsTrueArrival, ComesInTurn, AreTrueArrivals, last_after, AreSentTrue}
 use Rattle.fg_drill.specs.TrueLaws.{FullArrivalsPeel}

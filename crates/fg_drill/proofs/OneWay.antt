@@ -7,7 +7,7 @@ use Rattle.fg_trace.specs.Trace.{Record}
 use Rattle.fg_shape.specs.declared.kind.Kind.{Kind}
 use Rattle.fg_shape.specs.declared.kind.Kind.TheVariants as kind
 use Rattle.fg_shape.specs.Kind.{port_of}
-use Rattle.fg_desk.specs.Run.{Arrival, carries, protects, refused}
+use Rattle.fg_playout.specs.Run.{Arrival, carries, protects, refused}
 use Rattle.fg_results.specs.Flow.{Arrives, IsReadAs}
 use Rattle.fg_drill.proofs.Reading.{on_column, on_media, on_row, read_as_column, read_as_media, read_as_row}
 

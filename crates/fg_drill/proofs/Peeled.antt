@@ -4,16 +4,16 @@ use Rattle.std.proofs.lemmas.List.{get_or_append_left, length-append}
 use Rattle.std.specs.List.{All}
 use Rattle.fg_shape.specs.Playout.{Playout}
 use Rattle.fg_words.specs.declared.Word.{Word}
-use Rattle.fg_desk.specs.declared.reply.Reply.{Reply}
-use Rattle.fg_desk.specs.declared.reply.Reply.TheVariants.{Admitted}
-use Rattle.fg_desk.specs.declared.reply.Outcome.{Outcome}
-use Rattle.fg_desk.specs.declared.reply.Outcome.TheVariants.{Repaired}
-use Rattle.fg_desk.specs.State.{State, opening}
-use Rattle.fg_desk.specs.Admission.{Parity, IsLeastFree, IsAfterMedia, IsAfterParity, position_on, with_media, with_equation, equation_at}
-use Rattle.fg_desk.specs.Solution.{InClosure, IsSolution}
-use Rattle.fg_desk.specs.Play.{Play, Shown, Decides, IsPlay, nothing_shown}
-use Rattle.fg_desk.specs.Run.{Arrival, carries, protects, refused, ArePlaysDue, Takes, TakesAll, IsRun}
-use Rattle.fg_desk.specs.Laws.{IsRead, HavePlayed, PlaysDueJoin, FlushStepsJoin, AreInSuccession, PlaysFollow, DuePlaysComeNext, FlushStepsComeNext}
+use Rattle.fg_playout.specs.declared.reply.Reply.{Reply}
+use Rattle.fg_playout.specs.declared.reply.Reply.TheVariants.{Admitted}
+use Rattle.fg_playout.specs.declared.reply.Outcome.{Outcome}
+use Rattle.fg_playout.specs.declared.reply.Outcome.TheVariants.{Repaired}
+use Rattle.fg_playout.specs.State.{State, opening}
+use Rattle.fg_playout.specs.Admission.{Parity, IsLeastFree, IsAfterMedia, IsAfterParity, position_on, with_media, with_equation, equation_at}
+use Rattle.fg_playout.specs.Solution.{InClosure, IsSolution}
+use Rattle.fg_playout.specs.Play.{Play, Shown, Decides, IsPlay, nothing_shown}
+use Rattle.fg_playout.specs.Run.{Arrival, carries, protects, refused, ArePlaysDue, Takes, TakesAll, IsRun}
+use Rattle.fg_playout.specs.Laws.{IsRead, HavePlayed, PlaysDueJoin, FlushStepsJoin, AreInSuccession, PlaysFollow, DuePlaysComeNext, FlushStepsComeNext}
 use Rattle.fg_drill.specs.Repaired.{MakesPlay, due, flushed, Closes, is_shown}
 use Rattle.fg_drill.specs.TrueLaws.{TrueRunsAreRepaired, PeeledSlotsAreShown}
 use Rattle.fg_drill.proofs.TrueRuns.{all_are_read}

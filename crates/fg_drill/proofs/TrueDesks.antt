@@ -7,13 +7,13 @@ use Rattle.std.specs.FinMap.{get}
 use Rattle.fg_words.specs.declared.Word.{Word}
 use Rattle.fg_peel.specs.Equation.{Equation, AreMedia, Keeps, IsSettled}
 use Rattle.fg_peel.specs.Laws.{AreTrue, TruthIsSolvable, SolutionsAreTrue}
-use Rattle.fg_desk.specs.declared.reply.Outcome.{Outcome}
-use Rattle.fg_desk.specs.declared.reply.Outcome.TheVariants.{Repaired, Inconsistent}
-use Rattle.fg_desk.specs.State.{State, known, live_equations}
-use Rattle.fg_desk.specs.Admission.{kept_count}
-use Rattle.fg_desk.specs.Play.{Play, Shown, Decides, IsPlay, nothing_shown, shown_at}
-use Rattle.fg_desk.specs.Facts.{Holds}
-use Rattle.fg_desk.specs.Laws.{LiveStandUnderSerials, SolutionsArePeelings}
+use Rattle.fg_playout.specs.declared.reply.Outcome.{Outcome}
+use Rattle.fg_playout.specs.declared.reply.Outcome.TheVariants.{Repaired, Inconsistent}
+use Rattle.fg_playout.specs.State.{State, known, live_equations}
+use Rattle.fg_playout.specs.Admission.{kept_count}
+use Rattle.fg_playout.specs.Play.{Play, Shown, Decides, IsPlay, nothing_shown, shown_at}
+use Rattle.fg_playout.specs.Facts.{Holds}
+use Rattle.fg_playout.specs.Laws.{LiveStandUnderSerials, SolutionsArePeelings}
 
 -- All that is known on the desk is true, and so are its live equations.
 pub record IsTrueWindow (truth : ℕ → Option Word) (desk : State) : Type 0 where

@@ -10,12 +10,12 @@ use Rattle.fg_shape.specs.Playout.{Playout}
 use Rattle.fg_words.specs.declared.Word.{Word}
 use Rattle.fg_peel.specs.Equation.{AreMedia}
 use Rattle.fg_peel.specs.Laws.{TruthIsSolvable, SolutionsAreTrue}
-use Rattle.fg_desk.specs.declared.reply.Reply.{Reply}
-use Rattle.fg_desk.specs.State.{State, Live, known, opening}
-use Rattle.fg_desk.specs.Play.{Play}
-use Rattle.fg_desk.specs.Run.{Arrival, carries, protects, refused, TakesAll, IsFlush, IsRun}
-use Rattle.fg_desk.specs.Facts.{Holds}
-use Rattle.fg_desk.specs.Laws.{IsRead, LiveStandUnderSerials, SolutionsArePeelings, MediaAdds, ParityAdds, FlushStepKeeps, RunsStayWithin, TakingsJoin}
+use Rattle.fg_playout.specs.declared.reply.Reply.{Reply}
+use Rattle.fg_playout.specs.State.{State, Live, known, opening}
+use Rattle.fg_playout.specs.Play.{Play}
+use Rattle.fg_playout.specs.Run.{Arrival, carries, protects, refused, TakesAll, IsFlush, IsRun}
+use Rattle.fg_playout.specs.Facts.{Holds}
+use Rattle.fg_playout.specs.Laws.{IsRead, LiveStandUnderSerials, SolutionsArePeelings, MediaAdds, ParityAdds, FlushStepKeeps, RunsStayWithin, TakingsJoin}
 use Rattle.fg_drill.specs.True.{IsTrueArrival, AreTrueArrivals, last_after, AreSentTrue}
 use Rattle.fg_drill.proofs.TrueDesks.{IsTrueWindow, IsTruePlay, known_ahead, play_is_true, true_after_play}
 use Rattle.fg_drill.proofs.TrueTakings.{LeavesTruth, is_taken_truly}

@@ -6,9 +6,9 @@ use Rattle.std.proofs.lemmas.List.{get_or_append_left, get_or-append_right}
 use Rattle.std.proofs.lemmas.List.Elements.{All-head, All-tail, All-weaker}
 use Rattle.std.specs.List.{All}
 use Rattle.fg_words.specs.declared.Word.{Word}
-use Rattle.fg_desk.specs.declared.reply.Outcome.TheVariants.{Repaired}
-use Rattle.fg_desk.specs.Play.{Play, Shown, nothing_shown}
-use Rattle.fg_desk.specs.Laws.{AreInSuccession, PlaysFollow}
+use Rattle.fg_playout.specs.declared.reply.Outcome.TheVariants.{Repaired}
+use Rattle.fg_playout.specs.Play.{Play, Shown, nothing_shown}
+use Rattle.fg_playout.specs.Laws.{AreInSuccession, PlaysFollow}
 use Rattle.fg_results.specs.Flow.{all_shown}
 use Rattle.fg_drill.specs.TrueLaws.{TrueRunsAreRepaired, TrueRunsShowTheTruth, NothingElseIsShown}
 use Rattle.fg_drill.proofs.TrueDesks.{IsTruePlay}

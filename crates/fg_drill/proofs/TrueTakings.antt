@@ -9,15 +9,15 @@ use Rattle.std.specs.FinMap.{get}
 use Rattle.fg_words.specs.declared.Word.{Word}
 use Rattle.fg_peel.specs.Equation.{Equation, AreMedia, IsSettled}
 use Rattle.fg_peel.specs.Laws.{TruthIsSolvable, SolutionsAreTrue}
-use Rattle.fg_desk.specs.declared.reply.Reply.{Reply}
-use Rattle.fg_desk.specs.declared.reply.Reply.TheVariants.{Admitted, Duplicate, Conflict, Late, NotStarted, BeforeStart, Ahead, Crowded}
+use Rattle.fg_playout.specs.declared.reply.Reply.{Reply}
+use Rattle.fg_playout.specs.declared.reply.Reply.TheVariants.{Admitted, Duplicate, Conflict, Late, NotStarted, BeforeStart, Ahead, Crowded}
 use Rattle.fg_shape.specs.declared.kind.Kind.{Kind}
-use Rattle.fg_desk.specs.State.{State, Top, known}
-use Rattle.fg_desk.specs.Admission.{Parity, IsDue, IsReplyAt, IsMediaReply, IsLeastFree, AdmitsMedia, AdmitsParity, position_on, farther, counted, with_media, with_equation, equation_at}
-use Rattle.fg_desk.specs.Play.{Play, IsPlay}
-use Rattle.fg_desk.specs.Run.{Arrival, carries, protects, refused, ArePlaysDue, Takes}
-use Rattle.fg_desk.specs.Facts.{Holds}
-use Rattle.fg_desk.specs.Laws.{LiveStandUnderSerials, SolutionsArePeelings, MediaAdds, ParityAdds, HavePlayed}
+use Rattle.fg_playout.specs.State.{State, Top, known}
+use Rattle.fg_playout.specs.Admission.{Parity, IsDue, IsReplyAt, IsMediaReply, IsLeastFree, AdmitsMedia, AdmitsParity, position_on, farther, counted, with_media, with_equation, equation_at}
+use Rattle.fg_playout.specs.Play.{Play, IsPlay}
+use Rattle.fg_playout.specs.Run.{Arrival, carries, protects, refused, ArePlaysDue, Takes}
+use Rattle.fg_playout.specs.Facts.{Holds}
+use Rattle.fg_playout.specs.Laws.{LiveStandUnderSerials, SolutionsArePeelings, MediaAdds, ParityAdds, HavePlayed}
 use Rattle.fg_drill.specs.True.{number_of, IsTrueParity, IsTrueArrival, ComesInTurn, last_after}
 use Rattle.fg_drill.proofs.TrueNumbers.{position_is}
 use Rattle.fg_drill.proofs.TrueDesks.{IsTrueWindow, IsTruePlay, known_ahead, play_is_true, received_before, true_after_play}

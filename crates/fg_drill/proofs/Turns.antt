@@ -14,8 +14,8 @@ use Rattle.fg_fechead.specs.Laws.{WrittenIsRead as ParityWrittenIsRead}
 use Rattle.fg_trace.specs.Trace.{Record}
 use Rattle.fg_shape.specs.declared.kind.Kind.{Kind}
 use Rattle.fg_shape.specs.declared.kind.Kind.TheVariants as kind
-use Rattle.fg_desk.specs.Admission.{Parity}
-use Rattle.fg_desk.specs.Run.{Arrival, carries, protects}
+use Rattle.fg_playout.specs.Admission.{Parity}
+use Rattle.fg_playout.specs.Run.{Arrival, carries, protects}
 use Rattle.fg_encode.specs.Ends.{column_bases, columns_before, columns_ending, row_bases, rows_before, rows_ending}
 use Rattle.fg_encode.specs.Encoding.{column_record, column_shape, media_record, parity_at, records_at, row_record, row_shape, sequence_of, word_at}
 use Rattle.fg_encode.specs.Payloads.{ArePayloads}

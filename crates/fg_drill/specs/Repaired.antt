@@ -4,13 +4,13 @@ use Rattle.std.specs.List.{AllZip, flat_map, range_with_len}
 use Rattle.fg_shape.specs.Playout.{Playout}
 use Rattle.fg_words.specs.declared.Word.{Word}
 use Rattle.fg_trace.specs.Trace.{Record}
-use Rattle.fg_desk.specs.declared.reply.Reply.{Reply}
-use Rattle.fg_desk.specs.State.{State, opening}
-use Rattle.fg_desk.specs.Admission.{IsDue}
-use Rattle.fg_desk.specs.Solution.{InClosure}
-use Rattle.fg_desk.specs.Play.{Play, IsPlay, IsFlushStep, nothing_shown}
-use Rattle.fg_desk.specs.Run.{Arrival, carries, TakesAll}
-use Rattle.fg_desk.specs.Laws.{HavePlayed, AreFlushSteps}
+use Rattle.fg_playout.specs.declared.reply.Reply.{Reply}
+use Rattle.fg_playout.specs.State.{State, opening}
+use Rattle.fg_playout.specs.Admission.{IsDue}
+use Rattle.fg_playout.specs.Solution.{InClosure}
+use Rattle.fg_playout.specs.Play.{Play, IsPlay, IsFlushStep, nothing_shown}
+use Rattle.fg_playout.specs.Run.{Arrival, carries, TakesAll}
+use Rattle.fg_playout.specs.Laws.{HavePlayed, AreFlushSteps}
 use Rattle.fg_encode.specs.Encoding.{payload_at}
 use Rattle.fg_results.specs.Flow.{Arrives, records_of, all_shown, shows_word}
 

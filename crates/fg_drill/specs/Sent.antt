@@ -5,7 +5,7 @@ use Rattle.fg_words.specs.declared.Word.{Word}
 use Rattle.fg_shape.specs.declared.encoding.Settings.{Settings}
 use Rattle.fg_trace.specs.Trace.{Record}
 use Rattle.fg_peel.specs.Equation.{AreMedia}
-use Rattle.fg_desk.specs.Run.{Arrival}
+use Rattle.fg_playout.specs.Run.{Arrival}
 use Rattle.fg_shape.specs.Settings.{CanEncode}
 use Rattle.fg_encode.specs.Encoding.{encoding, word_at}
 use Rattle.fg_encode.specs.Payloads.{total_length, ArePayloads}

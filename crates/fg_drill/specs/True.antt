@@ -4,9 +4,9 @@ use Rattle.fg_shape.specs.Playout.{Playout, PlayoutFits}
 use Rattle.fg_words.specs.declared.Word.{Word}
 use Rattle.fg_shape.specs.Shape.{IsShape}
 use Rattle.fg_peel.specs.Equation.{AreMedia, IsSettled}
-use Rattle.fg_desk.specs.State.{last_slot}
-use Rattle.fg_desk.specs.Admission.{Parity, equation_at}
-use Rattle.fg_desk.specs.Run.{Arrival, carries, protects, refused}
+use Rattle.fg_playout.specs.State.{last_slot}
+use Rattle.fg_playout.specs.Admission.{Parity, equation_at}
+use Rattle.fg_playout.specs.Run.{Arrival, carries, protects, refused}
 
 -- The sequence number of a slot, where slot 0 has the number `seq` (RFC 3550: it has 16 bits, and wraps).
 abbrev pub number_of : ℕ → ℕ → ℕ

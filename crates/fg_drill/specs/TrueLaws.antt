@@ -3,10 +3,10 @@ use Rattle.std.specs.Prelude.{◌≡◌, ◌<◌, ℕ, true, false, List, slice_
 use Rattle.std.specs.List.{All}
 use Rattle.fg_shape.specs.Playout.{Playout}
 use Rattle.fg_words.specs.declared.Word.{Word}
-use Rattle.fg_desk.specs.declared.reply.Reply.{Reply}
-use Rattle.fg_desk.specs.declared.reply.Outcome.TheVariants.{Repaired}
-use Rattle.fg_desk.specs.Play.{Play, nothing_shown}
-use Rattle.fg_desk.specs.Run.{Arrival, IsRun}
+use Rattle.fg_playout.specs.declared.reply.Reply.{Reply}
+use Rattle.fg_playout.specs.declared.reply.Outcome.TheVariants.{Repaired}
+use Rattle.fg_playout.specs.Play.{Play, nothing_shown}
+use Rattle.fg_playout.specs.Run.{Arrival, IsRun}
 use Rattle.fg_results.specs.Flow.{all_shown}
 use Rattle.fg_drill.specs.Repaired.{ArrivalsPeel, is_shown}
 use Rattle.fg_drill.specs.True.{AreInFull, AreSentTrue}

@@ -4,8 +4,8 @@ use Rattle.std.specs.List.{Contains}
 use Rattle.slab.specs.Slab.{Slab, entries}
 use Rattle.fg_words.specs.declared.Word.{Word}
 use Rattle.fg_peel.specs.declared.Line.{Line}
-use Rattle.fg_peel.specs.declared.row.Missing.{Missing}
-use Rattle.fg_peel.specs.declared.row.Missing.TheVariants.{Nothing, One, Several}
+use Rattle.fg_peel.specs.declared.span.Missing.{Missing}
+use Rattle.fg_peel.specs.declared.span.Missing.TheVariants.{Nothing, One, Several}
 use Rattle.fg_peel.specs.Equation.{Equation, slots}
 use Rattle.fg_peel.specs.Peeling.{Step, after_step}
 use Rattle.fg_peel.specs.Slots.{equation_of, lines_of, IsMissing}

@@ -4,7 +4,7 @@ use Rattle.slab.specs.Slab.{Slab}
 use Rattle.fg_words.specs.declared.Word.{Word}
 use Rattle.fg_peel.specs.declared.Line.{Line}
 use Rattle.fg_peel.specs.declared.Slot.{Slot}
-use Rattle.fg_peel.specs.declared.row.Missing.TheVariants.{One}
+use Rattle.fg_peel.specs.declared.span.Missing.TheVariants.{One}
 use Rattle.fg_peel.specs.Equation.{Equation}
 use Rattle.fg_peel.specs.Peeling.{Step, CanFollow, end_of, EndsPeeling}
 use Rattle.fg_peel.specs.Slots.{equations_of, OnlyFills, IsMissing, words_from}

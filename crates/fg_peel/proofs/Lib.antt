@@ -26,3 +26,5 @@ pub mod Truths
 pub mod Verdicts
 pub mod Whole
 pub mod Wrong
+pub mod Places
+pub mod SlotRange

@@ -5,7 +5,7 @@ use Rattle.std.proofs.lemmas.List.Elements.{Contains-get_or}
 use Rattle.std.proofs.lemmas.Bool.{cases_eq}
 use Rattle.fg_words.specs.declared.Word.{Word}
 use Rattle.fg_shape.proofs.ShapeLemmas.{length-slots_of, get_or-slots_of, slots_apart}
-use Rattle.fg_peel.specs.declared.row.Missing.TheVariants.{Nothing, One, Several}
+use Rattle.fg_peel.specs.declared.span.Missing.TheVariants.{Nothing, One, Several}
 use Rattle.fg_peel.specs.Equation.{Equation, slots}
 use Rattle.fg_peel.specs.Slots.{IsMissing}
 

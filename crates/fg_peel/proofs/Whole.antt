@@ -1,4 +1,4 @@
--- What peeling a row of entries means for its closure and its solution.
+-- What peeling a span of entries means for its closure and its solution.
 use Rattle.std.proofs.Common.{◌≡◌, ◌≢◌, ◌⊎◌, ◌↔◌, ◌-◌, ℕ, List, ◌++◌, get_or, Option, Some, None, IsSome, refl, sym, ap, ◌∙◌, ⊎_elim, subst}
 use Rattle.std.proofs.lemmas.Bool.{cases_lt}
 use Rattle.std.specs.List.{Contains}

@@ -5,7 +5,9 @@ pub mod Laws
 pub mod Peeling
 pub mod Peels
 pub mod Recovery
-pub mod Row
+pub mod Span
 pub mod Slots
 pub mod Solution
 pub mod Verdict
+pub mod Live
+pub mod Words

@@ -1,4 +1,4 @@
--- What peeling does to a row of entries.
+-- What peeling does to a span of entries.
 use Rattle.std.specs.Prelude.{◌≡◌, ◌↔◌, IsSome, ℕ, ℤ, List}
 use Rattle.slab.specs.Slab.{Slab}
 use Rattle.fg_peel.specs.declared.Line.{Line}

@@ -8,7 +8,7 @@ use Rattle.slab.specs.Slab.{Slab}
 use Rattle.fg_peel.specs.declared.Line.{Line}
 use Rattle.fg_peel.specs.declared.Slot.{Slot}
 use Rattle.fg_peel.specs.declared.Slot.TheVariants.{Empty, Media, Solved, Filled}
-use Rattle.fg_peel.specs.declared.row.Missing.TheVariants.{One}
+use Rattle.fg_peel.specs.declared.span.Missing.TheVariants.{One}
 use Rattle.fg_peel.specs.declared.Verdict.{Verdict}
 use Rattle.fg_peel.specs.Equation.{Equation, slots, sum_at}
 use Rattle.fg_peel.specs.Peeling.{Step, IsPeeling, EndsPeeling, end_of, given_word}
@@ -87,7 +87,7 @@ AddsWords words equation old new = new ≡ word_xor old (sum_at words (slots equ
 abbrev pub RecoversMedia : Slot → Type 0
 RecoversMedia entry = (word : Word) → recovered_in entry ≡ Some word → IsMedia word
 
--- What peeling leaves of a row of entries, and its verdict: only empty entries have changed, the words are the end of a
+-- What peeling leaves of a span of entries, and its verdict: only empty entries have changed, the words are the end of a
 -- maximal peeling, and the verdict is theirs.
 pub record IsPeel (start : ℕ) (lines : Slab Line) (old new : List Slot) (answer : Verdict) : Type 0 where
   pub fills : OnlyFills old new

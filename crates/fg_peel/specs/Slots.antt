@@ -1,4 +1,4 @@
--- A row of entries with the words of successive positions, and the live lines: which words and equations they stand for.
+-- A span of entries with the words of successive positions, and the live lines: which words and equations they stand for.
 use Rattle.std.specs.Prelude.{◌≡◌, ◌≢◌, ◌⊎◌, ◌+◌, ◌-◌, ◌<◌, ◌≤◌, IsSome, ℕ, ℤ, pos, negsuc, List, [], map, length, take, drop, nat_lt, slice_index_or, Option, Some, None, if◌then◌else◌}
 use Rattle.std.specs.List.{Contains}
 use Rattle.slab.specs.Slab.{Slab, entries}
@@ -8,8 +8,8 @@ use Rattle.fg_peel.specs.declared.Slot.{Slot}
 use Rattle.fg_peel.specs.declared.Slot.TheVariants.{Empty, Media, Solved, Filled}
 use Rattle.fg_peel.specs.declared.Line.{Line}
 use Rattle.fg_peel.specs.Equation.{Equation, slots, IsComplete}
-use Rattle.fg_peel.specs.declared.row.Missing.{Missing}
-use Rattle.fg_peel.specs.declared.row.Missing.TheVariants.{Nothing, One, Several}
+use Rattle.fg_peel.specs.declared.span.Missing.{Missing}
+use Rattle.fg_peel.specs.declared.span.Missing.TheVariants.{Nothing, One, Several}
 
 -- The word of an entry, if it has one.
 abbrev pub word_in : Slot → Option Word

@@ -3,11 +3,11 @@
 ghost use Rattle.std.specs.Prelude.{◌<◌, ◌≤◌, ◌↔◌, ◌≡◌, false, IsTrue, IfSome, IfNone, IsSomeAnd};
 ghost use Rattle.fg_peel.specs.Equation.{IsComplete, ComesOut, AllComeOut, AreMedia};
 ghost use Rattle.fg_peel.specs.Slots.{equation_of, equations_of};
-ghost use Rattle.fg_peel.specs.Row.{words_in, recovered_words_in, HasSlots, HasAllSlots};
+ghost use Rattle.fg_peel.specs.Span.{words_in, recovered_words_in, HasSlots, HasAllSlots};
 ghost use Rattle.fg_peel.specs.Verdict.{IsLeast, IsNoMedia, BreaksAt, IsVerdict};
 ghost use Rattle.fg_peel.specs.Recovery.{RecoversMedia};
 
-use crate::row::{Missing, Row};
+use crate::span::{Missing, Span};
 use crate::{Line, Slot, Verdict};
 use slab::Slab;
 
@@ -24,45 +24,45 @@ fn recovers_media(slot: &Slot) -> bool
 
 /// The least position whose recovered word is no media word. `all_media` tells that there is none, but
 /// where some were filled in.
-fn first_not_media(row: &Row<'_>, all_media: bool, filled: bool) -> Option<u64>
-    requires { IsTrue all_media → filled ≡ false → AreMedia (recovered_words_in row.now) }
-    ensures least { IfSome result (IsLeast (IsNoMedia (recovered_words_in row.now))) }
-    ensures none { IfNone result (AreMedia (recovered_words_in row.now)) }
+fn first_not_media(span: &Span<'_>, all_media: bool, filled: bool) -> Option<u64>
+    requires { IsTrue all_media → filled ≡ false → AreMedia (recovered_words_in span.now) }
+    ensures least { IfSome result (IsLeast (IsNoMedia (recovered_words_in span.now))) }
+    ensures none { IfNone result (AreMedia (recovered_words_in span.now)) }
 {
     if all_media && !filled {
         return None;
     }
-    for (i, slot) in row.slots.iter().enumerate() {
+    for (i, slot) in span.slots.iter().enumerate() {
         if !recovers_media(slot) {
-            return Some(row.start + i as u64);
+            return Some(span.start + i as u64);
         }
     }
     None
 }
 
 /// Whether all slots of a line have words that don't sum to its parity word.
-fn is_broken(row: &Row<'_>, line: &Line) -> bool
-    requires { HasSlots row.now line.now }
-    ensures complete { IsTrue result → IsComplete (words_in row.now) (equation_of line.now) }
-    ensures broken { IsTrue result → ¬ ComesOut (words_in row.now) (equation_of line.now) }
-    ensures whole { result ≡ false → IsComplete (words_in row.now) (equation_of line.now)
-        → ComesOut (words_in row.now) (equation_of line.now) }
+fn is_broken(span: &Span<'_>, line: &Line) -> bool
+    requires { HasSlots span.now line.now }
+    ensures complete { IsTrue result → IsComplete (words_in span.now) (equation_of line.now) }
+    ensures broken { IsTrue result → ¬ ComesOut (words_in span.now) (equation_of line.now) }
+    ensures whole { result ≡ false → IsComplete (words_in span.now) (equation_of line.now)
+        → ComesOut (words_in span.now) (equation_of line.now) }
 {
-    match row.missing(line) {
-        Missing::Nothing => !row.comes_out(line),
+    match span.missing(line) {
+        Missing::Nothing => !span.comes_out(line),
         Missing::One(_) | Missing::Several => false,
     }
 }
 
 /// The least place of a line that is broken.
-fn first_broken(row: &Row<'_>, lines: &Slab<Line>) -> Option<u32>
-    requires { HasAllSlots row.now lines.now }
-    ensures least { IfSome result (IsLeast (BreaksAt (words_in row.now) lines.now)) }
-    ensures none { IfNone result (AllComeOut (words_in row.now) (equations_of lines.now)) }
+fn first_broken(span: &Span<'_>, lines: &Slab<Line>) -> Option<u32>
+    requires { HasAllSlots span.now lines.now }
+    ensures least { IfSome result (IsLeast (BreaksAt (words_in span.now) lines.now)) }
+    ensures none { IfNone result (AllComeOut (words_in span.now) (equations_of lines.now)) }
 {
     let mut least: Option<u32> = None;
     for (_, line) in lines.iter() {
-        if is_new_least(line.place, least) && is_broken(row, line) {
+        if is_new_least(line.place, least) && is_broken(span, line) {
             least = Some(line.place);
         }
     }
@@ -80,23 +80,23 @@ fn is_new_least(place: u32, least: Option<u32>) -> bool
     }
 }
 
-/// The verdict on the words of a row. `all_media` tells that the recovered ones are media words, but
+/// The verdict on the words of a span. `all_media` tells that the recovered ones are media words, but
 /// where some were filled in.
 pub(crate) fn verdict_on(
-    row: &Row<'_>,
+    span: &Span<'_>,
     lines: &Slab<Line>,
     all_media: bool,
     filled: bool,
 ) -> Verdict
-    requires lines { HasAllSlots row.now lines.now }
-    requires media { IsTrue all_media → filled ≡ false → AreMedia (recovered_words_in row.now) }
-    ensures { IsVerdict (recovered_words_in row.now)
-        (words_in row.now) lines.now result }
+    requires lines { HasAllSlots span.now lines.now }
+    requires media { IsTrue all_media → filled ≡ false → AreMedia (recovered_words_in span.now) }
+    ensures { IsVerdict (recovered_words_in span.now)
+        (words_in span.now) lines.now result }
 {
-    if let Some(slot) = first_not_media(row, all_media, filled) {
+    if let Some(slot) = first_not_media(span, all_media, filled) {
         return Verdict::NotMedia { slot };
     }
-    match first_broken(row, lines) {
+    match first_broken(span, lines) {
         Some(place) => Verdict::Unsound { place },
         None => Verdict::Sound,
     }

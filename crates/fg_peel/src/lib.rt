@@ -4,6 +4,7 @@
 
 ghost use Rattle.std.specs.Prelude.{◌≡◌, ◌+◌, ◌^◌, ◌<◌, ◌≤◌, ◌≤ℤ◌, ◌+ℤ◌, ℕ, pos, negsuc, length, drop, IfSome, IsTrue, Option};
 ghost use Rattle.std.specs.Option.{option_copied};
+ghost use Rattle.fg_shape.specs.Shape.{position_limit};
 ghost use Rattle.fg_peel.specs.Equation.{AreMedia};
 ghost use Rattle.fg_peel.specs.Peels.{Peels};
 ghost use Rattle.fg_peel.specs.Slots.{word_in, words_from, words_at, AllFit, AllFitFrom};
@@ -18,11 +19,11 @@ use slab::Slab;
 mod checks;
 pub mod laws;
 mod recovery;
-mod row;
+mod span;
 #[cfg(test)]
 mod tests;
 
-pub use row::{Missing, Row};
+pub use span::{Missing, Span};
 
 /// What is known of the datagram at one position.
 #[derive(Drop)]
@@ -95,7 +96,7 @@ pub enum Verdict {
 /// its slots that is filled.
 pub fn peel(low: i64, slots: &mut [Slot], lines: &Slab<Line>) -> Verdict
     requires first { negsuc 99 ≤ℤ low }
-    requires last { (low +ℤ pos (length slots.old)) ≤ℤ pos (2 ^ 62) }
+    requires last { (low +ℤ pos (length slots.old)) ≤ℤ pos position_limit }
     requires lines { AllFit low slots.old lines.now }
     ensures { Peels low lines.now slots.old slots.new result }
 {
@@ -106,7 +107,7 @@ pub fn peel(low: i64, slots: &mut [Slot], lines: &Slab<Line>) -> Verdict
 /// nothing follows.
 pub fn peel_media(low: i64, slots: &mut [Slot], lines: &Slab<Line>) -> Verdict
     requires first { negsuc 99 ≤ℤ low }
-    requires last { (low +ℤ pos (length slots.old)) ≤ℤ pos (2 ^ 62) }
+    requires last { (low +ℤ pos (length slots.old)) ≤ℤ pos position_limit }
     requires lines { AllFit low slots.old lines.now }
     requires media { AreMedia (words_at low slots.old) }
     ensures { Peels low lines.now slots.old slots.new result }
@@ -117,7 +118,7 @@ pub fn peel_media(low: i64, slots: &mut [Slot], lines: &Slab<Line>) -> Verdict
 /// Either of the two. `all_media` tells that all words that are there are media words.
 fn peel_slots(low: i64, slots: &mut [Slot], lines: &Slab<Line>, all_media: bool) -> Verdict
     requires first { negsuc 99 ≤ℤ low }
-    requires last { (low +ℤ pos (length slots.old)) ≤ℤ pos (2 ^ 62) }
+    requires last { (low +ℤ pos (length slots.old)) ≤ℤ pos position_limit }
     requires lines { AllFit low slots.old lines.now }
     requires media { IsTrue all_media → AreMedia (words_at low slots.old) }
     ensures { Peels low lines.now slots.old slots.new result }
@@ -134,7 +135,7 @@ fn peel_slots(low: i64, slots: &mut [Slot], lines: &Slab<Line>, all_media: bool)
 fn peel_after(below: usize, slots: &mut [Slot], lines: &Slab<Line>, all_media: bool) -> Verdict
     requires within { below ≤ length slots.old }
     requires lines { AllFitFrom 0 (drop below slots.old) lines.now }
-    requires limit { length slots.old ≤ 2 ^ 62 }
+    requires limit { length slots.old ≤ position_limit }
     requires media { IsTrue all_media → AreMedia (words_from 0 (drop below slots.old)) }
     ensures { IsPeelAfter below lines.now slots.old slots.new result }
 {
@@ -145,10 +146,10 @@ fn peel_after(below: usize, slots: &mut [Slot], lines: &Slab<Line>, all_media: b
 /// `peel` where the first entry stands for the position `start`.
 fn peel_from(start: u64, slots: &mut [Slot], lines: &Slab<Line>, all_media: bool) -> Verdict
     requires lines { AllFitFrom start slots.old lines.now }
-    requires limit { start + length slots.old ≤ 2 ^ 62 }
+    requires limit { start + length slots.old ≤ position_limit }
     requires media { IsTrue all_media → AreMedia (words_from start slots.old) }
     ensures { IsPeel start lines.now slots.old slots.new result }
 {
     let filled = fill_all(start, slots, lines);
-    verdict_on(&Row { start, slots }, lines, all_media, filled)
+    verdict_on(&Span { start, slots }, lines, all_media, filled)
 }

@@ -1,13 +1,14 @@
 //! Filling empty entries from the equations that miss one word.
 
 ghost use Rattle.std.specs.Prelude.{false, ◌≡◌, ◌≢◌, ◌+◌, ◌^◌, ◌<◌, ◌≤◌, length, Contains, slice_set};
+ghost use Rattle.fg_shape.specs.Shape.{position_limit};
 ghost use Rattle.fg_peel.specs.Slots.{word_in, words_from, equation_of, equations_of, lines_of};
 ghost use Rattle.fg_peel.specs.Slots.{Fits, AllFitFrom, IsMissing};
-ghost use Rattle.fg_peel.specs.Row.{words_in, HasAllSlots};
+ghost use Rattle.fg_peel.specs.Span.{words_in, HasAllSlots};
 ghost use Rattle.fg_peel.specs.Recovery.{IsPeeled, Fills, with_word, AddsWord};
 ghost use Rattle.fg_peel.specs.Recovery.{NothingFollows, AllClosed, AllClosedAt, StayClosed};
 
-use crate::row::{Missing, Row};
+use crate::span::{Missing, Span};
 use crate::{Line, Slot};
 use fg_shape::{contains, slot};
 use fg_words::Word;
@@ -19,7 +20,7 @@ use slab::Slab;
 #[inline(never)]
 fn fill(start: u64, slots: &mut [Slot], line: &Line, position: u64)
     requires line { Fits start slots.old line.now }
-    requires limit { start + length slots.old ≤ 2 ^ 62 }
+    requires limit { start + length slots.old ≤ position_limit }
     requires missing { IsMissing (words_from start slots.old) (equation_of line.now)
         (Missing.One position) }
     ensures { Fills start (equation_of line.now) position slots.old slots.new }
@@ -71,13 +72,13 @@ fn add_entry(target: &mut Slot, other: &Slot)
 #[cycle(filling)]
 fn visit(start: u64, slots: &mut [Slot], lines: &Slab<Line>, line: &Line)
     requires lines { AllFitFrom start slots.old lines.now }
-    requires limit { start + length slots.old ≤ 2 ^ 62 }
+    requires limit { start + length slots.old ≤ position_limit }
     requires live { Contains (lines_of lines.now) line.now }
     ensures peeled { IsPeeled start (equations_of lines.now) slots.old slots.new }
     ensures closed { NothingFollows (words_from start slots.new) (equation_of line.now) }
     ensures stay { StayClosed (words_from start slots.old) (words_from start slots.new) lines.now }
 {
-    if let Missing::One(position) = (Row { start, slots }).missing(line) {
+    if let Missing::One(position) = (Span { start, slots }).missing(line) {
         fill(start, slots, line, position);
         follow(start, slots, lines, position);
     }
@@ -88,7 +89,7 @@ fn visit(start: u64, slots: &mut [Slot], lines: &Slab<Line>, line: &Line)
 #[cycle(filling)]
 fn follow(start: u64, slots: &mut [Slot], lines: &Slab<Line>, filled: u64)
     requires lines { AllFitFrom start slots.old lines.now }
-    requires limit { start + length slots.old ≤ 2 ^ 62 }
+    requires limit { start + length slots.old ≤ position_limit }
     ensures peeled { IsPeeled start (equations_of lines.now) slots.old slots.new }
     ensures closed { AllClosedAt (words_from start slots.new) lines.now filled }
     ensures stay { StayClosed (words_from start slots.old) (words_from start slots.new) lines.now }
@@ -101,12 +102,12 @@ fn follow(start: u64, slots: &mut [Slot], lines: &Slab<Line>, filled: u64)
 }
 
 /// Whether some line misses just one word, so that it follows.
-fn some_word_follows(row: &Row<'_>, lines: &Slab<Line>) -> bool
-    requires { HasAllSlots row.now lines.now }
-    ensures { result ≡ false → AllClosed (words_in row.now) lines.now }
+fn some_word_follows(span: &Span<'_>, lines: &Slab<Line>) -> bool
+    requires { HasAllSlots span.now lines.now }
+    ensures { result ≡ false → AllClosed (words_in span.now) lines.now }
 {
     for (_, line) in lines.iter() {
-        if let Missing::One(_) = row.missing(line) {
+        if let Missing::One(_) = span.missing(line) {
             return true;
         }
     }
@@ -119,12 +120,12 @@ fn some_word_follows(row: &Row<'_>, lines: &Slab<Line>) -> bool
 /// that it is. A filled entry costs a pass of tests on numbers over the lines.
 pub(crate) fn fill_all(start: u64, slots: &mut [Slot], lines: &Slab<Line>) -> bool
     requires lines { AllFitFrom start slots.old lines.now }
-    requires limit { start + length slots.old ≤ 2 ^ 62 }
+    requires limit { start + length slots.old ≤ position_limit }
     ensures peeled { IsPeeled start (equations_of lines.now) slots.old slots.new }
     ensures closed { AllClosed (words_from start slots.new) lines.now }
     ensures untouched { result ≡ false → slots.new ≡ slots.old }
 {
-    if !some_word_follows(&Row { start, slots }, lines) {
+    if !some_word_follows(&Span { start, slots }, lines) {
         return false;
     }
     for (_, line) in lines.iter() {

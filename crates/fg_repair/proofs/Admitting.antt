@@ -7,12 +7,12 @@ use Rattle.fg_fechead.specs.declared.Parity.{Parity as ParityRead}
 use Rattle.fg_fechead.specs.ParityDatagram.{IsParityDatagram}
 use Rattle.fg_shape.specs.declared.kind.Kind.{Kind}
 use Rattle.fg_shape.specs.declared.kind.Kind.TheVariants.{Media}
-use Rattle.fg_desk.specs.declared.reply.Reply.{Reply}
+use Rattle.fg_playout.specs.declared.reply.Reply.{Reply}
 use Rattle.fg_shape.specs.declared.kind.Kind.TheVariants as kind
-use Rattle.fg_desk.specs.State.{State}
-use Rattle.fg_desk.specs.Admission.{AdmitsMedia}
-use Rattle.fg_desk.specs.Run.{Arrival, carries, protects, refused, ArePlaysDue, Takes}
-use Rattle.fg_desk.specs.Laws.{HavePlayed}
+use Rattle.fg_playout.specs.State.{State}
+use Rattle.fg_playout.specs.Admission.{AdmitsMedia}
+use Rattle.fg_playout.specs.Run.{Arrival, carries, protects, refused, ArePlaysDue, Takes}
+use Rattle.fg_playout.specs.Laws.{HavePlayed}
 use Rattle.fg_report.specs.declared.flow_sum.FlowSum.{FlowSum}
 use Rattle.fg_results.specs.Flow.{IsReadAs, parity_of}
 use Rattle.fg_repair.specs.Steps.{HaveShown, BreakOff, AdmitsDatagram, BreaksAtDatagram, PlaysBefore}

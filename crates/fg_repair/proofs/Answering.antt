@@ -2,11 +2,11 @@
 use Rattle.std.proofs.Common.{◌≡◌, ◌+◌, ◌==◌, ◌&&◌, ℕ, cond, List, [], ◌∷◌, ◌++◌, length, Option, Some, None, refl, sym, ap, ◌∙◌, arith}
 use Rattle.fg_shape.specs.declared.kind.Kind.{Kind}
 use Rattle.fg_shape.specs.declared.kind.Kind.TheVariants as kind
-use Rattle.fg_desk.specs.declared.reply.Reply.{Reply}
-use Rattle.fg_desk.specs.declared.reply.Reply.TheVariants.{Admitted, Duplicate, Conflict, Late, NotStarted, BeforeStart, Ahead, Crowded}
-use Rattle.fg_desk.specs.Play.{Play}
-use Rattle.fg_desk.specs.Run.{Arrival, carries, protects, refused, came_by, kind_number, reply_number, count_of}
-use Rattle.fg_desk.specs.Laws.{CountsAdd}
+use Rattle.fg_playout.specs.declared.reply.Reply.{Reply}
+use Rattle.fg_playout.specs.declared.reply.Reply.TheVariants.{Admitted, Duplicate, Conflict, Late, NotStarted, BeforeStart, Ahead, Crowded}
+use Rattle.fg_playout.specs.Play.{Play}
+use Rattle.fg_playout.specs.Run.{Arrival, carries, protects, refused, came_by, kind_number, reply_number, count_of}
+use Rattle.fg_playout.specs.Laws.{CountsAdd}
 use Rattle.fg_report.specs.declared.marks.Marks.{Marks}
 use Rattle.fg_report.specs.declared.flow_sum.FlowSum.{FlowSum}
 use Rattle.fg_results.specs.Flow.{IsReadAs, marks_of, sum_of}

@@ -1,13 +1,13 @@
 -- What a flow has shown where a fault stops it: a part of what it shows next.
 use Rattle.std.proofs.Common.{◌≡◌, ◌++◌, ℕ, List, [], ◌∷◌, Option, Some, None, refl, sym, ap, subst, ◌∙◌, append_assoc}
 use Rattle.std.specs.List.{All}
-use Rattle.fg_desk.specs.declared.reply.Reply.{Reply}
+use Rattle.fg_playout.specs.declared.reply.Reply.{Reply}
 use Rattle.fg_desk.specs.Arrivals.{StaysWithin}
-use Rattle.fg_desk.specs.Facts.{Holds}
-use Rattle.fg_desk.specs.State.{State, opening}
-use Rattle.fg_desk.specs.Play.{Play}
-use Rattle.fg_desk.specs.Run.{Arrival, carries, protects, refused, ArePlaysDue, TakesAll}
-use Rattle.fg_desk.specs.Laws.{IsRead, HavePlayed, PlayIsOne, OneTaking, LaterChangesNothing}
+use Rattle.fg_playout.specs.Facts.{Holds}
+use Rattle.fg_playout.specs.State.{State, opening}
+use Rattle.fg_playout.specs.Play.{Play}
+use Rattle.fg_playout.specs.Run.{Arrival, carries, protects, refused, ArePlaysDue, TakesAll}
+use Rattle.fg_playout.specs.Laws.{IsRead, HavePlayed, PlayIsOne, OneTaking, LaterChangesNothing}
 use Rattle.fg_report.specs.declared.flow_sum.FlowSum.{FlowSum}
 use Rattle.fg_trace.specs.Trace.{Record}
 use Rattle.fg_shape.specs.Playout.{Playout}

@@ -3,7 +3,7 @@ use Rattle.std.proofs.Common.{◌≡◌, ◌+◌, ◌≤◌, ◌==◌, ℕ, Bool
 use Rattle.std.specs.List.{count_by}
 use Rattle.std.proofs.lemmas.Bool.Decides.{nat_tests}
 use Rattle.std.proofs.lemmas.List.Sums.{sum_by-append, count_by-le-length}
-use Rattle.fg_desk.specs.Play.{Play, Shown}
+use Rattle.fg_playout.specs.Play.{Play, Shown}
 use Rattle.fg_report.specs.Gaps.{run_end, gaps_end, with_gap}
 use Rattle.fg_report.specs.declared.flow_sum.FlowSum.{FlowSum}
 use Rattle.fg_results.specs.Flow.{all_shown, shows_word, is_inconsistent, gaps_from}

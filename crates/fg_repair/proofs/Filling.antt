@@ -8,8 +8,8 @@ use Rattle.std.proofs.lemmas.List.FromFn.{length-map-range_with_len, map-range_w
 use Rattle.fg_words.specs.declared.Word.{Word}
 use Rattle.fg_desk.specs.declared.desk.Played.{Played}
 use Rattle.fg_desk.specs.Contents.{Contents, kept_shown, kept_from}
-use Rattle.fg_desk.specs.Play.{Shown}
-use Rattle.fg_desk.specs.State.{known}
+use Rattle.fg_playout.specs.Play.{Shown}
+use Rattle.fg_playout.specs.State.{known}
 use Rattle.fg_report.specs.declared.flow_sum.FlowSum.{FlowSum}
 use Rattle.fg_results.specs.Flow.{all_shown, shown_payload, is_inconsistent, lane_of}
 use Rattle.fg_repair.specs.Steps.{with_shown, with_plays, play_on, CountsWithin}

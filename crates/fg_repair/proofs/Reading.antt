@@ -4,10 +4,10 @@ use Rattle.fg_fechead.specs.declared.Parity.{Parity as ParityRead}
 use Rattle.fg_fechead.specs.ParityDatagram.{IsParityDatagram}
 use Rattle.fg_shape.specs.declared.kind.Kind.{Kind}
 use Rattle.fg_shape.specs.declared.kind.Kind.TheVariants.{Media, Column, Row}
-use Rattle.fg_desk.specs.declared.reply.Reply.{Reply}
-use Rattle.fg_desk.specs.State.{State}
-use Rattle.fg_desk.specs.Admission.{AdmitsParity}
-use Rattle.fg_desk.specs.Run.{Arrival, protects, refused, Takes}
+use Rattle.fg_playout.specs.declared.reply.Reply.{Reply}
+use Rattle.fg_playout.specs.State.{State}
+use Rattle.fg_playout.specs.Admission.{AdmitsParity}
+use Rattle.fg_playout.specs.Run.{Arrival, protects, refused, Takes}
 use Rattle.fg_results.specs.Flow.{IsReadAs, parity_of}
 
 pub parity_is_read :

@@ -2,10 +2,10 @@
 use Rattle.std.proofs.Common.{◌≡◌, ◌+◌, ◌-◌, ◌<◌, ◌≤◌, ◌++◌, ℕ, List, [], ◌∷◌, length, min, Bool, false, true, IsTrue, Option, Result, Ok, Err, OnErr, refl, sym, ap, subst, ◌∙◌, arith, length-append}
 use Rattle.std.proofs.lemmas.List.{append-nil}
 use Rattle.fg_io.specs.Outlet.{Lanes}
-use Rattle.fg_desk.specs.State.{State}
-use Rattle.fg_desk.specs.Admission.{IsDue}
-use Rattle.fg_desk.specs.Play.{Play, IsPlay, IsFlushStep}
-use Rattle.fg_desk.specs.Laws.{HavePlayed, AreFlushSteps, PlaysDueJoin, FlushStepsJoin}
+use Rattle.fg_playout.specs.State.{State}
+use Rattle.fg_playout.specs.Admission.{IsDue}
+use Rattle.fg_playout.specs.Play.{Play, IsPlay, IsFlushStep}
+use Rattle.fg_playout.specs.Laws.{HavePlayed, AreFlushSteps, PlaysDueJoin, FlushStepsJoin}
 use Rattle.fg_report.specs.declared.flow_sum.FlowSum.{FlowSum}
 use Rattle.fg_results.specs.Flow.{all_shown, lane_of}
 use Rattle.fg_repair.specs.Steps.{with_plays, CountsWithin, Grows, GrowsPart, HaveShown, BreakOff}

@@ -19,10 +19,10 @@ use Rattle.fg_flows.specs.Flows.{IsPortOf, IsTable}
 use Rattle.fg_shape.specs.Kind.{port_of}
 use Rattle.fg_flows.specs.Laws.{OneFlowHasAPort}
 use Rattle.fg_flows.specs.Plan.{playout_of}
-use Rattle.fg_desk.specs.declared.reply.Reply.{Reply}
-use Rattle.fg_desk.specs.Play.{Play}
-use Rattle.fg_desk.specs.Run.{Arrival, TakesAll}
-use Rattle.fg_desk.specs.State.{State, opening}
+use Rattle.fg_playout.specs.declared.reply.Reply.{Reply}
+use Rattle.fg_playout.specs.Play.{Play}
+use Rattle.fg_playout.specs.Run.{Arrival, TakesAll}
+use Rattle.fg_playout.specs.State.{State, opening}
 use Rattle.fg_report.specs.declared.flow_sum.FlowSum.{FlowSum}
 use Rattle.fg_repair.specs.declared.engine.Engine.{Engine}
 use Rattle.fg_repair.specs.declared.flow.Flow.{Flow}

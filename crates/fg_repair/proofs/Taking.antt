@@ -9,14 +9,14 @@ use Rattle.fg_fechead.specs.Laws.{ReadsOneWay as ParityReadsOneWay}
 use Rattle.fg_trace.specs.Trace.{Record}
 use Rattle.fg_shape.specs.declared.kind.Kind.{Kind}
 use Rattle.fg_shape.specs.Kind.{port_of}
-use Rattle.fg_desk.specs.declared.reply.Reply.{Reply}
+use Rattle.fg_playout.specs.declared.reply.Reply.{Reply}
 use Rattle.fg_shape.specs.declared.kind.Kind.TheVariants as kind
 use Rattle.fg_shape.specs.Playout.{Playout}
-use Rattle.fg_desk.specs.State.{State, opening}
-use Rattle.fg_desk.specs.Play.{Play}
-use Rattle.fg_desk.specs.Run.{Arrival, carries, protects, refused, TakesAll, IsFlush, IsRun}
+use Rattle.fg_playout.specs.State.{State, opening}
+use Rattle.fg_playout.specs.Play.{Play}
+use Rattle.fg_playout.specs.Run.{Arrival, carries, protects, refused, TakesAll, IsFlush, IsRun}
 use Rattle.fg_desk.specs.Arrivals.{StaysWithin}
-use Rattle.fg_desk.specs.Laws.{IsRead, LaterChangesNothing, OneTaking, PlayIsOne, AreFlushSteps, TakingsJoin, TakenPlaysComeFirst, DuePlaysComeNext, FlushStepsComeNext, PlaysReachTheMark, EachGetsAReply, CountsAdd}
+use Rattle.fg_playout.specs.Laws.{IsRead, LaterChangesNothing, OneTaking, PlayIsOne, AreFlushSteps, TakingsJoin, TakenPlaysComeFirst, DuePlaysComeNext, FlushStepsComeNext, PlaysReachTheMark, EachGetsAReply, CountsAdd}
 use Rattle.fg_report.specs.declared.flow_sum.FlowSum.{FlowSum}
 use Rattle.fg_results.specs.Flow.{FlowResult, IsFlowResult, IsReadAs, Arrives, records_of, all_shown, marks_of, lane_of, sum_of}
 use Rattle.fg_repair.specs.Steps.{HasTaken, HaveShown, BreakOff, AdmitsDatagram, PlaysBefore, BreaksAtDatagram, TakesRecord, BreaksAtRecord, EndsFlow, BreaksAtEnd, with_plays, with_answer}

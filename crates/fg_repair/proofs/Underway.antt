@@ -3,16 +3,16 @@ use Rattle.std.proofs.Common.{◌≡◌, ◌<◌, ◌≤◌, ◌^◌, ℕ, not, 
 use Rattle.std.specs.List.{All}
 use Rattle.std.proofs.lemmas.List.Sums.{count_by-le-length}
 use Rattle.std.proofs.lemmas.List.Elements.{All-head, All-tail}
-use Rattle.fg_desk.specs.declared.reply.Reply.{Reply}
-use Rattle.fg_desk.specs.declared.reply.Reply.TheVariants.{Admitted, Duplicate, Conflict, Late, NotStarted, BeforeStart, Ahead, Crowded}
+use Rattle.fg_playout.specs.declared.reply.Reply.{Reply}
+use Rattle.fg_playout.specs.declared.reply.Reply.TheVariants.{Admitted, Duplicate, Conflict, Late, NotStarted, BeforeStart, Ahead, Crowded}
 use Rattle.fg_shape.specs.declared.kind.Kind.{Kind}
 use Rattle.fg_shape.specs.declared.kind.Kind.TheVariants.{Media, Column, Row}
 use Rattle.fg_shape.specs.Playout.{Playout}
-use Rattle.fg_desk.specs.State.{State, opening}
-use Rattle.fg_desk.specs.Play.{Play, Shown}
+use Rattle.fg_playout.specs.State.{State, opening}
+use Rattle.fg_playout.specs.Play.{Play, Shown}
 use Rattle.fg_desk.specs.Arrivals.{StaysWithin, FlushesWithin}
-use Rattle.fg_desk.specs.Run.{Arrival, TakesAll, count_of}
-use Rattle.fg_desk.specs.Laws.{RunsStayWithin, FlushesStayWithin, PlaysReachTheMark, CountsStayWithin, played_count}
+use Rattle.fg_playout.specs.Run.{Arrival, TakesAll, count_of}
+use Rattle.fg_playout.specs.Laws.{RunsStayWithin, FlushesStayWithin, PlaysReachTheMark, CountsStayWithin, played_count}
 use Rattle.fg_report.specs.declared.flow_sum.FlowSum.{FlowSum}
 use Rattle.fg_results.specs.Flow.{all_shown, shows_word, is_inconsistent, marks_of, sum_of}
 use Rattle.fg_repair.specs.Steps.{IsUnderway, CountsWithin, MarksHaveRoom, RepliesHaveRoom}

@@ -8,13 +8,13 @@ use Rattle.fg_shape.specs.declared.kind.Kind.{Kind}
 use Rattle.fg_shape.specs.declared.kind.Kind.TheVariants as kind
 use Rattle.fg_shape.specs.Playout.{Playout, PlayoutFits}
 use Rattle.fg_desk.specs.declared.desk.Played.{Played}
-use Rattle.fg_desk.specs.declared.reply.Reply.{Reply}
-use Rattle.fg_desk.specs.declared.reply.Reply.TheVariants.{Admitted, Duplicate, Conflict, Late, NotStarted, BeforeStart, Ahead, Crowded}
+use Rattle.fg_playout.specs.declared.reply.Reply.{Reply}
+use Rattle.fg_playout.specs.declared.reply.Reply.TheVariants.{Admitted, Duplicate, Conflict, Late, NotStarted, BeforeStart, Ahead, Crowded}
 use Rattle.fg_desk.specs.Contents.{Contents, kept_from}
-use Rattle.fg_desk.specs.State.{State, opening}
-use Rattle.fg_desk.specs.Play.{Play, Shown}
-use Rattle.fg_desk.specs.Run.{Arrival, carries, protects, refused, Takes, TakesAll}
-use Rattle.fg_desk.specs.Laws.{HavePlayed}
+use Rattle.fg_playout.specs.State.{State, opening}
+use Rattle.fg_playout.specs.Play.{Play, Shown}
+use Rattle.fg_playout.specs.Run.{Arrival, carries, protects, refused, Takes, TakesAll}
+use Rattle.fg_playout.specs.Laws.{HavePlayed}
 use Rattle.fg_report.specs.declared.marks.Marks.{Marks}
 use Rattle.fg_report.specs.declared.flow_sum.FlowSum.{FlowSum}
 use Rattle.fg_report.specs.Gaps.{gaps_end}

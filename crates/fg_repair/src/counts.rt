@@ -2,7 +2,7 @@
 ghost use Rattle.std.specs.Prelude.{◌≡◌, ◌+◌, ◌≤◌, ◌<◌, ◌^◌, ◌++◌, [], ◌∷◌, OnOk};
 ghost use Rattle.std.specs.List.{count_by};
 ghost use Rattle.std.specs.Option.{option_copied};
-ghost use Rattle.fg_desk.specs.Play.{Play};
+ghost use Rattle.fg_playout.specs.Play.{Play};
 ghost use Rattle.fg_results.specs.Flow.{is_inconsistent, shown_payload};
 ghost use Rattle.fg_repair.specs.Steps.{MarksHaveRoom, RepliesHaveRoom, CountsWithin, with_reply, with_answer, with_shown};
 

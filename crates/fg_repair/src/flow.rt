@@ -7,11 +7,11 @@ ghost use Rattle.fg_fechead.specs.ParityDatagram.{IsParityDatagram};
 ghost use Rattle.fg_shape.specs.declared.kind.Kind.{Kind as KindOf};
 ghost use Rattle.fg_shape.specs.Kind.{port_of};
 ghost use Rattle.fg_shape.specs.Playout.{PlayoutFits};
-ghost use Rattle.fg_desk.specs.State.{State, opening};
-ghost use Rattle.fg_desk.specs.Admission.{IsDue};
-ghost use Rattle.fg_desk.specs.Contents.{HasRoom};
-ghost use Rattle.fg_desk.specs.Run.{Arrival, ArePlaysDue, Takes, IsFlush};
-ghost use Rattle.fg_desk.specs.Laws.{HavePlayed, AreFlushSteps};
+ghost use Rattle.fg_playout.specs.State.{State, opening};
+ghost use Rattle.fg_playout.specs.Admission.{IsDue};
+ghost use Rattle.fg_playout.specs.Room.{HasRoom};
+ghost use Rattle.fg_playout.specs.Run.{Arrival, ArePlaysDue, Takes, IsFlush};
+ghost use Rattle.fg_playout.specs.Laws.{HavePlayed, AreFlushSteps};
 ghost use Rattle.fg_desk.specs.Arrivals.{StaysWithin, FlushesWithin};
 ghost use Rattle.fg_results.specs.Flow.{IsReadAs, lane_of, sum_of};
 ghost use Rattle.fg_repair.specs.Steps.{HasTaken, IsUnderway, TakesRecord, BreaksAtRecord, EndsFlow, BreaksAtEnd};
@@ -19,7 +19,7 @@ ghost use Rattle.fg_repair.specs.Steps.{CountsWithin, Grows, GrowsPart, HaveShow
 
 use crate::counts::count_answer;
 use crate::play::fill;
-use fg_desk::laws::{
+use fg_playout::laws::{
     counts_add, counts_stay_within, due_plays_come_next, each_gets_a_reply, flush_steps_come_next,
     flushes_end, one_outcome, one_taking, plays_reach_the_mark, runs_join, runs_only_add,
     runs_stay_within, taken_plays_come_first,

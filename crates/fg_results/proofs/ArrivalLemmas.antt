@@ -12,9 +12,9 @@ use Rattle.fg_trace.specs.Trace.{Record}
 use Rattle.fg_shape.specs.declared.kind.Kind.{Kind}
 use Rattle.fg_shape.specs.declared.kind.Kind.TheVariants as kind
 use Rattle.fg_shape.specs.Kind.{port_of}
-use Rattle.fg_desk.specs.Admission.{Parity}
-use Rattle.fg_desk.specs.Run.{Arrival, carries, protects, refused}
-use Rattle.fg_desk.specs.Laws.{IsRead}
+use Rattle.fg_playout.specs.Admission.{Parity}
+use Rattle.fg_playout.specs.Run.{Arrival, carries, protects, refused}
+use Rattle.fg_playout.specs.Laws.{IsRead}
 use Rattle.fg_results.specs.Flow.{is_of, records_of, parity_of, IsReadAs, Arrives}
 use Rattle.fg_results.proofs.Zips.{zip_one, zip_begins, zip_length, zip_all}
 

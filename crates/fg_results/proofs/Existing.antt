@@ -13,9 +13,9 @@ use Rattle.fg_shape.specs.declared.kind.Kind.TheVariants as kind
 use Rattle.fg_shape.specs.Kind.{port_of}
 use Rattle.fg_shape.specs.Playout.{Playout}
 use Rattle.fg_flows.specs.Plan.{playout_of}
-use Rattle.fg_desk.specs.Run.{Arrival, carries, protects, refused}
-use Rattle.fg_desk.specs.Laws.{IsRead}
-use Rattle.fg_desk.specs.Existence.{RunsExist}
+use Rattle.fg_playout.specs.Run.{Arrival, carries, protects, refused}
+use Rattle.fg_playout.specs.Laws.{IsRead}
+use Rattle.fg_playout.specs.Existence.{RunsExist}
 use Rattle.fg_results.specs.Flow.{FlowResult, IsFlowResult, IsReadAs, Arrives, is_of, lane_of, parity_of, records_of, sum_of}
 use Rattle.fg_results.specs.Existence.{FlowResultExists, ResultsExist}
 

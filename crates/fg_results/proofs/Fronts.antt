@@ -6,8 +6,8 @@ use Rattle.fg_fechead.specs.Laws.{ReadsOneWay as ParityReadsOneWay}
 use Rattle.fg_rtp.specs.Laws.{ReadsOneWay as MediaReadsOneWay}
 use Rattle.fg_trace.specs.Trace.{Record}
 use Rattle.fg_shape.specs.Playout.{Playout}
-use Rattle.fg_desk.specs.Laws.{OneRun, TakenPlaysComeFirst}
-use Rattle.fg_desk.specs.Run.{Arrival, IsRun}
+use Rattle.fg_playout.specs.Laws.{OneRun, TakenPlaysComeFirst}
+use Rattle.fg_playout.specs.Run.{Arrival, IsRun}
 use Rattle.fg_report.specs.declared.flow_sum.FlowSum.{FlowSum}
 use Rattle.fg_results.specs.Laws.{OneFlowResult, ShownIsFront}
 use Rattle.fg_results.specs.Flow.{FlowResult, IsFlowResult, Arrives, records_of, is_of, lane_of, sum_of}

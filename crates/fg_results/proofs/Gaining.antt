@@ -1,9 +1,9 @@
 -- What a lane has gained at a stage of a repair is one.
 use Rattle.std.proofs.Common.{◌≡◌, inl, inr, ℕ, List, take, sym, ap, ◌∙◌, subst}
 use Rattle.fg_trace.specs.Trace.{Record}
-use Rattle.fg_desk.specs.Laws.{OneTaking}
-use Rattle.fg_desk.specs.Run.{Arrival, TakesAll}
-use Rattle.fg_desk.specs.State.{opening}
+use Rattle.fg_playout.specs.Laws.{OneTaking}
+use Rattle.fg_playout.specs.Run.{Arrival, TakesAll}
+use Rattle.fg_playout.specs.State.{opening}
 use Rattle.fg_fechead.specs.Laws.{ReadsOneWay as ParityReadsOneWay}
 use Rattle.fg_rtp.specs.Laws.{ReadsOneWay as MediaReadsOneWay}
 use Rattle.fg_flows.specs.Plan.{playout_of}

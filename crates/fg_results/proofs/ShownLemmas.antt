@@ -2,7 +2,7 @@
 use Rattle.std.proofs.Common.{◌≡◌, List, ◌++◌, ap, ◌∙◌}
 use Rattle.std.specs.List.{flat_map}
 use Rattle.std.proofs.lemmas.List.Concat.{flat_map-append}
-use Rattle.fg_desk.specs.Play.{Play, Shown}
+use Rattle.fg_playout.specs.Play.{Play, Shown}
 use Rattle.fg_results.specs.Flow.{all_shown, shown_payload, lane_of}
 
 pub all_shown_more : (one other : List Play) → all_shown (one ++ other) ≡ all_shown one ++ all_shown other

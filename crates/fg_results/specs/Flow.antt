@@ -11,12 +11,12 @@ use Rattle.fg_shape.specs.declared.kind.Kind.{Kind}
 use Rattle.fg_shape.specs.declared.kind.Kind.TheVariants as kind
 use Rattle.fg_shape.specs.Kind.{port_of}
 use Rattle.fg_shape.specs.Playout.{Playout}
-use Rattle.fg_desk.specs.declared.reply.Reply.{Reply}
-use Rattle.fg_desk.specs.declared.reply.Reply.TheVariants.{Admitted, Duplicate, Conflict, Late, NotStarted, BeforeStart, Ahead, Crowded}
-use Rattle.fg_desk.specs.declared.reply.Outcome.TheVariants.{Repaired, Inconsistent}
-use Rattle.fg_desk.specs.Admission.{Parity}
-use Rattle.fg_desk.specs.Play.{Play, Shown}
-use Rattle.fg_desk.specs.Run.{Arrival, carries, protects, refused, IsRun, count_of}
+use Rattle.fg_playout.specs.declared.reply.Reply.{Reply}
+use Rattle.fg_playout.specs.declared.reply.Reply.TheVariants.{Admitted, Duplicate, Conflict, Late, NotStarted, BeforeStart, Ahead, Crowded}
+use Rattle.fg_playout.specs.declared.reply.Outcome.TheVariants.{Repaired, Inconsistent}
+use Rattle.fg_playout.specs.Admission.{Parity}
+use Rattle.fg_playout.specs.Play.{Play, Shown}
+use Rattle.fg_playout.specs.Run.{Arrival, carries, protects, refused, IsRun, count_of}
 use Rattle.fg_report.specs.declared.marks.Marks.{Marks}
 use Rattle.fg_report.specs.declared.flow_sum.FlowSum.{FlowSum}
 use Rattle.fg_report.specs.Gaps.{with_gap}

@@ -9,10 +9,10 @@ use Rattle.fg_trace.specs.Trace.{Record}
 use Rattle.fg_flows.specs.declared.Plan.{Plan}
 use Rattle.fg_flows.specs.Plan.{playout_of}
 use Rattle.fg_shape.specs.Playout.{Playout}
-use Rattle.fg_desk.specs.declared.reply.Reply.{Reply}
-use Rattle.fg_desk.specs.State.{State, opening}
-use Rattle.fg_desk.specs.Play.{Play}
-use Rattle.fg_desk.specs.Run.{Arrival, TakesAll}
+use Rattle.fg_playout.specs.declared.reply.Reply.{Reply}
+use Rattle.fg_playout.specs.State.{State, opening}
+use Rattle.fg_playout.specs.Play.{Play}
+use Rattle.fg_playout.specs.Run.{Arrival, TakesAll}
 use Rattle.fg_results.specs.Flow.{FlowResult, IsFlowResult, Arrives, records_of, lane_of}
 use Rattle.fg_results.specs.Lanes.{PutsAll}
 

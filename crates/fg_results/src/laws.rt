@@ -3,7 +3,7 @@
 ghost use Rattle.fg_results.specs.Existence.{FlowResultExists, ResultsExist};
 ghost use Rattle.fg_results.specs.Laws.{OneFlowResult, OneResult, OneGained, ShownIsFront};
 
-use fg_desk::laws::{one_run, one_taking, runs_exist, taken_plays_come_first};
+use fg_playout::laws::{one_run, one_taking, runs_exist, taken_plays_come_first};
 use fg_fechead::laws::{parity_datagrams_are_decided, parity_datagrams_read_one_way};
 use fg_rtp::laws::{media_datagrams_are_decided, media_datagrams_read_one_way};
 use fg_trace::laws::one_trace;

@@ -114,7 +114,7 @@ fn words_and_checks_of_jobs_given_back(rt: HostRuntime) -> Result<(), Fail> {
         Parity(1, 4, 4, 1, Admitted),
         Take(A, Some((0, Some(5)))),
         BackAndOffer(A, Done),
-        // Neither the offer nor the attest has marked it.
+        // Neither the offer nor the attest has noted it.
         Take(B, Some((0, None))),
         BackAndAttest(B, true, Done),
         Take(C, Some((1, None))),

@@ -1,7 +1,7 @@
 //! Where no media datagram is missing, each slot peels.
 ghost use Rattle.fg_drill.specs.TrueLaws.{FullArrivalsPeel};
 
-use fg_desk::laws::{
+use fg_playout::laws::{
     admissions_add, flushes_end, live_equations, mark_makes_no_difference, runs_exist, runs_join,
     runs_stay_within,
 };

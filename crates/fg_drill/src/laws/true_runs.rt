@@ -2,7 +2,7 @@
 
 ghost use Rattle.fg_drill.specs.TrueLaws.{NothingElseIsShown, PeeledSlotsAreShown, TrueRunsAreRepaired, TrueRunsShowTheTruth};
 
-use fg_desk::laws::{
+use fg_playout::laws::{
     admissions_add, due_plays_come_next, facts_are_kept, flush_steps_come_next, flushes_end,
     live_equations, mark_makes_no_difference, runs_join, runs_only_add, runs_stay_within,
 };

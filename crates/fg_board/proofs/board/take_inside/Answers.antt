@@ -1,6 +1,6 @@
 use Rattle.std.proofs.Common.{◌≡◌, Some, sym, ap, subst, ◌∙◌}
 use Rattle.fg_peel.specs.Equation.{IsComplete}
-use Rattle.fg_desk.specs.State.{Live}
+use Rattle.fg_playout.specs.State.{Live}
 use Rattle.fg_desk.specs.Contents.{known_in}
 use Rattle.fg_core.specs.Core.{take}
 use Rattle.fg_board.proofs.OneTurn.{owning, turn_taken, no_turn_taken}

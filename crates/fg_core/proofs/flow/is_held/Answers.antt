@@ -1,7 +1,7 @@
 use Rattle.std.proofs.Common.{sym, ap, ◌∙◌, eq-eqb}
 use Rattle.std.proofs.lemmas.Bool.Decides.{Decides-eqb}
 use Rattle.std.specs.FinMap.{get}
-use Rattle.fg_window.specs.Lines.{live_of}
+use Rattle.fg_buffer.specs.LiveEquations.{live_of}
 use Rattle.fg_core.proofs.flow.is_held.Goals as goal
 
 pub returns-then-line-key : goal.returns-then-line-key

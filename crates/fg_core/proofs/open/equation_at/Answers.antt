@@ -1,7 +1,7 @@
 use Rattle.std.proofs.Common.{◌≡◌, Option, Some, Bor, IfSome, subst}
 use Rattle.std.specs.FinMap.{get}
 use Rattle.fg_peel.specs.declared.Line.{Line}
-use Rattle.fg_window.specs.Lines.{live_of}
+use Rattle.fg_buffer.specs.LiveEquations.{live_of}
 use Rattle.fg_core.proofs.open.equation_at.Goals as goal
 
 pub returns-clause-readable : goal.returns-clause-readable

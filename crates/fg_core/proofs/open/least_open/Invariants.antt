@@ -5,4 +5,4 @@ abbrev pub invariant-loop-line : goal.invariant-loop-line
 invariant-loop-line l =
     (goal.iterator-loop-line).can_next l.line-iterator ×
     (goal.iterator-loop-line).is_finite l.line-iterator ×
-    IsBest l.desk l.marks l.lines l.fn.best l.least l.line-iterator
+    IsBest l.desk l.notes l.lines l.fn.best l.least l.line-iterator

@@ -1,10 +1,10 @@
 use Rattle.std.proofs.Common.{◌≡◌, [], Option, Some, Bor, IfSome, sym, subst}
 use Rattle.std.specs.FinMap.{get}
 use Rattle.fg_peel.specs.declared.Line.{Line}
-use Rattle.fg_desk.specs.State.{Live}
-use Rattle.fg_window.specs.Lines.{live_of}
+use Rattle.fg_playout.specs.State.{Live}
+use Rattle.fg_buffer.specs.LiveEquations.{live_of}
 use Rattle.fg_desk.specs.Contents.{Contents}
-use Rattle.fg_desk.specs.Facts.{Holds}
+use Rattle.fg_playout.specs.Facts.{Holds}
 use Rattle.fg_core.specs.Board.{JobState, IsJobOf}
 use Rattle.fg_core.specs.Flow.{board_of, IsReady}
 use Rattle.fg_core.specs.declared.key.Key.{Key}

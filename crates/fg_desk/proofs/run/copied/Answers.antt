@@ -1,7 +1,7 @@
 use Rattle.std.proofs.Common.{◌≡◌, List, take, get_or, ap, ◌∙◌, arith}
 use Rattle.std.proofs.lemmas.List.{take_all}
 use Rattle.fg_desk.specs.declared.run.ShownWord.{ShownWord}
-use Rattle.fg_desk.specs.Play.{Shown, nothing_shown}
+use Rattle.fg_playout.specs.Play.{Shown, nothing_shown}
 use Rattle.fg_desk.proofs.PlainRuns.{one_more_shown, same_shown}
 use Rattle.fg_desk.proofs.run.copied.Goals as goal
 

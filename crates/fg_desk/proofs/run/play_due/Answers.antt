@@ -1,6 +1,6 @@
 use Rattle.std.proofs.Common.{◌^◌, refl, arith, ◌∙◌, ap}
 use Rattle.fg_shape.specs.Playout.{Playout}
-use Rattle.fg_desk.specs.Admission.{IsDue}
+use Rattle.fg_playout.specs.Admission.{IsDue}
 use Rattle.fg_desk.proofs.PlainRuns.{none_played, one_more_played, nearer, fails}
 use Rattle.fg_desk.proofs.run.play_due.Goals as goal
 

@@ -2,12 +2,12 @@ use Rattle.std.proofs.Common.{◌≡◌, ◌+◌, ◌^◌, List, [], map, take, 
 use Rattle.std.proofs.lemmas.List.{take_more, take_all}
 use Rattle.std.proofs.lemmas.List.Elements.{All-nil}
 use Rattle.fg_shape.specs.Playout.{Playout}
-use Rattle.fg_desk.specs.Laws.{IsRead}
+use Rattle.fg_playout.specs.Laws.{IsRead}
 use Rattle.fg_desk.specs.declared.run.Datagram.{Datagram}
 use Rattle.fg_desk.specs.declared.run.Datagram.TheVariants as datagram
-use Rattle.fg_desk.specs.State.{opening}
+use Rattle.fg_playout.specs.State.{opening}
 use Rattle.fg_desk.specs.Contents.{Contents, Holding}
-use Rattle.fg_desk.specs.Run.{TakesAll}
+use Rattle.fg_playout.specs.Run.{TakesAll}
 use Rattle.fg_desk.specs.Arrivals.{arrival_of, play_of}
 use Rattle.fg_desk.proofs.PlainRuns.{one_more_taken, few_arrivals}
 use Rattle.fg_desk.proofs.run.run_flow.Goals as goal

@@ -1,8 +1,8 @@
 use Rattle.std.proofs.Common.{[], Some, refl, sym, subst}
 use Rattle.fg_words.specs.declared.Word.{Word}
 use Rattle.fg_desk.specs.declared.run.Datagram.{Datagram}
-use Rattle.fg_desk.specs.Admission.{AdmitsMedia}
-use Rattle.fg_desk.specs.Run.{Takes}
+use Rattle.fg_playout.specs.Admission.{AdmitsMedia}
+use Rattle.fg_playout.specs.Run.{Takes}
 use Rattle.fg_desk.specs.Arrivals.{arrival_of}
 use Rattle.fg_desk.proofs.run.take.Goals as goal
 

@@ -19,7 +19,7 @@ is_broken-requires c = c.requires c.in-Some.line.now (live (goal.at.is_broken-re
 pub loop-line-preserved-then-is_broken : goal.loop-line-preserved-then-is_broken
 loop-line-preserved-then-is_broken c =
     let i = (goal.at.loop-line-preserved-then-is_broken c).In-Some in
-    let words = words_from c.args.row.now.start c.args.row.now.slots.now in
+    let words = words_from c.args.span.now.start c.args.span.now.slots.now in
     let entry : ℕ × Line = (c.in-Some.field-0-0, c.in-Some.line.now) in (
       tt,
       tt,
@@ -32,7 +32,7 @@ loop-line-preserved-then-is_broken c =
 pub loop-line-preserved : goal.loop-line-preserved
 loop-line-preserved c =
     let i = (goal.at.loop-line-preserved c).In-Some in
-    let words = words_from c.args.row.now.start c.args.row.now.slots.now in
+    let words = words_from c.args.span.now.start c.args.span.now.slots.now in
     let entry : ℕ × Line = (c.in-Some.field-0-0, c.in-Some.line.now) in
     let but : BrokenBut words c.args.lines.now c.loop-line.least c.next.new.self =
     elim c.else-is_new_least.branch [
@@ -47,4 +47,4 @@ loop-line-preserved c =
 
 pub returns-clause-none : goal.returns-clause-none
 returns-clause-none c =
-    broken_done (words_from c.args.row.now.start c.args.row.now.slots.now) c.args.lines.now c.loop-line.least c.loop-line.line-iterator c.in-None.ensures.steps.0 c.loop-line.invariant.4
+    broken_done (words_from c.args.span.now.start c.args.span.now.slots.now) c.args.lines.now c.loop-line.least c.loop-line.line-iterator c.in-None.ensures.steps.0 c.loop-line.invariant.4

@@ -11,5 +11,5 @@ invariant-loop-line l =
     (goal.iterator-loop-line).can_next l.line-iterator ×
     (goal.iterator-loop-line).is_finite l.line-iterator ×
     AreLive l.lines l.line-iterator ×
-    IfSome l.least (BreaksAt (words_from l.row.start l.row.slots.now) l.lines) ×
-    BrokenBut (words_from l.row.start l.row.slots.now) l.lines l.least l.line-iterator
+    IfSome l.least (BreaksAt (words_from l.span.start l.span.slots.now) l.lines) ×
+    BrokenBut (words_from l.span.start l.span.slots.now) l.lines l.least l.line-iterator

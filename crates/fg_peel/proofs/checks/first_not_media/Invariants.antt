@@ -4,4 +4,4 @@ use Rattle.fg_peel.specs.Recovery.{RecoversMedia}
 use Rattle.fg_peel.proofs.checks.first_not_media.Given as goal
 
 abbrev pub invariant-loop-i : goal.invariant-loop-i
-invariant-loop-i l = (k : ℕ) → k < l.i → RecoversMedia (get_or l.row.slots.now k Empty)
+invariant-loop-i l = (k : ℕ) → k < l.i → RecoversMedia (get_or l.span.slots.now k Empty)

@@ -12,7 +12,7 @@ missing-requires c =
 
 pub loop-line-preserved : goal.loop-line-preserved
 loop-line-preserved c =
-    let words = words_from c.args.row.now.start c.args.row.now.slots.now in
+    let words = words_from c.args.span.now.start c.args.span.now.slots.now in
     let entry : ℕ × Line = (c.in-Some.field-0-0, c.in-Some.line.now) in (
       tt,
       tt,
@@ -24,5 +24,5 @@ loop-line-preserved c =
 
 pub returns : goal.returns
 returns c = λ _.
-    closed_all (words_from c.args.row.now.start c.args.row.now.slots.now) c.args.lines.now c.loop-line.line-iterator
+    closed_all (words_from c.args.span.now.start c.args.span.now.slots.now) c.args.lines.now c.loop-line.line-iterator
     c.in-None.ensures.steps.0 c.loop-line.invariant.3

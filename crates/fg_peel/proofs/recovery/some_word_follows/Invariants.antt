@@ -9,4 +9,4 @@ invariant-loop-line l =
     (goal.iterator-loop-line).can_next l.line-iterator ×
     (goal.iterator-loop-line).is_finite l.line-iterator ×
     AreLive l.lines l.line-iterator ×
-    ClosedBut (words_from l.row.start l.row.slots.now) l.lines l.line-iterator
+    ClosedBut (words_from l.span.start l.span.slots.now) l.lines l.line-iterator

@@ -1,7 +1,7 @@
 use Rattle.std.proofs.Common.{ℕ, map, subst, sym}
 use Rattle.std.specs.Prelude.{Option, IfSome}
 use Rattle.std.specs.FinMap.{get}
-use Rattle.fg_peel.specs.declared.row.Missing.TheVariants.{One}
+use Rattle.fg_peel.specs.declared.span.Missing.TheVariants.{One}
 use Rattle.fg_peel.specs.Slots.{IsMissing}
 use Rattle.fg_turn.specs.Standing.{Standing}
 use Rattle.fg_board.specs.Actors.{WasTold, IsLater}

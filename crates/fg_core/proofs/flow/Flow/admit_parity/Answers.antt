@@ -1,8 +1,8 @@
 use Rattle.std.proofs.Common.{◌≡◌, sym, ap, subst, ◌∙◌, Option}
 use Rattle.fg_desk.specs.Contents.{Contents, IsPlaceAfter}
-use Rattle.fg_desk.specs.Admission.{Parity, AdmitsParity}
+use Rattle.fg_playout.specs.Admission.{Parity, AdmitsParity}
 use Rattle.fg_core.specs.Board.{BoardState, AdmitsParityOn}
-use Rattle.fg_desk.specs.declared.reply.Reply.{Reply}
+use Rattle.fg_playout.specs.declared.reply.Reply.{Reply}
 use Rattle.fg_core.specs.declared.key.Key.{Key}
 use Rattle.fg_core.specs.Flow.{board_of}
 use Rattle.fg_core.proofs.Calling.{parity_on, key_of}
@@ -27,10 +27,10 @@ returns c =
       | in-Some w ↦ w.result-is ∙ (λ i. (reply, key_of (serial_is i) (epoch_is i) (sym w.in-Some.is i)))
       | in-None w ↦ w.result-is ∙ (λ i. (reply, key_of (serial_is i) (epoch_is i) (sym w.in-None.is i)))
     ] in
-    let on : AdmitsParityOn (board_of old f.marks) parity reply (key_of old.state.admitted new.epoch place) (board_of new f.marks) =
-    parity_on old new f.marks c.self.invariant parity reply place
+    let on : AdmitsParityOn (board_of old f.notes) parity reply (key_of old.state.admitted new.epoch place) (board_of new f.notes) =
+    parity_on old new f.notes c.self.invariant parity reply place
     (subst (λ (d : Contents). AdmitsParity d.state parity reply new.state) value e.state)
     (subst (λ (d : Contents). new ≡ record d { state = new.state }) value e.rest)
     (subst (λ (d : Contents). IsPlaceAfter d.state reply place new.state) value e.place) in
-    subst (λ (b : BoardState). AdmitsParityOn b parity c.match-place.result.0 c.match-place.result.1 (board_of new f.marks)) c.self.view_is
-    (subst (λ (r : Reply × Option Key). AdmitsParityOn (board_of old f.marks) parity r.0 r.1 (board_of new f.marks)) (sym result_is) on)
+    subst (λ (b : BoardState). AdmitsParityOn b parity c.match-place.result.0 c.match-place.result.1 (board_of new f.notes)) c.self.view_is
+    (subst (λ (r : Reply × Option Key). AdmitsParityOn (board_of old f.notes) parity r.0 r.1 (board_of new f.notes)) (sym result_is) on)

@@ -1,7 +1,7 @@
 use Rattle.std.proofs.Common.{◌≡◌, length, Option, Some, None, IfSome, IfNone, option_map, subst}
 use Rattle.fg_desk.specs.declared.desk.Played.{Played}
 use Rattle.fg_desk.specs.Contents.{Contents, ChangesInPlay}
-use Rattle.fg_desk.specs.Play.{Flushes}
+use Rattle.fg_playout.specs.Play.{Flushes}
 use Rattle.fg_core.specs.Board.{BoardState, FlushesOn}
 use Rattle.fg_core.specs.Core.{play_of}
 use Rattle.fg_core.specs.Flow.{board_of}
@@ -21,8 +21,8 @@ returns-clause-flushes c =
     let value = c.deref_mut.ensures.value in
     let result = c.flush_step.result in
     let e = c.flush_step.ensures in
-    subst (λ (b : BoardState). FlushesOn b (option_map (λ played. play_of played shown) result) (board_of new f.marks)) c.self.view_is
-    (flushes_on old new f.marks c.self.invariant result shown
+    subst (λ (b : BoardState). FlushesOn b (option_map (λ played. play_of played shown) result) (board_of new f.notes)) c.self.view_is
+    (flushes_on old new f.notes c.self.invariant result shown
     (subst (λ (d : Contents). Flushes d.state (option_map (λ played. play_of played shown) result) new.state) value e.flushes)
     (subst (λ (d : Contents). IfSome result (λ played. (played.count ≡ length shown) × ChangesInPlay played.verdict d new)) value e.some)
     (subst (λ (d : Contents). IfNone result (new ≡ record d { state = new.state })) value

@@ -25,7 +25,7 @@ returns c =
       c.holds.ensures.0 c.if-not-holds.false,
       ap (λ (d : Contents). known_in d c.args.slot) (sym (c.deref.ensures ∙ desk_is))
           ∙ none_of_copied _ c.word.result c.word.ensures (sym c.is_some.ensures ∙ c.if-is_some.false),
-      ap (λ (d : Contents). board_of d f.marks)
+      ap (λ (d : Contents). board_of d f.notes)
           (c.fill.ensures ∙ ap (λ (d : Contents). filled d c.args.slot c.args.share) c.deref_mut.ensures.value)
           ∙ ap (λ (b : BoardState). with_word b c.args.slot c.args.share) c.self.view_is,
     )

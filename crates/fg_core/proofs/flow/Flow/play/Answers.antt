@@ -1,6 +1,6 @@
 use Rattle.std.proofs.Common.{subst}
 use Rattle.fg_desk.specs.Contents.{Contents, ChangesInPlay}
-use Rattle.fg_desk.specs.Play.{Play, IsPlay}
+use Rattle.fg_playout.specs.Play.{Play, IsPlay}
 use Rattle.fg_core.specs.Board.{BoardState, PlaysOn}
 use Rattle.fg_core.specs.Core.{play_of}
 use Rattle.fg_core.specs.Flow.{board_of}
@@ -14,7 +14,7 @@ returns-clause-play c =
     let new : Contents = c.play.new.self in
     let value = c.deref_mut.ensures.value in
     let play : Play = play_of c.play.result c.play.new.tray.shown in
-    subst (λ (b : BoardState). PlaysOn b play (board_of new f.marks)) c.self.view_is
-    (plays_on old new f.marks c.self.invariant play
+    subst (λ (b : BoardState). PlaysOn b play (board_of new f.notes)) c.self.view_is
+    (plays_on old new f.notes c.self.invariant play
     (subst (λ (d : Contents). IsPlay d.state.playout.window d.state play new.state) value c.play.ensures.play)
     (subst (λ (d : Contents). ChangesInPlay c.play.result.verdict d new) value c.play.ensures.changes))

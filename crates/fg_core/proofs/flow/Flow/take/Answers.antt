@@ -1,6 +1,6 @@
 use Rattle.std.proofs.Common.{◌≡◌, ◌≤◌, ℕ, [], sym, ap, subst, ◌∙◌}
 use Rattle.std.specs.FinSet.{insert}
-use Rattle.fg_desk.specs.State.{Live}
+use Rattle.fg_playout.specs.State.{Live}
 use Rattle.fg_desk.specs.Contents.{Contents}
 use Rattle.fg_core.specs.Board.{BoardState, JobState, IsOpen, IsJobOf, VouchedAreComplete}
 use Rattle.fg_core.specs.Flow.{board_of, IsKeyOfOpen, IsReady}
@@ -11,7 +11,7 @@ use Rattle.fg_core.proofs.flow.Flow.take.Goals as goal
 pub next_open-requires-clause-vouched : goal.next_open-requires-clause-vouched
 next_open-requires-clause-vouched c =
     let f = c.self.inside in
-    subst VouchedAreComplete (sym (ap (λ (d : Contents). board_of d f.marks) c.deref.ensures ∙ c.self.view_is)) c.requires
+    subst VouchedAreComplete (sym (ap (λ (d : Contents). board_of d f.notes) c.deref.ensures ∙ c.self.view_is)) c.requires
 
 pub returns-clause-taken : goal.returns-clause-taken
 returns-clause-taken c =
@@ -19,7 +19,7 @@ returns-clause-taken c =
     let now : BoardState = c.args.self.now in
     let key : Key = c.in-Some.key in
     let work : JobState = c.in_ok-work.work in
-    let board_is : board_of c.deref.result.now f.marks ≡ now = ap (λ (d : Contents). board_of d f.marks) c.deref.ensures ∙ c.self.view_is in
+    let board_is : board_of c.deref.result.now f.notes ≡ now = ap (λ (d : Contents). board_of d f.notes) c.deref.ensures ∙ c.self.view_is in
     let desk_is : c.deref-2.result.now ≡ now.desk = c.deref-2.ensures ∙ ap (λ (b : BoardState). b.desk) c.self.view_is in
     let opened : IsKeyOfOpen now key = subst (λ (b : BoardState). IsKeyOfOpen b key) board_is c.in-Some.ensures.open in
     let least : (serial : ℕ) (live : Live) → IsOpen now serial live → key.serial ≤ serial =

@@ -1,7 +1,7 @@
 use Rattle.std.proofs.Common.{◌≡◌, None, not, sym, ap, subst, ◌∙◌, arith, get_or}
 use Rattle.std.proofs.lemmas.List.{get_or_default}
 use Rattle.fg_core.proofs.Inputs.{none_of}
-use Rattle.fg_peel.specs.declared.row.Missing.TheVariants.{One}
+use Rattle.fg_peel.specs.declared.span.Missing.TheVariants.{One}
 use Rattle.fg_peel.specs.Equation.{IsComplete}
 use Rattle.fg_peel.specs.Slots.{IsMissing}
 use Rattle.std.specs.FinMap.{get}

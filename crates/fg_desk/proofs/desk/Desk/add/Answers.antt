@@ -1,11 +1,11 @@
 use Rattle.std.proofs.Common.{◌≢◌, ◌<◌, ◌^◌, None, IsSome, sym, subst}
 use Rattle.fg_peel.specs.Equation.{Equation}
 use Rattle.fg_peel.proofs.Options.{none_has_no_value}
-use Rattle.fg_desk.specs.declared.reply.Reply.TheVariants.{Admitted}
-use Rattle.fg_desk.specs.Admission.{IsEquationReply}
+use Rattle.fg_playout.specs.declared.reply.Reply.TheVariants.{Admitted}
+use Rattle.fg_playout.specs.Admission.{IsEquationReply}
 use Rattle.fg_desk.specs.Contents.{Contents}
 use Rattle.fg_desk.specs.Inside.{AreSound, state_of}
-use Rattle.fg_window.specs.Lines.{LinesState}
+use Rattle.fg_buffer.specs.LiveEquations.{LiveState}
 use Rattle.fg_desk.specs.Parts.{parts_of}
 use Rattle.fg_desk.proofs.DeskAdds.{next_is_fresh, with_line, sound_with_line}
 use Rattle.fg_desk.proofs.desk.Desk.add.Goals as goal
@@ -25,6 +25,6 @@ invariant_of-self c =
     λ none. none_has_no_value parts.top none (subst (λ (s : Contents). IsSome s.state.top) (sym c.self.view_is) c.requires.started) in
     let calls : c.self.inside.calls < 2 ^ 62 =
     subst (λ (s : Contents). s.state.calls < 2 ^ 62) (sym c.self.view_is) c.requires.calls in
-    subst (λ (l : LinesState). AreSound (with_line parts l)) (sym added.1)
+    subst (λ (l : LiveState). AreSound (with_line parts l)) (sym added.1)
     (sound_with_line parts c.self.invariant c.insert-place.ensures.facts c.insert-place.result equation c.requires.shape c.requires.base replies added.0
     opened calls c.peelings_stay.ensures.equations c.requires.room)

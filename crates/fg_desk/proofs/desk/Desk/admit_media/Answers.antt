@@ -3,7 +3,7 @@ use Rattle.std.specs.FinMap.{get, get-empty}
 use Rattle.std.specs.Prelude.{option_map}
 use Rattle.std.specs.Ordering.{nat_cmp}
 use Rattle.fg_desk.specs.Contents.{Contents}
-use Rattle.fg_desk.specs.State.{Words}
+use Rattle.fg_playout.specs.State.{Words}
 use Rattle.fg_desk.specs.Parts.{parts_of, top_of}
 use Rattle.fg_desk.proofs.DeskCounts.{counted_sound}
 use Rattle.fg_desk.proofs.desk.Desk.admit_media.Goals as goal

@@ -1,7 +1,7 @@
 use Rattle.std.proofs.Common.{◌≡◌, ◌<◌, ◌^◌, refl, ap, sym, subst, ◌∙◌}
 use Rattle.std.specs.Prelude.{option_map}
 use Rattle.fg_words.specs.declared.Word.{Word}
-use Rattle.fg_desk.specs.Admission.{Parity, IsEquationReply, IsAfterParity}
+use Rattle.fg_playout.specs.Admission.{Parity, IsEquationReply, IsAfterParity}
 use Rattle.fg_desk.specs.Contents.{Contents}
 use Rattle.fg_desk.specs.Inside.{state_of, contents_of}
 use Rattle.fg_desk.specs.Parts.{parts_of, top_of}

@@ -2,8 +2,8 @@ use Rattle.std.proofs.Common.{◌≡◌, ◌≢◌, ◌+◌, ◌-◌, ◌*◌, �
 use Rattle.std.proofs.lemmas.Bool.{false≢true}
 use Rattle.std.specs.FinMap.{len}
 use Rattle.fg_desk.specs.Contents.{Contents}
-use Rattle.fg_desk.specs.Admission.{IsLate, IsTimely}
-use Rattle.fg_window.proofs.SlotRange.{last_at}
+use Rattle.fg_playout.specs.Admission.{IsLate, IsTimely}
+use Rattle.fg_peel.proofs.SlotRange.{last_at}
 use Rattle.fg_desk.proofs.Twins.{twin_of, no_twin}
 use Rattle.fg_desk.proofs.desk.Desk.equation_reply.Goals as goal
 use Rattle.fg_desk.proofs.desk.Desk.equation_reply.Goals.{After-from}

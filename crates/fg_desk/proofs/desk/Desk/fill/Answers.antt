@@ -1,11 +1,11 @@
 use Rattle.std.proofs.Common.{◌≡◌, ℕ, sym, ap, subst, ◌∙◌}
 use Rattle.fg_desk.specs.Contents.{Contents, CanFill, IsLiveAt, filled}
 use Rattle.fg_desk.specs.Inside.{AreSound, state_of, contents_of}
-use Rattle.fg_window.specs.Lines.{SettlesAt}
+use Rattle.fg_buffer.specs.LiveEquations.{SettlesAt}
 use Rattle.fg_desk.specs.Parts.{parts_of}
-use Rattle.fg_window.specs.Row.{RowState, publishes}
+use Rattle.fg_buffer.specs.PlayoutBuffer.{BufferState, publishes}
 use Rattle.fg_desk.proofs.DeskFills.{fills_here, can_put, filled_sound, filled_contents}
-use Rattle.fg_desk.proofs.DeskWays.{with_row}
+use Rattle.fg_desk.proofs.DeskWays.{with_buffer}
 use Rattle.fg_desk.proofs.desk.Desk.fill.Goals as goal
 use Rattle.fg_desk.proofs.desk.Desk.fill.Goals.{After-settle_at}
 
@@ -36,12 +36,12 @@ module _ (c : After-settle_at) where
   settles : SettlesAt at.1.place c.publish.new.lines c.settle_at.new.self
   settles = subst (λ (place : ℕ). SettlesAt place c.publish.new.lines c.settle_at.new.self) (sym at.3) c.settle_at.ensures
 
-  row_is : c.publish.new.row ≡ publishes c.publish.ensures.publishes.0 c.args.slot c.args.share
-  row_is = c.publish.ensures.publishes.2
+  buffer_is : c.publish.new.buffer ≡ publishes c.publish.ensures.publishes.0 c.args.slot c.args.share
+  buffer_is = c.publish.ensures.publishes.2
 
-  sound : AreSound (with_row (parts_of c.self.inside) c.publish.new.row c.settle_at.new.self)
+  sound : AreSound (with_buffer (parts_of c.self.inside) c.publish.new.buffer c.settle_at.new.self)
   sound =
-      subst (λ (r : RowState). AreSound (with_row (parts_of c.self.inside) r c.settle_at.new.self)) (sym row_is)
+      subst (λ (r : BufferState). AreSound (with_buffer (parts_of c.self.inside) r c.settle_at.new.self)) (sym buffer_is)
       (filled_sound (parts_of c.self.inside) c.self.invariant at.0 at.1 at.2 c.args.slot at.4.missing c.args.share
       c.publish.ensures.publishes.0 c.publish.new.lines c.settle_at.new.self c.publish.ensures.publishes.1 settles
       at.4.word_is c.publish.ensures.room c.peelings_fill_the_closure.ensures.appended
@@ -53,10 +53,10 @@ module _ (c : After-settle_at) where
       }))
 
   contents :
-      contents_of (with_row (parts_of c.self.inside) c.publish.new.row c.settle_at.new.self)
+      contents_of (with_buffer (parts_of c.self.inside) c.publish.new.buffer c.settle_at.new.self)
       ≡ filled c.args.self.now c.args.slot c.args.share
   contents =
-      ap (λ (r : RowState). contents_of (with_row (parts_of c.self.inside) r c.settle_at.new.self)) row_is
+      ap (λ (r : BufferState). contents_of (with_buffer (parts_of c.self.inside) r c.settle_at.new.self)) buffer_is
       ∙ filled_contents (parts_of c.self.inside) c.self.invariant at.0 at.1 at.2 c.args.slot at.4.missing c.args.share
       c.publish.ensures.publishes.0 c.publish.new.lines c.settle_at.new.self c.publish.ensures.publishes.1 settles
       ∙ ap (λ (s : Contents). filled s c.args.slot c.args.share) c.self.view_is

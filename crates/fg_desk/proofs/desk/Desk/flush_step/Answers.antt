@@ -1,8 +1,8 @@
 use Rattle.std.proofs.Common.{◌≡◌, ◌+◌, ◌≤◌, List, length, ap, sym, subst, ◌∙◌, arith}
 use Rattle.std.proofs.lemmas.List.FromFn.{length-map-range_with_len}
-use Rattle.fg_desk.specs.State.{known}
+use Rattle.fg_playout.specs.State.{known}
 use Rattle.fg_desk.specs.Contents.{Contents, Holding, kept_shown, kept_from}
-use Rattle.fg_desk.specs.Play.{Shown, IsFlushStep}
+use Rattle.fg_playout.specs.Play.{Shown, IsFlushStep}
 use Rattle.fg_desk.proofs.DeskWords.{shown_is_kept}
 use Rattle.fg_desk.proofs.desk.Desk.flush_step.Goals as goal
 use Rattle.fg_desk.proofs.desk.Desk.flush_step.Goals.{After-show_kept}
@@ -22,10 +22,10 @@ module _ (c : After-show_kept) where
       let begins = plays.first in
       let count = plays.length_is in
       let all = count_is in
-      let within : c.in-Some.step.first + c.in-Some.step.count ≤ c.self.inside.row.mark =
+      let within : c.in-Some.step.first + c.in-Some.step.count ≤ c.self.inside.buffer.mark =
       omega (arith, mark, moved, begins, count, all) in
       ap (λ (h : Holding). h.shown) c.show_kept.ensures
-      ∙ shown_is_kept c.self.inside.row c.in-Some.step.first c.in-Some.step.count (λ q some. (c.self.invariant.beside q some).0) within
+      ∙ shown_is_kept c.self.inside.buffer c.in-Some.step.first c.in-Some.step.count (λ q some. (c.self.invariant.beside q some).0) within
       ∙ ap (λ (s : Contents). kept_from s c.in-Some.step.first c.in-Some.step.count) c.self.view_is
 
 pub returns-clause-some : goal.returns-clause-some

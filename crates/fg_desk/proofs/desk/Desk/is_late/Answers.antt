@@ -2,7 +2,7 @@ use Rattle.std.proofs.Common.{◌≡◌, ◌+◌, ◌-◌, ◌*◌, ◌<◌, tru
 use Rattle.fg_desk.specs.Contents.{Contents}
 use Rattle.fg_desk.specs.Inside.{IsLateAt}
 use Rattle.fg_desk.proofs.Lost.{is_lost}
-use Rattle.fg_window.proofs.SlotRange.{last_at}
+use Rattle.fg_peel.proofs.SlotRange.{last_at}
 use Rattle.fg_desk.proofs.desk.Desk.is_late.Goals as goal
 
 pub returns-then-last-mark : goal.returns-then-last-mark
@@ -14,13 +14,13 @@ returns-then-last-mark c =
 
 pub returns-else-last-mark : goal.returns-else-last-mark
 returns-else-last-mark c =
-    let row = c.self.inside.row in
+    let buffer = c.self.inside.buffer in
     let last = last_at c.args.base c.args.shape.offset c.args.shape.na c.last.result c.requires.shape c.last.ensures.slot
     c.last.ensures.greatest in
     let mark = ap (λ (s : Contents). s.state.mark) c.self.view_is in
     let not_past : c.args.base + (c.args.shape.na - 1) * c.args.shape.offset < c.args.self.now.state.mark → ⊥ =
     λ past. omega (arith, last, mark, c.mark.ensures.value, c.if-last-mark.false, past) in
-    let told = is_lost c.lost_slot.result row.mark row.kept c.args.base c.args.shape.offset c.args.shape.na
+    let told = is_lost c.lost_slot.result buffer.mark buffer.kept c.args.base c.args.shape.offset c.args.shape.na
     c.lost_slot.ensures.some c.lost_slot.ensures.none c.is_some.result c.is_some.ensures in
     subst
     (λ (s : Contents). (c.is_some.result ≡ true → IsLateAt s.state c.args.base c.args.shape.offset c.args.shape.na)

@@ -1,7 +1,7 @@
 use Rattle.std.proofs.Common.{◌≡◌, ◌↔◌, Some, subst}
 use Rattle.std.specs.FinMap.{get}
 use Rattle.fg_desk.specs.Contents.{Contents}
-use Rattle.fg_window.specs.Lines.{IsAmong, live_of}
+use Rattle.fg_buffer.specs.LiveEquations.{IsAmong, live_of}
 use Rattle.fg_desk.specs.Parts.{parts_of}
 use Rattle.fg_desk.proofs.LiveLines.{live_among, within_among}
 use Rattle.fg_desk.proofs.desk.Desk.live_lines.Goals as goal

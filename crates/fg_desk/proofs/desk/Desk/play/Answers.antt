@@ -1,6 +1,6 @@
 use Rattle.std.proofs.Common.{◌≡◌, ◌+◌, ◌≤◌, List, sym, ap, subst, ◌∙◌, arith}
 use Rattle.fg_desk.specs.Contents.{Contents, Holding, kept_from}
-use Rattle.fg_desk.specs.Play.{Shown, IsPlay}
+use Rattle.fg_playout.specs.Play.{Shown, IsPlay}
 use Rattle.fg_desk.proofs.DeskWords.{shown_is_kept}
 use Rattle.fg_desk.proofs.desk.Desk.play.Goals as goal
 
@@ -14,10 +14,10 @@ returns-clause-play c =
     let mark = ap (λ (s : Contents). s.state.mark) c.self.view_is in
     let moved = plays.mark in
     let begins = plays.first in
-    let within : first + count ≤ c.self.inside.row.mark = omega (arith, mark, moved, begins, played.ensures.count) in
+    let within : first + count ≤ c.self.inside.buffer.mark = omega (arith, mark, moved, begins, played.ensures.count) in
     let shown : c.show_kept.new.self.shown ≡ kept_from new first count =
     ap (λ (h : Holding). h.shown) c.show_kept.ensures
-    ∙ shown_is_kept c.self.inside.row first count (λ q some. (c.self.invariant.beside q some).0) within
+    ∙ shown_is_kept c.self.inside.buffer first count (λ q some. (c.self.invariant.beside q some).0) within
     ∙ ap (λ (s : Contents). kept_from s first count) c.self.view_is in
     subst
     (λ (xs : List Shown). IsPlay c.args.self.now.state.playout.window c.args.self.now.state

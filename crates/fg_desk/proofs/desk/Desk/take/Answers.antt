@@ -1,8 +1,8 @@
 use Rattle.std.proofs.Common.{◌≡◌, ◌+◌, ◌<◌, ◌≤◌, ◌^◌, ℕ, Some, None, sym, ap, subst, ◌∙◌}
 use Rattle.std.specs.FinMap.{get}
-use Rattle.fg_window.specs.Row.{receives}
+use Rattle.fg_buffer.specs.PlayoutBuffer.{receives}
 use Rattle.fg_desk.specs.Contents.{Contents, GivesWay}
-use Rattle.fg_desk.specs.Admission.{with_media}
+use Rattle.fg_playout.specs.Admission.{with_media}
 use Rattle.fg_desk.specs.Inside.{Parts, AreSound, state_of, contents_of}
 use Rattle.fg_desk.specs.Parts.{parts_of, top_of}
 use Rattle.fg_desk.proofs.DeskReceives.{raised_within, taken, takes_sound, takes_state, takes_give_way}
@@ -10,10 +10,10 @@ use Rattle.fg_desk.proofs.desk.Desk.take.Goals as goal
 use Rattle.fg_desk.proofs.desk.Desk.take.Goals.{After-raised_epoch-self-inside}
 
 module _ (c : After-raised_epoch-self-inside) where
-  ahead : c.self.inside.row.mark ≤ c.args.position
+  ahead : c.self.inside.buffer.mark ≤ c.args.position
   ahead = subst (λ (s : Contents). s.state.mark ≤ c.args.position) (sym c.self.view_is) c.requires.ahead
 
-  none : get c.self.inside.row.media c.args.position ≡ None
+  none : get c.self.inside.buffer.media c.args.position ≡ None
   none = subst (λ (s : Contents). get s.state.media c.args.position ≡ None) (sym c.self.view_is) c.requires.none
 
   -- The parts after the call.
@@ -24,7 +24,7 @@ module _ (c : After-raised_epoch-self-inside) where
   after_is :
       record (parts_of c.self.inside) {
         top = Some (top_of c.farther.result);
-        row = c.receive-withdrawn.new.row;
+        buffer = c.receive-withdrawn.new.buffer;
         lines = c.receive-withdrawn.new.lines;
         calls = c.self.inside.calls + 1;
         epoch = c.raised_epoch-self-inside.result;
@@ -32,10 +32,10 @@ module _ (c : After-raised_epoch-self-inside) where
       ≡ after
   after_is =
       let top = c.farther.ensures in
-      let row : c.receive-withdrawn.new.row ≡ receives c.receive-withdrawn.ensures.0 c.args.position c.args.share = c.receive-withdrawn.ensures.2 in
+      let buffer : c.receive-withdrawn.new.buffer ≡ receives c.receive-withdrawn.ensures.0 c.args.position c.args.share = c.receive-withdrawn.ensures.2 in
       λ i. record (parts_of c.self.inside) {
         top = top i;
-        row = row i;
+        buffer = buffer i;
         lines = c.receive-withdrawn.new.lines;
         calls = c.self.inside.calls + 1;
         epoch = c.raised_epoch-self-inside.result;
@@ -43,7 +43,7 @@ module _ (c : After-raised_epoch-self-inside) where
 
   sound : AreSound after
   sound =
-      let near : c.args.position < c.self.inside.row.mark + c.self.inside.depth =
+      let near : c.args.position < c.self.inside.buffer.mark + c.self.inside.depth =
       subst (λ (s : Contents). c.args.position < s.state.mark + s.state.playout.depth) (sym c.self.view_is) c.requires.near in
       let calls : c.self.inside.calls < 2 ^ 62 =
       subst (λ (s : Contents). s.state.calls < 2 ^ 62) (sym c.self.view_is) c.requires.calls in

@@ -2,10 +2,10 @@ use Rattle.std.proofs.Common.{ℕ, sym, ap, subst, ◌∙◌}
 use Rattle.std.specs.FinMap.{FinMap}
 use Rattle.std.specs.Ordering.{nat_cmp}
 use Rattle.fg_peel.specs.Equation.{IsSettled}
-use Rattle.fg_desk.specs.State.{Live}
+use Rattle.fg_playout.specs.State.{Live}
 use Rattle.fg_desk.specs.Contents.{Contents, IsLiveAt, known_in}
 use Rattle.fg_desk.specs.Inside.{state_of, contents_of}
-use Rattle.fg_window.specs.Lines.{SettlesAt}
+use Rattle.fg_buffer.specs.LiveEquations.{SettlesAt}
 use Rattle.fg_desk.specs.Parts.{parts_of}
 use Rattle.fg_desk.proofs.DeskFills.{vouched_sound}
 use Rattle.fg_desk.proofs.desk.Desk.vouch.Goals as goal

@@ -1,5 +1,6 @@
 use Rattle.std.proofs.Common.{◌+◌, ◌<◌, length, ap, ◌∙◌, arith}
-use Rattle.fg_desk.proofs.Counts.{byte_of, at_most_one, count_more, count_all}
+use Rattle.fg_playout.proofs.Counts.{at_most_one}
+use Rattle.fg_desk.proofs.DatagramCounts.{byte_of, count_more, count_all}
 use Rattle.fg_desk.proofs.run.FlowRun.count.Goals as goal
 
 pub loop-i-preserved : goal.loop-i-preserved

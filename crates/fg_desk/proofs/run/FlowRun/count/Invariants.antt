@@ -1,5 +1,5 @@
 use Rattle.std.proofs.Common.{◌≡◌, ◌≤◌, map, take}
-use Rattle.fg_desk.specs.Run.{count_of}
+use Rattle.fg_playout.specs.Run.{count_of}
 use Rattle.fg_desk.specs.Arrivals.{arrival_of}
 use Rattle.fg_desk.proofs.run.FlowRun.count.Given as goal
 

@@ -1,5 +1,5 @@
 use Rattle.std.proofs.Common.{get_or, IsSome, IsTrue, sym, ap, subst, ◌∙◌}
-use Rattle.fg_desk.specs.Shown.{Holding, Shown, nothing_shown}
+use Rattle.fg_playout.specs.Shown.{Holding, Shown, nothing_shown}
 use Rattle.fg_desk.proofs.TrayPlaces.{shown_at_place, place_is_shown}
 use Rattle.fg_desk.proofs.tray.Tray.repaired.Goals as goal
 

@@ -1,5 +1,5 @@
 use Rattle.std.proofs.Common.{get_or, sym, ap, ◌∙◌}
-use Rattle.fg_desk.specs.Shown.{Holding, Shown, nothing_shown}
+use Rattle.fg_playout.specs.Shown.{Holding, Shown, nothing_shown}
 use Rattle.fg_desk.proofs.TrayPlaces.{shown_at_place}
 use Rattle.fg_desk.proofs.tray.Tray.word.Goals as goal
 

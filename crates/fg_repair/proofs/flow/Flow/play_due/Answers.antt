@@ -1,9 +1,9 @@
 use Rattle.std.proofs.Common.{List, refl, ap, ◌∙◌}
-use Rattle.fg_desk.specs.State.{State}
-use Rattle.fg_desk.specs.Play.{Play}
-use Rattle.fg_desk.specs.Admission.{IsDue}
-use Rattle.fg_desk.specs.Run.{ArePlaysDue}
-use Rattle.fg_desk.specs.Laws.{HavePlayed}
+use Rattle.fg_playout.specs.State.{State}
+use Rattle.fg_playout.specs.Play.{Play}
+use Rattle.fg_playout.specs.Admission.{IsDue}
+use Rattle.fg_playout.specs.Run.{ArePlaysDue}
+use Rattle.fg_playout.specs.Laws.{HavePlayed}
 use Rattle.fg_repair.specs.Steps.{play_on}
 use Rattle.fg_repair.proofs.Showing.{retold, one_more_shown, breaks_off, within_one_more, due_after, fails, on_err}
 use Rattle.fg_repair.proofs.flow.Flow.play_due.Goals as goal

@@ -1,5 +1,5 @@
 use Rattle.std.proofs.Common.{◌≡◌, ◌-◌, ◌^◌}
-use Rattle.fg_desk.specs.Laws.{HavePlayed}
+use Rattle.fg_playout.specs.Laws.{HavePlayed}
 use Rattle.fg_repair.specs.Steps.{CountsWithin, HaveShown}
 use Rattle.fg_repair.proofs.flow.Flow.play_due.Given as goal
 

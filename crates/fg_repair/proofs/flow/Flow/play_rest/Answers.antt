@@ -1,8 +1,8 @@
 use Rattle.std.proofs.Common.{◌+◌, ◌-◌, min, List, ap, ◌∙◌}
-use Rattle.fg_desk.specs.State.{State}
-use Rattle.fg_desk.specs.Play.{Play}
-use Rattle.fg_desk.specs.Run.{IsFlush}
-use Rattle.fg_desk.specs.Laws.{AreFlushSteps}
+use Rattle.fg_playout.specs.State.{State}
+use Rattle.fg_playout.specs.Play.{Play}
+use Rattle.fg_playout.specs.Run.{IsFlush}
+use Rattle.fg_playout.specs.Laws.{AreFlushSteps}
 use Rattle.fg_repair.specs.Steps.{play_on}
 use Rattle.fg_repair.proofs.Showing.{retold, one_more_shown, breaks_off, within_one_more, step_after, step_shows, on_err}
 use Rattle.fg_repair.proofs.flow.Flow.play_rest.Goals as goal

@@ -1,0 +1,15 @@
+pub mod Choices
+pub mod LiveBounds
+pub mod LiveCalls
+pub mod LiveInserts
+pub mod LiveLists
+pub mod LiveMoves
+pub mod LiveSearch
+pub mod LiveViews
+pub mod Lost
+pub mod BufferChanges
+pub mod BufferLoops
+pub mod BufferMaps
+pub mod BufferPeels
+pub mod BufferStored
+pub mod BufferViews

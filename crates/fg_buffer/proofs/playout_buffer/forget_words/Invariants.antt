@@ -1,0 +1,10 @@
+use Rattle.std.proofs.Common.{◌≡◌, ◌<◌, ◌≤◌, ℕ, get_or}
+use Rattle.fg_peel.specs.declared.Slot.TheVariants.{Empty}
+use Rattle.fg_buffer.specs.BufferEntries.{left_of}
+use Rattle.fg_buffer.proofs.playout_buffer.forget_words.Given as goal
+
+abbrev pub invariant-loop-i : goal.invariant-loop-i
+invariant-loop-i l =
+    ((k : ℕ) → k < 100 → get_or l.slots k Empty ≡ get_or l.initial.slots k Empty)
+    × ((k : ℕ) → 100 ≤ k → k < l.i → get_or l.slots k Empty ≡ left_of l.solved (get_or l.initial.slots k Empty))
+    × ((k : ℕ) → l.i ≤ k → get_or l.slots k Empty ≡ get_or l.initial.slots k Empty)

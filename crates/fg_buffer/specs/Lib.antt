@@ -1,0 +1,4 @@
+pub mod LiveEquations
+pub mod LiveInside
+pub mod PlayoutBuffer
+pub mod BufferEntries

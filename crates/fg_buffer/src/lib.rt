@@ -1,0 +1,8 @@
+//! The storage of a flow's window: the words around the mark, and the live equations.
+#![tactic(auto)]
+
+mod live_equations;
+mod playout_buffer;
+
+pub use live_equations::{LIVE_LIMIT, LiveEquations, lost_slot};
+pub use playout_buffer::{KEPT, PlayoutBuffer};

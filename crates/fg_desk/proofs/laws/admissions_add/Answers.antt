@@ -1,8 +1,0 @@
-use Rattle.fg_desk.proofs.AdmissionsAdd.{media_adds, parity_adds}
-use Rattle.fg_desk.proofs.laws.admissions_add.Goals as goal
-
-pub returns-clause-media : goal.returns-clause-media
-returns-clause-media c = media_adds
-
-pub returns-clause-parity : goal.returns-clause-parity
-returns-clause-parity c = parity_adds

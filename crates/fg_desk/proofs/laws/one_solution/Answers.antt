@@ -1,5 +1,0 @@
-use Rattle.fg_desk.proofs.Peeled.{one_solution}
-use Rattle.fg_desk.proofs.laws.one_solution.Goals as goal
-
-pub returns : goal.returns
-returns c = one_solution c.uniqueness.ensures

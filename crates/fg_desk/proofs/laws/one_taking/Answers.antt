@@ -1,5 +1,0 @@
-use Rattle.fg_desk.proofs.Beginnings.{one_taking}
-use Rattle.fg_desk.proofs.laws.one_taking.Goals as goal
-
-pub returns : goal.returns
-returns c = one_taking c.uniqueness.ensures

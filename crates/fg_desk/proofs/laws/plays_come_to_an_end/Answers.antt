@@ -1,8 +1,0 @@
-use Rattle.fg_desk.proofs.RunsExist.{plays_due_exist, flush_exists}
-use Rattle.fg_desk.proofs.laws.plays_come_to_an_end.Goals as goal
-
-pub returns-clause-due : goal.returns-clause-due
-returns-clause-due c = plays_due_exist c.peelings_are_told.ensures
-
-pub returns-clause-flush : goal.returns-clause-flush
-returns-clause-flush c = flush_exists c.peelings_are_told.ensures

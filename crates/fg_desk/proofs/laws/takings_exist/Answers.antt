@@ -1,5 +1,0 @@
-use Rattle.fg_desk.proofs.RunsExist.{takings_exist}
-use Rattle.fg_desk.proofs.laws.takings_exist.Goals as goal
-
-pub returns : goal.returns
-returns c = takings_exist c.peelings_are_told.ensures

@@ -1,0 +1,165 @@
+//! A span of entries, and what it tells of a line.
+
+ghost use Rattle.std.specs.Prelude.{◌≡◌, ◌+◌, ◌^◌, ◌<◌, ◌≤◌, ◌≤ℤ◌, ◌+ℤ◌, ◌↔◌, pos, length, slice_index_or, None, IsTrue};
+ghost use Rattle.std.specs.Option.{option_copied};
+ghost use Rattle.fg_shape.specs.Shape.{position_limit};
+ghost use Rattle.fg_peel.specs.Recovery.{with_added};
+
+use crate::{Line, Slot};
+use fg_shape::slot;
+use fg_words::Word;
+
+/// Which slots of a line have no word.
+#[derive(Clone, Copy, Debug, PartialEq, Eq)]
+pub enum Missing {
+    /// None: the line is complete.
+    Nothing,
+    /// Just the one at this position, so its word follows.
+    One(u64),
+    /// At least two.
+    Several,
+}
+
+/// Entries for successive positions.
+#[derive(Clone, Copy)]
+pub struct Span<'a> {
+    /// The position of the first entry.
+    pub start: u64,
+    /// The entries.
+    pub slots: &'a [Slot],
+    pub ghost limit: { start + length slots.now ≤ position_limit },
+}
+
+impl<'a> Span<'a> {
+    ghost use Rattle.fg_words.specs.Word.{HasRoom};
+    ghost use Rattle.fg_peel.specs.Slots.{first_position, from_first, equation_of, IsMissing};
+    ghost use Rattle.fg_peel.specs.Span.{words_in, HasSlots};
+    ghost use Rattle.fg_peel.specs.Equation.{slots, ComesOut};
+    ghost use Rattle.fg_peel.specs.Recovery.{AddsWords};
+
+    /// The span of the positions from 0 on, where the first entry stands for position `low`. Entries
+    /// for positions below 0 are left out.
+    pub fn new(low: i64, slots: &'a [Slot]) -> Span<'a>
+        requires { (low +ℤ pos (length slots.now)) ≤ℤ pos position_limit }
+        ensures start { result.start ≡ first_position low }
+        ensures slots { result.slots.now ≡ from_first low slots.now }
+    {
+        if low < 0 {
+            let below = slots.len().min(low.unsigned_abs() as usize);
+            let (_, slots) = slots.split_at(below);
+            Span { start: 0, slots }
+        } else {
+            Span {
+                start: low as u64,
+                slots,
+            }
+        }
+    }
+
+    /// The word at a position.
+    pub fn word(&self, position: u64) -> Option<&'a Word>
+        requires first { self.now.start ≤ position }
+        requires last { position < self.now.start + length self.now.slots.now }
+        ensures { option_copied result ≡ words_in self.now position }
+    {
+        let slots = self.slots;
+        slots[(position - self.start) as usize].word()
+    }
+
+    /// Which slots of a line have no word. It reads no payload.
+    pub fn missing(&self, line: &Line) -> Missing
+        requires { HasSlots self.now line.now }
+        ensures { IsMissing (words_in self.now) (equation_of line.now) result }
+    {
+        let mut found = None;
+        for j in 0..line.shape.na {
+            let position = slot(line.base, line.shape, j);
+            if self.word(position).is_none() {
+                if found.is_some() {
+                    return Missing::Several;
+                }
+                found = Some(position);
+            }
+        }
+        match found {
+            Some(position) => Missing::One(position),
+            None => Missing::Nothing,
+        }
+    }
+
+    /// Whether the words at a line's slots sum to its parity word. A slot without a word adds
+    /// nothing. Each payload is read once.
+    pub fn comes_out(&self, line: &Line) -> bool
+        requires { HasSlots self.now line.now }
+        ensures { IsTrue result ↔ ComesOut (words_in self.now) (equation_of line.now) }
+    {
+        let mut sum = *line.parity.word();
+        self.add_words(&mut sum, line);
+        sum.is_zero()
+    }
+
+    /// Adds the words at a line's slots to a word, four at a time.
+    fn add_words(&self, sum: &mut Word, line: &Line)
+        requires line { HasSlots self.now line.now }
+        requires room { HasRoom sum.old }
+        ensures { AddsWords (words_in self.now) (equation_of line.now) sum.old sum.new }
+    {
+        for group in 0..line.shape.na.div_ceil(4) {
+            let at = 4 * group;
+            let first = self.word_at(line, at);
+            let second = self.word_at(line, at + 1);
+            let third = self.word_at(line, at + 2);
+            let fourth = self.word_at(line, at + 3);
+            add_four(sum, first, second, third, fourth);
+        }
+    }
+
+    /// The word at a line's slot of this number. There is none past its slots.
+    fn word_at(&self, line: &Line, j: u8) -> Option<&'a Word>
+        requires { HasSlots self.now line.now }
+        ensures within { j < line.now.shape.na → option_copied result
+            ≡ words_in self.now (slice_index_or (slots (equation_of line.now)) j 0) }
+        ensures past { line.now.shape.na ≤ j → option_copied result ≡ None }
+    {
+        if j < line.shape.na {
+            self.word(slot(line.base, line.shape, j))
+        } else {
+            None
+        }
+    }
+}
+
+/// Adds four words to a sum. One that is missing adds nothing.
+fn add_four(
+    sum: &mut Word,
+    first: Option<&Word>,
+    second: Option<&Word>,
+    third: Option<&Word>,
+    fourth: Option<&Word>,
+)
+    ensures { sum.new ≡ with_added (with_added (with_added (with_added sum.old
+        (option_copied first.entry)) (option_copied second.entry)) (option_copied third.entry))
+        (option_copied fourth.entry) }
+{
+    match (first, second, third, fourth) {
+        (Some(first), Some(second), Some(third), Some(fourth)) => {
+            sum.xor_in_four(first, second, third, fourth);
+        }
+        _ => {
+            add_two(sum, first, second);
+            add_two(sum, third, fourth);
+        }
+    }
+}
+
+/// Adds two words to a sum. One that is missing adds nothing.
+fn add_two(sum: &mut Word, one: Option<&Word>, other: Option<&Word>)
+    ensures { sum.new
+        ≡ with_added (with_added sum.old (option_copied one.entry)) (option_copied other.entry) }
+{
+    match (one, other) {
+        (Some(one), Some(other)) => sum.xor_in_two(one, other),
+        (Some(word), None) | (None, Some(word)) => sum.xor_in(word),
+        (None, None) => {}
+    }
+}

@@ -1,0 +1,124 @@
+-- What a flow has played so far is how its run begins.
+use Rattle.std.proofs.Common.{◌≡◌, ◌+◌, ◌-◌, ◌++◌, ℕ, min, List, [], ◌∷◌, Option, Some, None, sym, ap, subst, ◌∙◌, append_assoc}
+use Rattle.std.specs.List.{All}
+use Rattle.fg_words.specs.declared.Word.{Word}
+use Rattle.fg_shape.specs.Playout.{Playout}
+use Rattle.fg_peel.specs.Laws.{Uniqueness}
+use Rattle.fg_playout.specs.declared.reply.Reply.{Reply}
+use Rattle.fg_playout.specs.State.{State, opening}
+use Rattle.fg_playout.specs.Play.{Play}
+use Rattle.fg_playout.specs.Run.{Arrival, carries, ArePlaysDue, TakesAll, IsFlush}
+use Rattle.fg_playout.specs.Laws.{IsRead, HavePlayed, AreFlushSteps, OneTaking, TakenPlaysComeFirst, DuePlaysComeNext, FlushStepsComeNext}
+use Rattle.fg_playout.proofs.Orderly.{IsOrderly, orderly_opening}
+use Rattle.fg_playout.proofs.Plays.{orderly_after_play}
+use Rattle.fg_playout.proofs.OnePlay.{one_play, one_state_after, one_flush_step, one_state_after_step}
+use Rattle.fg_playout.proofs.OneRun.{one_taking_all}
+use Rattle.fg_playout.proofs.Following.{later_changes_nothing}
+
+-- The first of the plays are these.
+abbrev BeginWith : List Play → List Play → Type 0
+BeginWith plays some = (after : List Play) × (plays ≡ some ++ after)
+
+one_more : (play play' : Play) (plays some : List Play) → play' ≡ play → BeginWith plays some → BeginWith (play' ∷ plays) (play ∷ some)
+one_more play play' plays some same begin = (begin.0, λ i. same i ∷ begin.1 i)
+
+append_more : (plays some other rest : List Play) → plays ≡ some ++ rest → BeginWith rest other → BeginWith plays (some ++ other)
+append_more plays some other rest is begin =
+    (begin.0, is ∙ ap (λ (ps : List Play). some ++ ps) begin.1 ∙ sym (append_assoc some other begin.0))
+
+module _ (unique : Uniqueness) where
+  due_begin :
+      (old : State) (seq : ℕ) (due plays : List Play) (now new : State) → IsOrderly old → HavePlayed old seq due now
+      → ArePlaysDue old seq plays new → BeginWith plays due
+  due_begin old seq [] plays now new orderly a b = (plays, λ i. plays)
+  due_begin old seq (play ∷ due) [] now new orderly a b = absurd (b.0 a.0)
+  due_begin old seq (play ∷ due) (play' ∷ plays) now new orderly a b =
+      let state : b.1.0 ≡ a.1.0 = one_state_after unique old.playout.window old orderly play' play b.1.0 a.1.0 b.1.1 a.1.1 in
+      one_more play play' plays due (one_play unique old.playout.window old orderly play' play b.1.0 a.1.0 b.1.1 a.1.1)
+      (due_begin a.1.0 seq due plays now new (orderly_after_play old.playout.window old play a.1.0 a.1.1 orderly) a.1.2
+      (subst (λ (s : State). ArePlaysDue s seq plays new) state b.1.2))
+
+  steps_begin :
+      (old : State) (flushed plays : List Play) (now empty : State) → IsOrderly old → AreFlushSteps old flushed now
+      → IsFlush old plays empty → BeginWith plays flushed
+  steps_begin old [] plays now empty orderly a b = (plays, λ i. plays)
+  steps_begin old (play ∷ flushed) [] now empty orderly a b = absurd (b.0 (a.1.highest, a.1.highest_is.inside, a.1.more))
+  steps_begin old (play ∷ flushed) (play' ∷ plays) now empty orderly a b =
+      let state : b.0 ≡ a.0 = one_state_after_step unique old orderly play' play b.0 a.0 b.1 a.1 in
+      one_more play play' plays flushed (one_flush_step unique old orderly play' play b.0 a.0 b.1 a.1)
+      (steps_begin a.0 flushed plays now empty (orderly_after_play (min old.playout.window (a.1.highest + 1 - old.mark)) old play a.0 a.1.plays orderly)
+      a.2 (subst (λ (s : State). IsFlush s plays empty) state b.2))
+
+  pub one_taking : OneTaking
+  one_taking playout arrivals plays plays' replies replies' new new' read a b =
+      let same = one_taking_all unique (opening playout) arrivals plays plays' replies replies' new new'
+      (orderly_opening playout) read a b in
+      (same.play, same.answers, same.state)
+
+  -- A run after its first datagrams.
+  record GoesOn (later : List Arrival) (before taken : List Play) (between filled : State) : Type 0 where
+    after : List Play
+    second : List (Option Reply)
+    is : taken ≡ before ++ after
+    takes : TakesAll between later after second filled
+    orderly : IsOrderly between
+
+  goes_on :
+      (playout : Playout) (earlier later : List Arrival) (before taken : List Play) (first replies : List (Option Reply))
+      (between filled : State)
+      → All IsRead earlier → TakesAll (opening playout) earlier before first between
+      → TakesAll (opening playout) (earlier ++ later) taken replies filled → GoesOn later before taken between filled
+  goes_on playout earlier later before taken first replies between filled read a b =
+      let parts = later_changes_nothing (opening playout) filled earlier later taken replies b in
+      let same = one_taking_all unique (opening playout) earlier parts.1 before parts.3 first parts.0 between
+      (orderly_opening playout) read parts.5 a in
+      record {
+        after = parts.2;
+        second = parts.4;
+        is = parts.7 ∙ ap (λ (ps : List Play). ps ++ parts.2) same.play;
+        takes = subst (λ (s : State). TakesAll s later parts.2 parts.4 filled) same.state parts.6;
+        orderly = subst IsOrderly same.state same.orderly;
+      }
+
+  pub taken_plays_come_first : TakenPlaysComeFirst
+  taken_plays_come_first playout earlier later before plays first replies taken read a run =
+      let rest = goes_on playout earlier later before run.taken first replies taken run.filled read a run.takes in (
+        rest.after ++ run.flushed,
+        run.plays_are ∙ ap (λ (ps : List Play). ps ++ run.flushed) rest.is ∙ append_assoc before rest.after run.flushed,
+      )
+
+  -- The plays before the next datagram begin with those that were played.
+  next_begins :
+      (taken now filled : State) (seq : ℕ) (word : Word) (later : List Arrival) (due after : List Play)
+      (second : List (Option Reply)) → IsOrderly taken → HavePlayed taken seq due now
+      → TakesAll taken (carries seq word ∷ later) after second filled → BeginWith after due
+  next_begins taken now filled seq word later due after [] orderly played takes = absurd takes
+  next_begins taken now filled seq word later due after (None ∷ second) orderly played takes = absurd takes.4
+  next_begins taken now filled seq word later due after (Some reply ∷ second) orderly played takes =
+      let begin = due_begin taken seq due takes.0 now takes.4.0 orderly played takes.4.1 in (
+        begin.0 ++ takes.1,
+        takes.3 ∙ ap (λ (ps : List Play). ps ++ takes.1) begin.1 ∙ append_assoc due begin.0 takes.1,
+      )
+
+  pub due_plays_come_next : DuePlaysComeNext
+  due_plays_come_next playout seq word earlier later before due plays first replies taken now read a played run =
+      let rest = goes_on playout earlier (carries seq word ∷ later) before run.taken first replies taken run.filled read a run.takes in
+      let begin = next_begins taken now run.filled seq word later due rest.after rest.second rest.orderly played rest.takes in (
+        begin.0 ++ run.flushed,
+        run.plays_are
+            ∙ ap (λ (ps : List Play). ps ++ run.flushed) rest.is
+            ∙ append_assoc before rest.after run.flushed
+            ∙ ap (λ (ps : List Play). before ++ (ps ++ run.flushed)) begin.1
+            ∙ ap (λ (ps : List Play). before ++ ps) (append_assoc due begin.0 run.flushed),
+      )
+
+  pub flush_steps_come_next : FlushStepsComeNext
+  flush_steps_come_next playout arrivals before flushed plays first replies taken now read a steps run =
+      let same = one_taking_all unique (opening playout) arrivals run.taken before replies first run.filled taken
+      (orderly_opening playout) read run.takes a in
+      let orderly = subst IsOrderly same.state same.orderly in
+      let begin = steps_begin taken flushed run.flushed now run.empty orderly steps
+      (subst (λ (s : State). IsFlush s run.flushed run.empty) same.state run.flush) in (
+        begin.0,
+        run.plays_are ∙ ap (λ (ps : List Play). ps ++ run.flushed) same.play ∙ ap (λ (ps : List Play). before ++ ps) begin.1,
+      )

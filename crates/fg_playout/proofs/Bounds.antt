@@ -1,0 +1,172 @@
+-- How far a flow's run gets with so many datagrams.
+use Rattle.std.proofs.Common.{◌≡◌, ◌+◌, ◌*◌, ◌^◌, ◌<◌, ◌≤◌, ℕ, Bool, true, false, cond, ltb, Option, Some, None, MatchOption, refl, sym, ap, subst, ◌∙◌, ⊎_elim, arith}
+use Rattle.std.proofs.lemmas.Option.{none-some, same_Some, MatchOption-from_none}
+use Rattle.std.specs.Bool.{⊤}
+use Rattle.fg_words.specs.declared.Word.{Word}
+use Rattle.fg_unwrap.specs.Position.{position_of}
+use Rattle.fg_shape.specs.Playout.{Playout}
+use Rattle.fg_peel.proofs.Options.{none_or_some, some_and}
+use Rattle.fg_playout.specs.declared.reply.Reply.{Reply}
+use Rattle.fg_playout.specs.declared.reply.Reply.TheVariants.{Admitted}
+use Rattle.fg_playout.specs.State.{State, Top, opening}
+use Rattle.fg_playout.specs.Room.{HasRoom}
+use Rattle.fg_playout.specs.Admission.{Parity, IsDue, IsLeastFree, IsAfterMedia, IsAfterParity, position_on, farther, with_media, with_equation, equation_at, counted}
+use Rattle.fg_playout.specs.Play.{Play, IsPlay}
+use Rattle.fg_playout.proofs.Opened.{position_at_first, position_after}
+use Rattle.fg_playout.proofs.Parities.{position_most}
+
+-- A datagram lies at most 32,767 past the top, so `most` of them bring the top this far. The mark has passed what was
+-- due before `due` of them. A play moves the mark, so the calls are no more than datagrams and positions played.
+pub record Within (deep most due : ℕ) (desk : State) : Type 0 where
+  pub window : 1 ≤ desk.playout.window
+  pub fits : desk.playout.window ≤ desk.playout.depth
+  pub depth_is : desk.playout.depth ≡ deep
+  pub top : (t : Top) → desk.top ≡ Some t → t.position ≤ 32767 * most
+  pub mark : desk.mark ≤ 32767 * due
+  pub calls : desk.calls ≤ most + desk.mark
+
+pub within_opening : (playout : Playout) → 1 ≤ playout.window → playout.window ≤ playout.depth → Within playout.depth 0 0 (opening playout)
+within_opening playout some fits = record {
+  window = some;
+  fits = fits;
+  depth_is = refl;
+  top = λ t is. absurd (none-some t is);
+  mark = omega arith;
+  calls = omega arith;
+}
+
+pub within_next : (deep most : ℕ) (desk : State) → Within deep most most desk → Within deep most (most + 1) desk
+within_next deep most desk w = record {
+  window = w.window;
+  fits = w.fits;
+  depth_is = w.depth_is;
+  top = w.top;
+  mark = (let m = w.mark in omega (arith, m));
+  calls = w.calls;
+}
+
+-- What a due position is at most.
+pub due_at_most :
+    (deep most : ℕ) (old : State) (seq : ℕ) → Within deep most (most + 1) old → IsDue old seq
+    → old.mark + old.playout.depth ≤ 32767 * (most + 1)
+due_at_most deep most old seq w due =
+    let t = some_and old.top _ due in
+    let p = some_and (position_of t.0.position t.0.seq seq) _ t.2 in
+    let limit = w.top t.0 t.1 in
+    let far = p.2 in
+    let near = position_most t.0.position t.0.seq seq p.0 p.1 in
+    omega (arith, limit, far, near)
+
+pub within_play :
+    (deep most : ℕ) (old : State) (seq : ℕ) (play : Play) (next : State) → Within deep most (most + 1) old → IsDue old seq
+    → IsPlay old.playout.window old play next → Within deep most (most + 1) next
+within_play deep most old seq play next w due plays =
+    let some = w.window in
+    let fits = w.fits in
+    let calls = w.calls in
+    let limit = due_at_most deep most old seq w due in
+    let mark = plays.mark in
+    let window : next.playout.window ≡ old.playout.window = ap (λ (s : State). s.playout.window) plays.rest in
+    let depth : next.playout.depth ≡ old.playout.depth = ap (λ (s : State). s.playout.depth) plays.rest in
+    let count : next.calls ≡ old.calls + 1 = ap (λ (s : State). s.calls) plays.rest in
+    let top : next.top ≡ old.top = ap (λ (s : State). s.top) plays.rest in
+    record {
+      window = omega (arith, some, window);
+      fits = omega (arith, fits, window, depth);
+      depth_is = depth ∙ w.depth_is;
+      top = λ t is. w.top t (sym top ∙ is);
+      mark = omega (arith, mark, limit, fits);
+      calls = omega (arith, count, calls, mark, some);
+    }
+
+-- The farther of two tops lies no farther than both may.
+farther_limit :
+    (top : Option Top) (new : Top) (limit : ℕ) → new.position ≤ limit → ((t : Top) → top ≡ Some t → t.position ≤ limit)
+    → (t : Top) → farther top new ≡ Some t → t.position ≤ limit
+farther_limit None new limit at most t is = subst (λ (s : Top). s.position ≤ limit) (same_Some new t is) at
+farther_limit (Some top) new limit at most t is = go (ltb top.position new.position) is
+  where
+    go : (b : Bool) → cond b (Some new) (Some top) ≡ Some t → t.position ≤ limit
+    go true e = subst (λ (s : Top). s.position ≤ limit) (same_Some new t e) at
+    go false e = subst (λ (s : Top). s.position ≤ limit) (same_Some top t e) (most top refl)
+
+position_limit :
+    (deep most due : ℕ) (old : State) (seq position : ℕ) → Within deep most due old → position_on old seq ≡ Some position
+    → position ≤ 32767 * (most + 1)
+position_limit deep most due old seq position w on = ⊎_elim
+    (λ none.
+    let zero : 0 ≡ position = same_Some 0 position (sym (position_at_first old seq none) ∙ on) in
+    omega (arith, zero))
+    (λ some.
+    let limit = w.top some.0 some.1 in
+    let near = position_most some.0.position some.0.seq seq position (sym (position_after old seq some.0 some.1) ∙ on) in
+    omega (arith, limit, near))
+    (none_or_some old.top)
+
+within_counted : (deep most due : ℕ) (old : State) → Within deep most due old → Within deep (most + 1) due (counted old)
+within_counted deep most due old w = record {
+  window = w.window;
+  fits = w.fits;
+  depth_is = w.depth_is;
+  top = λ t is. (let limit = w.top t is in omega (arith, limit));
+  mark = w.mark;
+  calls = (let calls = w.calls in omega (arith, calls));
+}
+
+pub within_media :
+    (deep most due : ℕ) (old new : State) (seq : ℕ) (word : Word) (reply : Reply) → Within deep most due old
+    → IsAfterMedia old seq word reply new → Within deep (most + 1) due new
+within_media deep most due old new seq word Admitted w after =
+    let a = some_and (position_on old seq) (λ p. new ≡ with_media old seq p word) after in
+    let limit = position_limit deep most due old seq a.0 w a.1 in
+    let calls = w.calls in
+    subst (Within deep (most + 1) due) (sym a.2) (record {
+      window = w.window;
+      fits = w.fits;
+      depth_is = w.depth_is;
+      top = farther_limit old.top (record { position = a.0; seq = seq }) (32767 * (most + 1)) limit
+          (λ t is. (let below = w.top t is in omega (arith, below)));
+      mark = w.mark;
+      calls = omega (arith, calls);
+    })
+within_media deep most due old new seq word reply w after =
+    subst (Within deep (most + 1) due) (sym after) (within_counted deep most due old w)
+
+pub within_parity :
+    (deep most due : ℕ) (old new : State) (parity : Parity) (reply : Reply) → Within deep most due old
+    → IsAfterParity old parity reply new → Within deep (most + 1) due new
+within_parity deep most due old new parity Admitted w after =
+    let a = some_and (position_on old parity.base)
+    (λ position. (place : ℕ) × IsLeastFree old.equations place × (new ≡ with_equation old place (equation_at position parity))) after in
+    let calls = w.calls in
+    subst (Within deep (most + 1) due) (sym a.2.2) (record {
+      window = w.window;
+      fits = w.fits;
+      depth_is = w.depth_is;
+      top = λ t is. (let limit = w.top t is in omega (arith, limit));
+      mark = w.mark;
+      calls = omega (arith, calls);
+    })
+within_parity deep most due old new parity reply w after =
+    subst (Within deep (most + 1) due) (sym after) (within_counted deep most due old w)
+
+-- Below the limits there is room.
+pub room_below :
+    (desk : State) → desk.mark < 2 ^ 61 → ((t : Top) → desk.top ≡ Some t → t.position < 2 ^ 61) → desk.calls < 2 ^ 62 → HasRoom desk
+room_below desk mark top calls = record {
+  mark = mark;
+  top = ⊎_elim
+      (λ none. MatchOption-from_none desk.top (λ (t : Top). t.position < 2 ^ 61) none)
+      (λ some. subst (λ (o : Option Top). MatchOption o ⊤ (λ (t : Top). t.position < 2 ^ 61)) (sym some.1) (top some.0 some.1))
+      (none_or_some desk.top);
+  calls = calls;
+}
+
+pub room_within : (deep most : ℕ) (desk : State) → most < 2 ^ 44 → Within deep most (most + 1) desk → HasRoom desk
+room_within deep most desk few w =
+    let mark = w.mark in
+    let calls = w.calls in
+    room_below desk
+    (omega (arith, mark, few))
+    (λ t is. (let limit = w.top t is in omega (arith, limit, few)))
+    (omega (arith, mark, calls, few))

@@ -1,0 +1,182 @@
+-- A run's plays and the desks that they are made on.
+use Rattle.std.proofs.Common.{◌≡◌, ◌++◌, ℕ, List, [], ◌∷◌, map, Option, Some, None, refl, sym, ap, subst, ◌∙◌}
+use Rattle.std.proofs.lemmas.List.{map-append}
+use Rattle.std.proofs.lemmas.List.Elements.{All-head, All-tail, All-nil, All-cons, All-append}
+use Rattle.std.specs.List.{All}
+use Rattle.fg_peel.specs.Laws.{Uniqueness}
+use Rattle.fg_playout.specs.declared.reply.Reply.{Reply}
+use Rattle.fg_playout.specs.State.{State, opening}
+use Rattle.fg_playout.specs.Admission.{IsDue}
+use Rattle.fg_playout.specs.Play.{Play, IsPlay, IsFlushStep}
+use Rattle.fg_playout.specs.Run.{Arrival, carries, protects, refused, ArePlaysDue, Takes, TakesAll, IsFlush}
+use Rattle.fg_playout.specs.Laws.{IsRead}
+use Rattle.fg_playout.specs.PlayedOn.{PlayOn, due_on, taken_on, all_taken_on, flushed_on, PlaysAreTheRuns, DesksMakeThePlays, OneListOfDesks}
+use Rattle.fg_playout.proofs.Orderly.{IsOrderly, orderly_opening}
+use Rattle.fg_playout.proofs.Plays.{orderly_after_play}
+use Rattle.fg_playout.proofs.OnePlay.{one_play, one_state_after, one_flush_step, one_state_after_step}
+use Rattle.fg_playout.proofs.OneRun.{one_taking, one_taking_all}
+
+-- Its plays
+
+abbrev plays_of : List PlayOn → List Play
+plays_of = map (λ (made : PlayOn). made.play)
+
+due_plays : (old : State) (seq : ℕ) (plays : List Play) (new : State) (due : ArePlaysDue old seq plays new) → plays_of (due_on old seq plays new due) ≡ plays
+due_plays old seq [] new due = refl
+due_plays old seq (play ∷ plays) new due = ap (λ (ps : List Play). play ∷ ps) (due_plays due.1.0 seq plays new due.1.2)
+
+taken_plays :
+    (old : State) (arrival : Arrival) (plays : List Play) (reply : Option Reply) (new : State) (takes : Takes old arrival plays reply new)
+    → plays_of (taken_on old arrival plays reply new takes) ≡ plays
+taken_plays old (carries seq word) plays None new takes = absurd takes
+taken_plays old (carries seq word) plays (Some reply) new takes = due_plays old seq plays takes.0 takes.1
+taken_plays old (protects stream parity) plays None new takes = absurd takes
+taken_plays old (protects stream parity) plays (Some reply) new takes = sym takes.0
+taken_plays old (refused stream) plays None new takes = sym takes.0
+taken_plays old (refused stream) plays (Some reply) new takes = absurd takes
+
+all_taken_plays :
+    (old : State) (arrivals : List Arrival) (plays : List Play) (replies : List (Option Reply)) (new : State)
+    (takes : TakesAll old arrivals plays replies new) → plays_of (all_taken_on old arrivals plays replies new takes) ≡ plays
+all_taken_plays old [] plays replies new takes = sym takes.0
+all_taken_plays old (arrival ∷ arrivals) plays [] new takes = absurd takes
+all_taken_plays old (arrival ∷ arrivals) plays (reply ∷ replies) new takes =
+    let first = taken_plays old arrival takes.0 reply takes.2 takes.4 in
+    let rest = all_taken_plays takes.2 arrivals takes.1 replies new takes.5 in
+    map-append (λ (made : PlayOn). made.play) (taken_on old arrival takes.0 reply takes.2 takes.4)
+    (all_taken_on takes.2 arrivals takes.1 replies new takes.5)
+    ∙ (λ i. first i ++ rest i) ∙ sym takes.3
+
+flushed_plays : (old : State) (plays : List Play) (new : State) (flush : IsFlush old plays new) → plays_of (flushed_on old plays new flush) ≡ plays
+flushed_plays old [] new flush = refl
+flushed_plays old (play ∷ plays) new flush = ap (λ (ps : List Play). play ∷ ps) (flushed_plays flush.0 plays new flush.2)
+
+pub plays_are_the_runs : PlaysAreTheRuns
+plays_are_the_runs playout arrivals plays replies run =
+    let taken = all_taken_plays (opening playout) arrivals run.taken replies run.filled run.takes in
+    let flushed = flushed_plays run.filled run.flushed run.empty run.flush in
+    map-append (λ (made : PlayOn). made.play) (all_taken_on (opening playout) arrivals run.taken replies run.filled run.takes)
+    (flushed_on run.filled run.flushed run.empty run.flush)
+    ∙ (λ i. taken i ++ flushed i) ∙ sym run.plays_are
+
+-- Each is a play of its desk
+
+abbrev IsMade : PlayOn → Type 0
+IsMade made = (count : ℕ) × (next : State) × IsPlay count made.desk made.play next
+
+due_made : (old : State) (seq : ℕ) (plays : List Play) (new : State) (due : ArePlaysDue old seq plays new) → All IsMade (due_on old seq plays new due)
+due_made old seq [] new due = All-nil IsMade
+due_made old seq (play ∷ plays) new due =
+    All-cons IsMade (record { desk = old; play = play }) (due_on due.1.0 seq plays new due.1.2)
+    (old.playout.window, due.1.0, due.1.1) (due_made due.1.0 seq plays new due.1.2)
+
+taken_made :
+    (old : State) (arrival : Arrival) (plays : List Play) (reply : Option Reply) (new : State) (takes : Takes old arrival plays reply new)
+    → All IsMade (taken_on old arrival plays reply new takes)
+taken_made old (carries seq word) plays None new takes = absurd takes
+taken_made old (carries seq word) plays (Some reply) new takes = due_made old seq plays takes.0 takes.1
+taken_made old (protects stream parity) plays reply new takes = All-nil IsMade
+taken_made old (refused stream) plays reply new takes = All-nil IsMade
+
+all_taken_made :
+    (old : State) (arrivals : List Arrival) (plays : List Play) (replies : List (Option Reply)) (new : State)
+    (takes : TakesAll old arrivals plays replies new) → All IsMade (all_taken_on old arrivals plays replies new takes)
+all_taken_made old [] plays replies new takes = All-nil IsMade
+all_taken_made old (arrival ∷ arrivals) plays [] new takes = absurd takes
+all_taken_made old (arrival ∷ arrivals) plays (reply ∷ replies) new takes =
+    All-append IsMade (taken_on old arrival takes.0 reply takes.2 takes.4)
+    (all_taken_on takes.2 arrivals takes.1 replies new takes.5)
+    (taken_made old arrival takes.0 reply takes.2 takes.4) (all_taken_made takes.2 arrivals takes.1 replies new takes.5)
+
+flushed_made : (old : State) (plays : List Play) (new : State) (flush : IsFlush old plays new) → All IsMade (flushed_on old plays new flush)
+flushed_made old [] new flush = All-nil IsMade
+flushed_made old (play ∷ plays) new flush =
+    All-cons IsMade (record { desk = old; play = play }) (flushed_on flush.0 plays new flush.2)
+    (_, flush.0, flush.1.plays) (flushed_made flush.0 plays new flush.2)
+
+pub desks_make_the_plays : DesksMakeThePlays
+desks_make_the_plays playout arrivals plays replies run =
+    All-append IsMade (all_taken_on (opening playout) arrivals run.taken replies run.filled run.takes)
+    (flushed_on run.filled run.flushed run.empty run.flush)
+    (all_taken_made (opening playout) arrivals run.taken replies run.filled run.takes)
+    (flushed_made run.filled run.flushed run.empty run.flush)
+
+-- Two runs make them on the same desks
+
+same_made :
+    (desk desk' : State) (play play' : Play) (rest rest' : List PlayOn) → desk ≡ desk' → play ≡ play' → rest ≡ rest'
+    → record { desk = desk; play = play } ∷ rest ≡ record { desk = desk'; play = play' } ∷ rest'
+same_made desk desk' play play' rest rest' d p r = λ i. record { desk = d i; play = p i } ∷ r i
+
+module _ (unique : Uniqueness) where
+  one_due_on :
+      (old old' : State) (seq : ℕ) (plays plays' : List Play) (new new' : State) → old ≡ old' → IsOrderly old
+      → (a : ArePlaysDue old seq plays new) (b : ArePlaysDue old' seq plays' new')
+      → due_on old seq plays new a ≡ due_on old' seq plays' new' b
+  one_due_on old old' seq [] [] new new' same orderly a b = refl
+  one_due_on old old' seq [] (play' ∷ plays') new new' same orderly a b =
+      absurd (a.0 (subst (λ (s : State). IsDue s seq) (sym same) b.0))
+  one_due_on old old' seq (play ∷ plays) [] new new' same orderly a b =
+      absurd (b.0 (subst (λ (s : State). IsDue s seq) same a.0))
+  one_due_on old old' seq (play ∷ plays) (play' ∷ plays') new new' same orderly a b =
+      let is : IsPlay old.playout.window old play' b.1.0 =
+      subst (λ (s : State). IsPlay s.playout.window s play' b.1.0) (sym same) b.1.1 in
+      same_made old old' play play' (due_on a.1.0 seq plays new a.1.2) (due_on b.1.0 seq plays' new' b.1.2) same
+      (one_play unique old.playout.window old orderly play play' a.1.0 b.1.0 a.1.1 is)
+      (one_due_on a.1.0 b.1.0 seq plays plays' new new'
+      (one_state_after unique old.playout.window old orderly play play' a.1.0 b.1.0 a.1.1 is)
+      (orderly_after_play old.playout.window old play a.1.0 a.1.1 orderly) a.1.2 b.1.2)
+
+  one_taken_on :
+      (old old' : State) (arrival : Arrival) (plays plays' : List Play) (reply reply' : Option Reply) (new new' : State)
+      → old ≡ old' → IsOrderly old → (a : Takes old arrival plays reply new) (b : Takes old' arrival plays' reply' new')
+      → taken_on old arrival plays reply new a ≡ taken_on old' arrival plays' reply' new' b
+  one_taken_on old old' (carries seq word) plays plays' None reply' new new' same orderly a b = absurd a
+  one_taken_on old old' (carries seq word) plays plays' (Some reply) None new new' same orderly a b = absurd b
+  one_taken_on old old' (carries seq word) plays plays' (Some reply) (Some reply') new new' same orderly a b =
+      one_due_on old old' seq plays plays' a.0 b.0 same orderly a.1 b.1
+  one_taken_on old old' (protects stream parity) plays plays' reply reply' new new' same orderly a b = refl
+  one_taken_on old old' (refused stream) plays plays' reply reply' new new' same orderly a b = refl
+
+  one_all_taken_on :
+      (old old' : State) (arrivals : List Arrival) (plays plays' : List Play) (replies replies' : List (Option Reply))
+      (new new' : State) → old ≡ old' → IsOrderly old → All IsRead arrivals
+      → (a : TakesAll old arrivals plays replies new) (b : TakesAll old' arrivals plays' replies' new')
+      → all_taken_on old arrivals plays replies new a ≡ all_taken_on old' arrivals plays' replies' new' b
+  one_all_taken_on old old' [] plays plays' replies replies' new new' same orderly read a b = refl
+  one_all_taken_on old old' (arrival ∷ arrivals) plays plays' [] replies' new new' same orderly read a b = absurd a
+  one_all_taken_on old old' (arrival ∷ arrivals) plays plays' (reply ∷ replies) [] new new' same orderly read a b = absurd b
+  one_all_taken_on old old' (arrival ∷ arrivals) plays plays' (reply ∷ replies) (reply' ∷ replies') new new' same orderly read a b =
+      let step = one_taking unique old arrival a.0 b.0 reply reply' a.2 b.2 orderly (All-head IsRead arrival arrivals read) a.4
+      (subst (λ (s : State). Takes s arrival b.0 reply' b.2) (sym same) b.4) in
+      let first = one_taken_on old old' arrival a.0 b.0 reply reply' a.2 b.2 same orderly a.4 b.4 in
+      let rest = one_all_taken_on a.2 b.2 arrivals a.1 b.1 replies replies' new new' step.state step.orderly
+      (All-tail IsRead arrival arrivals read) a.5 b.5 in
+      λ i. first i ++ rest i
+
+  one_flushed_on :
+      (old old' : State) (plays plays' : List Play) (new new' : State) → old ≡ old' → IsOrderly old
+      → (a : IsFlush old plays new) (b : IsFlush old' plays' new') → flushed_on old plays new a ≡ flushed_on old' plays' new' b
+  one_flushed_on old old' [] [] new new' same orderly a b = refl
+  one_flushed_on old old' [] (play' ∷ plays') new new' same orderly a b =
+      let step = subst (λ (s : State). IsFlushStep s play' b.0) (sym same) b.1 in
+      absurd (a.0 (step.highest, step.highest_is.inside, step.more))
+  one_flushed_on old old' (play ∷ plays) [] new new' same orderly a b =
+      let step = subst (λ (s : State). IsFlushStep s play a.0) same a.1 in
+      absurd (b.0 (step.highest, step.highest_is.inside, step.more))
+  one_flushed_on old old' (play ∷ plays) (play' ∷ plays') new new' same orderly a b =
+      let step = subst (λ (s : State). IsFlushStep s play' b.0) (sym same) b.1 in
+      same_made old old' play play' (flushed_on a.0 plays new a.2) (flushed_on b.0 plays' new' b.2) same
+      (one_flush_step unique old orderly play play' a.0 b.0 a.1 step)
+      (one_flushed_on a.0 b.0 plays plays' new new' (one_state_after_step unique old orderly play play' a.0 b.0 a.1 step)
+      (orderly_after_play _ old play a.0 a.1.plays orderly) a.2 b.2)
+
+  pub one_list_of_desks : OneListOfDesks
+  one_list_of_desks playout arrivals plays plays' replies replies' one other read =
+      let end = one_taking_all unique (opening playout) arrivals one.taken other.taken replies replies' one.filled other.filled
+      (orderly_opening playout) read one.takes other.takes in
+      let taken = one_all_taken_on (opening playout) (opening playout) arrivals one.taken other.taken replies replies'
+      one.filled other.filled refl (orderly_opening playout) read one.takes other.takes in
+      let flushed = one_flushed_on one.filled other.filled one.flushed other.flushed one.empty other.empty end.state end.orderly
+      one.flush other.flush in
+      λ i. taken i ++ flushed i

@@ -1,0 +1,121 @@
+-- Plays move the mark by as many positions as they show.
+use Rattle.std.proofs.Common.{◌≡◌, ◌+◌, ◌-◌, ◌≤◌, ◌++◌, ℕ, min, List, [], ◌∷◌, length, Option, Some, None, sym, ap, subst, ◌∙◌, arith}
+use Rattle.std.proofs.lemmas.List.Elements.{All-nil, All-cons, All-append}
+use Rattle.fg_words.specs.declared.Word.{Word}
+use Rattle.fg_peel.proofs.Options.{some_and}
+use Rattle.fg_playout.specs.declared.reply.Reply.{Reply}
+use Rattle.fg_playout.specs.declared.reply.Reply.TheVariants.{Admitted}
+use Rattle.fg_playout.specs.State.{State}
+use Rattle.fg_playout.specs.Admission.{Parity, IsAfterMedia, IsAfterParity, IsLeastFree, position_on, with_media, with_equation, equation_at}
+use Rattle.fg_playout.specs.Play.{Play, IsPlay}
+use Rattle.fg_playout.specs.Run.{Arrival, carries, protects, refused, Takes}
+use Rattle.fg_playout.specs.Laws.{HavePlayed, Reach, played_count, PlaysReachTheMark, DuePlaysReachTheMark, FlushStepsReachTheMark, EachGetsAReply}
+use Rattle.fg_playout.proofs.Following.{media_keeps_mark, parity_keeps_mark}
+use Rattle.fg_playout.proofs.Joining.{plays_due_end}
+
+abbrev ShowsSome : Play → Type 0
+ShowsSome play = 1 ≤ length play.shown
+
+reach_none : (old new : State) → new.mark ≡ old.mark → Reach old [] new
+reach_none old new same = (omega (arith, same), All-nil ShowsSome)
+
+reach_play :
+    (count : ℕ) (old : State) (play : Play) (next : State) (plays : List Play) (new : State) → 1 ≤ count
+    → IsPlay count old play next → Reach next plays new → Reach old (play ∷ plays) new
+reach_play count old play next plays new some is rest =
+    let mark = is.mark in
+    let shown = is.length_is in
+    let ends = rest.0 in (
+      omega (arith, mark, shown, ends),
+      All-cons ShowsSome play plays (omega (arith, some, shown)) rest.1,
+    )
+
+count_append : (one other : List Play) → played_count (one ++ other) ≡ played_count one + played_count other
+count_append [] other = omega arith
+count_append (play ∷ one) other = let rest = count_append one other in omega (arith, rest)
+
+reach_append :
+    (old between new : State) (one other : List Play) → Reach old one between → Reach between other new
+    → Reach old (one ++ other) new
+reach_append old between new one other a b =
+    let first = a.0 in
+    let second = b.0 in
+    let both = count_append one other in
+    (omega (arith, first, second, both), All-append ShowsSome one other a.1 b.1)
+
+reach_same : (old new new' : State) (plays : List Play) → new'.mark ≡ new.mark → Reach old plays new → Reach old plays new'
+reach_same old new new' plays same reach = let ends = reach.0 in (omega (arith, same, ends), reach.1)
+
+play_keeps_window : (count : ℕ) (old : State) (play : Play) (new : State) → IsPlay count old play new → new.playout.window ≡ old.playout.window
+play_keeps_window count old play new is = ap (λ (s : State). s.playout.window) is.rest
+
+pub due_reach : DuePlaysReachTheMark
+due_reach old new seq [] some played = reach_none old new (ap (λ (s : State). s.mark) played)
+due_reach old new seq (play ∷ plays) some played =
+    let window = play_keeps_window old.playout.window old play played.1.0 played.1.1 in
+    reach_play old.playout.window old play played.1.0 plays new some played.1.1
+    (due_reach played.1.0 new seq plays (omega (arith, some, window)) played.1.2)
+
+pub steps_reach : FlushStepsReachTheMark
+steps_reach old new [] some steps = reach_none old new (ap (λ (s : State). s.mark) steps)
+steps_reach old new (play ∷ plays) some steps =
+    let step = steps.1 in
+    let more : old.mark ≤ step.highest = step.more in
+    let window = play_keeps_window (min old.playout.window (step.highest + 1 - old.mark)) old play steps.0 step.plays in
+    reach_play (min old.playout.window (step.highest + 1 - old.mark)) old play steps.0 plays new (omega (arith, some, more)) step.plays
+    (steps_reach steps.0 new plays (omega (arith, some, window)) steps.2)
+
+media_keeps_window : (old new : State) (seq : ℕ) (word : Word) (reply : Reply) → IsAfterMedia old seq word reply new → new.playout.window ≡ old.playout.window
+media_keeps_window old new seq word Admitted after =
+    let a = some_and (position_on old seq) (λ p. new ≡ with_media old seq p word) after in ap (λ (s : State). s.playout.window) a.2
+media_keeps_window old new seq word reply after = ap (λ (s : State). s.playout.window) after
+
+parity_keeps_window : (old new : State) (parity : Parity) (reply : Reply) → IsAfterParity old parity reply new → new.playout.window ≡ old.playout.window
+parity_keeps_window old new parity Admitted after =
+    let a = some_and (position_on old parity.base)
+    (λ position. (place : ℕ) × IsLeastFree old.equations place × (new ≡ with_equation old place (equation_at position parity))) after in
+    ap (λ (s : State). s.playout.window) a.2.2
+parity_keeps_window old new parity reply after = ap (λ (s : State). s.playout.window) after
+
+due_keep_window : (old : State) (seq : ℕ) (plays : List Play) (new : State) → HavePlayed old seq plays new → new.playout.window ≡ old.playout.window
+due_keep_window old seq [] new played = ap (λ (s : State). s.playout.window) played
+due_keep_window old seq (play ∷ plays) new played =
+    due_keep_window played.1.0 seq plays new played.1.2 ∙ play_keeps_window old.playout.window old play played.1.0 played.1.1
+
+taking_reaches :
+    (old : State) (arrival : Arrival) (plays : List Play) (reply : Option Reply) (new : State) → 1 ≤ old.playout.window
+    → Takes old arrival plays reply new → Reach old plays new × (new.playout.window ≡ old.playout.window)
+taking_reaches old (carries seq word) plays None new some takes = absurd takes
+taking_reaches old (carries seq word) plays (Some reply) new some takes =
+    let due = takes.0 in
+    let played = ((plays_due_end old due seq plays).0 takes.1).0 in (
+      reach_same old due new plays (media_keeps_mark due new seq word reply takes.2.after) (due_reach old due seq plays some played),
+      media_keeps_window due new seq word reply takes.2.after ∙ due_keep_window old seq plays due played,
+    )
+taking_reaches old (protects stream parity) plays None new some takes = absurd takes
+taking_reaches old (protects stream parity) plays (Some reply) new some takes = (
+  subst (λ (ps : List Play). Reach old ps new) (sym takes.0) (reach_none old new (parity_keeps_mark old new parity reply takes.1.after)),
+  parity_keeps_window old new parity reply takes.1.after,
+)
+taking_reaches old (refused stream) plays None new some takes = (
+  subst (λ (ps : List Play). Reach old ps new) (sym takes.0) (reach_none old new (ap (λ (s : State). s.mark) takes.1)),
+  ap (λ (s : State). s.playout.window) takes.1,
+)
+taking_reaches old (refused stream) plays (Some reply) new some takes = absurd takes
+
+pub plays_reach : PlaysReachTheMark
+plays_reach old new [] plays replies some takes =
+    subst (λ (ps : List Play). Reach old ps new) (sym takes.0) (reach_none old new (ap (λ (s : State). s.mark) takes.2))
+plays_reach old new (arrival ∷ arrivals) plays [] some takes = absurd takes
+plays_reach old new (arrival ∷ arrivals) plays (reply ∷ replies) some takes =
+    let first = taking_reaches old arrival takes.0 reply takes.2 some takes.4 in
+    let window = first.1 in
+    subst (λ (ps : List Play). Reach old ps new) (sym takes.3)
+    (reach_append old takes.2 new takes.0 takes.1 first.0
+    (plays_reach takes.2 new arrivals takes.1 replies (omega (arith, some, window)) takes.5))
+
+pub each_gets_a_reply : EachGetsAReply
+each_gets_a_reply old new [] plays replies takes = ap length takes.1
+each_gets_a_reply old new (arrival ∷ arrivals) plays [] takes = absurd takes
+each_gets_a_reply old new (arrival ∷ arrivals) plays (reply ∷ replies) takes =
+    let rest = each_gets_a_reply takes.2 new arrivals takes.1 replies takes.5 in omega (arith, rest)

@@ -1,0 +1,13 @@
+use Rattle.fg_playout.proofs.Opened.{opening_holds, media_keeps}
+use Rattle.fg_playout.proofs.Parities.{parity_keeps}
+use Rattle.fg_playout.proofs.PlayKeeps.{play_keeps, flush_step_keeps}
+use Rattle.fg_playout.proofs.laws.facts_are_kept.Goals as goal
+
+pub returns : goal.returns
+returns c = record {
+  opening = opening_holds;
+  media = media_keeps;
+  parity = parity_keeps;
+  play = play_keeps;
+  flush = flush_step_keeps;
+}

@@ -1,0 +1,368 @@
+-- Laws that show the definitions of a desk to be right.
+use Rattle.std.specs.Prelude.{◌≡◌, ◌⊎◌, ◌==◌, if◌then◌else◌, ◌≢◌, ◌+◌, ◌-◌, ◌<◌, ◌≤◌, ◌^◌, ◌↔◌, ◌++◌, ℕ, ⊤, IsTrue, nat_le, List, [], ◌∷◌, length, filter, Option, Some, None}
+use Rattle.std.specs.List.{All, Contains}
+use Rattle.std.specs.FinMap.{get}
+use Rattle.fg_words.specs.declared.Word.{Word}
+use Rattle.fg_words.specs.Word.{IsMedia}
+use Rattle.fg_shape.specs.Shape.{IsShape}
+use Rattle.fg_shape.specs.Playout.{Playout}
+use Rattle.fg_peel.specs.Equation.{Equation}
+use Rattle.fg_peel.specs.Peeling.{Step, IsPeeling, end_of}
+use Rattle.fg_peel.specs.Closure as peel
+use Rattle.fg_peel.specs.Solution as peeled
+use Rattle.fg_playout.specs.declared.reply.Reply.{Reply}
+use Rattle.fg_playout.specs.declared.reply.Reply.TheVariants.{Admitted}
+use Rattle.fg_playout.specs.declared.reply.Outcome.{Outcome}
+use Rattle.fg_playout.specs.declared.reply.Outcome.TheVariants.{Repaired}
+use Rattle.fg_playout.specs.State.{State, Live, known, live_equations, opening}
+use Rattle.fg_playout.specs.Room.{HasRoom}
+use Rattle.fg_playout.specs.Solution.{InClosure, IsSolution}
+use Rattle.fg_playout.specs.Admission.{Parity, AdmitsMedia, AdmitsParity, IsDue, position_on, equation_at}
+use Rattle.fg_playout.specs.Play.{Play, Shown, IsPlay, IsFlushStep, IsHighest, HasMore, Flushes}
+use Rattle.fg_shape.specs.declared.kind.Kind.{Kind}
+use Rattle.fg_playout.specs.Run.{Arrival, carries, protects, refused, came_by, is_counted, count_of, ArePlaysDue, TakesAll, IsFlush, IsRun}
+use Rattle.fg_playout.specs.Facts.{Holds}
+
+-- The live equations are those that stand under some serial number.
+abbrev pub LiveStandUnderSerials : Type 0
+LiveStandUnderSerials =
+    (desk : State) (equation : Equation)
+    → Contains (live_equations desk) equation
+    ↔ ((serial : ℕ) × (live : Live) × (get desk.equations serial ≡ Some live) × (live.equation ≡ equation))
+
+-- The facts hold at first, and every call keeps them.
+
+abbrev pub OpeningHolds : Type 0
+OpeningHolds =
+    (playout : Playout) → 1 ≤ playout.window → playout.window ≤ 100 → playout.window ≤ playout.depth
+    → Holds (opening playout)
+
+abbrev pub MediaKeeps : Type 0
+MediaKeeps =
+    (old new : State) (seq : ℕ) (word : Word) (reply : Reply) → Holds old → IsMedia word → ¬ IsDue old seq
+    → AdmitsMedia old seq word reply new → Holds new
+
+abbrev pub ParityKeeps : Type 0
+ParityKeeps =
+    (old new : State) (parity : Parity) (reply : Reply) → Holds old → HasRoom old
+    → IsShape parity.offset parity.count → AdmitsParity old parity reply new → Holds new
+
+abbrev pub PlayKeeps : Type 0
+PlayKeeps =
+    (count : ℕ) (old new : State) (play : Play) → Holds old → old.top ≢ None → IsPlay count old play new → Holds new
+
+abbrev pub FlushStepKeeps : Type 0
+FlushStepKeeps = (old new : State) (play : Option Play) → Holds old → Flushes old play new → Holds new
+
+-- A media datagram that is admitted adds its word to the known ones, at a position past what is played that had
+-- none, and nothing else.
+abbrev pub MediaAdds : Type 0
+MediaAdds =
+    (old new : State) (seq : ℕ) (word : Word) → Holds old → AdmitsMedia old seq word Admitted new
+    → (position : ℕ) × (position_on old seq ≡ Some position) × (old.mark ≤ position)
+    × (known old position ≡ None)
+    × ((other : ℕ) → known new other ≡ (if other == position then Some word else known old other))
+    × (live_equations new ≡ live_equations old)
+
+-- A parity datagram that is admitted adds its equation to the live ones, and nothing else.
+abbrev pub ParityAdds : Type 0
+ParityAdds =
+    (old new : State) (parity : Parity) → Holds old → AdmitsParity old parity Admitted new
+    → (position : ℕ) × (position_on old parity.base ≡ Some position)
+    × ((equation : Equation)
+    → Contains (live_equations new) equation
+    ↔ (Contains (live_equations old) equation ⊎ (equation ≡ equation_at position parity)))
+    × (known new ≡ known old)
+
+-- On such a desk closure and solutions are those of peeling: the mark makes no difference.
+
+abbrev pub ClosureIsPeelings : Type 0
+ClosureIsPeelings =
+    (desk : State) → Holds desk → (position : ℕ)
+    → InClosure desk position ↔ peel.InClosure (known desk) (live_equations desk) position
+
+abbrev pub SolutionsArePeelings : Type 0
+SolutionsArePeelings =
+    (desk : State) → Holds desk → (words : ℕ → Option Word)
+    → IsSolution desk words ↔ peeled.IsSolution (known desk) (live_equations desk) words
+
+-- So no step of a peeling lies before the mark.
+abbrev pub StepsAreAhead : Type 0
+StepsAreAhead =
+    (desk : State) (steps : List Step) → Holds desk → IsPeeling (known desk) (live_equations desk) steps
+    → All (λ step. desk.mark ≤ step.position) steps
+
+-- A desk has at most one solution.
+abbrev pub OneSolution : Type 0
+OneSolution =
+    (desk : State) → Holds desk → (one other : ℕ → Option Word) → IsSolution desk one → IsSolution desk other → one ≡ other
+
+-- What is past the mark after a play followed before it already.
+abbrev pub ClosureGainsNothing : Type 0
+ClosureGainsNothing =
+    (count : ℕ) (old new : State) (play : Play) → IsPlay count old play new
+    → (position : ℕ) → InClosure new position → InClosure old position
+
+-- Flush steps one after another.
+abbrev pub AreFlushSteps : State → List Play → State → Type 0
+AreFlushSteps old [] new = new ≡ old
+AreFlushSteps old (play ∷ plays) new = (next : State) × IsFlushStep old play next × AreFlushSteps next plays new
+
+-- A flush ends: there are no more steps than positions up to the highest that follows.
+abbrev pub FlushEnds : Type 0
+FlushEnds =
+    (old new : State) (plays : List Play) (highest : ℕ) → 1 ≤ old.playout.window → IsHighest old highest
+    → AreFlushSteps old plays new → length plays ≤ highest + 1 - old.mark
+
+-- A flush is steps after which nothing that follows is left to be shown.
+abbrev pub FlushStepsEnd : Type 0
+FlushStepsEnd =
+    (old new : State) (plays : List Play) → IsFlush old plays new ↔ (AreFlushSteps old plays new × (¬ HasMore new))
+
+-- A known position ahead stays derivable: what a peeling found before a repaired play is, past the new mark, found by a
+-- peeling after it, with the same words. Before the mark it finds nothing.
+abbrev pub SolvedStaysPeeled : Type 0
+SolvedStaysPeeled =
+    (count : ℕ) (old new : State) (play : Play) (steps : List Step) → Holds old → IsPlay count old play new
+    → play.outcome ≡ Repaired → IsPeeling (known old) (live_equations old) steps
+    → IsPeeling (known new) (live_equations new) (filter (λ step. nat_le new.mark step.position) steps)
+    × ((position : ℕ) → new.mark ≤ position
+    → end_of (known new) (filter (λ step. nat_le new.mark step.position) steps) position
+    ≡ end_of (known old) steps position)
+    × ((position : ℕ) → position < new.mark
+    → end_of (known new) (filter (λ step. nat_le new.mark step.position) steps) position ≡ known new position)
+
+-- Later datagrams change nothing of what was shown and answered before.
+abbrev pub LaterChangesNothing : Type 0
+LaterChangesNothing =
+    (old new : State) (earlier later : List Arrival) (plays : List Play) (replies : List (Option Reply))
+    → TakesAll old (earlier ++ later) plays replies new
+    → (between : State) × (before : List Play) × (after : List Play)
+    × (first : List (Option Reply)) × (second : List (Option Reply))
+    × TakesAll old earlier before first between × TakesAll between later after second new
+    × (plays ≡ before ++ after) × (replies ≡ first ++ second)
+
+-- And what is taken one after another is a run of both.
+abbrev pub TakingsJoin : Type 0
+TakingsJoin =
+    (old between new : State) (earlier later : List Arrival) (before after : List Play)
+    (first second : List (Option Reply))
+    → TakesAll old earlier before first between → TakesAll between later after second new
+    → TakesAll old (earlier ++ later) (before ++ after) (first ++ second) new
+
+-- Plays that are due before a datagram of this sequence number, so far.
+abbrev pub HavePlayed : State → ℕ → List Play → State → Type 0
+HavePlayed old seq [] new = new ≡ old
+HavePlayed old seq (play ∷ plays) new =
+    IsDue old seq × ((next : State) × IsPlay old.playout.window old play next × HavePlayed next seq plays new)
+
+abbrev pub PlaysDueJoin : Type 0
+PlaysDueJoin =
+    (old between new : State) (seq : ℕ) (before after : List Play)
+    → HavePlayed old seq before between → HavePlayed between seq after new → HavePlayed old seq (before ++ after) new
+
+-- They are all that are due where then none is.
+abbrev pub PlaysDueEnd : Type 0
+PlaysDueEnd =
+    (old new : State) (seq : ℕ) (plays : List Play)
+    → ArePlaysDue old seq plays new ↔ (HavePlayed old seq plays new × (¬ IsDue new seq))
+
+abbrev pub FlushStepsJoin : Type 0
+FlushStepsJoin =
+    (old between new : State) (before after : List Play)
+    → AreFlushSteps old before between → AreFlushSteps between after new → AreFlushSteps old (before ++ after) new
+
+-- Each play begins where the one before ends.
+abbrev pub AreInSuccession : ℕ → List Play → Type 0
+AreInSuccession first [] = ⊤
+AreInSuccession first (play ∷ plays) = (play.first ≡ first) × AreInSuccession (first + length play.shown) plays
+
+-- So each position is shown or missing once, in order and without holes.
+abbrev pub PlaysFollow : Type 0
+PlaysFollow =
+    (playout : Playout) (arrivals : List Arrival) (plays : List Play) (replies : List (Option Reply))
+    → IsRun playout arrivals plays replies → AreInSuccession 0 plays
+
+-- Datagrams as the readers give them: media words, and shapes that are read.
+abbrev pub IsRead : Arrival → Type 0
+IsRead (carries seq word) = (seq < 2 ^ 16) × IsMedia word
+IsRead (protects stream parity) = (parity.base < 2 ^ 16) × IsShape parity.offset parity.count
+IsRead (refused stream) = ⊤
+
+-- As long as a flow's datagrams are fewer than 2^44, the facts hold all along its run, and there is room: before each
+-- datagram, and between the plays before it.
+abbrev pub RunsStayWithin : Type 0
+RunsStayWithin =
+    (playout : Playout) (seq : ℕ) (arrivals : List Arrival) (plays due : List Play) (replies : List (Option Reply))
+    (taken new : State)
+    → 1 ≤ playout.window → playout.window ≤ 100 → playout.window ≤ playout.depth → All IsRead arrivals
+    → length arrivals < 2 ^ 44
+    → TakesAll (opening playout) arrivals plays replies taken → HavePlayed taken seq due new
+    → Holds new × HasRoom new
+
+-- And so they do between the steps of its flush.
+abbrev pub FlushesStayWithin : Type 0
+FlushesStayWithin =
+    (playout : Playout) (arrivals : List Arrival) (plays flushed : List Play) (replies : List (Option Reply))
+    (filled new : State)
+    → 1 ≤ playout.window → playout.window ≤ 100 → playout.window ≤ playout.depth → playout.depth ≤ 1000
+    → All IsRead arrivals → length arrivals < 2 ^ 44
+    → TakesAll (opening playout) arrivals plays replies filled → AreFlushSteps filled flushed new
+    → Holds new × HasRoom new
+
+-- A flow has one run: two of the same datagrams are the same.
+abbrev pub OneRun : Type 0
+OneRun =
+    (playout : Playout) (arrivals : List Arrival) (plays plays' : List Play) (replies replies' : List (Option Reply))
+    → All IsRead arrivals → IsRun playout arrivals plays replies → IsRun playout arrivals plays' replies'
+    → (plays ≡ plays') × (replies ≡ replies')
+
+-- The same datagrams taken by a new desk give the same plays, the same replies and the same desk.
+abbrev pub OneTaking : Type 0
+OneTaking =
+    (playout : Playout) (arrivals : List Arrival) (plays plays' : List Play) (replies replies' : List (Option Reply))
+    (new new' : State)
+    → All IsRead arrivals → TakesAll (opening playout) arrivals plays replies new
+    → TakesAll (opening playout) arrivals plays' replies' new'
+    → (plays ≡ plays') × (replies ≡ replies') × (new ≡ new')
+
+-- A call has one outcome: the reply or the play, and the desk after it.
+
+abbrev pub MediaIsOne : Type 0
+MediaIsOne =
+    (old one other : State) (seq : ℕ) (word : Word) (reply reply' : Reply)
+    → AdmitsMedia old seq word reply one → AdmitsMedia old seq word reply' other → (reply ≡ reply') × (one ≡ other)
+
+abbrev pub ParityIsOne : Type 0
+ParityIsOne =
+    (old one other : State) (parity : Parity) (reply reply' : Reply) → Holds old
+    → AdmitsParity old parity reply one → AdmitsParity old parity reply' other → (reply ≡ reply') × (one ≡ other)
+
+abbrev pub PlayIsOne : Type 0
+PlayIsOne =
+    (count : ℕ) (old one other : State) (play play' : Play) → Holds old
+    → IsPlay count old play one → IsPlay count old play' other → (play ≡ play') × (one ≡ other)
+
+abbrev pub FlushIsOne : Type 0
+FlushIsOne =
+    (old one other : State) (play play' : Option Play) → Holds old
+    → Flushes old play one → Flushes old play' other → (play ≡ play') × (one ≡ other)
+
+-- What a play shows is one list: two lists that a call over one desk is told to show are equal, whatever else is told.
+
+abbrev pub PlaysShowOneList : Type 0
+PlaysShowOneList =
+    (count : ℕ) (old one other : State) (first first' : ℕ) (shown shown' : List Shown) (outcome outcome' : Outcome)
+    → Holds old
+    → IsPlay count old (record { first = first; shown = shown; outcome = outcome }) one
+    → IsPlay count old (record { first = first'; shown = shown'; outcome = outcome' }) other
+    → shown ≡ shown'
+
+abbrev pub FlushStepsShowOneList : Type 0
+FlushStepsShowOneList =
+    (old one other : State) (first first' : ℕ) (shown shown' : List Shown) (outcome outcome' : Outcome)
+    → Holds old
+    → Flushes old (Some (record { first = first; shown = shown; outcome = outcome })) one
+    → Flushes old (Some (record { first = first'; shown = shown'; outcome = outcome' })) other
+    → shown ≡ shown'
+
+-- The plays of a run's first datagrams come first in it.
+abbrev pub TakenPlaysComeFirst : Type 0
+TakenPlaysComeFirst =
+    (playout : Playout) (earlier later : List Arrival) (before plays : List Play) (first replies : List (Option Reply))
+    (taken : State)
+    → All IsRead earlier → TakesAll (opening playout) earlier before first taken
+    → IsRun playout (earlier ++ later) plays replies → (after : List Play) × (plays ≡ before ++ after)
+
+-- Then come those that are due before the next datagram.
+abbrev pub DuePlaysComeNext : Type 0
+DuePlaysComeNext =
+    (playout : Playout) (seq : ℕ) (word : Word) (earlier later : List Arrival) (before due plays : List Play)
+    (first replies : List (Option Reply)) (taken now : State)
+    → All IsRead earlier → TakesAll (opening playout) earlier before first taken → HavePlayed taken seq due now
+    → IsRun playout (earlier ++ carries seq word ∷ later) plays replies
+    → (after : List Play) × (plays ≡ before ++ (due ++ after))
+
+-- After the last datagram come the steps of the flush.
+abbrev pub FlushStepsComeNext : Type 0
+FlushStepsComeNext =
+    (playout : Playout) (arrivals : List Arrival) (before flushed plays : List Play) (first replies : List (Option Reply))
+    (taken now : State)
+    → All IsRead arrivals → TakesAll (opening playout) arrivals before first taken
+    → AreFlushSteps taken flushed now → IsRun playout arrivals plays replies
+    → (after : List Play) × (plays ≡ before ++ (flushed ++ after))
+
+-- How many positions plays show, with those that are missing.
+abbrev pub played_count : List Play → ℕ
+played_count [] = 0
+played_count (play ∷ plays) = length play.shown + played_count plays
+
+-- Plays move the mark by as many positions as they show, and each shows one at least.
+abbrev pub Reach : State → List Play → State → Type 0
+Reach old plays new =
+    (new.mark ≡ old.mark + played_count plays) × All (λ play. 1 ≤ length play.shown) plays
+
+abbrev pub PlaysReachTheMark : Type 0
+PlaysReachTheMark =
+    (old new : State) (arrivals : List Arrival) (plays : List Play) (replies : List (Option Reply))
+    → 1 ≤ old.playout.window → TakesAll old arrivals plays replies new → Reach old plays new
+
+abbrev pub DuePlaysReachTheMark : Type 0
+DuePlaysReachTheMark =
+    (old new : State) (seq : ℕ) (plays : List Play)
+    → 1 ≤ old.playout.window → HavePlayed old seq plays new → Reach old plays new
+
+abbrev pub FlushStepsReachTheMark : Type 0
+FlushStepsReachTheMark =
+    (old new : State) (plays : List Play) → 1 ≤ old.playout.window → AreFlushSteps old plays new → Reach old plays new
+
+-- Each datagram gets a reply, or none where its reader refused it.
+abbrev pub EachGetsAReply : Type 0
+EachGetsAReply =
+    (old new : State) (arrivals : List Arrival) (plays : List Play) (replies : List (Option Reply))
+    → TakesAll old arrivals plays replies new → length replies ≡ length arrivals
+
+-- Those are counted that came by the stream and got the reply.
+abbrev pub CountsAreOfReplies : Type 0
+CountsAreOfReplies =
+    (stream : Kind) (reply answer : Option Reply) (arrival : Arrival)
+    → IsTrue (is_counted stream reply arrival answer) ↔ ((came_by arrival ≡ stream) × (answer ≡ reply))
+
+-- One more datagram adds one to the count of its reply and stream, and nothing to another.
+abbrev pub CountsAdd : Type 0
+CountsAdd =
+    (stream : Kind) (reply answer : Option Reply) (arrivals : List Arrival) (arrival : Arrival)
+    (answers : List (Option Reply))
+    → length arrivals ≡ length answers
+    → count_of stream reply (arrivals ++ arrival ∷ []) (answers ++ answer ∷ [])
+    ≡ count_of stream reply arrivals answers + (if is_counted stream reply arrival answer then 1 else 0)
+
+-- No count is more than the datagrams.
+abbrev pub CountsStayWithin : Type 0
+CountsStayWithin =
+    (stream : Kind) (reply : Option Reply) (arrivals : List Arrival) (answers : List (Option Reply))
+    → count_of stream reply arrivals answers ≤ length arrivals
+
+-- Laws that go together
+
+-- The facts hold of a new desk, and every call keeps them.
+pub record FactsAreKept : Type 0 where
+  pub opening : OpeningHolds
+  pub media : MediaKeeps
+  pub parity : ParityKeeps
+  pub play : PlayKeeps
+  pub flush : FlushStepKeeps
+
+-- A call has one outcome.
+pub record OneOutcome : Type 0 where
+  pub media : MediaIsOne
+  pub parity : ParityIsOne
+  pub play : PlayIsOne
+  pub flush : FlushIsOne
+
+-- A flush ends.
+pub record FlushesEnd : Type 0 where
+  pub gains : ClosureGainsNothing
+  pub ends : FlushEnds
+  pub joined : FlushStepsJoin
+  pub nothing_left : FlushStepsEnd

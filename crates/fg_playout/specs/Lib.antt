@@ -1,0 +1,11 @@
+pub mod Admission
+pub mod Existence
+pub mod Facts
+pub mod Laws
+pub mod Play
+pub mod PlayedOn
+pub mod Run
+pub mod Shown
+pub mod Solution
+pub mod State
+pub mod Room

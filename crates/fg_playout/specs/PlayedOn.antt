@@ -1,0 +1,75 @@
+-- On which desk each play of a flow's run is made. This project's own.
+use Rattle.std.specs.Prelude.{◌≡◌, ◌++◌, ℕ, List, [], ◌∷◌, map, Option, Some, None}
+use Rattle.std.specs.List.{All}
+use Rattle.fg_shape.specs.Playout.{Playout}
+use Rattle.fg_playout.specs.declared.reply.Reply.{Reply}
+use Rattle.fg_playout.specs.State.{State, opening}
+use Rattle.fg_playout.specs.Play.{Play, IsPlay}
+use Rattle.fg_playout.specs.Run.{Arrival, carries, protects, refused, ArePlaysDue, Takes, TakesAll, IsFlush, IsRun}
+use Rattle.fg_playout.specs.Laws.{IsRead}
+
+-- A play, and the desk that it is made on.
+pub record PlayOn : Type 0 where
+  pub desk : State
+  pub play : Play
+
+-- Of plays that are due before a datagram, each is made on the desk that the one before it leaves.
+abbrev pub due_on :
+    (old : State) (seq : ℕ) (plays : List Play) (new : State) → ArePlaysDue old seq plays new → List PlayOn
+due_on old seq [] new due = []
+due_on old seq (play ∷ plays) new due =
+    record { desk = old; play = play } ∷ due_on due.1.0 seq plays new due.1.2
+
+-- What one datagram has played: nothing, but for a media datagram.
+abbrev pub taken_on :
+    (old : State) (arrival : Arrival) (plays : List Play) (reply : Option Reply) (new : State)
+    → Takes old arrival plays reply new → List PlayOn
+taken_on old (carries seq word) plays None new takes = []
+taken_on old (carries seq word) plays (Some reply) new takes = due_on old seq plays takes.0 takes.1
+taken_on old (protects stream parity) plays reply new takes = []
+taken_on old (refused stream) plays reply new takes = []
+
+-- What a list of datagrams has played.
+abbrev pub all_taken_on :
+    (old : State) (arrivals : List Arrival) (plays : List Play) (replies : List (Option Reply)) (new : State)
+    → TakesAll old arrivals plays replies new → List PlayOn
+all_taken_on old [] plays replies new takes = []
+all_taken_on old (arrival ∷ arrivals) plays [] new takes = []
+all_taken_on old (arrival ∷ arrivals) plays (reply ∷ replies) new takes =
+    taken_on old arrival takes.0 reply takes.2 takes.4 ++ all_taken_on takes.2 arrivals takes.1 replies new takes.5
+
+-- Of the steps of a flush, too, each is made on the desk that the one before it leaves.
+abbrev pub flushed_on : (old : State) (plays : List Play) (new : State) → IsFlush old plays new → List PlayOn
+flushed_on old [] new flush = []
+flushed_on old (play ∷ plays) new flush =
+    record { desk = old; play = play } ∷ flushed_on flush.0 plays new flush.2
+
+-- A run's plays, in order, each with the desk that it is made on.
+abbrev pub played_on :
+    (playout : Playout) (arrivals : List Arrival) (plays : List Play) (replies : List (Option Reply))
+    → IsRun playout arrivals plays replies → List PlayOn
+played_on playout arrivals plays replies run =
+    all_taken_on (opening playout) arrivals run.taken replies run.filled run.takes
+    ++ flushed_on run.filled run.flushed run.empty run.flush
+
+-- They are the run's plays.
+abbrev pub PlaysAreTheRuns : Type 0
+PlaysAreTheRuns =
+    (playout : Playout) (arrivals : List Arrival) (plays : List Play) (replies : List (Option Reply))
+    (run : IsRun playout arrivals plays replies)
+    → map (λ made. made.play) (played_on playout arrivals plays replies run) ≡ plays
+
+-- And each is a play of its desk.
+abbrev pub DesksMakeThePlays : Type 0
+DesksMakeThePlays =
+    (playout : Playout) (arrivals : List Arrival) (plays : List Play) (replies : List (Option Reply))
+    (run : IsRun playout arrivals plays replies)
+    → All (λ made. (count : ℕ) × (next : State) × IsPlay count made.desk made.play next)
+    (played_on playout arrivals plays replies run)
+
+-- A flow has one such list: a run of it makes each play on the same desk as another run does.
+abbrev pub OneListOfDesks : Type 0
+OneListOfDesks =
+    (playout : Playout) (arrivals : List Arrival) (plays plays' : List Play) (replies replies' : List (Option Reply))
+    (one : IsRun playout arrivals plays replies) (other : IsRun playout arrivals plays' replies') → All IsRead arrivals
+    → played_on playout arrivals plays replies one ≡ played_on playout arrivals plays' replies' other

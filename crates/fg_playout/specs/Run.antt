@@ -1,0 +1,95 @@
+-- A flow's run over datagrams that are read. This project's own. It knows no worker, and no words found before a play.
+use Rattle.std.specs.Prelude.{◌≡◌, ◌==◌, ◌+◌, ◌++◌, ◌&&◌, ℕ, Bool, List, [], ◌∷◌, Option, Some, None, if◌then◌else◌}
+use Rattle.fg_words.specs.declared.Word.{Word}
+use Rattle.fg_shape.specs.Playout.{Playout}
+use Rattle.fg_playout.specs.declared.reply.Reply.{Reply}
+use Rattle.fg_playout.specs.declared.reply.Reply.TheVariants.{Admitted, Duplicate, Conflict, Late, NotStarted, BeforeStart, Ahead, Crowded}
+use Rattle.fg_shape.specs.declared.kind.Kind.{Kind}
+use Rattle.fg_shape.specs.declared.kind.Kind.TheVariants.{Media, Column, Row}
+use Rattle.fg_playout.specs.State.{State, opening}
+use Rattle.fg_playout.specs.Admission.{Parity, AdmitsMedia, AdmitsParity, IsDue}
+use Rattle.fg_playout.specs.Play.{Play, IsPlay, IsFlushStep, HasMore}
+
+-- A datagram as it is read: a media datagram's sequence number and word; a parity datagram of a stream; or one that its
+-- reader refused.
+pub data Arrival : Type 0 where
+  carries : ℕ → Word → Arrival
+  protects : Kind → Parity → Arrival
+  refused : Kind → Arrival
+
+-- The stream that an arrival came by.
+abbrev pub came_by : Arrival → Kind
+came_by (carries seq word) = Media
+came_by (protects stream parity) = stream
+came_by (refused stream) = stream
+
+-- Windows are played while one is due before a datagram of this sequence number.
+abbrev pub ArePlaysDue : State → ℕ → List Play → State → Type 0
+ArePlaysDue old seq [] new = (¬ IsDue old seq) × (new ≡ old)
+ArePlaysDue old seq (play ∷ plays) new =
+    IsDue old seq × ((next : State) × IsPlay old.playout.window old play next × ArePlaysDue next seq plays new)
+
+-- What one datagram does: the plays before it, and the reply to it. A refused one does nothing and gets none. A parity
+-- datagram plays nothing.
+abbrev pub Takes : State → Arrival → List Play → Option Reply → State → Type 0
+Takes old (carries seq word) plays None new = ⊥
+Takes old (carries seq word) plays (Some reply) new =
+    (due : State) × ArePlaysDue old seq plays due × AdmitsMedia due seq word reply new
+Takes old (protects stream parity) plays None new = ⊥
+Takes old (protects stream parity) plays (Some reply) new = (plays ≡ []) × AdmitsParity old parity reply new
+Takes old (refused stream) plays None new = (plays ≡ []) × (new ≡ old)
+Takes old (refused stream) plays (Some reply) new = ⊥
+
+-- What a list of datagrams does, in its order.
+abbrev pub TakesAll : State → List Arrival → List Play → List (Option Reply) → State → Type 0
+TakesAll old [] plays replies new = (plays ≡ []) × (replies ≡ []) × (new ≡ old)
+TakesAll old (arrival ∷ arrivals) plays [] new = ⊥
+TakesAll old (arrival ∷ arrivals) plays (reply ∷ replies) new =
+    (before : List Play) × (after : List Play) × (next : State) × (plays ≡ before ++ after)
+    × Takes old arrival before reply next × TakesAll next arrivals after replies new
+
+-- A flush: flush steps until none is defined.
+abbrev pub IsFlush : State → List Play → State → Type 0
+IsFlush old [] new = (¬ HasMore old) × (new ≡ old)
+IsFlush old (play ∷ plays) new = (next : State) × IsFlushStep old play next × IsFlush next plays new
+
+-- A flow's run: from the opening desk its datagrams are taken, and then the desk is flushed. Its results are the plays,
+-- and the reply to each datagram, none where its reader refused it.
+pub record IsRun (playout : Playout) (arrivals : List Arrival) (plays : List Play) (replies : List (Option Reply)) : Type 0 where
+  pub taken : List Play
+  pub flushed : List Play
+  pub filled : State
+  pub empty : State
+  pub takes : TakesAll (opening playout) arrivals taken replies filled
+  pub flush : IsFlush filled flushed empty
+  pub plays_are : plays ≡ taken ++ flushed
+
+-- The replies of a run are counted. Streams and replies are told apart by their numbers, in the order in which they are
+-- declared; no reply comes last.
+abbrev pub kind_number : Kind → ℕ
+kind_number Media = 0
+kind_number Column = 1
+kind_number Row = 2
+
+abbrev pub reply_number : Option Reply → ℕ
+reply_number (Some Admitted) = 0
+reply_number (Some Duplicate) = 1
+reply_number (Some Conflict) = 2
+reply_number (Some Late) = 3
+reply_number (Some NotStarted) = 4
+reply_number (Some BeforeStart) = 5
+reply_number (Some Ahead) = 6
+reply_number (Some Crowded) = 7
+reply_number None = 8
+
+-- An arrival that was answered so came by this stream, and got this reply.
+abbrev pub is_counted : Kind → Option Reply → Arrival → Option Reply → Bool
+is_counted stream reply arrival answer =
+    (kind_number (came_by arrival) == kind_number stream) && (reply_number answer == reply_number reply)
+
+-- How many arrivals came by this stream and got this reply. With no reply: how many their reader refused.
+abbrev pub count_of : Kind → Option Reply → List Arrival → List (Option Reply) → ℕ
+count_of stream reply [] answers = 0
+count_of stream reply (arrival ∷ arrivals) [] = 0
+count_of stream reply (arrival ∷ arrivals) (answer ∷ answers) =
+    (if is_counted stream reply arrival answer then 1 else 0) + count_of stream reply arrivals answers

@@ -1,0 +1,221 @@
+//! The laws that show the definitions of a desk to be right. Each is the contract of a function that
+//! does nothing, or only calls laws of `fg_peel`.
+
+ghost use Rattle.fg_playout.specs.Laws.{LiveStandUnderSerials, FactsAreKept, MediaAdds, ParityAdds};
+ghost use Rattle.fg_playout.specs.Laws.{ClosureIsPeelings, SolutionsArePeelings, StepsAreAhead, OneSolution};
+ghost use Rattle.fg_playout.specs.Laws.{FlushesEnd, SolvedStaysPeeled};
+ghost use Rattle.fg_playout.specs.Laws.{LaterChangesNothing, TakingsJoin, PlaysDueJoin, PlaysDueEnd, PlaysFollow, RunsStayWithin, FlushesStayWithin, OneRun};
+ghost use Rattle.fg_playout.specs.Laws.{OneOutcome};
+ghost use Rattle.fg_playout.specs.Laws.{PlaysShowOneList, FlushStepsShowOneList};
+ghost use Rattle.fg_playout.specs.Laws.{OneTaking, TakenPlaysComeFirst, DuePlaysComeNext, FlushStepsComeNext};
+ghost use Rattle.fg_playout.specs.Laws.{PlaysReachTheMark, DuePlaysReachTheMark, FlushStepsReachTheMark};
+ghost use Rattle.fg_playout.specs.Laws.{EachGetsAReply, CountsAreOfReplies, CountsAdd, CountsStayWithin};
+ghost use Rattle.fg_playout.specs.Existence.{PeelingLaws, SolutionsAreDecided, MediaHasOutcome, ParityHasOutcome, PlayHasOutcome, FlushHasOutcome};
+ghost use Rattle.fg_playout.specs.PlayedOn.{PlaysAreTheRuns, DesksMakeThePlays, OneListOfDesks};
+ghost use Rattle.fg_playout.specs.Existence.{PlaysDueExist, FlushExists, TakingsExist, RunsExist};
+
+use fg_peel::laws::{
+    confluence, maximal_peelings_are_tested, peelings_fill_the_closure, peelings_stay, uniqueness,
+};
+
+/// The live equations are those that stand under some serial number.
+pub fn live_equations()
+    ensures { LiveStandUnderSerials }
+{}
+
+/// The facts hold of a new desk, and every call keeps them.
+pub fn facts_are_kept()
+    ensures { FactsAreKept }
+{}
+
+/// What is admitted is known or live from then on, and nothing else changes in what is known and live.
+pub fn admissions_add()
+    ensures media { MediaAdds }
+    ensures parity { ParityAdds }
+{}
+
+/// On each desk of which the facts hold, closure, solutions and peelings are those of `fg_peel`: the
+/// mark makes no difference.
+pub fn mark_makes_no_difference()
+    ensures closure { ClosureIsPeelings }
+    ensures solutions { SolutionsArePeelings }
+    ensures steps { StepsAreAhead }
+{}
+
+/// A desk has at most one solution.
+pub fn one_solution()
+    ensures { OneSolution }
+{
+    uniqueness();
+}
+
+/// After a play nothing follows that did not follow before it. So a flush ends, and then nothing is
+/// left to be shown.
+pub fn flushes_end()
+    ensures { FlushesEnd }
+{}
+
+/// What a peeling found before a repaired play is, past the new mark, found by a peeling after it, with
+/// the same words.
+pub fn solved_stays_peeled()
+    ensures { SolvedStaysPeeled }
+{
+    peelings_fill_the_closure();
+    confluence();
+    peelings_stay();
+}
+
+/// Later datagrams change nothing of what was shown and answered before, and each position is shown
+/// or missing once, in order and without holes.
+pub fn runs_only_add()
+    ensures later { LaterChangesNothing }
+    ensures follow { PlaysFollow }
+{}
+
+/// A run can be told datagram by datagram, and the plays before one of them play by play.
+pub fn runs_join()
+    ensures takings { TakingsJoin }
+    ensures plays { PlaysDueJoin }
+    ensures all_due { PlaysDueEnd }
+{}
+
+/// As long as a flow's datagrams are fewer than 2^44, the facts hold all along its run, and there is
+/// room.
+pub fn runs_stay_within()
+    ensures taking { RunsStayWithin }
+    ensures flushing { FlushesStayWithin }
+{}
+
+/// A call has one outcome: its reply or its play, and the desk after it, follow from the desk before it.
+pub fn one_outcome()
+    ensures { OneOutcome }
+{
+    uniqueness();
+}
+
+/// What a call shows is one list: what its contract says of the words that it showed holds of no other ones.
+pub fn one_list_is_shown()
+    ensures play { PlaysShowOneList }
+    ensures flush { FlushStepsShowOneList }
+{
+    uniqueness();
+}
+
+/// What of the laws of `fg_peel` those of what exists rest on.
+fn peelings_are_told()
+    ensures { PeelingLaws }
+{
+    peelings_fill_the_closure();
+    maximal_peelings_are_tested();
+    confluence();
+}
+
+/// Whether a desk has a solution can be told.
+pub fn solutions_are_decided()
+    ensures { SolutionsAreDecided }
+{
+    peelings_are_told();
+}
+
+/// A call has an outcome: a reply or a play, and a desk after it.
+pub fn outcomes_exist()
+    ensures media { MediaHasOutcome }
+    ensures parity { ParityHasOutcome }
+    ensures play { PlayHasOutcome }
+    ensures flush { FlushHasOutcome }
+{
+    peelings_are_told();
+}
+
+/// The plays that are due before a datagram come to an end, and so does a flush.
+pub fn plays_come_to_an_end()
+    ensures due { PlaysDueExist }
+    ensures flush { FlushExists }
+{
+    peelings_are_told();
+}
+
+/// A new desk takes all datagrams that are read.
+pub fn takings_exist()
+    ensures { TakingsExist }
+{
+    peelings_are_told();
+}
+
+/// A flow has a run, whatever its datagrams.
+pub fn runs_exist()
+    ensures { RunsExist }
+{
+    peelings_are_told();
+}
+
+/// A flow has one run: two of the same datagrams are the same.
+pub fn one_run()
+    ensures { OneRun }
+{
+    uniqueness();
+}
+
+/// Each play of a run is made on a desk, and another run of the same datagrams makes it on the same one.
+pub fn one_list_of_desks()
+    ensures plays { PlaysAreTheRuns }
+    ensures desks { DesksMakeThePlays }
+    ensures one { OneListOfDesks }
+{
+    uniqueness();
+}
+
+/// The same datagrams taken by a new desk give the same plays, the same replies and the same desk.
+pub fn one_taking()
+    ensures { OneTaking }
+{
+    uniqueness();
+}
+
+/// The plays of a flow's first datagrams come first in its run.
+pub fn taken_plays_come_first()
+    ensures { TakenPlaysComeFirst }
+{
+    uniqueness();
+}
+
+/// Then come the plays that are due before the next datagram.
+pub fn due_plays_come_next()
+    ensures { DuePlaysComeNext }
+{
+    uniqueness();
+}
+
+/// After the last datagram come the steps of the flush.
+pub fn flush_steps_come_next()
+    ensures { FlushStepsComeNext }
+{
+    uniqueness();
+}
+
+/// The mark is the number of positions that were shown or missing, and each play has one at least.
+pub fn plays_reach_the_mark()
+    ensures taken { PlaysReachTheMark }
+    ensures due { DuePlaysReachTheMark }
+    ensures flushed { FlushStepsReachTheMark }
+{}
+
+/// Each datagram of a run gets a reply, or none where its reader refused it.
+pub fn each_gets_a_reply()
+    ensures { EachGetsAReply }
+{}
+
+/// Those datagrams are counted that came by a stream and got a reply.
+pub fn counts_are_of_replies()
+    ensures { CountsAreOfReplies }
+{}
+
+/// One more datagram adds one to the count of its stream and reply, and nothing to another.
+pub fn counts_add()
+    ensures { CountsAdd }
+{}
+
+/// No count is more than the datagrams.
+pub fn counts_stay_within()
+    ensures { CountsStayWithin }
+{}
