@@ -17,3 +17,4 @@ pub mod StreamReading
 pub mod StreamViews
 pub mod StreamWalks
 pub mod TakingLemmas
+pub mod ZeroLemmas

@@ -1,10 +1,9 @@
 -- A payload more for an encoder.
-use Rattle.std.proofs.Common.{◌≡◌, ℕ, zero, suc, ◌+◌, ◌-◌, ◌*◌, ◌<◌, ◌≤◌, ◌%◌, ◌^◌, Bool, true, false, bit_xor, List, [], ◌∷◌, ◌++◌, length, map, get_or, replicate, refl, sym, ap, ⊎_elim, ◌∙◌, arith, lit<, length-append}
+use Rattle.std.proofs.Common.{◌≡◌, ℕ, suc, ◌+◌, ◌-◌, ◌*◌, ◌<◌, ◌≤◌, ◌%◌, ◌^◌, Bool, true, false, List, [], ◌∷◌, ◌++◌, length, map, get_or, replicate, refl, sym, ap, ⊎_elim, ◌∙◌, arith, lit<, length-append}
 use Rattle.std.specs.List.{sum_by}
-use Rattle.std.specs.Simd.Lanes.{zip2}
 use Rattle.std.proofs.lemmas.Bool.{cases_lt}
 use Rattle.std.proofs.lemmas.Nat.{mod-mul-add, xor_lt}
-use Rattle.std.proofs.lemmas.List.{get_or-append_right, get_or_past, get_or-replicate, length-replicate, take_all}
+use Rattle.std.proofs.lemmas.List.{get_or-append_right, get_or_past, length-replicate, take_all}
 use Rattle.std.proofs.lemmas.List.Sums.{sum_by-cons}
 use Rattle.std.proofs.Math.Nat.{mul-le-mul_right}
 use Rattle.fg_words.specs.declared.Word.{Word}
@@ -21,6 +20,7 @@ use Rattle.fg_encode.specs.Encoding.{bits_before, column_shape, longest, parity_
 use Rattle.fg_encode.proofs.LaterLemmas.{bits_later, payload_later, word_later}
 use Rattle.fg_encode.proofs.SlotLemmas.{longest_first, slots_same}
 use Rattle.fg_encode.proofs.PlaceLemmas.{column_last, row_last}
+use Rattle.fg_encode.proofs.ZeroLemmas.{zero_at, zeros_everywhere}
 
 -- Payloads of one size.
 sum_of_whole : (size : ℕ) (payloads : List (List ℕ)) → ((slot : ℕ) → slot < length payloads → length (payload_at payloads slot) ≡ size) → sum_by (λ payload. length payload) payloads ≡ size * length payloads
@@ -67,22 +67,10 @@ word_has_room settings payloads slot most =
     let payload = payload_at payloads slot in
     length-append payload (replicate (1316 - length payload) 0) ∙ omega (arith, length-replicate {A = ℕ} (1316 - length payload) 0)
 
-zeros_everywhere : (n i : ℕ) → get_or (replicate {A = ℕ} n 0) i 0 ≡ 0
-zeros_everywhere n i = ⊎_elim
-    (λ (inside : i < n). get_or-replicate n i 0 0 inside)
-    (λ (past : n ≤ i). get_or_past (replicate n 0) i 0 (omega (arith, length-replicate {A = ℕ} n 0)))
-    (cases_lt i n)
-
 word_is_padded : (settings : Settings) (payloads : List (List ℕ)) (slot size i : ℕ) → length (payload_at payloads slot) ≤ size → size ≤ i → get_or (word_at settings payloads slot).bytes i 0 ≡ 0
 word_is_padded settings payloads slot size i most past =
     let payload = payload_at payloads slot in
     get_or-append_right payload (replicate (1316 - length payload) 0) (length payload) i 0 refl (omega arith) ∙ zeros_everywhere (1316 - length payload) (i - length payload)
-
-zero_at : (xs ys : List ℕ) (i : ℕ) → get_or xs i 0 ≡ 0 → get_or ys i 0 ≡ 0 → get_or (zip2 bit_xor xs ys) i 0 ≡ 0
-zero_at [] ys i x y = refl
-zero_at (a ∷ xs) [] i x y = refl
-zero_at (a ∷ xs) (b ∷ ys) zero x y = ap (λ (n : ℕ). bit_xor n b) x ∙ ap (λ (n : ℕ). bit_xor 0 n) y
-zero_at (a ∷ xs) (b ∷ ys) (suc i) x y = zero_at xs ys i x y
 
 sum_pt : (words : ℕ → Word) (slots : List ℕ) → ((s : ℕ) → (words s).pt < 2 ^ 7) → (word_sum (map words slots)).pt < 2 ^ 7
 sum_pt words [] small = lit< tt
