@@ -1,4 +1,5 @@
 -- Lemmas on the definitions of this crate, which proofs of other crates cite too.
+pub mod FaultLemmas
 mod KeeperLemmas
 mod OpenFilesLemmas
 pub mod OutletLemmas

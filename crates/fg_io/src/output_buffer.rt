@@ -15,17 +15,18 @@ use std::marker::Model;
 #[derive(Drop)]
 pub struct OutputBuffer {
     bytes: Vec<u8>,
-    room: usize,
+    // How many bytes at the front are held.
+    used: usize,
 }
 
 impl Model for OutputBuffer {
-    ghost use Rattle.std.specs.Prelude.{ℕ, ◌≤◌, List, length, vec_capacity};
+    ghost use Rattle.std.specs.Prelude.{ℕ, ◌≤◌, List, length, take};
 
     ghost Value = { List ℕ };
 
-    ghost view = { λ a. a.bytes.items };
+    ghost view = { λ a. take a.used a.bytes.items };
 
-    ghost invariant = { λ a. (length a.bytes.items ≤ a.room) × (a.room ≤ vec_capacity a.bytes) };
+    ghost invariant = { λ a. a.used ≤ length a.bytes.items };
 }
 
 impl OutputBuffer {
@@ -34,8 +35,8 @@ impl OutputBuffer {
         ensures { IfOk result (λ buffer. buffer ≡ []) }
     {
         Ok(OutputBuffer {
-            bytes: Vec::with_capacity(alloc, room)?,
-            room,
+            bytes: vec![in alloc; 0; room]?,
+            used: 0,
         })
     }
 
@@ -43,6 +44,7 @@ impl OutputBuffer {
     ///
     /// Where there is no room for it, what is held is written first; a piece longer than the buffer is written where it lies.
     /// After a fault, which is `Write`, nothing is held, and the sink has gained a prefix of what was to be written.
+    #[inline]
     pub fn add<K: Sink>(&mut self, piece: &[u8], out: &mut K) -> Result<(), Fault>
         ensures sent { OnOk result (Sent (K.written out.old) (self.old ++ piece.now) self.new
             (K.written out.new)) }
@@ -55,11 +57,7 @@ impl OutputBuffer {
         if self.hold(piece) {
             return Ok(());
         }
-        self.flush(out)?;
-        if self.hold(piece) {
-            return Ok(());
-        }
-        write_all(out, piece)
+        self.add_after_flush(piece, out)
     }
 
     /// Writes what is held. Nothing is held then, also after a fault, which is `Write`.
@@ -70,21 +68,42 @@ impl OutputBuffer {
         ensures fault { IfErr result (λ fault. fault ≡ Fault.Write) }
         ensures faults { Counts result [] ((K.faults out.old, K.faults out.new) ∷ []) }
     {
-        let outcome = write_all(out, &self.bytes);
-        self.bytes.clear();
+        let outcome = write_all(out, &self.bytes[..self.used]);
+        self.used = 0;
         outcome
     }
 
+    /// Writes what is held, and then adds the piece, or writes it too where it is longer than the buffer.
+    // Seldom called: apart from this, `add` is a few instructions where it is called.
+    #[inline(never)]
+    fn add_after_flush<K: Sink>(&mut self, piece: &[u8], out: &mut K) -> Result<(), Fault>
+        ensures sent { OnOk result (Sent (K.written out.old) (self.old ++ piece.now) self.new
+            (K.written out.new)) }
+        ensures part { OnErr result (GainsPart (K.written out.old) (self.old ++ piece.now)
+            (K.written out.new)) }
+        ensures empty { OnErr result (self.new ≡ []) }
+        ensures fault { IfErr result (λ fault. fault ≡ Fault.Write) }
+        ensures faults { Counts result [] ((K.faults out.old, K.faults out.new) ∷ []) }
+    {
+        self.flush(out)?;
+        if self.hold(piece) {
+            return Ok(());
+        }
+        write_all(out, piece)
+    }
+
     /// Adds the piece where there is room for it, and answers whether there is.
+    #[inline]
     fn hold(&mut self, piece: &[u8]) -> bool
         ensures held { IsTrue result → self.new ≡ self.old ++ piece.now }
         ensures kept { IsFalse result → self.new ≡ self.old }
     {
-        if piece.len() > self.room - self.bytes.len() {
+        if piece.len() > self.bytes.len() - self.used {
             return false;
         }
-        // The memory was taken when the buffer was made.
-        self.bytes.extend_from_slice(piece).unwrap();
+        let end = self.used + piece.len();
+        self.bytes[self.used..end].copy_from_slice(piece);
+        self.used = end;
         true
     }
 }

@@ -1,0 +1,7 @@
+-- What holds of a fault's answer.
+use Rattle.std.proofs.Common.{Result, Ok, Err, OnErr}
+
+-- a fact for an `Err` that holds of any result
+pub on_err : {T E : Type 0} (r : Result T E) (P : Type 0) → P → OnErr r P
+on_err (Ok x) P p = tt
+on_err (Err e) P p = p
