@@ -3,16 +3,9 @@ use Rattle.std.proofs.Common.{◌≡◌, ⊎_elim, ℕ, ◌+◌, ◌*◌, ◌<�
 use Rattle.std.specs.List.{range_with_len}
 use Rattle.std.proofs.lemmas.Bool.{cases_lt}
 use Rattle.fg_ts.specs.declared.TsFault.TheVariants.{Ragged, NoSync}
-use Rattle.fg_ts.specs.Packets.{IsFirstUnsynced}
+use Rattle.fg_ts.proofs.PacketLemmas.{one_first}
 use Rattle.fg_encode.specs.declared.stream.StreamFault.TheVariants.{NotTransport, TooLong}
 use Rattle.fg_encode.specs.Stream.{payload_of, IsAcceptable, StreamEnding, EndsAt, IsCut}
-
--- There is one first packet that doesn't begin with the sync byte.
-one_first : (bytes : List ℕ) (a b : ℕ) → IsFirstUnsynced bytes a → IsFirstUnsynced bytes b → a ≡ b
-one_first bytes a b p q = ⊎_elim
-    (λ (lt : a < b). absurd (p.unsynced (q.first a lt)))
-    (λ (le : b ≤ a). ⊎_elim (λ (lt : b < a). absurd (q.unsynced (p.first b lt))) (λ (ge : a ≤ b). omega arith) (cases_lt b a))
-    (cases_lt a b)
 
 -- Where a stream ends, there is no acceptable payload.
 pub refused : (end : StreamEnding) (packets max : ℕ) (bytes : List ℕ) (i : ℕ) → EndsAt end packets max bytes i → IsAcceptable packets max bytes i → ⊥

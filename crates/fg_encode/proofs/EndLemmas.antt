@@ -9,7 +9,8 @@ use Rattle.fg_shape.specs.Layout.{column_base, first_row, row_base, ColumnEnds, 
 use Rattle.fg_shape.specs.Laws.{OneColumnEnds, OneRowEnds}
 use Rattle.fg_encode.specs.Ends.{columns_ending, rows_ending, row_bases}
 use Rattle.fg_encode.specs.Laws.{ColumnsAreTheLayouts, RowsAreTheLayouts}
-use Rattle.fg_encode.proofs.PlaceLemmas.{column_last, row_last, column_ends, row_ends}
+use Rattle.fg_shape.proofs.LayoutLemmas.{column_last, row_last}
+use Rattle.fg_encode.proofs.PlaceLemmas.{column_ends, row_ends}
 use Rattle.fg_encode.proofs.ListLemmas.{bool_cases, filter_none, filter_single, flat_none, flat_single, filter-flat_map, map_filter_range_same, map_flat_same}
 
 grown : (m k : ℕ) → 1 ≤ k → m ≤ m * k

@@ -1,5 +1,5 @@
--- What faults leave, and how counts of them are passed on.
-use Rattle.std.proofs.Common.{◌≡◌, ℕ, [], ◌∷◌, Result, Ok, Err, OnErr, arith}
+-- How counts of faults are passed on.
+use Rattle.std.proofs.Common.{◌≡◌, ℕ, [], ◌∷◌, arith}
 use Rattle.fg_io.specs.Faults.{CountsFaults}
 
 -- what only writes has read nothing
@@ -12,8 +12,3 @@ none_read R W read read' written written' same h = record {
   rise = omega (arith, same);
   sinks_rise = h.sinks_rise;
 }
-
--- a fact for an `Err` that holds of any result
-pub on_err : {T E : Type 0} (r : Result T E) (P : Type 0) → P → OnErr r P
-on_err (Ok x) P p = tt
-on_err (Err e) P p = p

@@ -19,7 +19,8 @@ use Rattle.fg_encode.specs.Encoder.{ColumnsAreUnderWay, RowIsUnderWay}
 use Rattle.fg_encode.specs.Encoding.{column_shape, parity_over, row_shape, sequence_of}
 use Rattle.fg_encode.specs.Lines.{added}
 use Rattle.fg_encode.proofs.ListLemmas.{bool_cases}
-use Rattle.fg_encode.proofs.PlaceLemmas.{column_last, column_ends}
+use Rattle.fg_shape.proofs.LayoutLemmas.{column_last}
+use Rattle.fg_encode.proofs.PlaceLemmas.{column_ends}
 use Rattle.fg_encode.proofs.SlotLemmas.{sum_more}
 
 -- A column begins at a slot exactly where one ends a column's length behind it.

@@ -19,7 +19,7 @@ use Rattle.fg_encode.specs.Encoder.{ColumnsAreUnderWay, RowIsUnderWay}
 use Rattle.fg_encode.specs.Encoding.{bits_before, column_shape, longest, parity_over, payload_at, row_shape, sequence_of, word_at}
 use Rattle.fg_encode.proofs.LaterLemmas.{bits_later, payload_later, word_later}
 use Rattle.fg_encode.proofs.SlotLemmas.{longest_first, slots_same}
-use Rattle.fg_encode.proofs.PlaceLemmas.{column_last, row_last}
+use Rattle.fg_shape.proofs.LayoutLemmas.{column_last, row_last}
 use Rattle.fg_encode.proofs.ZeroLemmas.{zero_at, zeros_everywhere}
 
 -- Payloads of one size.

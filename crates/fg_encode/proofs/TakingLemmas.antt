@@ -20,7 +20,7 @@ use Rattle.fg_encode.proofs.LaterLemmas.{payload_later}
 use Rattle.fg_encode.proofs.ListLemmas.{flat_more_at}
 use Rattle.fg_encode.proofs.EndLemmas.{columns_same, rows_same}
 use Rattle.fg_encode.proofs.PushLemmas.{bits_of_whole, column_is_whole, column_shape_is_read, columns_later, last_payload, longest_is_whole, payloads_at_most, row_is_whole, row_later, row_shape_is_read, sum_can_be_written, word_has_room}
-use Rattle.fg_encode.proofs.PlaceLemmas.{column_last, row_last}
+use Rattle.fg_shape.proofs.LayoutLemmas.{column_last, row_last}
 
 -- The payloads with one more.
 abbrev pub with : List (List ℕ) → List ℕ → List (List ℕ)

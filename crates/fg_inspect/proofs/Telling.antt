@@ -1,5 +1,5 @@
 -- How far the writing of the text has come.
-use Rattle.std.proofs.Common.{◌≡◌, ℕ, ◌+◌, Option, Result, Ok, Err, OnErr, List, [], ◌∷◌, ◌++◌, length, sym, ap, ◌∙◌, subst, arith, length-append}
+use Rattle.std.proofs.Common.{◌≡◌, ℕ, ◌+◌, Option, List, [], ◌∷◌, ◌++◌, length, sym, ap, ◌∙◌, subst, arith, length-append}
 use Rattle.fg_io.specs.Sink.{Gains, GainsPart}
 use Rattle.fg_io.specs.Sent.{Sent}
 use Rattle.fg_io.proofs.SentLemmas.{Sent-cut, Sent-part, Sent-start, Sent-then, Sent-whole}
@@ -13,11 +13,6 @@ use Rattle.fg_inspect.specs.Reading.{IsReading}
 use Rattle.fg_inspect.specs.Steps.{HasTold, HasPart, IsNew}
 use Rattle.fg_inspect.specs.Text.{line, line_of}
 use Rattle.fg_inspect.proofs.Texts.{text_more, no_text}
-
--- a fact for an `Err` that holds of any result
-pub on_err : {T E : Type 0} (r : Result T E) (P : Type 0) → P → OnErr r P
-on_err (Ok x) P p = tt
-on_err (Err e) P p = p
 
 -- What is told
 

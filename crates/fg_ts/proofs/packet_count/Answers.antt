@@ -1,16 +1,9 @@
-use Rattle.std.proofs.Common.{◌≡◌, ◌<◌, ◌≤◌, ◌/◌, ℕ, List, Err, Result, length, arith, ap, subst, ⊎_elim}
-use Rattle.std.proofs.lemmas.Bool.{cases_lt}
+use Rattle.std.proofs.Common.{◌≡◌, ◌/◌, ℕ, Err, Result, length, arith, ap, subst}
 use Rattle.fg_ts.specs.declared.TsFault.{TsFault}
 use Rattle.fg_ts.specs.declared.TsFault.TheVariants.{Ragged, NoSync}
 use Rattle.fg_ts.specs.Packets.{IsFirstUnsynced}
+use Rattle.fg_ts.proofs.PacketLemmas.{one_first}
 use Rattle.fg_ts.proofs.packet_count.Goals as goal
-
--- There is one first packet that doesn't begin with the sync byte.
-one_first : (bytes : List ℕ) (a b : ℕ) → IsFirstUnsynced bytes a → IsFirstUnsynced bytes b → a ≡ b
-one_first bytes a b p q = ⊎_elim
-    (λ (lt : a < b). absurd (p.unsynced (q.first a lt)))
-    (λ (le : b ≤ a). ⊎_elim (λ (lt : b < a). absurd (q.unsynced (p.first b lt))) (λ (ge : a ≤ b). omega arith) (cases_lt b a))
-    (cases_lt a b)
 
 -- The length is a whole number of packets.
 pub returns-in-Some-clause-faults : goal.returns-in-Some-clause-faults

@@ -6,7 +6,7 @@ use Rattle.fg_io.specs.Sink.{GainsPart}
 use Rattle.fg_io.proofs.SentLemmas.{Sent-part, Sent-then}
 use Rattle.fg_io.proofs.SinkLemmas.{GainsPart-longer}
 use Rattle.fg_trace.specs.Trace.{Record, header_spelling, spelling}
-use Rattle.fg_encode.proofs.FaultLemmas.{on_err}
+use Rattle.fg_io.proofs.FaultLemmas.{on_err}
 use Rattle.fg_encode.proofs.encoding.add.Goals as goal
 
 module _ (r : Record) (trace header : List ℕ) (is : header ≡ header_spelling r.time r.port (length r.datagram)) where

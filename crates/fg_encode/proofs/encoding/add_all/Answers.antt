@@ -2,7 +2,7 @@ use Rattle.std.proofs.Common.{◌∙◌, sym}
 use Rattle.std.proofs.lemmas.Option.{slice_get_within, get_or_from_slice_get}
 use Rattle.fg_io.proofs.SentLemmas.{Sent-at, Sent-more}
 use Rattle.fg_trace.specs.Trace.{Record, spelling}
-use Rattle.fg_encode.proofs.FaultLemmas.{on_err}
+use Rattle.fg_io.proofs.FaultLemmas.{on_err}
 use Rattle.fg_encode.proofs.encoding.add_all.Goals as goal
 
 pub returns-in_err-add-clause-part : goal.returns-in_err-add-clause-part

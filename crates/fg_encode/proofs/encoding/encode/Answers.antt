@@ -3,7 +3,7 @@ use Rattle.fg_io.specs.Sink.{GainsPart}
 use Rattle.fg_trace.specs.Trace.{magic}
 use Rattle.fg_encode.proofs.Encodings.{breaks_as_set, encoded_to, encodes, encodes_part, magic_encoded, sent_first}
 use Rattle.fg_encode.proofs.ReadLemmas.{read_for_fault, any_ending_to, unread_to}
-use Rattle.fg_encode.proofs.FaultLemmas.{on_err}
+use Rattle.fg_io.proofs.FaultLemmas.{on_err}
 use Rattle.fg_encode.proofs.encoding.encode.Goals as goal
 
 pub encode_all-requires : goal.encode_all-requires

@@ -1,4 +1,5 @@
 use Rattle.std.proofs.Common.{◌≡◌, ◌∙◌, Ok, Err, sym, ap, subst, refl, List, length, ℕ, Option}
+use Rattle.fg_io.proofs.FaultLemmas.{on_err}
 use Rattle.fg_trace.specs.declared.step.Finish.TheVariants as finish
 use Rattle.fg_trace.specs.declared.step.Step.{Step}
 use Rattle.fg_trace.specs.Reader.{Answer, Walks, payload_size}
@@ -6,7 +7,6 @@ use Rattle.fg_trace.specs.Trace.{Ended, Cut, TooLong}
 use Rattle.fg_inspect.specs.Reading.{IsReading}
 use Rattle.fg_inspect.specs.Steps.{IsUnderway}
 use Rattle.fg_inspect.specs.Inspect.{TellsPart}
-use Rattle.fg_inspect.proofs.Telling.{on_err}
 use Rattle.fg_inspect.proofs.Walking.{few_told, underway_more, part_at_record, part_at_fault, told_all}
 use Rattle.fg_inspect.proofs.walk.tell_next.Goals as goal
 

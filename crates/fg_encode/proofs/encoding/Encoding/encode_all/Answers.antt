@@ -2,7 +2,7 @@ use Rattle.std.proofs.Common.{Option, List, ℕ, subst}
 use Rattle.fg_encode.specs.declared.stream.StreamStep.{StreamStep}
 use Rattle.fg_encode.specs.EncodeSteps.{Breaks, IsUnderway, Steps}
 use Rattle.fg_encode.proofs.Encodings.{breaks_along}
-use Rattle.fg_encode.proofs.FaultLemmas.{on_err}
+use Rattle.fg_io.proofs.FaultLemmas.{on_err}
 use Rattle.fg_encode.proofs.encoding.Encoding.encode_all.Goals as goal
 
 pub returns-in_err-ending-clause-part : goal.returns-in_err-ending-clause-part

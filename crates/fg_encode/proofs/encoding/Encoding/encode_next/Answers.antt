@@ -5,7 +5,8 @@ use Rattle.fg_encode.specs.Encoder.{StandsAfter}
 use Rattle.fg_encode.specs.Encoding.{records_at}
 use Rattle.fg_encode.specs.StreamReader.{Walks, ending_told}
 use Rattle.fg_encode.proofs.Encodings.{takes_next, within_limit, underway_more, breaks_at_payload, breaks_at_read, encoded}
-use Rattle.fg_encode.proofs.FaultLemmas.{none_read, on_err}
+use Rattle.fg_io.proofs.FaultLemmas.{on_err}
+use Rattle.fg_encode.proofs.FaultLemmas.{none_read}
 use Rattle.fg_encode.proofs.encoding.Encoding.encode_next.Goals as goal
 
 pub push-requires-clause-stands : goal.push-requires-clause-stands
