@@ -1,7 +1,9 @@
 -- What shows that the definitions of this crate are right, and what calls in a row come to.
-use Rattle.std.specs.Prelude.{◌≡◌, ℕ, ◌<◌, Option, List, ◌++◌, IfSome}
+use Rattle.std.specs.Prelude.{◌≡◌, ℕ, ◌<◌, ◌≤◌, Option, List, ◌++◌, IfSome}
 use Rattle.std.specs.Io.KnownBytes.{IsAtEnd}
 use Rattle.fg_io.specs.Faults.{last_count, CountsFault}
+use Rattle.fg_io.specs.declared.input_buffer.Ahead.{Ahead}
+use Rattle.fg_io.specs.InputBuffer.{InputState, IsAhead}
 use Rattle.fg_io.specs.Outlet.{Lanes, lane_of, LaneGains, Puts, PutsPart}
 use Rattle.fg_io.specs.Sink.{Gains, GainsPart}
 use Rattle.fg_io.specs.Source.{Gives}
@@ -24,6 +26,11 @@ OneRest = (before after other : Option (List ℕ)) (given : List ℕ)
 abbrev pub EndGaveAll : Type 0
 EndGaveAll = (before after : Option (List ℕ)) (given : List ℕ)
     → Gives before given after → IsAtEnd after → IfSome before (λ bytes. bytes ≡ given)
+
+-- of a buffer that stands within its limit, and a number of bytes that is asked for, at most one answer is true
+abbrev pub OneAhead : Type 0
+OneAhead = (input : InputState) (want : ℕ) (one other : Ahead)
+    → input.place ≤ input.max → 1 ≤ want → IsAhead one input want → IsAhead other input want → one ≡ other
 
 -- two writes in a row write what one write writes that writes both
 abbrev pub WritesJoin : Type 0

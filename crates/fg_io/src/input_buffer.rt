@@ -145,7 +145,8 @@ impl InputBuffer {
 
     /// The place of the first byte that was not stepped over, counted from the source's first.
     pub fn place(&self) -> u64
-        ensures { result ≡ self.now.place }
+        ensures value { result ≡ self.now.place }
+        ensures within { self.now.place ≤ self.now.max }
     {
         self.place
     }

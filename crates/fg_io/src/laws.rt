@@ -1,6 +1,6 @@
 //! Laws of the definitions that the contracts cite. Each function does nothing: its contract is the law. A caller that
 //! needs a law calls it.
-ghost use Rattle.fg_io.specs.Laws.{StandingCountsNone, ReadsJoin, OneRest, EndGaveAll, WritesJoin, NoneIsPart, AllIsPart, PartOfMore, PartJoins, PutsJoin, NonePutIsPart, AllPutIsPart, PutPartOfMore, PutPartJoins, OneLane};
+ghost use Rattle.fg_io.specs.Laws.{StandingCountsNone, ReadsJoin, OneRest, EndGaveAll, OneAhead, WritesJoin, NoneIsPart, AllIsPart, PartOfMore, PartJoins, PutsJoin, NonePutIsPart, AllPutIsPart, PutPartOfMore, PutPartJoins, OneLane};
 
 /// A count that stands still has counted no fault, below its last value.
 pub fn standing_counts_none()
@@ -20,6 +20,11 @@ pub fn one_rest()
 /// A source that is at its end has given all that it had.
 pub fn end_gave_all()
     ensures { EndGaveAll }
+{}
+
+/// What stands ahead in a source follows from what is held of it and the number of bytes that is asked for.
+pub fn one_ahead()
+    ensures { OneAhead }
 {}
 
 /// Two writes in a row write what one write writes that writes both.
