@@ -1,79 +1,38 @@
--- What holds of the request that was read holds of each that the words ask for, since there is one.
+-- What holds of the request that was read holds of each that the words ask for, since there is one; and where nothing was touched
+-- for want of memory, any request is answered so.
 use Rattle.std.proofs.Common.{◌≡◌, ◌⊎◌, inl, inr, ℕ, List, [], Option, None, Some, IfSome, refl, subst, arith}
-use Rattle.fg_run.specs.declared.ended.Why.{Why}
-use Rattle.fg_run.specs.declared.ended.Why.TheVariants.{Done, Words, ReadFault, WriteFault, NotTrace, Cut, TooLong, Memory, NotTransport}
-use Rattle.fg_run.specs.declared.request.Request.{Request}
-use Rattle.fg_run.specs.declared.request.Request.TheVariants.{Asked, Ordered, Refused}
-use Rattle.fg_cli.specs.declared.Order.TheVariants.{Repair, Encode, Drill, Inspect, Sample}
+use Rattle.fg_io.specs.Laws.{NoneIsPart}
 use Rattle.fg_io.specs.Outlet.{Lanes}
-use Rattle.fg_run.specs.Ended.{IsFault}
-use Rattle.fg_run.specs.Laws.{OneRequest}
-use Rattle.fg_run.specs.Request.{Asks}
-use Rattle.fg_run.specs.Reading.{ReadsTrace}
-use Rattle.fg_run.specs.Run.{ComesBack, IsAnswer, IsNoInput, Reads, StopsAt}
-use Rattle.fg_drill.specs.Sample.{sample_sent}
-use Rattle.fg_run.specs.Stopping.{StopsLanes}
 use Rattle.fg_trace.specs.declared.step.Finish.TheVariants as finish
 use Rattle.fg_trace.specs.Trace.{Record, Ending, IsTrace}
 use Rattle.fg_flows.specs.declared.Plan.{Plan}
 use Rattle.fg_encode.proofs.ReadLemmas.{unread}
+use Rattle.fg_cli.specs.declared.Order.TheVariants.{Repair, Encode, Drill, Inspect, Sample}
+use Rattle.fg_drill.specs.Sample.{sample_sent}
+use Rattle.fg_cli.specs.declared.WordFault.{WordFault}
+use Rattle.fg_run.specs.declared.ended.Why.{Why}
+use Rattle.fg_run.specs.declared.ended.Why.TheVariants.{Memory}
+use Rattle.fg_run.specs.declared.ended.Why.TheVariants as why
+use Rattle.fg_run.specs.declared.request.Request.{Request}
+use Rattle.fg_run.specs.declared.request.Request.TheVariants.{Asked, Ordered, Refused}
+use Rattle.fg_run.specs.Answered.{RequestAnswered, WordsAnswered}
+use Rattle.fg_run.specs.Encode.{EndsStream}
+use Rattle.fg_run.specs.Ended.{IsFault}
+use Rattle.fg_run.specs.Laws.{OneRequest}
+use Rattle.fg_run.specs.Reading.{ReadsTrace}
+use Rattle.fg_run.specs.Request.{Asks}
+use Rattle.fg_run.specs.Run.{ComesBack, EndsTrace, Reads, ReadsAll, StopsAt}
+use Rattle.fg_run.specs.Stopping.{StopsLanes}
+use Rattle.fg_run.proofs.Completing.{told}
 use Rattle.fg_run.proofs.Stopping.{drill_stops_first, stops_first}
-
-pub of_each : OneRequest → (words : List (List ℕ)) (r : Request) (P : Request → Type 0) → Asks words r → P r → (request : Request) → Asks words request → P request
-of_each one words r P h x request k = subst P (one words r request h k) x
-
--- the same, where the input's bytes are told
-pub of_each_told : OneRequest → (words : List (List ℕ)) (r : Request) (input : Option (List ℕ)) (P : Request → List ℕ → Type 0) → Asks words r
-    → IfSome input (P r) → IfSome input (λ bytes. (request : Request) → Asks words request → P request bytes)
-of_each_told one words r None P h x = tt
-of_each_told one words r (Some bytes) P h x = of_each one words r (λ request. P request bytes) h x
-
--- an answer that is no fault's, or was not counted, is the one that is due
-complete_of : (R W L : Type 0) (answer due : Why) → IsFault answer ⊎ (answer ≡ due) → (answer ≡ ReadFault → R) → (answer ≡ WriteFault → W ⊎ L)
-    → (R → ⊥) → (W → ⊥) → (L → ⊥) → (answer ≡ due) ⊎ (answer ≡ Memory)
-complete_of R W L answer due (inr same) read write no_read no_write no_lane = inl same
-complete_of R W L Done due (inl fault) read write no_read no_write no_lane = absurd fault
-complete_of R W L (Words f) due (inl fault) read write no_read no_write no_lane = absurd fault
-complete_of R W L ReadFault due (inl fault) read write no_read no_write no_lane = absurd (no_read (read refl))
-complete_of R W L WriteFault due (inl fault) read write no_read no_write no_lane =
-    absurd (elim (write refl) as (λ _. ⊥) [ inl w ↦ no_write w | inr l ↦ no_lane l ])
-complete_of R W L (NotTrace n) due (inl fault) read write no_read no_write no_lane = absurd fault
-complete_of R W L (Cut n) due (inl fault) read write no_read no_write no_lane = absurd fault
-complete_of R W L (TooLong n) due (inl fault) read write no_read no_write no_lane = absurd fault
-complete_of R W L Memory due (inl fault) read write no_read no_write no_lane = inr refl
-complete_of R W L (NotTransport f) due (inl fault) read write no_read no_write no_lane = absurd fault
-
-pub complete_told : (R W L : Type 0) (answer : Why) (input : Option (List ℕ)) (P : List ℕ → Why → Type 0)
-    → IfSome input (λ bytes. (due : Why) → P bytes due → IsFault answer ⊎ (answer ≡ due))
-    → (answer ≡ ReadFault → R) → (answer ≡ WriteFault → W ⊎ L)
-    → IfSome input (λ bytes. (due : Why) → P bytes due → (R → ⊥) → (W → ⊥) → (L → ⊥) → (answer ≡ due) ⊎ (answer ≡ Memory))
-complete_told R W L answer None P x read write = tt
-complete_told R W L answer (Some bytes) P x read write = λ due h. complete_of R W L answer due (x due h) read write
-
--- want of memory may stand for each answer
-pub memory_told : (words : List (List ℕ)) (input : Option (List ℕ))
-    → IfSome input (λ bytes. (request : Request) → Asks words request → (due : Why) → IsAnswer request bytes due → IsFault Memory ⊎ (Memory ≡ due))
-memory_told words None = tt
-memory_told words (Some bytes) = λ request h due k. inl tt
-
-pub memory_complete : (words : List (List ℕ)) (input : Option (List ℕ)) (R W L : Type 0)
-    → IfSome input (λ bytes. (request : Request) → Asks words request → (due : Why) → IsAnswer request bytes due
-    → (R → ⊥) → (W → ⊥) → (L → ⊥) → (Memory ≡ due) ⊎ (Memory ≡ Memory))
-memory_complete words None R W L = tt
-memory_complete words (Some bytes) R W L = λ request h due k no_read no_write no_lane. inr refl
-
--- nothing was touched
-pub nothing_made : (words : List (List ℕ)) (input : Option (List ℕ)) (P : Type 0) → P
-    → IfSome input (λ bytes. (request : Request) → Asks words request → IsNoInput request bytes → P)
-nothing_made words None P x = tt
-nothing_made words (Some bytes) P x = λ request h k. x
+use Rattle.fg_run.proofs.Untouched.{untouched}
 
 -- want of memory is a fault, after which nothing need come back
 no_memory : (input : Option (List ℕ)) (P : List ℕ → Type 0) → IfSome input (λ bytes. IsFault Memory ⊎ P bytes)
 no_memory None P = tt
 no_memory (Some bytes) P = inl tt
 
-pub comes_back_not : (request : Request) (input : Option (List ℕ)) (lanes : Option Lanes) → ComesBack request Memory input lanes lanes
+comes_back_not : (request : Request) (input : Option (List ℕ)) (lanes : Option Lanes) → ComesBack request Memory input lanes lanes
 comes_back_not (Asked question) input lanes = tt
 comes_back_not (Refused fault) input lanes = tt
 comes_back_not (Ordered (Repair plan)) input lanes = no_memory input _
@@ -88,7 +47,7 @@ first_of_trace : (plan : Plan) (input : Option (List ℕ)) (lanes : Option Lanes
 first_of_trace plan None lanes = tt
 first_of_trace plan (Some bytes) lanes = λ records end is. stops_first plan finish.Memory records lanes
 
-pub stops_not : (request : Request) (input : Option (List ℕ)) (lanes : Option Lanes) → StopsAt request Memory input lanes lanes
+stops_not : (request : Request) (input : Option (List ℕ)) (lanes : Option Lanes) → StopsAt request Memory input lanes lanes
 stops_not (Asked question) input lanes = refl
 stops_not (Refused fault) input lanes = refl
 stops_not (Ordered (Repair plan)) input lanes = first_of_trace plan input lanes
@@ -109,6 +68,68 @@ reads_none (Ordered (Drill settings plan losses max)) bytes = inl (tt, unread ma
 reads_none (Ordered (Inspect table max)) bytes = no_trace_read max bytes
 reads_none (Ordered (Sample seed datagrams loss plan)) bytes = refl
 
-pub reads_not : (words : List (List ℕ)) (input : Option (List ℕ)) → IfSome input (λ bytes. (request : Request) → Asks words request → Reads request Memory bytes input)
-reads_not words None = tt
-reads_not words (Some bytes) = λ request h. reads_none request bytes
+reads_not : (request : Request) (input : Option (List ℕ)) → IfSome input (λ bytes. Reads request Memory bytes input)
+reads_not request None = tt
+reads_not request (Some bytes) = reads_none request bytes
+
+-- which isn't the answer of what was read to its end
+no_trace_end : EndsTrace Memory → ⊥
+no_trace_end (inl e) = let a = e in cc
+no_trace_end (inr e) = let a = e.1 in cc
+
+no_stream_end : EndsStream Memory → ⊥
+no_stream_end (inl e) = let a = e in cc
+no_stream_end (inr e) = let a = e.1 in cc
+
+no_end : (request : Request) → ReadsAll request Memory → ⊥
+no_end (Asked question) h = h
+no_end (Refused fault) h = h
+no_end (Ordered (Repair plan)) h = no_trace_end h
+no_end (Ordered (Encode settings max)) h = no_stream_end h
+no_end (Ordered (Drill settings plan losses max)) h = no_stream_end h
+no_end (Ordered (Inspect table max)) h = no_trace_end h
+no_end (Ordered (Sample seed datagrams loss plan)) h = h
+
+not_begun : {S O K : Type 0} → NoneIsPart → (request : Request)
+    (left : S → Option (List ℕ)) (input_faults : S → ℕ) (input : S) (lanes_of : O → Option Lanes) (lane_faults : O → ℕ) (lanes : O)
+    (written : K → Option (List ℕ)) (out_faults : K → ℕ) (out : K)
+    → RequestAnswered request Memory left input_faults input input lanes_of lane_faults lanes lanes written out_faults out out
+not_begun none request left input_faults input lanes_of lane_faults lanes written out_faults out = record {
+  answers = inl tt;
+  comes_back = comes_back_not request (left input) (lanes_of lanes);
+  exactly = told (left input) _ (λ bytes due h. inl tt);
+  complete = told (left input) _ (λ bytes due h a b c. inr refl);
+  part = λ fault. untouched none request (left input) (lanes_of lanes) written out;
+  stops = λ fault. stops_not request (left input) (lanes_of lanes);
+  no_report = λ last e. refl;
+  nothing_read = λ h. refl;
+  nothing_written = λ h. refl;
+  no_lane = λ h. refl;
+  no_input = told (left input) _ (λ bytes h. (refl, refl));
+  reads = reads_not request (left input);
+  all_read = λ h. absurd (no_end request h);
+}
+
+-- what was read is what the words ask for
+pub words_answered : {S O K : Type 0} {left : S → Option (List ℕ)} {input_faults : S → ℕ} {input input' : S}
+    {lanes_of : O → Option Lanes} {lane_faults : O → ℕ} {lanes lanes' : O} {written : K → Option (List ℕ)} {out_faults : K → ℕ} {out out' : K}
+    → OneRequest → (words : List (List ℕ)) (request : Request) (answer : Why) → Asks words request
+    → RequestAnswered request answer left input_faults input input' lanes_of lane_faults lanes lanes' written out_faults out out'
+    → ((fault : WordFault) → answer ≡ why.Words fault → request ≡ Refused fault)
+    → WordsAnswered words answer left input_faults input input' lanes_of lane_faults lanes lanes' written out_faults out out'
+words_answered {S} {O} {K} {left} {input_faults} {input} {input'} {lanes_of} {lane_faults} {lanes} {lanes'} {written} {out_faults} {out} {out'} one words request answer asked done refused = record {
+  answered = λ other k. subst (λ r. RequestAnswered r answer left input_faults input input' lanes_of lane_faults lanes lanes' written out_faults out out') (one words request other asked k) done;
+  asked = inr (request, asked);
+  words = λ fault e. subst (λ r. Asks words r) (refused fault e) asked;
+}
+
+-- without memory for what was read nothing is begun
+pub words_not_begun : {S O K : Type 0} {left : S → Option (List ℕ)} {input_faults : S → ℕ} {input : S}
+    {lanes_of : O → Option Lanes} {lane_faults : O → ℕ} {lanes : O} {written : K → Option (List ℕ)} {out_faults : K → ℕ} {out : K}
+    → NoneIsPart → (words : List (List ℕ))
+    → WordsAnswered words why.Memory left input_faults input input lanes_of lane_faults lanes lanes written out_faults out out
+words_not_begun none words = record {
+  answered = λ request h. not_begun none request _ _ _ _ _ _ _ _ _;
+  asked = inl refl;
+  words = λ fault e. absurd (let a = e in cc);
+}

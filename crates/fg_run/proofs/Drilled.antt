@@ -1,5 +1,5 @@
 -- The answer of a drill, as the program's.
-use Rattle.std.proofs.Common.{◌≡◌, ◌⊎◌, inl, inr, ℕ, Option, None, Some, IfSome, Ok, Err, List, refl, sym, ap, ◌∙◌, subst}
+use Rattle.std.proofs.Common.{◌≡◌, ◌⊎◌, inl, inr, ℕ, Option, None, Some, IfSome, Ok, Err, List, [], ◌∷◌, refl, sym, ap, ◌∙◌, subst}
 use Rattle.std.specs.Io.KnownBytes.{IsAtEnd}
 use Rattle.fg_io.specs.Faults.{CountsFaults}
 use Rattle.fg_io.specs.Outlet.{Lanes}
@@ -7,20 +7,25 @@ use Rattle.fg_ts.specs.declared.TsFault.TheVariants as packets
 use Rattle.fg_shape.specs.declared.encoding.Losses.{Losses}
 use Rattle.fg_shape.specs.declared.encoding.Settings.{Settings}
 use Rattle.fg_trace.specs.declared.step.Finish.TheVariants as finish
+use Rattle.fg_trace.specs.Trace.{Record}
 use Rattle.fg_flows.specs.declared.Plan.{Plan}
 use Rattle.fg_encode.specs.declared.stream.StreamFault.TheVariants.{NotTransport, TooLong}
 use Rattle.fg_encode.specs.Reading.{IsStreamReadFor}
 use Rattle.fg_encode.specs.Stream.{LeavesNothing, StreamEnding, IsCut}
-use Rattle.fg_drill.specs.Drill.{Answer, Drills, IsFault as IsDrillFault, StopsLanes as DrillStops, answer_to, ending_of, records_sent}
+use Rattle.fg_drill.specs.Drill.{Answer, Drills, DrillsPart, IsFault as IsDrillFault, StopsLanes as DrillStops, StreamComesBack, answer_to, ending_of, records_sent}
 use Rattle.fg_drill.proofs.DrillReading.{told_none, told_of}
+use Rattle.fg_cli.specs.declared.Order.TheVariants.{Drill}
 use Rattle.fg_run.specs.declared.ended.Why.{Why}
 use Rattle.fg_run.specs.declared.ended.Why.TheVariants as why
+use Rattle.fg_run.specs.declared.request.Request.TheVariants.{Ordered}
+use Rattle.fg_run.specs.Answered.{RequestAnswered}
 use Rattle.fg_run.specs.Encode.{EndsStream, IsStreamAnswer}
 use Rattle.fg_run.specs.Ended.{IsFault}
 use Rattle.fg_run.specs.Endings.{why_of_drill, why_of_stream}
 use Rattle.fg_run.specs.Reading.{ReadsStream}
 use Rattle.fg_run.specs.Run.{DrillsFor}
 use Rattle.fg_run.specs.Stopping.{StopsLanes}
+use Rattle.fg_run.proofs.Completing.{complete_told, none_wrong}
 use Rattle.fg_run.proofs.Stopping.{fault_of, is_fault}
 
 -- a fault's answer is that of a fault
@@ -29,7 +34,7 @@ no_fault None h = h
 no_fault (Some (TooLong n)) h = h
 no_fault (Some (NotTransport fault)) h = h
 
-pub drill_fault_of : (answer : Answer) → IsFault (why_of_drill answer) → IsDrillFault answer
+drill_fault_of : (answer : Answer) → IsFault (why_of_drill answer) → IsDrillFault answer
 drill_fault_of (Ok finish) h = fault_of finish h
 drill_fault_of (Err fault) h = absurd (no_fault (Some fault) h)
 
@@ -37,13 +42,13 @@ is_drill_fault : (answer : Answer) → IsDrillFault answer → IsFault (why_of_d
 is_drill_fault (Ok finish) h = is_fault finish h
 is_drill_fault (Err fault) h = absurd h
 
-pub told_unless_fault : (answer : Answer) (input : Option (List ℕ)) (P : List ℕ → Type 0) → IfSome input (λ bytes. IsDrillFault answer ⊎ P bytes) → IfSome input (λ bytes. IsFault (why_of_drill answer) ⊎ P bytes)
+told_unless_fault : (answer : Answer) (input : Option (List ℕ)) (P : List ℕ → Type 0) → IfSome input (λ bytes. IsDrillFault answer ⊎ P bytes) → IfSome input (λ bytes. IsFault (why_of_drill answer) ⊎ P bytes)
 told_unless_fault answer None P h = tt
 told_unless_fault answer (Some bytes) P (inl fault) = inl (is_drill_fault answer fault)
 told_unless_fault answer (Some bytes) P (inr p) = inr p
 
 -- the outputs are whole
-pub drills_for : (settings : Settings) (plan : Plan) (losses : Losses) (max : ℕ) (answer : Answer) (input : Option (List ℕ)) (lanes lanes' : Option Lanes) (written written' : Option (List ℕ))
+drills_for : (settings : Settings) (plan : Plan) (losses : Losses) (max : ℕ) (answer : Answer) (input : Option (List ℕ)) (lanes lanes' : Option Lanes) (written written' : Option (List ℕ))
     → IsDrillFault answer ⊎ Drills settings plan losses max answer input lanes lanes' written written'
     → IsFault (why_of_drill answer) ⊎ DrillsFor settings plan losses max (why_of_drill answer) input lanes lanes' written written'
 drills_for settings plan losses max answer input lanes lanes' written written' (inl fault) = inl (is_drill_fault answer fault)
@@ -58,14 +63,14 @@ due_of : (answer : Answer) (end : StreamEnding) (due : Why) → IsDrillFault ans
 due_of answer end due (inl fault) is = inl (is_drill_fault answer fault)
 due_of answer end due (inr same) is = inr (ap why_of_drill same ∙ same_why end ∙ sym is)
 
-pub exactly : (packets max : ℕ) (answer : Answer) (input : Option (List ℕ))
+exactly : (packets max : ℕ) (answer : Answer) (input : Option (List ℕ))
     → IfSome input (λ bytes. (payloads : List (List ℕ)) (end : StreamEnding) → IsCut packets max bytes payloads end → IsDrillFault answer ⊎ (answer ≡ answer_to end))
     → IfSome input (λ bytes. (due : Why) → IsStreamAnswer packets max bytes due → IsFault (why_of_drill answer) ⊎ (why_of_drill answer ≡ due))
 exactly packets max answer None h = tt
 exactly packets max answer (Some bytes) h = λ due k. due_of answer k.1 due (h k.0 k.1 k.2) k.3
 
 -- how far the stream was read
-pub reads : (settings : Settings) (plan : Plan) (losses : Losses) (max : ℕ) (answer : Answer) (input now : Option (List ℕ)) (lanes lanes' : Option Lanes) (written written' : Option (List ℕ))
+reads : (settings : Settings) (plan : Plan) (losses : Losses) (max : ℕ) (answer : Answer) (input now : Option (List ℕ)) (lanes lanes' : Option Lanes) (written written' : Option (List ℕ))
     → IsDrillFault answer ⊎ Drills settings plan losses max answer input lanes lanes' written written'
     → IfSome input (λ bytes. IsStreamReadFor max (ending_of answer) bytes now) → IfSome input (λ bytes. ReadsStream max (why_of_drill answer) bytes now)
 reads settings plan losses max answer None now lanes lanes' written written' d h = tt
@@ -74,7 +79,7 @@ reads settings plan losses max answer (Some bytes) now lanes lanes' written writ
 reads settings plan losses max answer (Some bytes) now lanes lanes' written written' (inr d) h =
     inr (d.end, ap why_of_drill d.answer_is ∙ same_why d.end, subst (λ (e : Option StreamEnding). IsStreamReadFor max e bytes now) (ap ending_of d.answer_is ∙ told_of d.end) h)
 
-pub all_read : (answer : Answer) (now : Option (List ℕ)) → IfSome (ending_of answer) (λ ending. LeavesNothing ending → IsAtEnd now) → EndsStream (why_of_drill answer) → IsAtEnd now
+all_read : (answer : Answer) (now : Option (List ℕ)) → IfSome (ending_of answer) (λ ending. LeavesNothing ending → IsAtEnd now) → EndsStream (why_of_drill answer) → IsAtEnd now
 all_read (Ok finish.Done) now h ends = h tt
 all_read (Ok finish.ReadFault) now h (inl e) = absurd (let a = e in cc)
 all_read (Ok finish.ReadFault) now h (inr e) = absurd (let a = e.1 in cc)
@@ -95,12 +100,14 @@ all_read (Err (NotTransport (packets.NoSync n))) now h (inl e) = absurd (let a =
 all_read (Err (NotTransport (packets.NoSync n))) now h (inr e) = absurd (let a = e.1 in cc)
 
 -- where it stops
-pub stops : (settings : Settings) (plan : Plan) (losses : Losses) (max : ℕ) (answer : Answer) (input : Option (List ℕ)) (lanes lanes' : Option Lanes)
+pub why_stops : (plan : Plan) (answer : Answer) (records : List Record) (lanes lanes' : Option Lanes) → DrillStops plan answer records lanes lanes' → StopsLanes plan (why_of_drill answer) records lanes lanes'
+why_stops plan answer records lanes lanes' at = (at.0, ap why_of_drill at.1, at.2)
+
+stops : (settings : Settings) (plan : Plan) (losses : Losses) (max : ℕ) (answer : Answer) (input : Option (List ℕ)) (lanes lanes' : Option Lanes)
     → IfSome input (λ bytes. (payloads : List (List ℕ)) (end : StreamEnding) → IsCut settings.packets max bytes payloads end → DrillStops plan answer (records_sent settings losses payloads) lanes lanes')
     → IfSome input (λ bytes. (payloads : List (List ℕ)) (end : StreamEnding) → IsCut settings.packets max bytes payloads end → StopsLanes plan (why_of_drill answer) (records_sent settings losses payloads) lanes lanes')
 stops settings plan losses max answer None lanes lanes' h = tt
-stops settings plan losses max answer (Some bytes) lanes lanes' h = λ payloads end cut.
-    let at = h payloads end cut in (at.0, ap why_of_drill at.1, at.2)
+stops settings plan losses max answer (Some bytes) lanes lanes' h = λ payloads end cut. why_stops plan answer _ _ _ (h payloads end cut)
 
 -- how faults are counted
 read_of : (answer : Answer) → why_of_drill answer ≡ why.ReadFault → answer ≡ Ok finish.ReadFault
@@ -135,3 +142,35 @@ faults answer sources sinks h = record {
   rise = h.rise;
   sinks_rise = h.sinks_rise;
 }
+
+pub drill_answered : {S O K : Type 0} {left : S → Option (List ℕ)} {input_faults : S → ℕ} {input input' : S}
+    {lanes_of : O → Option Lanes} {lane_faults : O → ℕ} {lanes lanes' : O} {written : K → Option (List ℕ)} {out_faults : K → ℕ} {out out' : K}
+    → (settings : Settings) (plan : Plan) (losses : Losses) (max : ℕ) (answer : Answer)
+    → IsDrillFault answer ⊎ Drills settings plan losses max answer (left input) (lanes_of lanes) (lanes_of lanes') (written out) (written out')
+    → IfSome (left input) (λ bytes. (payloads : List (List ℕ)) (end : StreamEnding) → IsCut settings.packets max bytes payloads end → IsDrillFault answer ⊎ (answer ≡ answer_to end))
+    → IfSome (ending_of answer) (λ ending. LeavesNothing ending → IsAtEnd (left input'))
+    → IfSome (left input) (λ bytes. IsStreamReadFor max (ending_of answer) bytes (left input'))
+    → (IsDrillFault answer → DrillsPart settings plan losses max (left input) (lanes_of lanes) (lanes_of lanes') written out out')
+    → (IsDrillFault answer → IfSome (left input) (λ bytes. (payloads : List (List ℕ)) (end : StreamEnding) → IsCut settings.packets max bytes payloads end
+    → DrillStops plan answer (records_sent settings losses payloads) (lanes_of lanes) (lanes_of lanes')))
+    → IfSome (left input) (λ bytes. IsDrillFault answer ⊎ StreamComesBack settings plan losses max bytes (lanes_of lanes) (lanes_of lanes'))
+    → CountsFaults (answer ≡ Ok finish.ReadFault) (answer ≡ Ok finish.WriteFault) ((input_faults input, input_faults input') ∷ [])
+    ((out_faults out, out_faults out') ∷ (lane_faults lanes, lane_faults lanes') ∷ [])
+    → RequestAnswered (Ordered (Drill settings plan losses max)) (why_of_drill answer) left input_faults input input' lanes_of lane_faults lanes lanes' written out_faults out out'
+drill_answered settings plan losses max answer whole is ends read part stopped back counts =
+    let due = exactly settings.packets max answer _ is in
+    record {
+      answers = drills_for settings plan losses max answer _ _ _ _ _ whole;
+      comes_back = told_unless_fault answer _ _ back;
+      exactly = due;
+      complete = complete_told _ _ _ (why_of_drill answer) _ (IsStreamAnswer settings.packets max) due (λ e. counts.read (read_of answer e)) (λ e. counts.write (write_of answer e));
+      part = λ fault. part (drill_fault_of answer fault);
+      stops = λ fault. stops settings plan losses max answer _ _ _ (stopped (drill_fault_of answer fault));
+      no_report = λ last e. absurd last;
+      nothing_read = λ h. absurd h;
+      nothing_written = λ h. absurd h;
+      no_lane = λ h. absurd h;
+      no_input = none_wrong _ _;
+      reads = reads settings plan losses max answer _ _ _ _ _ _ whole read;
+      all_read = all_read answer _ ends;
+    }

@@ -1,8 +1,11 @@
 pub mod Asked
+pub mod Commands
+pub mod Completing
 pub mod Drilled
 pub mod Encoded
 pub mod Lines
 pub mod Reading
+pub mod Repaired
 pub mod Requests
 pub mod Stopping
 pub mod Untouched

@@ -1,3 +1,4 @@
+pub mod Answered
 pub mod Encode
 pub mod Ended
 pub mod Endings

@@ -1,20 +1,14 @@
 //! The program: makes the real source, sinks and folder, and calls [`fg_run::run`].
 #![tactic(auto)]
 
-ghost use Rattle.std.specs.Prelude.{◌≡◌, ◌≤◌, ◌⊎◌, ◌∷◌, [], drop, map, string_bytes, IfOk, IfErr, IfSome, IsErr, OnErr};
-ghost use Rattle.std.specs.Io.KnownBytes.{IsAtEnd};
+ghost use Rattle.std.specs.Prelude.{◌≡◌, ◌≤◌, ◌∷◌, [], drop, map, string_bytes, IfOk, IfErr, IsErr, OnErr};
 ghost use Rattle.std.specs.IoError.{error_kind};
 ghost use Rattle.std.specs.Process.{exit_status};
 ghost use Rattle.std.specs.Str.{IsUtf8};
 ghost use Rattle.std.specs.Vec.Iter.{into_iter_items};
-ghost use Rattle.fg_cli.specs.declared.WordFault.{WordFault as AnyWordFault};
-ghost use Rattle.fg_io.specs.Faults.{CountsFault, CountsFaults};
-ghost use Rattle.fg_run.specs.declared.ended.Why.{Why as AnyWhy};
-ghost use Rattle.fg_run.specs.declared.request.Request.{Request as AnyRequest};
-ghost use Rattle.fg_run.specs.declared.request.Request.TheVariants.{Refused};
-ghost use Rattle.fg_run.specs.Ended.{IsFault, TellsFault, status_of};
-ghost use Rattle.fg_run.specs.Request.{Asks};
-ghost use Rattle.fg_run.specs.Run.{Answers, AnswersPart, ComesBack, IsAnswer, IsNoInput, MakesNoLane, Reads, ReadsAll, ReadsNothing, StopsAt, WritesLast, WritesNothing};
+ghost use Rattle.fg_io.specs.Faults.{CountsFaults};
+ghost use Rattle.fg_run.specs.Answered.{WordsAnswered};
+ghost use Rattle.fg_run.specs.Ended.{TellsFault, status_of};
 
 use fg_io::{
     FolderOutlet, Outlet, Sink, Source, StderrSink, StdinSource, StdoutSink, hold_standard_streams,
@@ -64,55 +58,9 @@ fn run_words<W: Threads + Wait + Sync, S: Source + Send, K: Sink + Send, E: Sink
     ensures no_words_written { OnErr words (out.new ≡ out.old) }
     ensures no_words_made { OnErr words (lanes.new ≡ lanes.old) }
 
-    // What the words ask for, as `run` answers it.
-    ensures answers { IfOk words (λ words. (request : AnyRequest)
-        → Asks (map string_bytes words.items) request
-        → IsFault result.why ⊎ Answers request result.why (S.left input.old)
-        (O.lanes lanes.old) (O.lanes lanes.new) (K.written out.old) (K.written out.new)) }
-    ensures comes_back { IfOk words (λ words. (request : AnyRequest)
-        → Asks (map string_bytes words.items) request
-        → ComesBack request result.why (S.left input.old) (O.lanes lanes.old) (O.lanes lanes.new)) }
-    ensures exactly { IfOk words (λ words. IfSome (S.left input.old) (λ bytes. (request : AnyRequest)
-        → Asks (map string_bytes words.items) request → (why : AnyWhy)
-        → IsAnswer request bytes why → IsFault result.why ⊎ (result.why ≡ why))) }
-    ensures complete { IfOk words (λ words. IfSome (S.left input.old) (λ bytes. (request : AnyRequest)
-        → Asks (map string_bytes words.items) request → (why : AnyWhy) → IsAnswer request bytes why
-        → ¬ CountsFault (S.faults input.old) (S.faults input.new)
-        → ¬ CountsFault (K.faults out.old) (K.faults out.new)
-        → ¬ CountsFault (O.faults lanes.old) (O.faults lanes.new)
-        → (result.why ≡ why) ⊎ (result.why ≡ Why.Memory))) }
-    ensures asked { IfOk words (λ words. (result.why ≡ Why.Memory)
-        ⊎ ((request : AnyRequest) × Asks (map string_bytes words.items) request)) }
-    ensures words { IfOk words (λ words. (fault : AnyWordFault) → result.why ≡ Why.Words fault
-        → Asks (map string_bytes words.items) (Refused fault)) }
-    ensures part { IfOk words (λ words. IsFault result.why → (request : AnyRequest)
-        → Asks (map string_bytes words.items) request
-        → AnswersPart request (S.left input.old) (O.lanes lanes.old) (O.lanes lanes.new)
-        K.written out.old out.new) }
-    ensures stops { IfOk words (λ words. IsFault result.why → (request : AnyRequest)
-        → Asks (map string_bytes words.items) request
-        → StopsAt request result.why (S.left input.old) (O.lanes lanes.old) (O.lanes lanes.new)) }
-    ensures no_report { IfOk words (λ words. (request : AnyRequest)
-        → Asks (map string_bytes words.items) request
-        → WritesLast request → result.why ≡ Why.ReadFault → out.new ≡ out.old) }
-    ensures nothing_read { IfOk words (λ words. (request : AnyRequest)
-        → Asks (map string_bytes words.items) request
-        → ReadsNothing request → input.new ≡ input.old) }
-    ensures nothing_written { IfOk words (λ words. (request : AnyRequest)
-        → Asks (map string_bytes words.items) request
-        → WritesNothing request → out.new ≡ out.old) }
-    ensures no_lane { IfOk words (λ words. (request : AnyRequest)
-        → Asks (map string_bytes words.items) request
-        → MakesNoLane request → lanes.new ≡ lanes.old) }
-    ensures no_input { IfOk words (λ words. IfSome (S.left input.old) (λ bytes. (request : AnyRequest)
-        → Asks (map string_bytes words.items) request → IsNoInput request bytes
-        → (lanes.new ≡ lanes.old) × (out.new ≡ out.old))) }
-    ensures reads { IfOk words (λ words. IfSome (S.left input.old) (λ bytes. (request : AnyRequest)
-        → Asks (map string_bytes words.items) request
-        → Reads request result.why bytes (S.left input.new))) }
-    ensures all_read { IfOk words (λ words. (request : AnyRequest)
-        → Asks (map string_bytes words.items) request
-        → ReadsAll request result.why → IsAtEnd (S.left input.new)) }
+    // What the words ask for is what is done.
+    ensures answered { IfOk words (λ words. WordsAnswered (map string_bytes words.items) result.why
+        S.left S.faults input.old input.new O.lanes O.faults lanes.old lanes.new K.written K.faults out.old out.new) }
 
     // How faults are counted, whatever the words.
     ensures faults { CountsFaults (result.why ≡ Why.ReadFault) (result.why ≡ Why.WriteFault)
