@@ -16,10 +16,10 @@ use Rattle.fg_playout.proofs.OneRun.{one_taking_all}
 use Rattle.fg_playout.proofs.Following.{later_changes_nothing}
 
 -- The first of the plays are these.
-abbrev BeginWith : List Play → List Play → Type 0
+abbrev pub BeginWith : List Play → List Play → Type 0
 BeginWith plays some = (after : List Play) × (plays ≡ some ++ after)
 
-one_more : (play play' : Play) (plays some : List Play) → play' ≡ play → BeginWith plays some → BeginWith (play' ∷ plays) (play ∷ some)
+pub one_more : (play play' : Play) (plays some : List Play) → play' ≡ play → BeginWith plays some → BeginWith (play' ∷ plays) (play ∷ some)
 one_more play play' plays some same begin = (begin.0, λ i. same i ∷ begin.1 i)
 
 append_more : (plays some other rest : List Play) → plays ≡ some ++ rest → BeginWith rest other → BeginWith plays (some ++ other)
