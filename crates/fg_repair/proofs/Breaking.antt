@@ -8,19 +8,12 @@ use Rattle.fg_playout.specs.State.{State, opening}
 use Rattle.fg_playout.specs.Play.{Play}
 use Rattle.fg_playout.specs.Run.{Arrival, carries, protects, refused, ArePlaysDue, TakesAll}
 use Rattle.fg_playout.specs.Laws.{IsRead, HavePlayed, PlayIsOne, OneTaking, LaterChangesNothing}
+use Rattle.fg_playout.proofs.Beginnings.{BeginWith, one_more}
 use Rattle.fg_report.specs.declared.flow_sum.FlowSum.{FlowSum}
 use Rattle.fg_trace.specs.Trace.{Record}
 use Rattle.fg_shape.specs.Playout.{Playout}
-use Rattle.fg_results.specs.Laws.{ShownIsFront}
-use Rattle.fg_repair.specs.Steps.{HasTaken, IsFrontOfLane, PlaysBefore}
+use Rattle.fg_repair.specs.Steps.{HasTaken, PlaysBefore}
 use Rattle.fg_results.specs.Stops.{HasShown}
-
--- The first of the plays are these.
-abbrev BeginWith : List Play → List Play → Type 0
-BeginWith plays some = (after : List Play) × (plays ≡ some ++ after)
-
-one_more : (play play' : Play) (plays some : List Play) → play' ≡ play → BeginWith plays some → BeginWith (play' ∷ plays) (play ∷ some)
-one_more play play' plays some same begin = (begin.0, λ i. same i ∷ begin.1 i)
 
 due_begin :
     PlayIsOne → (old : State) (seq : ℕ) (due plays : List Play) (now new : State)
@@ -54,17 +47,17 @@ next_plays one taken now filled (refused by) rest due after (reply ∷ second) w
 -- So does what follows the plays of the datagrams before.
 pub plays_go_on :
     LaterChangesNothing → OneTaking → PlayIsOne
-    → (playout : Playout) (arrivals rest : List Arrival) (arrival : Arrival) (before due plays : List Play)
+    → (playout : Playout) (arrivals : List Arrival) (arrival : Arrival) (before due plays : List Play)
     (first replies : List (Option Reply)) (taken now filled : State)
     → All IsRead arrivals → TakesAll (opening playout) arrivals before first taken → StaysWithin taken
     → PlaysBefore taken arrival due now
-    → TakesAll (opening playout) (arrivals ++ arrival ∷ rest) plays replies filled
+    → TakesAll (opening playout) (arrivals ++ arrival ∷ []) plays replies filled
     → (after : List Play) × (plays ≡ before ++ (due ++ after))
-plays_go_on later once one playout arrivals rest arrival before due plays first replies taken now filled read takes within played all =
-    let parts = later (opening playout) filled arrivals (arrival ∷ rest) plays replies all in
+plays_go_on later once one playout arrivals arrival before due plays first replies taken now filled read takes within played all =
+    let parts = later (opening playout) filled arrivals (arrival ∷ []) plays replies all in
     let same = once playout arrivals parts.1 before parts.3 first parts.0 taken read parts.5 takes in
-    let begin = next_plays one taken now filled arrival rest due parts.2 parts.4 within played
-    (subst (λ (s : State). TakesAll s (arrival ∷ rest) parts.2 parts.4 filled) same.2 parts.6) in (
+    let begin = next_plays one taken now filled arrival [] due parts.2 parts.4 within played
+    (subst (λ (s : State). TakesAll s (arrival ∷ []) parts.2 parts.4 filled) same.2 parts.6) in (
       begin.0,
       parts.7
           ∙ ap (λ (ps : List Play). ps ++ parts.2) same.0
@@ -84,10 +77,3 @@ shown_of playout flow records state sum lane h = record {
   takes = h.takes;
   bytes_are = h.lane_is;
 }
-
--- It is the front of its lane in every trace that begins with these records.
-pub front_of :
-    ShownIsFront → (playout : Playout) (flow : ℕ) (records : List Record) (state : State) (sum : FlowSum) (lane : List ℕ)
-    → HasTaken playout flow records state sum lane → IsFrontOfLane playout records flow lane
-front_of law playout flow records state sum lane h later result k =
-    law playout flow records later lane result (shown_of playout flow records state sum lane h) k

@@ -1,10 +1,10 @@
 -- The counts of plays, one after another.
-use Rattle.std.proofs.Common.{◌≡◌, ◌+◌, ◌≤◌, ◌==◌, ℕ, Bool, true, false, cond, not, List, [], ◌∷◌, ◌++◌, length, refl, sym, ap, ◌∙◌, arith, length-append}
+use Rattle.std.proofs.Common.{◌≡◌, ◌+◌, ◌≤◌, ℕ, Bool, true, false, cond, not, List, [], ◌∷◌, ◌++◌, length, sym, ap, ◌∙◌, arith, length-append}
 use Rattle.std.specs.List.{count_by}
-use Rattle.std.proofs.lemmas.Bool.Decides.{nat_tests}
 use Rattle.std.proofs.lemmas.List.Sums.{sum_by-append, count_by-le-length}
 use Rattle.fg_playout.specs.Play.{Play, Shown}
-use Rattle.fg_report.specs.Gaps.{run_end, gaps_end, with_gap}
+use Rattle.fg_report.specs.Gaps.{gaps_end, with_gap}
+use Rattle.fg_report.proofs.GapLemmas.{gaps_end-with}
 use Rattle.fg_report.specs.declared.flow_sum.FlowSum.{FlowSum}
 use Rattle.fg_results.specs.Flow.{all_shown, shows_word, is_inconsistent, gaps_from}
 use Rattle.fg_results.proofs.ShownLemmas.{all_shown_more}
@@ -12,30 +12,11 @@ use Rattle.fg_repair.specs.Steps.{with_shown, with_plays, CountsWithin}
 
 -- Where the runs end.
 
-end_step :
-    (run next : ℕ × ℕ) (more : List (ℕ × ℕ)) (first count : ℕ)
-    → gaps_end (run ∷ with_gap (next ∷ more) first count) ≡ gaps_end (with_gap (next ∷ more) first count)
-end_step run next [] first count =
-    elim (run_end next == first) as (λ b. gaps_end (run ∷ cond b ((next.0, next.1 + count) ∷ []) (next ∷ (first, count) ∷ []))
-    ≡ gaps_end (cond b ((next.0, next.1 + count) ∷ []) (next ∷ (first, count) ∷ []))) [ true ↦ refl | false ↦ refl ]
-end_step run next (third ∷ more) first count = refl
-
-end_one :
-    (run : ℕ × ℕ) (first count : ℕ) (b : Bool) → (run_end run == first) ≡ b
-    → gaps_end (cond b ((run.0, run.1 + count) ∷ []) (run ∷ (first, count) ∷ [])) ≡ first + count
-end_one run first count true is = (let same : run_end run ≡ first = grind (arith, nat_tests) in omega arith)
-end_one run first count false is = refl
-
-end_with : (runs : List (ℕ × ℕ)) (first count : ℕ) → gaps_end (with_gap runs first count) ≡ first + count
-end_with [] first count = refl
-end_with (run ∷ []) first count = end_one run first count (run_end run == first) refl
-end_with (run ∷ next ∷ more) first count = end_step run next more first count ∙ end_with (next ∷ more) first count
-
 end_after :
     (gaps : List (ℕ × ℕ)) (position : ℕ) (b : Bool) → gaps_end gaps ≤ position
     → gaps_end (cond b gaps (with_gap gaps position 1)) ≤ position + 1
 end_after gaps position true behind = omega (arith, behind)
-end_after gaps position false behind = (let end = end_with gaps position 1 in omega (arith, end))
+end_after gaps position false behind = (let end = gaps_end-with gaps position 1 in omega (arith, end))
 
 pub gaps_end_within :
     (gaps : List (ℕ × ℕ)) (position : ℕ) (shown : List Shown) → gaps_end gaps ≤ position

@@ -1,12 +1,12 @@
 -- The first ports of a list, and the lanes that were made for them.
 use Rattle.std.proofs.Common.{◌≡◌, ◌⊎◌, inl, inr, ℕ, ◌+◌, ◌<◌, Option, Some, None, IsSome, List, [], length, take, slice_index, refl, sym, ap, ◌∙◌, subst, arith}
 use Rattle.std.specs.List.{Contains}
-use Rattle.std.proofs.Math.Seq.{take-length}
 use Rattle.std.proofs.lemmas.Bool.{cases_eq}
 use Rattle.std.proofs.lemmas.List.{get_or_default, get_or-take, length-take}
 use Rattle.fg_io.specs.Outlet.{Lanes, lane_of, WhereTold}
 use Rattle.fg_repair.specs.Engine.{LanesGrow, GrowAll, MakesFirst}
 use Rattle.fg_results.specs.Lanes.{OthersStay}
+use Rattle.fg_results.proofs.StopLemmas.{first_in}
 use Rattle.fg_repair.specs.Steps.{LaneGrows, Grows}
 use Rattle.fg_repair.proofs.Lanes.{AreMade, contains_at, there_at}
 
@@ -35,14 +35,6 @@ first_at ports i port c =
       inside = inside;
       is = get_or_default ports c.0 0 port inside ∙ sym (get_or-take i ports c.0 port below) ∙ c.2;
     }
-
-pub first_in : (ports : List ℕ) (i port : ℕ) → Contains (take i ports) port → Contains ports port
-first_in ports i port c =
-    let f = first_at ports i port c in
-    subst (Contains ports) f.is (contains_at ports f.at f.inside)
-
-pub first_all : (ports : List ℕ) (port : ℕ) → Contains ports port → Contains (take (length ports) ports) port
-first_all ports port c = subst (λ (ps : List ℕ). Contains ps port) (sym (take-length ports)) c
 
 first_more : (ports : List ℕ) (i port : ℕ) → Contains (take i ports) port → Contains (take (i + 1) ports) port
 first_more ports i port c =

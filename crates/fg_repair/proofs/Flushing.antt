@@ -1,5 +1,5 @@
 -- How the flows of a repair are flushed, one after another.
-use Rattle.std.proofs.Common.{◌≡◌, ◌⊎◌, inl, inr, ℕ, suc, ◌+◌, ◌<◌, ◌≤◌, ◌^◌, nat_lt, Bool, true, false, Option, Some, None, IsSome, List, [], ◌∷◌, ◌++◌, length, map, set, slice_index, unwrap_or, refl, sym, ap, ◌∙◌, subst, arith, append-nil}
+use Rattle.std.proofs.Common.{◌≡◌, ◌⊎◌, inl, inr, ℕ, suc, ◌+◌, ◌<◌, ◌≤◌, ◌^◌, nat_lt, Bool, true, false, Option, Some, None, IsSome, List, [], ◌∷◌, ◌++◌, length, map, set, slice_index, unwrap_or, refl, sym, ap, ◌∙◌, subst, arith}
 use Rattle.std.specs.List.{AllZip, Contains, slice_index_or}
 use Rattle.std.proofs.lemmas.Bool.{cases_eq}
 use Rattle.std.proofs.lemmas.Bool.Decides.{nat_tests}
@@ -20,8 +20,7 @@ use Rattle.fg_results.specs.Lanes.{PutsAll}
 use Rattle.fg_results.specs.Repair.{lanes_of}
 use Rattle.fg_repair.specs.Steps.{HasTaken, IsUnderway, BeginsLane, EndsFlow, BreaksAtEnd}
 use Rattle.fg_results.specs.Stops.{Flushing, HasGained, HasGainedPart}
-use Rattle.fg_results.specs.Laws.{OneFlowResult, ShownIsFront}
-use Rattle.fg_repair.proofs.Breaking.{shown_of, front_of}
+use Rattle.fg_repair.proofs.Breaking.{shown_of}
 use Rattle.fg_repair.proofs.Firsts.{first_has, first_at}
 use Rattle.fg_repair.proofs.Lanes.{more, more_same, more_other, grow_more, there_more, contains_at}
 use Rattle.fg_repair.proofs.Standing.{moved, flow_taken, ports_differ}
@@ -125,24 +124,6 @@ flushing_more law plan good records i items before now after old new short at en
 
 -- A fault
 
-begins_of : OneFlowResult → ShownIsFront → (ended : Bool) (plan : Plan) (records : List Record) (port : ℕ) (flow : Flow) (lane : List ℕ) → FlowEnds ended plan records port flow lane → BeginsLane (playout_of plan) records port lane
-begins_of one front true plan records port flow lane h result k =
-    let same : result ≡ record { lane = lane; sum = flow.sum } = one (playout_of plan) port records result (record { lane = lane; sum = flow.sum }) k h in
-    ([], ap (λ (r : FlowResult). r.lane) same ∙ sym (append-nil lane))
-begins_of one front false plan records port flow lane h result k =
-    front_of front (playout_of plan) port records flow.desk.state flow.sum lane h.taken [] result
-    (subst (λ (rs : List Record). IsFlowResult (playout_of plan) rs port result) (sym (append-nil records)) k)
-
-begins_at : OneFlowResult → ShownIsFront → (plan : Plan) (records : List Record) (i : ℕ) (items : List Flow) (before now : Option Lanes) (h : IsFlushing plan records i items before now) → Flow → (flow : ℕ) (part : List ℕ) → BeginsLane (playout_of plan) records flow (h.gained flow ++ part) → (port : ℕ) → Contains plan.table port → (port ≡ flow) ⊎ (port ≡ flow → ⊥) → BeginsLane (playout_of plan) records port (more h.gained flow part port)
-begins_at one front plan records i items before now h any flow part begins port c (inl e) =
-    subst (λ p. BeginsLane (playout_of plan) records p (more h.gained flow part p)) (sym e)
-    (subst (λ (lane : List ℕ). BeginsLane (playout_of plan) records flow lane) (sym (more_same h.gained flow part)) begins)
-begins_at one front plan records i items before now h any flow part begins port c (inr ne) =
-    let same : slice_index plan.table c.0 ≡ port = get_or_default plan.table c.0 0 port c.1 ∙ c.2 in
-    subst (λ (lane : List ℕ). BeginsLane (playout_of plan) records port lane) (sym (more_other h.gained flow part port ne))
-    (subst (λ p. BeginsLane (playout_of plan) records p (h.gained p)) same
-    (begins_of one front (nat_lt c.0 i) plan records (slice_index plan.table c.0) (slice_index_or items c.0 any) (h.gained (slice_index plan.table c.0)) (h.ends c.0 any c.1)))
-
 -- What a flow's lane has gained, where the first are flushed.
 gained_at :
     OneFlowHasAPort → (plan : Plan) → IsTable plan.table → (records : List Record) (i k : ℕ) (flow : Flow) (lane : List ℕ) → k < length plan.table → (ended : Bool) → nat_lt k i ≡ ended
@@ -197,10 +178,10 @@ exact_at law plan good records i items before now h any part inside begins port 
     (gained_at law plan good records i c.0 (slice_index_or items c.0 any) (h.gained (slice_index plan.table c.0)) c.1 (nat_lt c.0 i) refl (h.ends c.0 any c.1))))
 
 pub flushing_stops :
-    OneFlowResult → ShownIsFront → OneFlowHasAPort → (plan : Plan) → IsTable plan.table → (records : List Record) (i : ℕ) (items : List Flow) (before now after : Option Lanes) (old : Flow)
+    OneFlowHasAPort → (plan : Plan) → IsTable plan.table → (records : List Record) (i : ℕ) (items : List Flow) (before now after : Option Lanes) (old : Flow)
     → i < length items → old ≡ slice_index_or items i old → Stops old now after
     → IsFlushing plan records i items before now → BreaksAtFlush plan records before after
-flushing_stops one front law plan good records i items before now after old short at stops h =
+flushing_stops law plan good records i items before now after old short at stops h =
     let flow = slice_index plan.table i in
     let inside : i < length plan.table = subst (λ n. i < n) h.long short in
     let step : BreaksAtEnd (playout_of plan) flow records (h.gained flow) now after = flow_stops plan records flow old (h.gained flow) now after stops (next_stands plan records i items before now old h short at) in
@@ -211,7 +192,6 @@ flushing_stops one front law plan good records i items before now after old shor
       grow = grow_more before now after plan.table h.gained flow step.part (contains_at plan.table i inside) h.grow step.grows;
       there = there_more now after plan.table flow step.part h.there step.grows;
       exact = λ port c. exact_at law plan good records i items before now h old step.part inside step.begins port c (cases_eq port flow);
-      begin = λ port c. begins_at one front plan records i items before now h old flow step.part step.begins port c (cases_eq port flow);
     }
 
 -- All are flushed

@@ -1,7 +1,7 @@
 -- A lane that grows piece by piece.
 use Rattle.std.proofs.Common.{◌++◌, ℕ, List, [], Option, Some, None, refl, sym, ap, ◌∙◌, append_assoc}
 use Rattle.std.proofs.lemmas.List.{append-nil}
-use Rattle.fg_io.specs.Prefix.{IsPrefix}
+use Rattle.fg_io.proofs.PrefixLemmas.{IsPrefix-append}
 use Rattle.fg_io.specs.Outlet.{Lanes, lane_bytes}
 use Rattle.fg_repair.specs.Steps.{LaneGrows, Grows, GrowsPart}
 
@@ -36,18 +36,11 @@ grows_join None (Some second) third port piece more one other = absurd one
 grows_join None None (Some third) port piece more one other = absurd other
 grows_join None None None port piece more one other = tt
 
-pub prefix_none : (whole : List ℕ) → IsPrefix [] whole
-prefix_none whole = (whole, refl)
-
-pub prefix_join : (front part whole : List ℕ) → IsPrefix part whole → IsPrefix (front ++ part) (front ++ whole)
-prefix_join front part whole is =
-    (is.0, ap (λ (bytes : List ℕ). front ++ bytes) is.1 ∙ sym (append_assoc front part is.0))
-
 pub grows_part_join :
     (first second third : Option Lanes) (port : ℕ) (piece more : List ℕ) → Grows first port piece second
     → GrowsPart second port more third → GrowsPart first port (piece ++ more) third
 grows_part_join first second third port piece more one part = (
   piece ++ part.0,
-  prefix_join piece part.0 more part.1,
+  IsPrefix-append piece part.0 more part.1,
   grows_join first second third port piece part.0 one part.2,
 )

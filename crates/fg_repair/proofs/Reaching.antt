@@ -1,7 +1,7 @@
 -- How far the input is read.
-use Rattle.std.proofs.Common.{◌≡◌, ◌⊎◌, inl, inr, ℕ, ◌+◌, ◌<◌, ◌≤◌, Option, Some, None, IfSome, Result, Ok, Err, List, [], length, sym, ap, subst, refl, arith}
+use Rattle.std.proofs.Common.{◌≡◌, ◌⊎◌, inl, inr, ℕ, ◌+◌, ◌<◌, ◌≤◌, Option, Some, None, IfSome, Result, Ok, Err, List, [], length, subst, refl, arith}
 use Rattle.std.specs.Io.KnownBytes.{IsAtEnd}
-use Rattle.std.specs.Result.{IsErr, IsErrAnd}
+use Rattle.std.specs.Result.{IsErr}
 use Rattle.fg_trace.specs.declared.step.Finish.{Finish}
 use Rattle.fg_trace.specs.declared.step.Finish.TheVariants as finish
 use Rattle.fg_report.specs.declared.tail.Tail.{Tail}
@@ -13,7 +13,7 @@ use Rattle.fg_trace.specs.Trace.{IsTrace, NotTrace}
 use Rattle.fg_trace.specs.Reading.{most_held, HasReached, IsReadFor}
 use Rattle.fg_io.specs.declared.fault.Fault.{Fault}
 use Rattle.fg_io.specs.declared.fault.Fault.TheVariants.{Read, Write, Memory}
-use Rattle.fg_repair.specs.Engine.{HasRead, told_finish, fault_finish, answer_of}
+use Rattle.fg_repair.specs.Engine.{HasRead, told_finish, answer_of}
 
 -- At an answer
 
@@ -32,10 +32,6 @@ fault_is (Ok x) is = absurd cc
 fault_is (Err Read) is = tt
 fault_is (Err Write) is = tt
 fault_is (Err Memory) is = tt
-
-pub passed_on : (r : Result Finish Fault) (e : Fault) → IsErrAnd r (λ x. x ≡ e) → fault_finish e ≡ answer_of r
-passed_on (Ok x) e h = absurd h
-passed_on (Err y) e h = ap fault_finish (sym h)
 
 pub told_ends : (told : Tail) → IsFault (told_finish told) → ⊥
 told_ends tail.Ended fault = absurd fault

@@ -1,7 +1,8 @@
 -- Plays are made and shown one after another.
-use Rattle.std.proofs.Common.{◌≡◌, ◌+◌, ◌-◌, ◌<◌, ◌≤◌, ◌++◌, ℕ, List, [], ◌∷◌, length, min, Bool, false, true, IsTrue, Option, Result, Ok, Err, OnErr, refl, sym, ap, subst, ◌∙◌, arith, length-append}
+use Rattle.std.proofs.Common.{◌≡◌, ◌+◌, ◌-◌, ◌≤◌, ◌++◌, ℕ, List, [], ◌∷◌, length, min, Bool, false, true, IsTrue, Option, refl, sym, ap, subst, ◌∙◌, arith, length-append}
 use Rattle.std.proofs.lemmas.List.{append-nil}
 use Rattle.fg_io.specs.Outlet.{Lanes}
+use Rattle.fg_io.proofs.PrefixLemmas.{IsPrefix-nil}
 use Rattle.fg_playout.specs.State.{State}
 use Rattle.fg_playout.specs.Admission.{IsDue}
 use Rattle.fg_playout.specs.Play.{Play, IsPlay, IsFlushStep}
@@ -11,7 +12,7 @@ use Rattle.fg_results.specs.Flow.{all_shown, lane_of}
 use Rattle.fg_repair.specs.Steps.{with_plays, CountsWithin, Grows, GrowsPart, HaveShown, BreakOff}
 use Rattle.fg_results.proofs.ShownLemmas.{all_shown_more, lane_more}
 use Rattle.fg_repair.proofs.Counting.{plays_more, plays_within}
-use Rattle.fg_repair.proofs.Growing.{grows_none, grows_join, prefix_none, grows_part_join}
+use Rattle.fg_repair.proofs.Growing.{grows_none, grows_join, grows_part_join}
 
 shown_of_one : (play : Play) → length (all_shown (play ∷ [])) ≡ length play.shown
 shown_of_one play = ap length (append-nil play.shown)
@@ -43,7 +44,7 @@ breaks_before Are old port lanes are = record {
   plays = [];
   now = old;
   are = are;
-  part = (([]), prefix_none [], grows_none lanes port);
+  part = (([]), IsPrefix-nil [], grows_none lanes port);
 }
 
 -- What was made so, may be told otherwise.
@@ -128,24 +129,8 @@ step_after old between new play join step plays steps = join old between new pla
 pub fails : (P : Type 0) (b : Bool) → b ≡ false → (P → IsTrue b) → ¬ P
 fails P b isnt all p = (let yes : b ≡ true = all p in cc)
 
--- A play moves the mark nearer to its limit.
-pub nearer : (limit mark next count : ℕ) → next ≡ mark + count → 1 ≤ count → mark < limit → limit - next < limit - mark
-nearer limit mark next count is some room = omega arith
-
--- What holds, holds where there is an error.
-pub on_err : {T E P : Type 0} (r : Result T E) → P → OnErr r P
-on_err (Ok x) holds = tt
-on_err (Err e) holds = holds
-
--- A step of a flush plays one position at least, and moves the mark nearer to its limit.
+-- A step of a flush plays one position at least.
 pub step_shows :
     (old new : State) (play : Play) (step : IsFlushStep old play new) → 1 ≤ old.playout.window
     → 1 ≤ min old.playout.window (step.highest + 1 - old.mark)
 step_shows old new play step some = (let more : old.mark ≤ step.highest = step.more in omega (arith, more, some))
-
-pub step_nearer :
-    (limit : ℕ) (old new : State) (play : Play) → IsFlushStep old play new → 1 ≤ old.playout.window → old.mark < limit
-    → limit - new.mark < limit - old.mark
-step_nearer limit old new play step some room =
-    nearer limit old.mark new.mark (min old.playout.window (step.highest + 1 - old.mark)) step.plays.mark
-    (step_shows old new play step some) room

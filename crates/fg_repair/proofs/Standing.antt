@@ -1,5 +1,5 @@
 -- How the flows of a repair stand, record after record.
-use Rattle.std.proofs.Common.{◌≡◌, ◌⊎◌, inl, inr, ℕ, ◌+◌, ◌<◌, Bool, true, false, not, cond, Option, Some, List, [], ◌∷◌, ◌++◌, length, set, slice_index, refl, sym, ap, ◌∙◌, subst, arith, append_assoc, append-nil, zero-add, add-zero, ◌≤◌}
+use Rattle.std.proofs.Common.{◌≡◌, ◌⊎◌, inl, inr, ℕ, ◌+◌, ◌<◌, Bool, true, false, not, cond, Option, Some, List, [], ◌∷◌, ◌++◌, length, set, slice_index, refl, sym, ap, ◌∙◌, subst, arith, append-nil, zero-add, add-zero}
 use Rattle.std.specs.List.{AllZip, Contains, list_any, slice_index_or}
 use Rattle.std.specs.Vec.{with_item}
 use Rattle.std.proofs.lemmas.Bool.{cases_eq}
@@ -7,7 +7,7 @@ use Rattle.std.proofs.lemmas.Bool.Decides.{nat_tests}
 use Rattle.std.proofs.lemmas.List.{get_or-set_same, get_or-set_other, get_or_default, get_or_push, get_or_append_left, length-set}
 use Rattle.std.proofs.lemmas.List.Elements.{filter-append, All-from_get_or}
 use Rattle.std.proofs.lemmas.List.Folds.{list_any_at, list_any_none}
-use Rattle.std.proofs.lemmas.List.Sums.{sum_by-append, count_by-le-length}
+use Rattle.std.proofs.lemmas.List.Sums.{sum_by-append}
 use Rattle.fg_io.specs.Prefix.{IsPrefix}
 use Rattle.fg_io.specs.Outlet.{Lanes}
 use Rattle.fg_trace.specs.Trace.{Record}
@@ -27,12 +27,12 @@ use Rattle.fg_report.specs.declared.flow_sum.FlowSum.{FlowSum}
 use Rattle.fg_repair.specs.declared.engine.Engine.{Engine}
 use Rattle.fg_repair.specs.declared.flow.Flow.{Flow}
 use Rattle.fg_repair.specs.Engine.{FlowStands, EngineStands, HasCome, BreaksAfter}
-use Rattle.fg_results.specs.Flow.{Arrives, records_of, is_of, IsFlowResult}
+use Rattle.fg_results.specs.Flow.{Arrives, records_of, is_of}
 use Rattle.fg_results.specs.Repair.{others_of}
-use Rattle.fg_repair.specs.Steps.{HasTaken, IsFrontOfLane, TakesRecord, BreaksAtRecord}
+use Rattle.fg_repair.specs.Steps.{HasTaken, TakesRecord, BreaksAtRecord}
 use Rattle.fg_results.specs.Stops.{HasShown, LiesBetween}
-use Rattle.fg_results.specs.Laws.{ShownIsFront}
-use Rattle.fg_repair.proofs.Breaking.{shown_of, front_of}
+use Rattle.fg_repair.proofs.Breaking.{shown_of}
+use Rattle.fg_results.proofs.ArrivalLemmas.{is_of_its_flow}
 use Rattle.fg_repair.proofs.Lanes.{more, more_same, more_other, grow_more, there_more, contains_at}
 
 -- Before the first record
@@ -74,11 +74,6 @@ is_of_no flow r never =
     let row : flow + 4 ≡ r.port → ⊥ = never kind.Row in
     grind (arith, nat_tests)
 
-pub is_of_yes : (flow : ℕ) (r : Record) (k : Kind) → port_of flow k ≡ r.port → is_of flow r ≡ true
-is_of_yes flow r kind.Media e = grind (arith, nat_tests)
-is_of_yes flow r kind.Column e = grind (arith, nat_tests)
-is_of_yes flow r kind.Row e = grind (arith, nat_tests)
-
 not_of : (port : ℕ) (records : List Record) (r : Record) → is_of port r ≡ false → records_of port (records ++ r ∷ []) ≡ records_of port records
 not_of port records r e =
     filter-append (is_of port) records (r ∷ [])
@@ -110,7 +105,7 @@ others_more table records r found e =
 
 pub others_of_flow : (table : List ℕ) (records : List Record) (r : Record) (i : ℕ) (kind : Kind) → IsPortOf table r.port i kind → others_of table (records ++ r ∷ []) ≡ others_of table records
 others_of_flow table records r i kind h =
-    others_more table records r true (list_any_at (λ flow. is_of flow r) table i 0 h.0 (is_of_yes (slice_index table i) r kind h.1))
+    others_more table records r true (list_any_at (λ flow. is_of flow r) table i 0 h.0 (is_of_its_flow (slice_index table i) kind r h.1))
     ∙ add-zero (others_of table records)
 
 -- The record is on no flow's port.
@@ -123,9 +118,6 @@ none_at table r none k below = is_of_no (slice_index table k) r (λ kind e. none
 pub others_of_none : (table : List ℕ) (records : List Record) (r : Record) → IsOfNone table r.port → others_of table (records ++ r ∷ []) ≡ others_of table records + 1
 others_of_none table records r none =
     others_more table records r false (list_any_none (λ flow. is_of flow r) table (All-from_get_or (λ flow. is_of flow r ≡ false) table 0 (λ k below. none_at table r none k below)))
-
-pub few_others : (table : List ℕ) (records : List Record) → others_of table records ≤ length records
-few_others table records = count_by-le-length (λ r. not (list_any (λ flow. is_of flow r) table)) records
 
 pub come_none : (plan : Plan) (engine : Engine) (port : ℕ) → IsOfNone plan.table port → (before now : Option Lanes) (records : List Record) (r : Record) → HasCome plan records engine before now → r.port ≡ port → HasCome plan (records ++ r ∷ []) (record { flows = engine.flows; piece = engine.piece; other = engine.other + 1 }) before now
 come_none plan engine port none before now records r h e =
@@ -240,29 +232,9 @@ come_some law plan good engine port i kind of old new shared at keeps datagram n
 
 -- A fault
 
-front_more : (playout : Playout) (records : List Record) (r : Record) (port : ℕ) (lane : List ℕ) → IsFrontOfLane playout records port lane → IsFrontOfLane playout (records ++ r ∷ []) port lane
-front_more playout records r port lane f later result h = f (r ∷ later) result (subst (λ (rs : List Record). IsFlowResult playout rs port result) (append_assoc records (r ∷ []) later) h)
-
 some_flow : (items : List Flow) → 0 < length items → Flow
 some_flow [] h = absurd (omega arith)
 some_flow (f ∷ items) h = f
-
--- what a flow of the table has shown is its lane's front
-pub front_at : ShownIsFront → (plan : Plan) (records : List Record) (engine : Engine) (gained : ℕ → List ℕ) → EngineStands plan records engine gained → (port : ℕ) → Contains plan.table port → IsFrontOfLane (playout_of plan) records port (gained port)
-front_at law plan records engine gained h port c =
-    let any = some_flow engine.flows.items (omega (arith, h.count, c.1)) in
-    let same : slice_index plan.table c.0 ≡ port = get_or_default plan.table c.0 0 port c.1 ∙ c.2 in
-    let stands : FlowStands plan records (slice_index plan.table c.0) (slice_index_or engine.flows.items c.0 any) (gained (slice_index plan.table c.0)) = h.flows c.0 any c.1 in
-    subst (λ p. IsFrontOfLane (playout_of plan) records p (gained p)) same
-    (front_of law (playout_of plan) (slice_index plan.table c.0) records _ _ (gained (slice_index plan.table c.0)) stands.taken)
-
-broken_at : ShownIsFront → (plan : Plan) (records : List Record) (r : Record) (engine : Engine) (gained : ℕ → List ℕ) → EngineStands plan records engine gained → (flow : ℕ) (part : List ℕ) → IsFrontOfLane (playout_of plan) (records ++ r ∷ []) flow (gained flow ++ part) → (port : ℕ) → Contains plan.table port → (port ≡ flow) ⊎ (port ≡ flow → ⊥) → IsFrontOfLane (playout_of plan) (records ++ r ∷ []) port (more gained flow part port)
-broken_at law plan records r engine gained h flow part f port c (inl e) =
-    subst (λ p. IsFrontOfLane (playout_of plan) (records ++ r ∷ []) p (more gained flow part p)) (sym e)
-    (subst (λ (lane : List ℕ). IsFrontOfLane (playout_of plan) (records ++ r ∷ []) flow lane) (sym (more_same gained flow part)) f)
-broken_at law plan records r engine gained h flow part f port c (inr ne) =
-    subst (λ (lane : List ℕ). IsFrontOfLane (playout_of plan) (records ++ r ∷ []) port lane) (sym (more_other gained flow part port ne))
-    (front_more (playout_of plan) records r port (gained port) (front_at law plan records engine gained h port c))
 
 -- what a flow of the table has shown
 pub shown_at : (plan : Plan) (records : List Record) (engine : Engine) (gained : ℕ → List ℕ) → EngineStands plan records engine gained → (port : ℕ) → Contains plan.table port → HasShown (playout_of plan) port records (gained port)
@@ -290,12 +262,12 @@ exact_at plan records r engine gained h flow part here next port c (inr ne) =
     inl (subst (λ (lane : List ℕ). HasShown (playout_of plan) port records lane) (sym (more_other gained flow part port ne)) (shown_at plan records engine gained h port c))
 
 pub breaks_some :
-    ShownIsFront → (plan : Plan) (engine : Engine) (port i : ℕ) (kind : Kind) → IsPortOf plan.table port i kind
+    (plan : Plan) (engine : Engine) (port i : ℕ) (kind : Kind) → IsPortOf plan.table port i kind
     → (old : Flow) → old ≡ slice_index_or engine.flows.items i old
     → (datagram : List ℕ) (now after : Option Lanes) → Breaks old kind datagram now after
     → (before : Option Lanes) (records : List Record) (r : Record) → HasCome plan records engine before now → r.port ≡ port → r.datagram ≡ datagram
     → (broken : Option ℕ) × BreaksAfter plan records (records ++ r ∷ []) broken before after
-breaks_some law plan engine port i kind of old at datagram now after breaks before records r h e same =
+breaks_some plan engine port i kind of old at datagram now after breaks before records r h e same =
     let here : IsPortOf plan.table r.port i kind = subst (λ p. IsPortOf plan.table p i kind) (sym e) of in
     let flow = slice_index plan.table i in
     let stood : FlowStands plan records flow old (h.gained flow) = subst (λ (f : Flow). FlowStands plan records flow f (h.gained flow)) (sym at) (h.stands.flows i old of.0) in
@@ -306,6 +278,5 @@ breaks_some law plan engine port i kind of old at datagram now after breaks befo
         grow = grow_more before now after plan.table h.gained flow step.part (contains_at plan.table i of.0) h.grow step.grows;
         there = there_more now after plan.table flow step.part h.there step.grows;
         exact = λ q c. exact_at plan records r engine h.gained h.stands flow step.part (contains_at plan.table i of.0) step.next q c (cases_eq q flow);
-        fronts = λ q c. broken_at law plan records r engine h.gained h.stands flow step.part step.front q c (cases_eq q flow);
       },
     )

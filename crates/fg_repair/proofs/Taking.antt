@@ -1,6 +1,6 @@
 -- What was taken, and what comes next of it.
 use Rattle.std.proofs.Common.{◌≡◌, ◌+◌, ◌≤◌, ◌++◌, ℕ, List, [], ◌∷◌, length, Option, refl, sym, ap, subst, ◌∙◌, arith, append_assoc}
-use Rattle.std.specs.List.{All, AllZip}
+use Rattle.std.specs.List.{AllZip}
 use Rattle.std.proofs.lemmas.List.{append-nil}
 use Rattle.fg_io.specs.Prefix.{IsPrefix}
 use Rattle.fg_io.specs.Outlet.{Lanes}
@@ -14,15 +14,15 @@ use Rattle.fg_shape.specs.declared.kind.Kind.TheVariants as kind
 use Rattle.fg_shape.specs.Playout.{Playout}
 use Rattle.fg_playout.specs.State.{State, opening}
 use Rattle.fg_playout.specs.Play.{Play}
-use Rattle.fg_playout.specs.Run.{Arrival, carries, protects, refused, TakesAll, IsFlush, IsRun}
+use Rattle.fg_playout.specs.Run.{Arrival, TakesAll, IsFlush, IsRun}
 use Rattle.fg_desk.specs.Arrivals.{StaysWithin}
-use Rattle.fg_playout.specs.Laws.{IsRead, LaterChangesNothing, OneTaking, PlayIsOne, AreFlushSteps, TakingsJoin, TakenPlaysComeFirst, DuePlaysComeNext, FlushStepsComeNext, PlaysReachTheMark, EachGetsAReply, CountsAdd}
+use Rattle.fg_playout.specs.Laws.{LaterChangesNothing, OneTaking, PlayIsOne, AreFlushSteps, TakingsJoin, FlushStepsComeNext, PlaysReachTheMark, EachGetsAReply, CountsAdd}
 use Rattle.fg_report.specs.declared.flow_sum.FlowSum.{FlowSum}
 use Rattle.fg_results.specs.Flow.{FlowResult, IsFlowResult, IsReadAs, Arrives, records_of, all_shown, marks_of, lane_of, sum_of}
-use Rattle.fg_repair.specs.Steps.{HasTaken, HaveShown, BreakOff, AdmitsDatagram, PlaysBefore, BreaksAtDatagram, TakesRecord, BreaksAtRecord, EndsFlow, BreaksAtEnd, with_plays, with_answer}
+use Rattle.fg_repair.specs.Steps.{HasTaken, HaveShown, BreakOff, AdmitsDatagram, BreaksAtDatagram, TakesRecord, BreaksAtRecord, EndsFlow, BreaksAtEnd, with_plays, with_answer}
 use Rattle.fg_results.specs.Stops.{HasShown}
 use Rattle.fg_repair.proofs.Breaking.{plays_go_on}
-use Rattle.fg_results.proofs.ArrivalLemmas.{one_more_record, and_later_records, arrivals_are_read, one_list_arrives, arrivals_begin}
+use Rattle.fg_results.proofs.ArrivalLemmas.{one_more_record, arrivals_are_read, one_list_arrives}
 use Rattle.fg_repair.proofs.Answering.{answer_added}
 use Rattle.fg_results.proofs.ShownLemmas.{lane_more}
 use Rattle.fg_repair.proofs.Counting.{plays_more}
@@ -178,60 +178,34 @@ record_taken reach join add each playout kind bytes state new sum sum' last repl
     }
 
 module _ (media : MediaReadsOneWay) (parity : ParityReadsOneWay) where
-  -- The run of a trace that goes on has this datagram next.
-  goes_on :
-      (playout : Playout) (flow : ℕ) (kind : Kind) (bytes : List ℕ) (state : State) (sum : FlowSum) (arrival : Arrival) → IsReadAs kind bytes arrival
-      → (records : List Record) (r : Record) (lane : List ℕ) (taken : HasTaken playout flow records state sum lane)
-      → r.datagram ≡ bytes → port_of flow kind ≡ r.port → (later : List Record) (arrivals : List Arrival)
-      → AllZip (Arrives flow) (records_of flow ((records ++ r ∷ []) ++ later)) arrivals
-      → (rest : List Arrival) × (arrivals ≡ taken.arrivals ++ arrival ∷ rest)
-  goes_on playout flow kind bytes state sum arrival read records r lane taken is on later arrivals arrive =
-      let own = and_later_records flow kind records later r on in
-      let first : AllZip (Arrives flow) (records_of flow records ++ r ∷ []) (taken.arrivals ++ arrival ∷ []) =
-      zip_push (Arrives flow) (records_of flow records) taken.arrivals r arrival taken.arrive
-      (kind, on, subst (λ (bytes : List ℕ). IsReadAs kind bytes arrival) (sym is) read) in
-      let begin = arrivals_begin media parity flow (records_of flow records ++ r ∷ []) (records_of flow later) (taken.arrivals ++ arrival ∷ []) arrivals
-      first (subst (λ (all : List Record). AllZip (Arrives flow) all arrivals) own arrive) in
-      (begin.0, begin.1 ∙ append_assoc taken.arrivals (arrival ∷ []) begin.0)
-
-  -- Its plays come next.
-  plays_next :
-      DuePlaysComeNext → TakenPlaysComeFirst
-      → (playout : Playout) (state now : State) (arrival : Arrival) (arrivals rest : List Arrival) (before due plays : List Play)
-      (first replies : List (Option Reply)) → All IsRead arrivals → TakesAll (opening playout) arrivals before first state
-      → PlaysBefore state arrival due now → IsRun playout (arrivals ++ arrival ∷ rest) plays replies
-      → (after : List Play) × (plays ≡ before ++ (due ++ after))
-  plays_next next come playout state now (carries seq word) arrivals rest before due plays first replies read takes played run =
-      next playout seq word arrivals rest before due plays first replies state now read takes played run
-  plays_next next come playout state now (protects by parity) arrivals rest before due plays first replies read takes played run =
-      let begin = come playout arrivals (protects by parity ∷ rest) before plays first replies state read takes run in
-      (begin.0, begin.1 ∙ ap (λ (ps : List Play). before ++ (ps ++ begin.0)) (sym played))
-  plays_next next come playout state now (refused by) arrivals rest before due plays first replies read takes played run =
-      let begin = come playout arrivals (refused by ∷ rest) before plays first replies state read takes run in
-      (begin.0, begin.1 ∙ ap (λ (ps : List Play). before ++ (ps ++ begin.0)) (sym played))
+  -- What arrives with one more record is what arrived before and this datagram.
+  one_more_arrives :
+      (flow : ℕ) (kind : Kind) (bytes : List ℕ) (arrival : Arrival) → IsReadAs kind bytes arrival
+      → (records : List Record) (r : Record) (taken arrivals : List Arrival) → AllZip (Arrives flow) (records_of flow records) taken
+      → r.datagram ≡ bytes → port_of flow kind ≡ r.port → AllZip (Arrives flow) (records_of flow (records ++ r ∷ [])) arrivals
+      → arrivals ≡ taken ++ arrival ∷ []
+  one_more_arrives flow kind bytes arrival read records r taken arrivals arrive is on more =
+      let own = one_more_record flow kind records r on in
+      one_list_arrives media parity flow (records_of flow records ++ r ∷ []) arrivals (taken ++ arrival ∷ [])
+      (subst (λ (all : List Record). AllZip (Arrives flow) all arrivals) own more)
+      (zip_push (Arrives flow) (records_of flow records) taken r arrival arrive
+      (kind, on, subst (λ (bytes : List ℕ). IsReadAs kind bytes arrival) (sym is) read))
 
   pub record_breaks :
-      DuePlaysComeNext → TakenPlaysComeFirst → LaterChangesNothing → OneTaking → PlayIsOne
+      LaterChangesNothing → OneTaking → PlayIsOne
       → (playout : Playout) (flow : ℕ) (kind : Kind) (bytes : List ℕ) (state : State) (sum : FlowSum) (before after : Option Lanes)
       → StaysWithin state → BreaksAtDatagram kind bytes state flow before after
       → (records : List Record) (r : Record) (lane : List ℕ) → HasTaken playout flow records state sum lane
       → r.datagram ≡ bytes → port_of flow kind ≡ r.port → BreaksAtRecord playout flow records r lane before after
-  record_breaks next come further once one playout flow kind bytes state sum before after within breaks records r lane taken is on =
+  record_breaks further once one playout flow kind bytes state sum before after within breaks records r lane taken is on =
       let off = breaks.off in
       record {
         part = off.part.0;
         grows = off.part.2;
-        front = λ (later : List Record) (result : FlowResult) (flows : IsFlowResult playout ((records ++ r ∷ []) ++ later) flow result).
-            let goes = goes_on playout flow kind bytes state sum breaks.arrival breaks.read records r lane taken is on later flows.arrivals flows.arrive in
-            let begin = plays_next next come playout state off.now breaks.arrival taken.arrivals goes.0 taken.plays off.plays flows.plays
-            taken.replies flows.replies (arrivals_are_read flow records taken.arrivals taken.arrive) taken.takes off.are
-            (subst (λ (arrivals : List Arrival). IsRun playout arrivals flows.plays flows.replies) goes.1 flows.run) in
-            front_of_lane lane off.part.0 result.lane taken.plays off.plays begin.0 flows.plays taken.lane_is off.part.1 begin.1 flows.lane;
         next = λ (more : List ℕ) (shown : HasShown playout flow (records ++ r ∷ []) more).
-            let arrive = subst (λ (rs : List Record). AllZip (Arrives flow) (records_of flow rs) shown.arrivals) (sym (append-nil (records ++ r ∷ []))) shown.arrive in
-            let goes = goes_on playout flow kind bytes state sum breaks.arrival breaks.read records r lane taken is on [] shown.arrivals arrive in
-            let begin = plays_go_on further once one playout taken.arrivals goes.0 breaks.arrival taken.plays off.plays shown.plays
+            let same = one_more_arrives flow kind bytes breaks.arrival breaks.read records r taken.arrivals shown.arrivals taken.arrive is on shown.arrive in
+            let begin = plays_go_on further once one playout taken.arrivals breaks.arrival taken.plays off.plays shown.plays
             taken.replies shown.replies state off.now shown.state (arrivals_are_read flow records taken.arrivals taken.arrive) taken.takes within off.are
-            (subst (λ (arrivals : List Arrival). TakesAll (opening playout) arrivals shown.plays shown.replies shown.state) goes.1 shown.takes) in
+            (subst (λ (arrivals : List Arrival). TakesAll (opening playout) arrivals shown.plays shown.replies shown.state) same shown.takes) in
             front_of_lane lane off.part.0 more taken.plays off.plays begin.0 shown.plays taken.lane_is off.part.1 begin.1 shown.bytes_are;
       }

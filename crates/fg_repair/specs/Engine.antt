@@ -1,9 +1,10 @@
 -- How far a repair has come, over all flows. No public contract cites what stands here.
-use Rattle.std.specs.Prelude.{◌≡◌, ◌+◌, ◌≤◌, ◌<◌, ◌^◌, ◌⊎◌, ℕ, Bool, true, false, Option, None, Some, IfSome, IsSome, Result, Ok, Err, List, [], ◌++◌, length, map, nat_lt, slice_index, take}
-use Rattle.std.specs.List.{AllZip, Contains, slice_index_or}
+use Rattle.std.specs.Prelude.{◌≡◌, ◌+◌, ◌≤◌, ◌<◌, ◌^◌, ◌⊎◌, ℕ, Bool, true, false, Option, Some, IfSome, IsSome, Result, Ok, Err, List, [], ◌++◌, length, map, nat_lt, slice_index, take}
+use Rattle.std.specs.List.{Contains, slice_index_or}
 use Rattle.fg_io.specs.Outlet.{Lanes, lane_of, lane_bytes, WhereTold}
 use Rattle.fg_trace.specs.declared.step.Finish.{Finish}
 use Rattle.fg_trace.specs.declared.step.Finish.TheVariants as finish
+use Rattle.fg_trace.specs.Finish.{finish_after}
 use Rattle.fg_trace.specs.Reader.{ReaderState, StandsAfter}
 use Rattle.fg_trace.specs.Trace.{Record, Ending, NotTrace, IsTrace}
 use Rattle.fg_flows.specs.declared.Plan.{Plan}
@@ -13,13 +14,12 @@ use Rattle.fg_report.specs.declared.tail.Tail.{Tail}
 use Rattle.fg_report.specs.declared.tail.Tail.TheVariants as tail
 use Rattle.fg_repair.specs.declared.engine.Engine.{Engine}
 use Rattle.fg_io.specs.declared.fault.Fault.{Fault}
-use Rattle.fg_io.specs.declared.fault.Fault.TheVariants.{Read, Write, Memory}
 use Rattle.fg_repair.specs.declared.flow.Flow.{Flow}
 use Rattle.fg_results.specs.Flow.{FlowResult, IsFlowResult}
-use Rattle.fg_results.specs.Lanes.{OthersStay, PutsAll, PutsAllPart}
+use Rattle.fg_results.specs.Lanes.{OthersStay, PutsAll}
 use Rattle.fg_results.specs.Repair.{AreResults, lanes_of, others_of, tail_of}
-use Rattle.fg_repair.specs.Steps.{HasTaken, IsFrontOfLane, BeginsLane}
-use Rattle.fg_results.specs.Stops.{HasShown, LiesBetween, Stage, Flushing, made_at, HasGained, HasGainedPart}
+use Rattle.fg_repair.specs.Steps.{HasTaken}
+use Rattle.fg_results.specs.Stops.{HasShown, LiesBetween, Flushing, HasGained, HasGainedPart, StopsIn}
 
 -- The lanes
 
@@ -70,8 +70,7 @@ pub record HasCome (plan : Plan) (records : List Record) (engine : Engine) (befo
   pub there : AreThere plan.table after
 
 -- A fault came after these records, before the next was taken: each flow's lane has gained what the flow has shown, but for
--- one that it broke, whose lane has gained a part of what is shown next. So each lane has gained its front, in every trace
--- that begins with these records and the next.
+-- one that it broke, whose lane has gained a part of what is shown next.
 pub record BreaksAfter
     (plan : Plan) (taken next : List Record) (broken : Option ℕ) (before after : Option Lanes) : Type 0 where
   pub gained : ℕ → List ℕ
@@ -81,7 +80,6 @@ pub record BreaksAfter
       → HasShown (playout_of plan) flow taken (gained flow)
       ⊎ ((broken ≡ Some flow)
       × LiesBetween (HasShown (playout_of plan) flow taken) (HasShown (playout_of plan) flow next) (gained flow))
-  pub fronts : (port : ℕ) → Contains plan.table port → IsFrontOfLane (playout_of plan) next port (gained port)
 
 -- The lanes of the first ports are there. Nothing else has changed.
 pub record MakesFirst (ports : List ℕ) (before after : Option Lanes) : Type 0 where
@@ -89,32 +87,10 @@ pub record MakesFirst (ports : List ℕ) (before after : Option Lanes) : Type 0 
   pub grow : GrowAll before (take count ports) (λ _. []) after
   pub there : AreThere (take count ports) after
 
--- A repair of these records stopped at a stage. After a quiet fault no lane is broken.
-pub record StopsAt (plan : Plan) (Quiet : Type 0) (records : List Record) (before after : Option Lanes) : Type 0 where
-  pub stage : Stage
-  pub broken : Option ℕ
-  pub unbroken : Quiet → broken ≡ None
-  pub pieces : List (List ℕ)
-  pub gained : AllZip
-      (λ flow piece. HasGained plan records stage flow piece
-      ⊎ ((broken ≡ Some flow) × HasGainedPart plan records stage flow piece))
-      (made_at plan stage) pieces
-  pub puts : PutsAll before (made_at plan stage) pieces after
-
--- So does the repair of the input's trace.
-abbrev pub StopsIn : Plan → Type 0 → Option (List ℕ) → Option Lanes → Option Lanes → Type 0
-StopsIn plan Quiet first before after =
-    IfSome first (λ bytes. (records : List Record) (end : Ending)
-    → IsTrace bytes plan.max records end → StopsAt plan Quiet records before after)
-
--- What a fault leaves of the lanes of the input's trace.
-pub record LanesPart
-    (plan : Plan) (Quiet : Type 0) (first : Option (List ℕ)) (before after : Option Lanes) : Type 0 where
+-- What a fault leaves of the lanes of the input's trace, where it is answered so.
+pub record LanesStop (plan : Plan) (answer : Finish) (first : Option (List ℕ)) (before after : Option Lanes) : Type 0 where
   pub others : WhereTold (OthersStay plan.table) before after
-  pub front : IfSome first (λ bytes. (records : List Record) (results : List FlowResult) (end : Ending)
-      → IsTrace bytes plan.max records end → AreResults plan records results
-      → PutsAllPart before plan.table (lanes_of results) after)
-  pub stops : StopsIn plan Quiet first before after
+  pub stops : StopsIn plan answer first before after
 
 -- The reader stands after the records that the engine has taken.
 pub record HasWalked
@@ -173,7 +149,7 @@ pub record AreReady (flows : List Flow) (lanes : Option Lanes) : Type 0 where
   pub flushing : IsFlushing plan records 0 flows before lanes
 
 -- A fault came meanwhile: the lanes of the first flows are whole, and each other has gained what its flow has shown, but for
--- one that the fault broke. So each lane has gained its front in the trace of these records.
+-- one that the fault broke.
 pub record BreaksAtFlush (plan : Plan) (records : List Record) (before after : Option Lanes) : Type 0 where
   pub count : ℕ
   pub broken : Option ℕ
@@ -183,7 +159,6 @@ pub record BreaksAtFlush (plan : Plan) (records : List Record) (before after : O
   pub exact : (flow : ℕ) → Contains plan.table flow
       → HasGained plan records (Flushing count) flow (gained flow)
       ⊎ ((broken ≡ Some flow) × HasGainedPart plan records (Flushing count) flow (gained flow))
-  pub begin : (port : ℕ) → Contains plan.table port → BeginsLane (playout_of plan) records port (gained port)
 
 -- The flows' counts.
 abbrev pub sums_of : List Flow → List FlowSum
@@ -215,13 +190,7 @@ told_finish tail.Ended = finish.Done
 told_finish (tail.Cut n) = finish.Cut n
 told_finish (tail.TooLong n) = finish.TooLong n
 
--- After a fault.
-abbrev pub fault_finish : Fault → Finish
-fault_finish Read = finish.ReadFault
-fault_finish Write = finish.WriteFault
-fault_finish Memory = finish.Memory
-
 -- After either.
 abbrev pub answer_of : Result Finish Fault → Finish
 answer_of (Ok finish) = finish
-answer_of (Err fault) = fault_finish fault
+answer_of (Err fault) = finish_after fault

@@ -50,13 +50,7 @@ pub record IsUnderway (playout : Playout) (flow : ℕ) (state : State) (sum : Fl
   pub taken : HasTaken playout flow records state sum lane
   pub fits : PlayoutFits playout
 
--- The bytes are the front of the flow's lane in every trace that begins with these records.
-abbrev pub IsFrontOfLane : Playout → List Record → ℕ → List ℕ → Type 0
-IsFrontOfLane playout records flow lane =
-    (later : List Record) (result : FlowResult)
-    → IsFlowResult playout (records ++ later) flow result → IsPrefix lane result.lane
-
--- And of its lane in the trace of these records alone.
+-- The bytes are the front of the flow's whole lane in the trace of these records.
 abbrev pub BeginsLane : Playout → List Record → ℕ → List ℕ → Type 0
 BeginsLane playout records flow lane =
     (result : FlowResult) → IsFlowResult playout records flow result → IsPrefix lane result.lane
@@ -74,7 +68,6 @@ pub record BreaksAtRecord
     (playout : Playout) (flow : ℕ) (records : List Record) (r : Record) (lane : List ℕ) (before after : Option Lanes) : Type 0 where
   pub part : List ℕ
   pub grows : Grows before flow part after
-  pub front : IsFrontOfLane playout (records ++ r ∷ []) flow (lane ++ part)
   pub next : (more : List ℕ) → HasShown playout flow (records ++ r ∷ []) more → IsPrefix (lane ++ part) more
 
 -- The flow is flushed whole.

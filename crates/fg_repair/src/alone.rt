@@ -7,7 +7,7 @@ ghost use Rattle.fg_trace.specs.Finish.{IsFault};
 ghost use Rattle.fg_flows.specs.Plan.{PlanFits};
 ghost use Rattle.fg_report.specs.Text.{report_of};
 ghost use Rattle.fg_results.specs.Contract.{IsRepair};
-ghost use Rattle.fg_repair.specs.Engine.{sums_of, told_finish, fault_finish, answer_of};
+ghost use Rattle.fg_repair.specs.Engine.{sums_of, told_finish, answer_of};
 
 use crate::engine::Engine;
 use crate::flow::Flow;
@@ -16,7 +16,7 @@ use fg_io::laws::parts_of_writes;
 use fg_io::{Fault, Outlet, Sink, Source};
 use fg_report::{FlowSum, ReportFault, Tail, write_report};
 use fg_results::Repair;
-use fg_results::laws::{one_flow_result, results_exist};
+use fg_results::laws::{one_flow_result, results_exist, stops_leave_parts};
 use fg_trace::laws::{one_trace, read_as_far_as_needed};
 use fg_trace::{Finish, Reader, TraceFault};
 use std::alloc::{AllocError, Global};
@@ -65,7 +65,7 @@ pub fn repair_alone<S: Source, K: Sink, O: Outlet>(
 {
     match repair(alloc, plan, input, out, lanes) {
         Ok(finish) => finish,
-        Err(fault) => finish_after(fault),
+        Err(fault) => fault.into(),
     }
 }
 
@@ -87,6 +87,7 @@ fn repair<S: Source, K: Sink, O: Outlet>(
 {
     // What is no trace has a result for each flow too, and what a reader has read is as far as each answer needs.
     results_exist();
+    stops_leave_parts();
     one_trace();
     read_as_far_as_needed();
     let mut reader = Reader::new(alloc, plan.max)?;
@@ -124,6 +125,7 @@ fn repair_records<S: Source, K: Sink, O: Outlet>(
     // The lanes are those of the one trace, and their results the ones that the report tells.
     one_trace();
     one_flow_result();
+    stops_leave_parts();
     read_as_far_as_needed();
     let mut engine = Engine::new(alloc, plan)?;
     let sums = Vec::with_capacity(alloc, engine.flows.len())?;
@@ -174,16 +176,5 @@ fn finish_at(tail: Tail) -> Finish
         Tail::Ended => Finish::Done,
         Tail::Cut(place) => Finish::Cut(place),
         Tail::TooLong(place) => Finish::TooLong(place),
-    }
-}
-
-/// The answer after a fault.
-fn finish_after(fault: Fault) -> Finish
-    ensures { result ≡ fault_finish fault }
-{
-    match fault {
-        Fault::Read => Finish::ReadFault,
-        Fault::Write => Finish::WriteFault,
-        Fault::Memory => Finish::Memory,
     }
 }

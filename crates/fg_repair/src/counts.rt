@@ -2,6 +2,7 @@
 ghost use Rattle.std.specs.Prelude.{◌≡◌, ◌+◌, ◌≤◌, ◌<◌, ◌^◌, ◌++◌, [], ◌∷◌, OnOk};
 ghost use Rattle.std.specs.List.{count_by};
 ghost use Rattle.std.specs.Option.{option_copied};
+ghost use Rattle.fg_shape.specs.Shape.{position_limit};
 ghost use Rattle.fg_playout.specs.Play.{Play};
 ghost use Rattle.fg_results.specs.Flow.{is_inconsistent, shown_payload};
 ghost use Rattle.fg_repair.specs.Steps.{MarksHaveRoom, RepliesHaveRoom, CountsWithin, with_reply, with_answer, with_shown};
@@ -45,8 +46,8 @@ pub(crate) fn count_answer(sum: &mut FlowSum, kind: Kind, reply: Option<Reply>)
 
 /// Counts a play with this outcome.
 pub(crate) fn count_play(sum: &mut FlowSum, outcome: Outcome)
-    requires windows { sum.old.windows < 2 ^ 62 }
-    requires inconsistent { sum.old.inconsistent < 2 ^ 62 }
+    requires windows { sum.old.windows < position_limit }
+    requires inconsistent { sum.old.inconsistent < position_limit }
     ensures { (play : Play) → play.outcome ≡ outcome → sum.new ≡ record sum.old {
       windows = sum.old.windows + 1;
       inconsistent = sum.old.inconsistent + count_by is_inconsistent (play ∷ []);
@@ -68,7 +69,7 @@ pub(crate) fn show(
     repaired: bool,
 ) -> Result<(), AllocError>
     requires within { CountsWithin sum.old position }
-    requires limit { position < 2 ^ 62 }
+    requires limit { position < position_limit }
     ensures counts { OnOk result (sum.new ≡ with_shown sum.old position
         (record { word = option_copied word.entry; repaired = repaired } ∷ [])) }
     ensures lane { OnOk result (lane.new.items ≡ lane.old.items

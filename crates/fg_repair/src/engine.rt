@@ -1,20 +1,20 @@
 //! All flows of a repair, from the first record to the end of the lanes.
-ghost use Rattle.std.specs.Prelude.{◌≡◌, ◌≢◌, ◌≤◌, ◌<◌, ◌^◌, ◌++◌, ℕ, Option, List, [], ◌∷◌, length, None, Err, IfOk, IfSome, IfNone, OnOk, OnErr};
+ghost use Rattle.std.specs.Prelude.{◌≡◌, ◌≢◌, ◌≤◌, ◌<◌, ◌^◌, ◌++◌, ℕ, Option, List, [], ◌∷◌, length, None, Err, IfOk, IfErr, IfSome, IfNone, OnOk, OnErr};
 ghost use Rattle.fg_io.specs.Faults.{Counts};
 ghost use Rattle.fg_io.specs.Outlet.{Lanes};
+ghost use Rattle.fg_trace.specs.Finish.{finish_after};
 ghost use Rattle.fg_trace.specs.Reader.{StandsAfter};
 ghost use Rattle.fg_trace.specs.Reading.{HasReached};
 ghost use Rattle.fg_trace.specs.Trace.{Record};
 ghost use Rattle.fg_flows.specs.declared.Plan.{Plan};
 ghost use Rattle.fg_flows.specs.Plan.{PlanFits};
-ghost use Rattle.fg_repair.specs.Engine.{EngineStands, IsRunning, HasCome, BreaksAfter, LanesPart, HasWalked, HasRead, TookAll, told_finish, IsFlushing, AreReady, HasEnded, BreaksAtFlush, LanesWhole, GrowAll, AreThere, MakesFirst};
+ghost use Rattle.fg_repair.specs.Engine.{EngineStands, IsRunning, HasCome, BreaksAfter, LanesStop, HasWalked, HasRead, TookAll, told_finish, IsFlushing, AreReady, HasEnded, BreaksAtFlush, LanesWhole, GrowAll, AreThere, MakesFirst};
 
 use crate::flow::Flow;
 use fg_flows::laws::one_flow_has_a_port;
 use fg_flows::{Plan, Table};
 use fg_io::{Fault, Outlet, Source, put};
 use fg_report::Tail;
-use fg_results::laws::{one_flow_result, shown_is_front};
 use fg_trace::laws::{one_trace, walks_the_front};
 use fg_trace::{Reader, Step, TraceFault};
 use fg_words::PAYLOAD_LIMIT;
@@ -71,7 +71,6 @@ impl Engine {
             × BreaksAfter plan.now records (records ++ r ∷ []) broken before (O.lanes lanes.new)) }
         ensures faults { Counts result [] ((O.faults lanes.old, O.faults lanes.new) ∷ []) }
     {
-        shown_is_front();
         one_flow_has_a_port();
         match plan.table.find(port) {
             Some((i, kind)) => {
@@ -102,9 +101,9 @@ impl Engine {
         ensures ends { IfOk result (λ end. IfSome end (λ tail. (first : Option (List ℕ)) (before : Option Lanes)
             → HasWalked plan.now first (S.left input.old) reader.old self.old before (O.lanes lanes.old)
             → TookAll plan.now first self.new tail before (O.lanes lanes.new))) }
-        ensures part { OnErr result ((first : Option (List ℕ)) (before : Option Lanes)
+        ensures stops { IfErr result (λ fault. (first : Option (List ℕ)) (before : Option Lanes)
             → HasWalked plan.now first (S.left input.old) reader.old self.old before (O.lanes lanes.old)
-            → LanesPart plan.now (result ≡ Err Fault.Read) first before (O.lanes lanes.new)) }
+            → LanesStop plan.now (finish_after fault) first before (O.lanes lanes.new)) }
         ensures far { (first : Option (List ℕ)) → HasRead plan.now.max reader.old first (S.left input.old)
             → HasRead plan.now.max reader.new first (S.left input.new) }
         ensures reaches { IfOk result (λ end. IfSome end (λ tail.
@@ -118,7 +117,6 @@ impl Engine {
         ensures fixed { S.fixed input.new ≡ S.fixed input.old }
     {
         walks_the_front();
-        shown_is_front();
         match reader.next(input) {
             Ok(Step::Datagram { port, .. }) => {
                 self.take(alloc, plan, port, reader.payload(), lanes)?;
@@ -127,7 +125,8 @@ impl Engine {
             Ok(Step::End) => Ok(Some(Tail::Ended)),
             Err(TraceFault::Cut(place)) => Ok(Some(Tail::Cut(place))),
             Err(TraceFault::TooLong(place)) => Ok(Some(Tail::TooLong(place))),
-            Err(TraceFault::ReadFault | TraceFault::NotTrace(_)) => Err(Fault::Read),
+            Err(TraceFault::ReadFault) => Err(Fault::Read),
+            Err(TraceFault::NotTrace(_)) => unreachable!(),
         }
     }
 
@@ -148,9 +147,9 @@ impl Engine {
         ensures whole { IfOk result (λ tail. (first : Option (List ℕ)) (before : Option Lanes)
             → HasWalked plan.now first (S.left input.old) reader.old self.old before (O.lanes lanes.old)
             → TookAll plan.now first self.new tail before (O.lanes lanes.new)) }
-        ensures part { OnErr result ((first : Option (List ℕ)) (before : Option Lanes)
+        ensures stops { IfErr result (λ fault. (first : Option (List ℕ)) (before : Option Lanes)
             → HasWalked plan.now first (S.left input.old) reader.old self.old before (O.lanes lanes.old)
-            → LanesPart plan.now (result ≡ Err Fault.Read) first before (O.lanes lanes.new)) }
+            → LanesStop plan.now (finish_after fault) first before (O.lanes lanes.new)) }
         ensures far { (first : Option (List ℕ)) → HasRead plan.now.max reader.old first (S.left input.old)
             → HasRead plan.now.max reader.new first (S.left input.new) }
         ensures reaches { IfOk result (λ tail. HasReached (told_finish tail) reader.new (S.left input.new)) }
@@ -182,8 +181,9 @@ impl Engine {
         ensures whole { IfOk result (λ tail. (first : Option (List ℕ))
             → StandsAfter reader.old first (S.left input.old) []
             → LanesWhole plan.now first self.new tail (O.lanes lanes.old) (O.lanes lanes.new)) }
-        ensures part { OnErr result ((first : Option (List ℕ)) → StandsAfter reader.old first (S.left input.old) []
-            → LanesPart plan.now (result ≡ Err Fault.Read) first (O.lanes lanes.old) (O.lanes lanes.new)) }
+        ensures stops { IfErr result (λ fault. (first : Option (List ℕ))
+            → StandsAfter reader.old first (S.left input.old) []
+            → LanesStop plan.now (finish_after fault) first (O.lanes lanes.old) (O.lanes lanes.new)) }
         ensures far { (first : Option (List ℕ)) → HasRead plan.now.max reader.old first (S.left input.old)
             → HasRead plan.now.max reader.new first (S.left input.new) }
         ensures reaches { IfOk result (λ tail. HasReached (told_finish tail) reader.new (S.left input.new)) }
@@ -224,8 +224,6 @@ fn flush<O: Outlet>(flows: &mut [Flow], piece: &mut Vec<u8>, lanes: &mut O) -> R
         → BreaksAtFlush plan records before (O.lanes lanes.new)) }
     ensures faults { Counts result [] ((O.faults lanes.old, O.faults lanes.new) ∷ []) }
 {
-    shown_is_front();
-    one_flow_result();
     one_flow_has_a_port();
     for flow in flows.iter_mut() {
         flow.flush(piece, lanes)?;

@@ -9,7 +9,7 @@ ghost use Rattle.fg_shape.specs.Kind.{port_of};
 ghost use Rattle.fg_shape.specs.Playout.{PlayoutFits};
 ghost use Rattle.fg_playout.specs.State.{State, opening};
 ghost use Rattle.fg_playout.specs.Admission.{IsDue};
-ghost use Rattle.fg_playout.specs.Room.{HasRoom};
+ghost use Rattle.fg_playout.specs.Room.{HasRoom, farthest_limit};
 ghost use Rattle.fg_playout.specs.Run.{Arrival, ArePlaysDue, Takes, IsFlush};
 ghost use Rattle.fg_playout.specs.Laws.{HavePlayed, AreFlushSteps};
 ghost use Rattle.fg_desk.specs.Arrivals.{StaysWithin, FlushesWithin};
@@ -19,16 +19,15 @@ ghost use Rattle.fg_repair.specs.Steps.{CountsWithin, Grows, GrowsPart, HaveShow
 
 use crate::counts::count_answer;
 use crate::play::fill;
-use fg_playout::laws::{
-    counts_add, counts_stay_within, due_plays_come_next, each_gets_a_reply, flush_steps_come_next,
-    flushes_end, one_outcome, one_taking, plays_reach_the_mark, runs_join, runs_only_add,
-    runs_stay_within, taken_plays_come_first,
-};
 use fg_desk::{Desk, Played, Reply};
 use fg_fechead::laws::parity_datagrams_read_one_way;
 use fg_fechead::parity_share;
 use fg_flows::Kind;
 use fg_io::{Fault, Outlet, put};
+use fg_playout::laws::{
+    counts_add, counts_stay_within, each_gets_a_reply, flush_steps_come_next, flushes_end,
+    one_outcome, one_taking, plays_reach_the_mark, runs_join, runs_only_add, runs_stay_within,
+};
 use fg_report::{FlowSum, Gaps, Marks};
 use fg_rtp::laws::media_datagrams_read_one_way;
 use fg_rtp::media_share;
@@ -98,8 +97,6 @@ impl Flow {
         counts_add();
         counts_stay_within();
         each_gets_a_reply();
-        taken_plays_come_first();
-        due_plays_come_next();
         runs_only_add();
         one_taking();
         one_outcome();
@@ -246,7 +243,7 @@ fn put_play<O: Outlet>(
     lanes: &mut O,
 ) -> Result<(), Fault>
     requires within { CountsWithin sum.old played.first }
-    requires limit { played.first < 2 ^ 61 }
+    requires limit { played.first < farthest_limit }
     ensures counts { OnOk result (sum.new ≡ with_plays sum.old played.first (play_on played desk.now ∷ [])) }
     ensures puts { OnOk result (Grows (O.lanes lanes.old) sum.old.port (lane_of (play_on played desk.now ∷ []))
         (O.lanes lanes.new)) }

@@ -1,5 +1,6 @@
 //! The bytes that a play adds to a lane.
 ghost use Rattle.std.specs.Prelude.{◌≡◌, ◌≤◌, ◌<◌, ◌^◌, [], ◌∷◌, OnOk};
+ghost use Rattle.fg_playout.specs.Room.{farthest_limit};
 ghost use Rattle.fg_rtp.specs.MediaDatagram.{payload_of};
 ghost use Rattle.fg_results.specs.Flow.{lane_of};
 ghost use Rattle.fg_repair.specs.Steps.{CountsWithin, with_plays, play_on};
@@ -19,7 +20,7 @@ pub(crate) fn fill(
     played: Played,
 ) -> Result<(), AllocError>
     requires within { CountsWithin sum.old played.first }
-    requires limit { played.first < 2 ^ 61 }
+    requires limit { played.first < farthest_limit }
     ensures counts { OnOk result (sum.new
         ≡ with_plays sum.old played.first (play_on played desk.now ∷ [])) }
     ensures lane { OnOk result (piece.new.items ≡ lane_of (play_on played desk.now ∷ [])) }

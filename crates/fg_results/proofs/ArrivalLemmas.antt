@@ -38,7 +38,8 @@ or_third false true c is = refl
 or_third false false true is = refl
 or_third false false false is = is
 
-is_of_its_flow : (flow : ℕ) (kind : Kind) (r : Record) → port_of flow kind ≡ r.port → is_of flow r ≡ true
+-- A record on a port of a flow is one of its records.
+pub is_of_its_flow : (flow : ℕ) (kind : Kind) (r : Record) → port_of flow kind ≡ r.port → is_of flow r ≡ true
 is_of_its_flow flow kind.Media r on = or_first _ _ _ (test_true (port_of flow kind.Media) r.port on)
 is_of_its_flow flow kind.Column r on = or_second (port_of flow kind.Media == r.port) _ _ (test_true (port_of flow kind.Column) r.port on)
 is_of_its_flow flow kind.Row r on =
@@ -50,13 +51,6 @@ pub one_more_record :
 one_more_record flow kind records r on =
     filter-append (is_of flow) records (r ∷ [])
     ∙ ap (λ (b : Bool). records_of flow records ++ cond b (r ∷ []) []) (is_of_its_flow flow kind r on)
-
-pub and_later_records :
-    (flow : ℕ) (kind : Kind) (records later : List Record) (r : Record) → port_of flow kind ≡ r.port
-    → records_of flow ((records ++ r ∷ []) ++ later) ≡ (records_of flow records ++ r ∷ []) ++ records_of flow later
-and_later_records flow kind records later r on =
-    filter-append (is_of flow) (records ++ r ∷ []) later
-    ∙ ap (λ (some : List Record). some ++ records_of flow later) (one_more_record flow kind records r on)
 
 pub few_arrive : (flow : ℕ) (records : List Record) (arrivals : List Arrival) → AllZip (Arrives flow) (records_of flow records) arrivals → length arrivals ≤ length records
 few_arrive flow records arrivals arrive =

@@ -4,4 +4,6 @@ pub mod Fronts
 pub mod Gaining
 pub mod RepairLemmas
 pub mod ShownLemmas
+pub mod StopLemmas
+pub mod StoppedParts
 pub mod Zips

@@ -1,6 +1,6 @@
 -- Two lists whose elements are related pair by pair.
-use Rattle.std.proofs.Common.{◌≡◌, List, [], ◌∷◌, ◌++◌, length, refl, sym, arith}
-use Rattle.std.specs.List.{All, AllZip}
+use Rattle.std.proofs.Common.{◌≡◌, ◌<◌, ℕ, zero, suc, List, [], ◌∷◌, ◌++◌, length, refl, subst, sym, arith}
+use Rattle.std.specs.List.{All, AllZip, Contains, slice_index_or}
 use Rattle.std.proofs.lemmas.List.Elements.{All-nil, All-cons}
 
 module _ {A B : Type 0} (R : A → B → Type 0) where
@@ -46,3 +46,17 @@ module _ {A B : Type 0} (R : A → B → Type 0) where
         let first = one x y y' zip.0 zip'.0 in
         let rest = zip_begins xs more ys ys' zip.1 zip'.1 in
         (rest.0, (λ i. sym first i ∷ rest.1 i), rest.2)
+
+-- Where two things hold of each pair, both hold of each element and its own.
+module _ {A B : Type 0} (R S : A → B → Type 0) where
+  pub zip_at :
+      (xs : List A) (ys : List B) (x : A) → AllZip R xs ys → AllZip S xs ys → Contains xs x → (y : B) × R x y × S x y
+  zip_at xs ys x r s c = at xs ys c.0 c.1 c.2 r s
+    where
+      at :
+          (xs : List A) (ys : List B) (k : ℕ) → k < length xs → slice_index_or xs k x ≡ x → AllZip R xs ys → AllZip S xs ys
+          → (y : B) × R x y × S x y
+      at [] ys k within is r s = absurd (omega (arith, within))
+      at (x' ∷ xs) [] k within is r s = absurd r
+      at (x' ∷ xs) (y ∷ ys) zero within is r s = (y, subst (λ z. R z y) is r.0, subst (λ z. S z y) is s.0)
+      at (x' ∷ xs) (y ∷ ys) (suc k) within is r s = at xs ys k (omega (arith, within)) is r.1 s.1

@@ -10,7 +10,7 @@ use Rattle.fg_trace.specs.Reading.{IsReadFor}
 use Rattle.fg_trace.specs.Trace.{Record, Ending, NotTrace, IsTrace}
 use Rattle.fg_flows.specs.declared.Plan.{Plan}
 use Rattle.fg_results.specs.Repair.{Finishes, OutputsPart}
-use Rattle.fg_results.specs.Stops.{Stops}
+use Rattle.fg_results.specs.Stops.{StopsIn}
 
 -- The call that answers so is a repair by this plan. `input` are the bytes of the source before it, `input'` those that are
 -- left after it, `lanes_of` tells an outlet's lanes, and `written` what a sink has.
@@ -30,7 +30,6 @@ pub record IsRepair {O K : Type 0}
   -- After a fault or want of memory the outputs are parts.
   pub part : IsFault answer → OutputsPart plan input (lanes_of lanes) (lanes_of lanes') written out out'
   -- The first fault ends the call: each lane has gained exactly what was shown up to there, but for the one that it broke.
-  pub stops : IsFault answer → IfSome input (λ bytes. (records : List Record) (end : Ending)
-      → IsTrace bytes plan.max records end → Stops plan answer records (lanes_of lanes) (lanes_of lanes'))
+  pub stops : IsFault answer → StopsIn plan answer input (lanes_of lanes) (lanes_of lanes')
   -- After a read fault no report was begun.
   pub no_report : answer ≡ finish.ReadFault → out' ≡ out

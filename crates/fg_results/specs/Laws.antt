@@ -1,12 +1,15 @@
 -- Laws that show the definition of a repair to be right.
-use Rattle.std.specs.Prelude.{◌≡◌, ◌++◌, ℕ, List}
+use Rattle.std.specs.Prelude.{◌≡◌, ◌≤◌, ◌++◌, ℕ, Option, List}
+use Rattle.fg_io.specs.Outlet.{Lanes}
 use Rattle.fg_io.specs.Prefix.{IsPrefix}
+use Rattle.fg_trace.specs.declared.step.Finish.{Finish}
 use Rattle.fg_flows.specs.declared.Plan.{Plan}
 use Rattle.fg_trace.specs.Trace.{Record, Ending, IsTrace}
 use Rattle.fg_shape.specs.Playout.{Playout}
 use Rattle.fg_results.specs.Flow.{FlowResult, IsFlowResult}
-use Rattle.fg_results.specs.Repair.{AreResults}
-use Rattle.fg_results.specs.Stops.{Stage, HasGained, HasShown}
+use Rattle.fg_results.specs.Lanes.{PutsAllPart}
+use Rattle.fg_results.specs.Repair.{AreResults, lanes_of}
+use Rattle.fg_results.specs.Stops.{Stage, Stops, HasGained, HasShown}
 
 -- Records give a flow one result at most.
 abbrev pub OneFlowResult : Type 0
@@ -33,3 +36,10 @@ abbrev pub OneGained : Type 0
 OneGained =
     (plan : Plan) (records : List Record) (stage : Stage) (flow : ℕ) (one other : List ℕ)
     → HasGained plan records stage flow one → HasGained plan records stage flow other → one ≡ other
+
+-- Wherever a repair stops, each flow's lane has gained a prefix of its bytes.
+abbrev pub StopsLeaveParts : Type 0
+StopsLeaveParts =
+    (plan : Plan) (answer : Finish) (records : List Record) (results : List FlowResult) (before after : Option Lanes)
+    → 1 ≤ plan.window → AreResults plan records results → Stops plan answer records before after
+    → PutsAllPart before plan.table (lanes_of results) after

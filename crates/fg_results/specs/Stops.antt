@@ -1,11 +1,11 @@
 -- Where a fault stops a repair. This project's own.
-use Rattle.std.specs.Prelude.{◌≡◌, ◌⊎◌, ◌+◌, ℕ, List, [], Option, None, Some, take}
+use Rattle.std.specs.Prelude.{◌≡◌, ◌⊎◌, ◌+◌, ℕ, List, [], Option, None, Some, IfSome, take}
 use Rattle.std.specs.List.{AllZip, Contains}
 use Rattle.fg_io.specs.Prefix.{IsPrefix}
 use Rattle.fg_io.specs.Outlet.{Lanes}
 use Rattle.fg_trace.specs.declared.step.Finish.{Finish}
 use Rattle.fg_trace.specs.declared.step.Finish.TheVariants as finish
-use Rattle.fg_trace.specs.Trace.{Record}
+use Rattle.fg_trace.specs.Trace.{Record, Ending, IsTrace}
 use Rattle.fg_flows.specs.declared.Plan.{Plan}
 use Rattle.fg_flows.specs.Plan.{playout_of}
 use Rattle.fg_shape.specs.Playout.{Playout}
@@ -83,3 +83,9 @@ pub record Stops (plan : Plan) (answer : Finish) (records : List Record) (before
       ⊎ ((broken ≡ Some flow) × HasGainedPart plan records stage flow piece))
       (made_at plan stage) pieces
   pub puts : PutsAll before (made_at plan stage) pieces after
+
+-- So does the repair of the input's trace.
+abbrev pub StopsIn : Plan → Finish → Option (List ℕ) → Option Lanes → Option Lanes → Type 0
+StopsIn plan answer input before after =
+    IfSome input (λ bytes. (records : List Record) (end : Ending)
+    → IsTrace bytes plan.max records end → Stops plan answer records before after)

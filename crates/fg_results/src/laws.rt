@@ -1,10 +1,10 @@
 //! The laws that show the definition of a repair to be right. Each is the contract of a function that does nothing, or only
 //! calls laws of the crates below.
 ghost use Rattle.fg_results.specs.Existence.{FlowResultExists, ResultsExist};
-ghost use Rattle.fg_results.specs.Laws.{OneFlowResult, OneResult, OneGained, ShownIsFront};
+ghost use Rattle.fg_results.specs.Laws.{OneFlowResult, OneResult, OneGained, ShownIsFront, StopsLeaveParts};
 
-use fg_playout::laws::{one_run, one_taking, runs_exist, taken_plays_come_first};
 use fg_fechead::laws::{parity_datagrams_are_decided, parity_datagrams_read_one_way};
+use fg_playout::laws::{one_run, one_taking, runs_exist, taken_plays_come_first};
 use fg_rtp::laws::{media_datagrams_are_decided, media_datagrams_read_one_way};
 use fg_trace::laws::one_trace;
 
@@ -52,4 +52,13 @@ pub fn one_gained()
     parity_datagrams_read_one_way();
     one_taking();
     one_flow_result();
+}
+
+/// Wherever a repair stops, each flow's lane has gained a prefix of its bytes.
+pub fn stops_leave_parts()
+    ensures { StopsLeaveParts }
+{
+    shown_is_front();
+    one_flow_result();
+    results_exist();
 }

@@ -7,16 +7,14 @@ use Rattle.fg_results.specs.Contract.{IsRepair}
 use Rattle.fg_results.proofs.RepairLemmas.{whole_repair}
 use Rattle.fg_repair.specs.Engine.{answer_of}
 use Rattle.fg_repair.proofs.Reaching.{fault_is, none_read, fault_read, none_made}
-use Rattle.fg_repair.proofs.Writing.{none_part}
-use Rattle.fg_repair.proofs.Finishing.{not_trace, stopped_before}
+use Rattle.fg_repair.proofs.Finishing.{not_trace, stopped_first}
 use Rattle.fg_repair.proofs.alone.repair.Goals as goal
 
 pub returns-in_err-reader-clause-repairs : goal.returns-in_err-reader-clause-repairs
 returns-in_err-reader-clause-repairs g c =
-    let left = g.S.Source.left c.args.input.now in
-    stopped_before c.args.plan.now c.from_residual.result c.from_residual.ensures.0 left left g.O.Outlet.lanes c.args.lanes.now c.args.lanes.now g.K.Sink.written c.args.out.now
+    stopped_first c.stops_leave_parts.ensures c.args.plan.now c.requires c.from_residual.result c.from_residual.ensures.0
+    (g.S.Source.left c.args.input.now) (g.S.Source.left c.args.input.now) g.O.Outlet.lanes c.args.lanes.now g.K.Sink.written c.args.out.now
     (c.read_as_far_as_needed.ensures.unread _ (answer_of c.from_residual.result) _ (fault_is c.from_residual.result c.from_residual.ensures.0))
-    (none_made c.args.plan.now.max left c.args.lanes.now c.args.out.now) (none_part c.args.plan.now _ left _)
 
 pub returns-in-Ok-clause-repairs : goal.returns-in-Ok-clause-repairs
 returns-in-Ok-clause-repairs g c =
@@ -47,9 +45,8 @@ returns-in-Err-ReadFault-clause-repairs g c =
     let max : reader.max ≡ c.args.plan.now.max = c.start.ensures.max ∙ ap (λ (t : ReaderState). t.max) c.in_ok-reader.ensures.new in
     let is : c.start.result ≡ Err fault.ReadFault = c.in-Err-ReadFault.is ∙ ap Err c.in-Err-ReadFault.field-0-is in
     let opens : Opens (Err fault.ReadFault) reader left now = subst (λ t. Opens t reader left now) is (c.start.ensures.opens left (c.in_ok-reader.ensures.opening left)) in
-    stopped_before c.args.plan.now (Err Read) refl left now g.O.Outlet.lanes c.args.lanes.now c.args.lanes.now g.K.Sink.written c.args.out.now
+    stopped_first c.stops_leave_parts.ensures c.args.plan.now c.requires (Err Read) refl left now g.O.Outlet.lanes c.args.lanes.now g.K.Sink.written c.args.out.now
     (fault_read c.read_as_far_as_needed.ensures.before c.args.plan.now.max left now reader max c.start.ensures.bounded opens)
-    (none_made c.args.plan.now.max left c.args.lanes.now c.args.out.now) (none_part c.args.plan.now _ left _)
 
 pub repair_records-requires-clause-begun : goal.repair_records-requires-clause-begun
 repair_records-requires-clause-begun g c =

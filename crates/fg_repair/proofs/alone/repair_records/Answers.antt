@@ -1,51 +1,50 @@
-use Rattle.std.proofs.Common.{[], Err, ap}
+use Rattle.std.proofs.Common.{[]}
+use Rattle.fg_io.specs.declared.fault.Fault.{Fault}
 use Rattle.fg_io.specs.declared.fault.Fault.TheVariants.{Read}
+use Rattle.fg_trace.specs.Finish.{finish_after}
 use Rattle.fg_trace.specs.Reading.{HasReached}
-use Rattle.fg_repair.specs.Engine.{HasRead, answer_of}
-use Rattle.fg_results.proofs.RepairLemmas.{whole_repair}
-use Rattle.fg_repair.proofs.Results.{same_cause}
-use Rattle.fg_repair.proofs.Reaching.{told_ends, read_for, fault_reached, reached_end}
 use Rattle.fg_trace.proofs.Opening.{never_refused}
-use Rattle.fg_repair.proofs.Writing.{none_part}
-use Rattle.fg_repair.proofs.Walking.{same_part}
-use Rattle.fg_repair.proofs.Finishing.{stopped, stopped_before, report_outputs, whole_stops, finished}
+use Rattle.fg_results.proofs.RepairLemmas.{whole_repair}
+use Rattle.fg_repair.specs.Engine.{HasRead, LanesStop, answer_of}
+use Rattle.fg_repair.proofs.Results.{same_cause, passed_on}
+use Rattle.fg_repair.proofs.Reaching.{told_ends, read_for, fault_reached, reached_end}
+use Rattle.fg_repair.proofs.Finishing.{stopped, stopped_first, stopped_in_report, finished}
 use Rattle.fg_repair.proofs.alone.repair_records.Goals as goal
 
 pub returns-in_err-engine-clause-repairs : goal.returns-in_err-engine-clause-repairs
 returns-in_err-engine-clause-repairs g c = λ first h.
     let begun : HasRead c.args.plan.now.max c.args.reader.now first (g.S.Source.left c.args.input.now) = record { records = []; stands = h; bounded = c.requires.bounded; limit = c.requires.max } in
-    stopped_before c.args.plan.now c.from_residual.result c.from_residual.ensures.0 first _ g.O.Outlet.lanes c.args.lanes.now c.args.lanes.now g.K.Sink.written c.args.out.now
-    (read_for c.read_as_far_as_needed.ensures.after _ (answer_of c.from_residual.result) _ first _ begun (fault_reached c.from_residual.result _ _ c.from_residual.ensures.0))
-    (never_refused _ first _ c.args.reader.now c.args.plan.now.max h)
-    (none_part c.args.plan.now _ first _)
+    let result = c.from_residual.result in
+    stopped_first c.stops_leave_parts.ensures c.args.plan.now c.requires.fits result c.from_residual.ensures.0 first _ g.O.Outlet.lanes c.args.lanes.now g.K.Sink.written c.args.out.now
+    (read_for c.read_as_far_as_needed.ensures.after _ (answer_of result) _ first _ begun (fault_reached result _ _ c.from_residual.ensures.0))
 
 pub returns-in_err-sums-clause-repairs : goal.returns-in_err-sums-clause-repairs
 returns-in_err-sums-clause-repairs g c = λ first h.
     let begun : HasRead c.args.plan.now.max c.args.reader.now first (g.S.Source.left c.args.input.now) = record { records = []; stands = h; bounded = c.requires.bounded; limit = c.requires.max } in
-    stopped_before c.args.plan.now c.from_residual-in_err-sums.result c.from_residual-in_err-sums.ensures.0 first _ g.O.Outlet.lanes c.args.lanes.now c.args.lanes.now g.K.Sink.written c.args.out.now
-    (read_for c.read_as_far_as_needed.ensures.after _ (answer_of c.from_residual-in_err-sums.result) _ first _ begun (fault_reached c.from_residual-in_err-sums.result _ _ c.from_residual-in_err-sums.ensures.0))
-    (never_refused _ first _ c.args.reader.now c.args.plan.now.max h)
-    (none_part c.args.plan.now _ first _)
+    let result = c.from_residual-in_err-sums.result in
+    stopped_first c.stops_leave_parts.ensures c.args.plan.now c.requires.fits result c.from_residual-in_err-sums.ensures.0 first _ g.O.Outlet.lanes c.args.lanes.now g.K.Sink.written c.args.out.now
+    (read_for c.read_as_far_as_needed.ensures.after _ (answer_of result) _ first _ begun (fault_reached result _ _ c.from_residual-in_err-sums.ensures.0))
 
 pub returns-in_err-tail-clause-repairs : goal.returns-in_err-tail-clause-repairs
 returns-in_err-tail-clause-repairs g c = λ first h.
     let begun : HasRead c.args.plan.now.max c.args.reader.now first (g.S.Source.left c.args.input.now) = record { records = []; stands = h; bounded = c.requires.bounded; limit = c.requires.max } in
-    stopped_before c.args.plan.now c.from_residual-in_err-tail.result c.from_residual-in_err-tail.ensures.0 first _ g.O.Outlet.lanes c.args.lanes.now c.write_lanes.new.lanes g.K.Sink.written c.args.out.now
-    (read_for c.read_as_far_as_needed.ensures.after _ (answer_of c.from_residual-in_err-tail.result) _ first _ (c.in_err-tail.ensures.far first begun) (fault_reached c.from_residual-in_err-tail.result _ _ c.from_residual-in_err-tail.ensures.0))
+    let result = c.from_residual-in_err-tail.result in
+    stopped c.stops_leave_parts.ensures c.args.plan.now c.requires.fits result c.from_residual-in_err-tail.ensures.0 first _ g.O.Outlet.lanes c.args.lanes.now c.write_lanes.new.lanes g.K.Sink.written c.args.out.now
+    (read_for c.read_as_far_as_needed.ensures.after _ (answer_of result) _ first _ (c.in_err-tail.ensures.far first begun) (fault_reached result _ _ c.from_residual-in_err-tail.ensures.0))
     (never_refused _ first _ c.args.reader.now c.args.plan.now.max h)
-    (same_part c.args.plan.now _ _ first _ _ (λ read. ap Err (same_cause c.from_residual-in_err-tail.result c.in_err-tail.field-0.0 Read c.from_residual-in_err-tail.ensures.1 read)) (c.in_err-tail.ensures.part first h))
+    (passed_on (λ (fault : Fault). LanesStop c.args.plan.now (finish_after fault) first (g.O.Outlet.lanes c.args.lanes.now) (g.O.Outlet.lanes c.write_lanes.new.lanes))
+    result c.in_err-tail.field-0.0 c.from_residual-in_err-tail.ensures.1 (c.in_err-tail.ensures.stops first h))
 
 pub returns-in_err-report-clause-repairs : goal.returns-in_err-report-clause-repairs
 returns-in_err-report-clause-repairs g c = λ first h.
     let result = c.from_residual-in_err-report.result in
     let begun : HasRead c.args.plan.now.max c.args.reader.now first (g.S.Source.left c.args.input.now) = record { records = []; stands = h; bounded = c.requires.bounded; limit = c.requires.max } in
-    let whole = c.in_ok-tail.ensures.whole first h in
-    stopped c.args.plan.now result c.from_residual-in_err-report.ensures.0 first _ g.O.Outlet.lanes c.args.lanes.now c.write_lanes.new.lanes g.K.Sink.written c.args.out.now c.report.new.out
+    stopped_in_report c.one_trace.ensures c.one_flow_result.ensures c.args.plan.now result c.from_residual-in_err-report.ensures.0
+    (λ read. c.in_err-report.ensures.faults.read (same_cause result c.in_err-report.field-0.0 Read c.from_residual-in_err-report.ensures.1 read))
+    first _ g.O.Outlet.lanes c.args.lanes.now c.write_lanes.new.lanes g.K.Sink.written c.args.out.now c.report.new.out
     (read_for c.read_as_far_as_needed.ensures.after _ (answer_of result) _ first _ (c.in_ok-tail.ensures.far first begun) (fault_reached result _ _ c.from_residual-in_err-report.ensures.0))
     (never_refused _ first _ c.args.reader.now c.args.plan.now.max h)
-    (report_outputs c.one_trace.ensures c.one_flow_result.ensures c.args.plan.now first c.write_lanes.new.self c.in_ok-tail.tail _ _ g.K.Sink.written c.args.out.now c.report.new.out whole c.in_err-report.ensures.part)
-    (whole_stops c.one_trace.ensures c.args.plan.now _ first c.write_lanes.new.self c.in_ok-tail.tail _ _ whole)
-    (λ read. absurd (c.in_err-report.ensures.faults.read (same_cause result c.in_err-report.field-0.0 Read c.from_residual-in_err-report.ensures.1 read)))
+    c.write_lanes.new.self c.in_ok-tail.tail (c.in_ok-tail.ensures.whole first h) c.in_err-report.ensures.part
 
 pub returns-clause-ending : goal.returns-clause-ending
 returns-clause-ending g c = rw c.finish_at.ensures (told_ends c.in_ok-tail.tail)

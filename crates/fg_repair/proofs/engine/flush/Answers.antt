@@ -28,7 +28,7 @@ returns-in_err-flush-clause-breaks g c =
     let old : Flow = slice_index_or c.loop-flow.flows i c.flow-item.result in
     let short : i < length c.loop-flow.flows = omega arith in
     let stops : (plan : Plan) (records : List Record) (before : Option Lanes) → PlanFits plan → IsFlushing plan records 0 c.args.flows.now before (g.O.Outlet.lanes c.args.lanes.now) → BreaksAtFlush plan records before (g.O.Outlet.lanes c.flush.new.lanes) = λ plan records before fits h.
-    flushing_stops c.one_flow_result.ensures c.shown_is_front.ensures c.one_flow_has_a_port.ensures plan fits.table records i c.loop-flow.flows before _ _ old short (get_or_default c.loop-flow.flows i c.flow-item.result old short) c.in_err-flush.ensures.breaks
+    flushing_stops c.one_flow_has_a_port.ensures plan fits.table records i c.loop-flow.flows before _ _ old short (get_or_default c.loop-flow.flows i c.flow-item.result old short) c.in_err-flush.ensures.breaks
     (c.loop-flow.invariant.flushing plan records before fits h) in
     on_err _ _ stops
 

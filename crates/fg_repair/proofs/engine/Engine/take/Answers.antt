@@ -4,7 +4,7 @@ use Rattle.fg_repair.proofs.engine.Engine.take.Goals as goal
 
 pub returns-in_err-take-in-Some-clause-breaks : goal.returns-in_err-take-in-Some-clause-breaks
 returns-in_err-take-in-Some-clause-breaks g c =
-    on_err _ _ (breaks_some c.shown_is_front.ensures c.args.plan.now c.args.self.now c.args.port c.in-Some.i c.in-Some.kind c.in-Some.ensures.found
+    on_err _ _ (breaks_some c.args.plan.now c.args.self.now c.args.port c.in-Some.i c.in-Some.kind c.in-Some.ensures.found
     c.index_mut.result.now c.index_mut.ensures.value c.args.datagram.now _ _ c.in_err-take-in-Some.ensures.breaks)
 
 pub returns-in_ok-take-in-Some-clause-takes : goal.returns-in_ok-take-in-Some-clause-takes

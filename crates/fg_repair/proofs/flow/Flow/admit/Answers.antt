@@ -4,7 +4,7 @@ use Rattle.fg_words.specs.declared.Word.{Word}
 use Rattle.fg_rtp.specs.declared.media.MediaFault.{MediaFault}
 use Rattle.fg_rtp.specs.MediaDatagram.{IsMediaDatagram}
 use Rattle.fg_repair.proofs.Admitting.{plays_nothing, parity_without_memory, media_is_refused, media_is_admitted, media_without_memory, media_breaks_off}
-use Rattle.fg_repair.proofs.Showing.{on_err}
+use Rattle.fg_repair.proofs.Results.{on_err}
 use Rattle.fg_repair.proofs.flow.Flow.admit.Goals as goal
 
 pub admit_parity-requires : goal.admit_parity-requires
@@ -12,7 +12,7 @@ admit_parity-requires g c = record { room = (c.requires.within 0 [] c.args.self.
 
 pub returns-in_err-admit_parity-in_default-clause-breaks : goal.returns-in_err-admit_parity-in_default-clause-breaks
 returns-in_err-admit_parity-in_default-clause-breaks g c =
-    on_err _ (parity_without_memory c.args.kind c.args.datagram.now c.args.self.now.desk.state c.args.self.now.sum.port
+    on_err _ _ (parity_without_memory c.args.kind c.args.datagram.now c.args.self.now.desk.state c.args.self.now.sum.port
     (g.O.Outlet.lanes c.args.lanes.now) c.in_default.not-Media c.in_err-admit_parity-in_default.ensures.read)
 
 pub returns-in_ok-admit_parity-in_default-clause-admits : goal.returns-in_ok-admit_parity-in_default-clause-admits
@@ -30,13 +30,13 @@ returns-in_default-2-clause-admits g c =
 pub returns-in_err-seq-in-Media-clause-breaks : goal.returns-in_err-seq-in-Media-clause-breaks
 returns-in_err-seq-in-Media-clause-breaks g c =
     let read = c.in_err-seq-in-Media.ensures.memory in
-    rw c.in-Media.is (on_err _ (media_without_memory c.args.datagram.now c.args.self.now.desk.state c.args.self.now.sum.port (g.O.Outlet.lanes c.args.lanes.now)
+    rw c.in-Media.is (on_err _ _ (media_without_memory c.args.datagram.now c.args.self.now.desk.state c.args.self.now.sum.port (g.O.Outlet.lanes c.args.lanes.now)
     read.0 read.1 read.2 read.3))
 
 pub returns-in_err-play_due-in-Media-clause-breaks : goal.returns-in_err-play_due-in-Media-clause-breaks
 returns-in_err-play_due-in-Media-clause-breaks g c =
     let read = IfOk-at_ok (λ (t : ℕ × ℕ × Word). IsMediaDatagram c.args.datagram.now t.0 t.1 t.2) c.in-Ok.is c.in_ok-seq-in-Media.ensures.ok in
-    rw c.in-Media.is (on_err _ (media_breaks_off c.args.datagram.now c.args.self.now.desk.state c.args.self.now.sum.port
+    rw c.in-Media.is (on_err _ _ (media_breaks_off c.args.datagram.now c.args.self.now.desk.state c.args.self.now.sum.port
     (g.O.Outlet.lanes c.args.lanes.now) (g.O.Outlet.lanes c.play_due.new.lanes)
     c.in-Ok.seq c.in-Ok.field-0-1 c.in-Ok.share read c.in_err-play_due-in-Media.ensures.breaks))
 

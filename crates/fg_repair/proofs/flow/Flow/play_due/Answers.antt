@@ -5,7 +5,8 @@ use Rattle.fg_playout.specs.Admission.{IsDue}
 use Rattle.fg_playout.specs.Run.{ArePlaysDue}
 use Rattle.fg_playout.specs.Laws.{HavePlayed}
 use Rattle.fg_repair.specs.Steps.{play_on}
-use Rattle.fg_repair.proofs.Showing.{retold, one_more_shown, breaks_off, within_one_more, due_after, fails, on_err}
+use Rattle.fg_repair.proofs.Results.{on_err}
+use Rattle.fg_repair.proofs.Showing.{retold, one_more_shown, breaks_off, within_one_more, due_after, fails}
 use Rattle.fg_repair.proofs.flow.Flow.play_due.Goals as goal
 
 pub loop-self-preserved : goal.loop-self-preserved
@@ -35,7 +36,7 @@ returns-in_err-put_play-clause-breaks g c =
     let play = play_on c.play_in_place-played.result c.play_in_place-played.new.self in
     let join = due_after old.desk.state now.self.desk.state c.play_in_place-played.new.self.state c.args.seq play c.runs_join.ensures.plays
     (c.loop-self-test.ensures.0 refl) c.play_in_place-played.ensures.play in
-    on_err _ (breaks_off (HavePlayed old.desk.state c.args.seq) old.desk.state old.sum (g.O.Outlet.lanes c.args.lanes.now)
+    on_err _ _ (breaks_off (HavePlayed old.desk.state c.args.seq) old.desk.state old.sum (g.O.Outlet.lanes c.args.lanes.now)
     now.self.desk.state c.play_in_place-played.new.self.state now.self.sum (g.O.Outlet.lanes now.lanes) (g.O.Outlet.lanes c.put_play.new.lanes) play
     now.invariant.so join now.invariant.port c.in_err-put_play.ensures.part)
 

@@ -1,4 +1,5 @@
-use Rattle.std.proofs.Common.{◌≡◌, ◌-◌, ◌^◌}
+use Rattle.std.proofs.Common.{◌≡◌, ◌-◌}
+use Rattle.fg_playout.specs.Room.{farthest_limit}
 use Rattle.fg_playout.specs.Laws.{HavePlayed}
 use Rattle.fg_repair.specs.Steps.{CountsWithin, HaveShown}
 use Rattle.fg_repair.proofs.flow.Flow.play_due.Given as goal
@@ -14,4 +15,4 @@ invariant-loop-self g l = record {
 }
 
 abbrev pub decreases-loop-self : goal.decreases-loop-self
-decreases-loop-self g l = 2 ^ 61 - l.self.desk.state.mark
+decreases-loop-self g l = farthest_limit - l.self.desk.state.mark

@@ -4,7 +4,8 @@ use Rattle.fg_playout.specs.Play.{Play}
 use Rattle.fg_playout.specs.Run.{IsFlush}
 use Rattle.fg_playout.specs.Laws.{AreFlushSteps}
 use Rattle.fg_repair.specs.Steps.{play_on}
-use Rattle.fg_repair.proofs.Showing.{retold, one_more_shown, breaks_off, within_one_more, step_after, step_shows, on_err}
+use Rattle.fg_repair.proofs.Results.{on_err}
+use Rattle.fg_repair.proofs.Showing.{retold, one_more_shown, breaks_off, within_one_more, step_after, step_shows}
 use Rattle.fg_repair.proofs.flow.Flow.play_rest.Goals as goal
 
 pub loop-played-preserved : goal.loop-played-preserved
@@ -36,7 +37,7 @@ returns-in_err-put_play-clause-breaks g c =
     let play = play_on c.in-Some.played c.flush_step_in_place.new.self in
     let join = step_after old.desk.state now.self.desk.state c.flush_step_in_place.new.self.state play c.flushes_end.ensures.joined
     c.in-Some.ensures.flushes in
-    on_err _ (breaks_off (AreFlushSteps old.desk.state) old.desk.state old.sum (g.O.Outlet.lanes c.args.lanes.now)
+    on_err _ _ (breaks_off (AreFlushSteps old.desk.state) old.desk.state old.sum (g.O.Outlet.lanes c.args.lanes.now)
     now.self.desk.state c.flush_step_in_place.new.self.state now.self.sum (g.O.Outlet.lanes now.lanes) (g.O.Outlet.lanes c.put_play.new.lanes) play
     now.invariant.so join now.invariant.port c.in_err-put_play.ensures.part)
 

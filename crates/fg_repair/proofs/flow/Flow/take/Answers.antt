@@ -2,7 +2,7 @@ use Rattle.std.proofs.Common.{sym, subst}
 use Rattle.fg_repair.specs.Steps.{RepliesHaveRoom}
 use Rattle.fg_repair.proofs.Underway.{stays_within, counts_within, replies_have_room}
 use Rattle.fg_repair.proofs.Taking.{record_taken, record_breaks}
-use Rattle.fg_repair.proofs.Showing.{on_err}
+use Rattle.fg_repair.proofs.Results.{on_err}
 use Rattle.fg_repair.proofs.flow.Flow.take.Goals as goal
 
 pub admit-requires-clause-within : goal.admit-requires-clause-within
@@ -24,8 +24,8 @@ count_answer-requires g c =
 pub returns-in_err-reply-clause-breaks : goal.returns-in_err-reply-clause-breaks
 returns-in_err-reply-clause-breaks g c =
     let old = c.args.self.now in
-    on_err _ (record_breaks c.media_datagrams_read_one_way.ensures.one_way c.parity_datagrams_read_one_way.ensures
-    c.due_plays_come_next.ensures c.taken_plays_come_first.ensures c.runs_only_add.ensures.later c.one_taking.ensures c.one_outcome.ensures.play
+    on_err _ _ (record_breaks c.media_datagrams_read_one_way.ensures.one_way c.parity_datagrams_read_one_way.ensures
+    c.runs_only_add.ensures.later c.one_taking.ensures c.one_outcome.ensures.play
     old.desk.state.playout old.sum.port c.args.kind c.args.datagram.now old.desk.state old.sum
     (g.O.Outlet.lanes c.args.lanes.now) (g.O.Outlet.lanes c.admit.new.lanes)
     (stays_within c.runs_stay_within.ensures.taking old.desk.state.playout old.sum.port old.desk.state old.sum c.requires.underway) c.in_err-reply.ensures.breaks)
