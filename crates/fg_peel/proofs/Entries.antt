@@ -7,8 +7,7 @@ use Rattle.fg_peel.specs.declared.Slot.{Slot}
 use Rattle.fg_peel.specs.declared.Slot.TheVariants.{Empty}
 use Rattle.fg_peel.specs.declared.Line.{Line}
 use Rattle.fg_peel.specs.Equation.{slots}
-use Rattle.fg_peel.specs.Slots.{word_in, told_from, equation_of, FitsFrom}
-use Rattle.fg_peel.specs.Recovery.{with_word}
+use Rattle.fg_peel.specs.Slots.{with_word, word_in, told_from, equation_of, FitsFrom}
 use Rattle.fg_shape.proofs.ShapeLemmas.{length-slots_of, get_or-slots_of}
 use Rattle.std.proofs.lemmas.List.Elements.{Contains-get_or}
 

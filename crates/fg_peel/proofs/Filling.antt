@@ -6,8 +6,8 @@ use Rattle.fg_words.specs.Word.{word_xor, HasRoom}
 use Rattle.fg_peel.specs.declared.Slot.{Slot}
 use Rattle.fg_peel.specs.declared.Slot.TheVariants.{Empty, Filled}
 use Rattle.fg_peel.specs.Equation.{others, sum_at}
-use Rattle.fg_peel.specs.Slots.{word_in, words_from}
-use Rattle.fg_peel.specs.Recovery.{with_word, AddsWord}
+use Rattle.fg_peel.specs.Slots.{with_word, word_in, words_from}
+use Rattle.fg_peel.specs.Recovery.{AddsWord}
 use Rattle.fg_peel.proofs.Lists.{others-kept, others-head_dropped}
 use Rattle.fg_peel.proofs.Entries.{told_from-entry}
 use Rattle.fg_peel.proofs.Adding.{IsShort, xor_zero_short, short_xor, short_room, sum_more}

@@ -17,6 +17,7 @@ pub mod Misses
 pub mod Options
 pub mod Peelings
 pub mod Played
+pub mod Says
 pub mod Settled
 pub mod Slots
 pub mod Solutions

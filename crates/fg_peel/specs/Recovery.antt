@@ -12,7 +12,7 @@ use Rattle.fg_peel.specs.declared.span.Missing.TheVariants.{One}
 use Rattle.fg_peel.specs.declared.Verdict.{Verdict}
 use Rattle.fg_peel.specs.Equation.{Equation, slots, sum_at}
 use Rattle.fg_peel.specs.Peeling.{Step, IsPeeling, EndsPeeling, end_of, given_word}
-use Rattle.fg_peel.specs.Slots.{OnlyFills, IsMissing, words_from, recovered_from, word_in, recovered_in, equation_of, equations_of, lines_of}
+use Rattle.fg_peel.specs.Slots.{OnlyFills, IsMissing, words_from, recovered_from, word_in, recovered_in, with_word, equation_of, equations_of, lines_of}
 use Rattle.fg_peel.specs.Verdict.{IsVerdict}
 
 -- The equation doesn't miss just one word: nothing follows from it alone.
@@ -60,14 +60,6 @@ IsPeeled start equations old new = (steps : List Step) × IsPeeledBy start equat
 abbrev pub Fills : ℕ → Equation → ℕ → List Slot → List Slot → Type 0
 Fills start equation position old new =
     new ≡ slice_set old (position - start) (Filled (given_word (words_from start old) (record { equation = equation; position = position })))
-
--- An entry whose word stands in it, after another word is added.
-abbrev pub with_word : Slot → Option Word → Slot
-with_word (Filled word) (Some added) = Filled (word_xor word added)
-with_word (Filled word) None = Filled word
-with_word Empty added = Empty
-with_word (Media word) added = Media word
-with_word (Solved word) added = Solved word
 
 -- One entry has gained the word of another.
 abbrev pub AddsWord : List Slot → List Slot → ℕ → ℕ → Type 0

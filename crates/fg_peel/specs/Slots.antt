@@ -3,6 +3,7 @@ use Rattle.std.specs.Prelude.{◌≡◌, ◌≢◌, ◌⊎◌, ◌+◌, ◌-◌,
 use Rattle.std.specs.List.{Contains}
 use Rattle.slab.specs.Slab.{Slab, entries}
 use Rattle.fg_words.specs.declared.Word.{Word}
+use Rattle.fg_words.specs.Word.{word_xor}
 use Rattle.fg_shape.specs.Shape.{IsShape}
 use Rattle.fg_peel.specs.declared.Slot.{Slot}
 use Rattle.fg_peel.specs.declared.Slot.TheVariants.{Empty, Media, Solved, Filled}
@@ -31,6 +32,14 @@ recovered_in Empty = None
 recovered_in (Media word) = None
 recovered_in (Solved word) = Some word
 recovered_in (Filled word) = Some word
+
+-- An entry whose word stands there alone, after another word is added.
+abbrev pub with_word : Slot → Option Word → Slot
+with_word (Filled word) (Some added) = Filled (word_xor word added)
+with_word (Filled word) None = Filled word
+with_word Empty added = Empty
+with_word (Media word) added = Media word
+with_word (Solved word) added = Solved word
 
 -- The first position that has an entry, where the first entry stands for `low`. Positions begin at 0.
 abbrev pub first_position : ℤ → ℕ

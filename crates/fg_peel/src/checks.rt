@@ -8,32 +8,31 @@ ghost use Rattle.fg_peel.specs.Verdict.{IsLeast, IsNoMedia, BreaksAt, IsVerdict}
 ghost use Rattle.fg_peel.specs.Recovery.{RecoversMedia};
 
 use crate::span::{Missing, Span};
-use crate::{Line, Slot, Verdict};
+use crate::{Entry, Line, Verdict};
 use slab::Slab;
 
 /// Whether an entry's word, if it was recovered, is a media word.
-fn recovers_media(slot: &Slot) -> bool
-    ensures { IsTrue result ↔ RecoversMedia slot.now }
+fn recovers_media<E: Entry>(entry: &E) -> bool
+    ensures { IsTrue result ↔ RecoversMedia (E.slot entry.now) }
 {
-    match slot {
-        Slot::Empty | Slot::Media(_) => true,
-        Slot::Solved(shared) => shared.word().is_media(),
-        Slot::Filled(word) => word.is_media(),
+    match entry.recovered() {
+        Some(word) => word.is_media(),
+        None => true,
     }
 }
 
 /// The least position whose recovered word is no media word. `all_media` tells that there is none, but
 /// where some were filled in.
-fn first_not_media(span: &Span<'_>, all_media: bool, filled: bool) -> Option<u64>
-    requires { IsTrue all_media → filled ≡ false → AreMedia (recovered_words_in span.now) }
-    ensures least { IfSome result (IsLeast (IsNoMedia (recovered_words_in span.now))) }
-    ensures none { IfNone result (AreMedia (recovered_words_in span.now)) }
+fn first_not_media<E: Entry>(span: &Span<'_, E>, all_media: bool, filled: bool) -> Option<u64>
+    requires { IsTrue all_media → filled ≡ false → AreMedia (recovered_words_in E.slot span.now) }
+    ensures least { IfSome result (IsLeast (IsNoMedia (recovered_words_in E.slot span.now))) }
+    ensures none { IfNone result (AreMedia (recovered_words_in E.slot span.now)) }
 {
     if all_media && !filled {
         return None;
     }
-    for (i, slot) in span.slots.iter().enumerate() {
-        if !recovers_media(slot) {
+    for (i, entry) in span.slots.iter().enumerate() {
+        if !recovers_media(entry) {
             return Some(span.start + i as u64);
         }
     }
@@ -41,12 +40,12 @@ fn first_not_media(span: &Span<'_>, all_media: bool, filled: bool) -> Option<u64
 }
 
 /// Whether all slots of a line have words that don't sum to its parity word.
-fn is_broken(span: &Span<'_>, line: &Line) -> bool
-    requires { HasSlots span.now line.now }
-    ensures complete { IsTrue result → IsComplete (words_in span.now) (equation_of line.now) }
-    ensures broken { IsTrue result → ¬ ComesOut (words_in span.now) (equation_of line.now) }
-    ensures whole { result ≡ false → IsComplete (words_in span.now) (equation_of line.now)
-        → ComesOut (words_in span.now) (equation_of line.now) }
+fn is_broken<E: Entry>(span: &Span<'_, E>, line: &Line) -> bool
+    requires { HasSlots E.slot span.now line.now }
+    ensures complete { IsTrue result → IsComplete (words_in E.slot span.now) (equation_of line.now) }
+    ensures broken { IsTrue result → ¬ ComesOut (words_in E.slot span.now) (equation_of line.now) }
+    ensures whole { result ≡ false → IsComplete (words_in E.slot span.now) (equation_of line.now)
+        → ComesOut (words_in E.slot span.now) (equation_of line.now) }
 {
     match span.missing(line) {
         Missing::Nothing => !span.comes_out(line),
@@ -55,10 +54,10 @@ fn is_broken(span: &Span<'_>, line: &Line) -> bool
 }
 
 /// The least place of a line that is broken.
-fn first_broken(span: &Span<'_>, lines: &Slab<Line>) -> Option<u32>
-    requires { HasAllSlots span.now lines.now }
-    ensures least { IfSome result (IsLeast (BreaksAt (words_in span.now) lines.now)) }
-    ensures none { IfNone result (AllComeOut (words_in span.now) (equations_of lines.now)) }
+fn first_broken<E: Entry>(span: &Span<'_, E>, lines: &Slab<Line>) -> Option<u32>
+    requires { HasAllSlots E.slot span.now lines.now }
+    ensures least { IfSome result (IsLeast (BreaksAt (words_in E.slot span.now) lines.now)) }
+    ensures none { IfNone result (AllComeOut (words_in E.slot span.now) (equations_of lines.now)) }
 {
     let mut least: Option<u32> = None;
     for (_, line) in lines.iter() {
@@ -82,16 +81,16 @@ fn is_new_least(place: u32, least: Option<u32>) -> bool
 
 /// The verdict on the words of a span. `all_media` tells that the recovered ones are media words, but
 /// where some were filled in.
-pub(crate) fn verdict_on(
-    span: &Span<'_>,
+pub(crate) fn verdict_on<E: Entry>(
+    span: &Span<'_, E>,
     lines: &Slab<Line>,
     all_media: bool,
     filled: bool,
 ) -> Verdict
-    requires lines { HasAllSlots span.now lines.now }
-    requires media { IsTrue all_media → filled ≡ false → AreMedia (recovered_words_in span.now) }
-    ensures { IsVerdict (recovered_words_in span.now)
-        (words_in span.now) lines.now result }
+    requires lines { HasAllSlots E.slot span.now lines.now }
+    requires media { IsTrue all_media → filled ≡ false → AreMedia (recovered_words_in E.slot span.now) }
+    ensures { IsVerdict (recovered_words_in E.slot span.now)
+        (words_in E.slot span.now) lines.now result }
 {
     if let Some(slot) = first_not_media(span, all_media, filled) {
         return Verdict::NotMedia { slot };

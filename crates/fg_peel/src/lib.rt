@@ -2,7 +2,7 @@
 //! datagram recovers one lost datagram).
 #![tactic(auto)]
 
-ghost use Rattle.std.specs.Prelude.{◌≡◌, ◌+◌, ◌^◌, ◌<◌, ◌≤◌, ◌≤ℤ◌, ◌+ℤ◌, ℕ, pos, negsuc, length, drop, IfSome, IsTrue, Option};
+ghost use Rattle.std.specs.Prelude.{◌≡◌, ◌+◌, ◌^◌, ◌<◌, ◌≤◌, ◌≤ℤ◌, ◌+ℤ◌, ℕ, pos, negsuc, length, map, drop, IfSome, IsTrue, Option};
 ghost use Rattle.std.specs.Option.{option_copied};
 ghost use Rattle.fg_shape.specs.Shape.{position_limit};
 ghost use Rattle.fg_peel.specs.Equation.{AreMedia};
@@ -17,12 +17,14 @@ use recovery::fill_all;
 use slab::Slab;
 
 mod checks;
+mod entry;
 pub mod laws;
 mod recovery;
 mod span;
 #[cfg(test)]
 mod tests;
 
+pub use entry::Entry;
 pub use span::{Missing, Span};
 
 /// What is known of the datagram at one position.
@@ -100,7 +102,7 @@ pub fn peel(low: i64, slots: &mut [Slot], lines: &Slab<Line>) -> Verdict
     requires lines { AllFit low slots.old lines.now }
     ensures { Peels low lines.now slots.old slots.new result }
 {
-    peel_slots(low, slots, lines, false)
+    peel_entries(low, slots, lines, false)
 }
 
 /// `peel` where all words that are there are media words. Then the entries are not looked over where
@@ -112,16 +114,22 @@ pub fn peel_media(low: i64, slots: &mut [Slot], lines: &Slab<Line>) -> Verdict
     requires media { AreMedia (words_at low slots.old) }
     ensures { Peels low lines.now slots.old slots.new result }
 {
-    peel_slots(low, slots, lines, true)
+    peel_entries(low, slots, lines, true)
 }
 
-/// Either of the two. `all_media` tells that all words that are there are media words.
-fn peel_slots(low: i64, slots: &mut [Slot], lines: &Slab<Line>, all_media: bool) -> Verdict
+/// Either of the two, over entries of any kind. `all_media` tells that all words that are there are
+/// media words.
+pub fn peel_entries<E: Entry>(
+    low: i64,
+    slots: &mut [E],
+    lines: &Slab<Line>,
+    all_media: bool,
+) -> Verdict
     requires first { negsuc 99 ≤ℤ low }
     requires last { (low +ℤ pos (length slots.old)) ≤ℤ pos position_limit }
-    requires lines { AllFit low slots.old lines.now }
-    requires media { IsTrue all_media → AreMedia (words_at low slots.old) }
-    ensures { Peels low lines.now slots.old slots.new result }
+    requires lines { AllFit low (map E.slot slots.old) lines.now }
+    requires media { IsTrue all_media → AreMedia (words_at low (map E.slot slots.old)) }
+    ensures { Peels low lines.now (map E.slot slots.old) (map E.slot slots.new) result }
 {
     if low < 0 {
         let below = slots.len().min(low.unsigned_abs() as usize);
@@ -132,23 +140,28 @@ fn peel_slots(low: i64, slots: &mut [Slot], lines: &Slab<Line>, all_media: bool)
 }
 
 /// `peel` past so many entries that stand for no position.
-fn peel_after(below: usize, slots: &mut [Slot], lines: &Slab<Line>, all_media: bool) -> Verdict
+fn peel_after<E: Entry>(
+    below: usize,
+    slots: &mut [E],
+    lines: &Slab<Line>,
+    all_media: bool,
+) -> Verdict
     requires within { below ≤ length slots.old }
-    requires lines { AllFitFrom 0 (drop below slots.old) lines.now }
-    requires limit { length slots.old ≤ position_limit }
-    requires media { IsTrue all_media → AreMedia (words_from 0 (drop below slots.old)) }
-    ensures { IsPeelAfter below lines.now slots.old slots.new result }
+    requires lines { AllFitFrom 0 (drop below (map E.slot slots.old)) lines.now }
+    requires limit { length slots.old ≤ position_limit + below }
+    requires media { IsTrue all_media → AreMedia (words_from 0 (drop below (map E.slot slots.old))) }
+    ensures { IsPeelAfter below lines.now (map E.slot slots.old) (map E.slot slots.new) result }
 {
     let (_, rest) = slots.split_at_mut(below);
     peel_from(0, rest, lines, all_media)
 }
 
 /// `peel` where the first entry stands for the position `start`.
-fn peel_from(start: u64, slots: &mut [Slot], lines: &Slab<Line>, all_media: bool) -> Verdict
-    requires lines { AllFitFrom start slots.old lines.now }
+fn peel_from<E: Entry>(start: u64, slots: &mut [E], lines: &Slab<Line>, all_media: bool) -> Verdict
+    requires lines { AllFitFrom start (map E.slot slots.old) lines.now }
     requires limit { start + length slots.old ≤ position_limit }
-    requires media { IsTrue all_media → AreMedia (words_from start slots.old) }
-    ensures { IsPeel start lines.now slots.old slots.new result }
+    requires media { IsTrue all_media → AreMedia (words_from start (map E.slot slots.old)) }
+    ensures { IsPeel start lines.now (map E.slot slots.old) (map E.slot slots.new) result }
 {
     let filled = fill_all(start, slots, lines);
     verdict_on(&Span { start, slots }, lines, all_media, filled)

@@ -1,15 +1,16 @@
 //! Filling empty entries from the equations that miss one word.
 
-ghost use Rattle.std.specs.Prelude.{false, ◌≡◌, ◌≢◌, ◌+◌, ◌^◌, ◌<◌, ◌≤◌, length, Contains, slice_set};
+ghost use Rattle.std.specs.Prelude.{false, ◌≡◌, ◌≢◌, ◌+◌, ◌^◌, ◌<◌, ◌≤◌, length, map, Contains, slice_set};
 ghost use Rattle.fg_shape.specs.Shape.{position_limit};
-ghost use Rattle.fg_peel.specs.Slots.{word_in, words_from, equation_of, equations_of, lines_of};
+ghost use Rattle.fg_peel.specs.declared.Slot.{Slot};
+ghost use Rattle.fg_peel.specs.Slots.{word_in, with_word, words_from, equation_of, equations_of, lines_of};
 ghost use Rattle.fg_peel.specs.Slots.{Fits, AllFitFrom, IsMissing};
 ghost use Rattle.fg_peel.specs.Span.{words_in, HasAllSlots};
-ghost use Rattle.fg_peel.specs.Recovery.{IsPeeled, Fills, with_word, AddsWord};
+ghost use Rattle.fg_peel.specs.Recovery.{IsPeeled, Fills, AddsWord};
 ghost use Rattle.fg_peel.specs.Recovery.{NothingFollows, AllClosed, AllClosedAt, StayClosed};
 
 use crate::span::{Missing, Span};
-use crate::{Line, Slot};
+use crate::{Entry, Line};
 use fg_shape::{contains, slot};
 use fg_words::Word;
 use slab::Slab;
@@ -18,12 +19,12 @@ use slab::Slab;
 /// once, and the words at the other slots are added to it there.
 // A copy of a word on the way must not stand in the frames of `visit`, of which a chain has many.
 #[inline(never)]
-fn fill(start: u64, slots: &mut [Slot], line: &Line, position: u64)
-    requires line { Fits start slots.old line.now }
+fn fill<E: Entry>(start: u64, slots: &mut [E], line: &Line, position: u64)
+    requires line { Fits start (map E.slot slots.old) line.now }
     requires limit { start + length slots.old ≤ position_limit }
-    requires missing { IsMissing (words_from start slots.old) (equation_of line.now)
+    requires missing { IsMissing (words_from start (map E.slot slots.old)) (equation_of line.now)
         (Missing.One position) }
-    ensures { Fills start (equation_of line.now) position slots.old slots.new }
+    ensures { Fills start (equation_of line.now) position (map E.slot slots.old) (map E.slot slots.new) }
 {
     let target = (position - start) as usize;
     put_copy(slots, target, line.parity.word());
@@ -36,19 +37,19 @@ fn fill(start: u64, slots: &mut [Slot], line: &Line, position: u64)
 }
 
 /// Puts a copy of a word into an entry.
-fn put_copy(slots: &mut [Slot], target: usize, word: &Word)
+fn put_copy<E: Entry>(slots: &mut [E], target: usize, word: &Word)
     requires { target < length slots.old }
-    ensures { slots.new ≡ slice_set slots.old target (Slot.Filled word.now) }
+    ensures { map E.slot slots.new ≡ slice_set (map E.slot slots.old) target (Slot.Filled word.now) }
 {
-    slots[target] = Slot::Filled(*word);
+    slots[target].fill(word);
 }
 
 /// Adds the word of another entry to the word that stands at `target`, in place.
-fn add_word(slots: &mut [Slot], target: usize, other: usize)
+fn add_word<E: Entry>(slots: &mut [E], target: usize, other: usize)
     requires target { target < length slots.old }
     requires other { other < length slots.old }
     requires apart { target ≢ other }
-    ensures { AddsWord slots.old slots.new target other }
+    ensures { AddsWord (map E.slot slots.old) (map E.slot slots.new) target other }
 {
     if target < other {
         let (front, back) = slots.split_at_mut(other);
@@ -60,23 +61,23 @@ fn add_word(slots: &mut [Slot], target: usize, other: usize)
 }
 
 /// Adds the word of another entry to the word that stands in this one.
-fn add_entry(target: &mut Slot, other: &Slot)
-    ensures { target.new ≡ with_word target.old (word_in other.now) }
+fn add_entry<E: Entry>(target: &mut E, other: &E)
+    ensures { E.slot target.new ≡ with_word (E.slot target.old) (word_in (E.slot other.now)) }
 {
-    if let (Slot::Filled(word), Some(added)) = (target, other.word()) {
-        word.xor_in(added);
+    if let Some(added) = other.word() {
+        target.add(added);
     }
 }
 
 /// Fills the slot of a line that has no word, where there is just one, and goes on from there.
 #[cycle(filling)]
-fn visit(start: u64, slots: &mut [Slot], lines: &Slab<Line>, line: &Line)
-    requires lines { AllFitFrom start slots.old lines.now }
+fn visit<E: Entry>(start: u64, slots: &mut [E], lines: &Slab<Line>, line: &Line)
+    requires lines { AllFitFrom start (map E.slot slots.old) lines.now }
     requires limit { start + length slots.old ≤ position_limit }
     requires live { Contains (lines_of lines.now) line.now }
-    ensures peeled { IsPeeled start (equations_of lines.now) slots.old slots.new }
-    ensures closed { NothingFollows (words_from start slots.new) (equation_of line.now) }
-    ensures stay { StayClosed (words_from start slots.old) (words_from start slots.new) lines.now }
+    ensures peeled { IsPeeled start (equations_of lines.now) (map E.slot slots.old) (map E.slot slots.new) }
+    ensures closed { NothingFollows (words_from start (map E.slot slots.new)) (equation_of line.now) }
+    ensures stay { StayClosed (words_from start (map E.slot slots.old)) (words_from start (map E.slot slots.new)) lines.now }
 {
     if let Missing::One(position) = (Span { start, slots }).missing(line) {
         fill(start, slots, line, position);
@@ -87,12 +88,12 @@ fn visit(start: u64, slots: &mut [Slot], lines: &Slab<Line>, line: &Line)
 /// Visits each line that has a slot, which was just filled. Lines without it are passed over by a
 /// test on numbers.
 #[cycle(filling)]
-fn follow(start: u64, slots: &mut [Slot], lines: &Slab<Line>, filled: u64)
-    requires lines { AllFitFrom start slots.old lines.now }
+fn follow<E: Entry>(start: u64, slots: &mut [E], lines: &Slab<Line>, filled: u64)
+    requires lines { AllFitFrom start (map E.slot slots.old) lines.now }
     requires limit { start + length slots.old ≤ position_limit }
-    ensures peeled { IsPeeled start (equations_of lines.now) slots.old slots.new }
-    ensures closed { AllClosedAt (words_from start slots.new) lines.now filled }
-    ensures stay { StayClosed (words_from start slots.old) (words_from start slots.new) lines.now }
+    ensures peeled { IsPeeled start (equations_of lines.now) (map E.slot slots.old) (map E.slot slots.new) }
+    ensures closed { AllClosedAt (words_from start (map E.slot slots.new)) lines.now filled }
+    ensures stay { StayClosed (words_from start (map E.slot slots.old)) (words_from start (map E.slot slots.new)) lines.now }
 {
     for (_, line) in lines.iter() {
         if contains(line.base, line.shape, filled) {
@@ -102,9 +103,9 @@ fn follow(start: u64, slots: &mut [Slot], lines: &Slab<Line>, filled: u64)
 }
 
 /// Whether some line misses just one word, so that it follows.
-fn some_word_follows(span: &Span<'_>, lines: &Slab<Line>) -> bool
-    requires { HasAllSlots span.now lines.now }
-    ensures { result ≡ false → AllClosed (words_in span.now) lines.now }
+fn some_word_follows<E: Entry>(span: &Span<'_, E>, lines: &Slab<Line>) -> bool
+    requires { HasAllSlots E.slot span.now lines.now }
+    ensures { result ≡ false → AllClosed (words_in E.slot span.now) lines.now }
 {
     for (_, line) in lines.iter() {
         if let Missing::One(_) = span.missing(line) {
@@ -118,12 +119,12 @@ fn some_word_follows(span: &Span<'_>, lines: &Slab<Line>) -> bool
 ///
 /// Each line is visited once, and once more for each of its slots that is filled, at the moment
 /// that it is. A filled entry costs a pass of tests on numbers over the lines.
-pub(crate) fn fill_all(start: u64, slots: &mut [Slot], lines: &Slab<Line>) -> bool
-    requires lines { AllFitFrom start slots.old lines.now }
+pub(crate) fn fill_all<E: Entry>(start: u64, slots: &mut [E], lines: &Slab<Line>) -> bool
+    requires lines { AllFitFrom start (map E.slot slots.old) lines.now }
     requires limit { start + length slots.old ≤ position_limit }
-    ensures peeled { IsPeeled start (equations_of lines.now) slots.old slots.new }
-    ensures closed { AllClosed (words_from start slots.new) lines.now }
-    ensures untouched { result ≡ false → slots.new ≡ slots.old }
+    ensures peeled { IsPeeled start (equations_of lines.now) (map E.slot slots.old) (map E.slot slots.new) }
+    ensures closed { AllClosed (words_from start (map E.slot slots.new)) lines.now }
+    ensures untouched { result ≡ false → map E.slot slots.new ≡ map E.slot slots.old }
 {
     if !some_word_follows(&Span { start, slots }, lines) {
         return false;

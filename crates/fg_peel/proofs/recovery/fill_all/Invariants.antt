@@ -1,3 +1,4 @@
+use Rattle.std.proofs.Common.{map}
 use Rattle.fg_peel.specs.Slots.{equations_of, words_from}
 use Rattle.fg_peel.specs.Recovery.{IsPeeled}
 use Rattle.fg_peel.proofs.Lines.{AreLive}
@@ -6,9 +7,9 @@ use Rattle.fg_peel.proofs.recovery.fill_all.Given as goal
 
 -- the lines that are left are live, and nothing follows from the others
 abbrev pub invariant-loop-line : goal.invariant-loop-line
-invariant-loop-line l =
-    (goal.iterator-loop-line).can_next l.line-iterator ×
-    (goal.iterator-loop-line).is_finite l.line-iterator ×
+invariant-loop-line g l =
+    (goal.iterator-loop-line g).can_next l.line-iterator ×
+    (goal.iterator-loop-line g).is_finite l.line-iterator ×
     AreLive l.lines l.line-iterator ×
-    IsPeeled l.start (equations_of l.lines) l.fn.slots l.slots ×
-    ClosedBut (words_from l.start l.slots) l.lines l.line-iterator
+    IsPeeled l.start (equations_of l.lines) (map g.E.Entry.slot l.fn.slots) (map g.E.Entry.slot l.slots) ×
+    ClosedBut (words_from l.start (map g.E.Entry.slot l.slots)) l.lines l.line-iterator

@@ -1,3 +1,4 @@
+use Rattle.std.proofs.Common.{map}
 use Rattle.fg_peel.specs.Slots.{words_from}
 use Rattle.fg_peel.proofs.Lines.{AreLive}
 use Rattle.fg_peel.proofs.Closed.{ClosedBut}
@@ -5,8 +6,8 @@ use Rattle.fg_peel.proofs.recovery.some_word_follows.Given as goal
 
 -- the lines that are left are live, and nothing follows from the others
 abbrev pub invariant-loop-line : goal.invariant-loop-line
-invariant-loop-line l =
-    (goal.iterator-loop-line).can_next l.line-iterator ×
-    (goal.iterator-loop-line).is_finite l.line-iterator ×
+invariant-loop-line g l =
+    (goal.iterator-loop-line g).can_next l.line-iterator ×
+    (goal.iterator-loop-line g).is_finite l.line-iterator ×
     AreLive l.lines l.line-iterator ×
-    ClosedBut (words_from l.span.start l.span.slots.now) l.lines l.line-iterator
+    ClosedBut (words_from l.span.start (map g.E.Entry.slot l.span.slots.now)) l.lines l.line-iterator

@@ -1,4 +1,4 @@
-use Rattle.std.proofs.Common.{◌≡◌, sym, ◌∙◌}
+use Rattle.std.proofs.Common.{map, ◌≡◌, sym, ◌∙◌}
 use Rattle.std.specs.List.{filter_map}
 use Rattle.fg_words.specs.Word.{word_xor, HasRoom}
 use Rattle.fg_peel.specs.Equation.{slots, sum_at}
@@ -7,8 +7,8 @@ use Rattle.fg_peel.proofs.Adding.{cancels, cancelled, short_sum}
 use Rattle.fg_peel.proofs.span.Span.comes_out.Goals as goal
 
 pub returns : goal.returns
-returns c =
-    let words = words_from c.args.self.now.start c.args.self.now.slots.now in
+returns g c =
+    let words = words_from c.args.self.now.start (map g.E.Entry.slot c.args.self.now.slots.now) in
     let xs = slots (equation_of c.args.line.now) in
     let parity = c.args.line.now.parity in
     let total = sum_at words xs in

@@ -1,8 +1,9 @@
+use Rattle.std.proofs.Common.{map}
 use Rattle.fg_shape.specs.Shape.{slots_of}
 use Rattle.fg_peel.specs.Slots.{words_from}
 use Rattle.fg_peel.proofs.Misses.{MissesBelow}
 use Rattle.fg_peel.proofs.span.Span.missing.Given as goal
 
 abbrev pub invariant-loop-j : goal.invariant-loop-j
-invariant-loop-j l =
-    MissesBelow (words_from l.self.start l.self.slots.now) (slots_of l.line.base l.line.shape.offset l.line.shape.na) l.j l.found
+invariant-loop-j g l =
+    MissesBelow (words_from l.self.start (map g.E.Entry.slot l.self.slots.now)) (slots_of l.line.base l.line.shape.offset l.line.shape.na) l.j l.found
