@@ -3,6 +3,7 @@
 
 mod live_equations;
 mod playout_buffer;
+mod small_slot;
 
 pub use live_equations::{LIVE_LIMIT, LiveEquations, lost_slot};
 pub use playout_buffer::{KEPT, PlayoutBuffer};

@@ -6,6 +6,7 @@ ghost use Rattle.std.specs.FinMap.{empty, get};
 ghost use Rattle.std.specs.FinSet as set;
 ghost use Rattle.fg_words.specs.Word.{IsMedia};
 ghost use Rattle.fg_shape.specs.Shape.{IsShape, position_limit};
+ghost use Rattle.fg_peel.specs.declared.Slot.{Slot};
 ghost use Rattle.fg_peel.specs.Solution.{IsSolution};
 ghost use Rattle.fg_peel.specs.Equation.{AreMedia, IsComplete};
 ghost use Rattle.fg_peel.specs.Peeling.{EndsPeeling};
@@ -14,8 +15,9 @@ ghost use Rattle.fg_peel.specs.Slots.{word_in, words_at, equation_of, equations_
 ghost use Rattle.fg_buffer.specs.PlayoutBuffer.{opened_buffer, buffer_received, buffer_words, buffer_known, buffer_shared, IsBuffer, receives, publishes, AllLieIn, IsHighestWord, Advances};
 ghost use Rattle.fg_buffer.specs.BufferEntries.{entry_at, words_of, buffer_of, live_entries, IsEmptyPast, StaysPast, received_in, solved_in, shared_in, is_found, AreEntries, Recovers, IsLastWord, HasNoWordFrom, Forgets, forgets};
 
+use crate::small_slot::SmallSlot;
 use fg_peel::laws::{confluence, maximal_peelings_are_tested};
-use fg_peel::{Line, Slot, Verdict, peel, peel_media};
+use fg_peel::{Entry, Line, Verdict, peel_entries};
 use fg_shape::slot;
 use fg_words::{Shared, Word};
 use slab::Slab;
@@ -31,7 +33,7 @@ pub const KEPT: usize = 100;
 const SLACK: usize = 100;
 
 /// The entries of the 100 positions before the mark and of those from the mark on. An entry is
-/// 1.3 kB.
+/// 24 bytes, and has a place of 1.3 kB elsewhere, which is touched only where a word is found.
 ///
 /// Before the mark an entry has the share of a kept word, which was received or solved, or a kept word
 /// that stands alone. From the mark on it has the share of a received or a solved word, or a word that
@@ -42,7 +44,7 @@ pub struct PlayoutBuffer {
     /// Where the first entry stands.
     front: usize,
     /// The entries, before them those that were passed, and after them empty ones.
-    slots: Vec<Slot>,
+    slots: Vec<SmallSlot>,
     /// Whether all solved words at the mark and past it are known to be media words.
     solved_media: bool,
 }
@@ -71,7 +73,7 @@ impl PlayoutBuffer {
         let count = KEPT + depth as usize + 100 + SLACK;
         let mut slots = Vec::with_capacity(alloc, count)?;
         for _ in 0..count {
-            slots.push(Slot::Empty)?;
+            slots.push(SmallSlot::new(alloc)?)?;
         }
         Ok(PlayoutBuffer {
             mark: 0,
@@ -93,9 +95,9 @@ impl PlayoutBuffer {
     pub fn received(&self, position: u64) -> Option<&Word>
         ensures { option_copied result ≡ get self.now.media position }
     {
-        match self.ahead(position) {
-            Some(Slot::Media(share)) => Some(share.word()),
-            _ => None,
+        match self.ahead(position)?.received() {
+            Some(share) => Some(share.word()),
+            None => None,
         }
     }
 
@@ -164,14 +166,11 @@ impl PlayoutBuffer {
     pub fn solved(&self, position: u64) -> Option<&Shared>
         ensures { option_copied result ≡ get self.now.solved position }
     {
-        match self.ahead(position) {
-            Some(Slot::Solved(share)) => Some(share),
-            _ => None,
-        }
+        self.ahead(position)?.solved()
     }
 
     /// The entry of a position that isn't played yet, where there is one.
-    fn ahead(&self, position: u64) -> Option<&Slot>
+    fn ahead(&self, position: u64) -> Option<&SmallSlot>
         ensures { (received_in (unwrap_or (option_copied result) Slot.Empty) ≡ get self.now.media position)
             × (solved_in (unwrap_or (option_copied result) Slot.Empty) ≡ get self.now.solved position) }
     {
@@ -196,7 +195,7 @@ impl PlayoutBuffer {
         ensures { self.new ≡ receives self.old position share }
     {
         let index = place_of(self.mark, self.front, position);
-        self.slots[index] = Slot::Media(share);
+        self.slots[index].put_media(share);
     }
 
     /// Puts a solved word at a position. A word that was found there goes.
@@ -208,7 +207,7 @@ impl PlayoutBuffer {
     {
         let index = place_of(self.mark, self.front, position);
         self.solved_media = stay_media(self.solved_media, &share);
-        self.slots[index] = Slot::Solved(share);
+        self.slots[index].put_solved(share);
     }
 
     /// Forgets each word that was found ahead of its play, and each that was solved.
@@ -273,7 +272,7 @@ impl PlayoutBuffer {
 }
 
 /// The buffer's entries among the slots.
-fn live(slots: &[Slot], front: usize) -> &[Slot]
+fn live(slots: &[SmallSlot], front: usize) -> &[SmallSlot]
     requires front { front ≤ SLACK }
     requires some { SLACK ≤ length slots.now }
     ensures { result.now ≡ live_entries front slots.now }
@@ -282,7 +281,7 @@ fn live(slots: &[Slot], front: usize) -> &[Slot]
 }
 
 /// The entry of a position, where the buffer has one.
-fn entry(mark: u64, slots: &[Slot], position: u64) -> Option<&Slot>
+fn entry(mark: u64, slots: &[SmallSlot], position: u64) -> Option<&SmallSlot>
     requires { mark + length slots.now ≤ position_limit }
     ensures { unwrap_or (option_copied result) Slot.Empty ≡ entry_at mark slots.now position }
 {
@@ -301,46 +300,30 @@ fn place_of(mark: u64, front: usize, position: u64) -> usize
 }
 
 /// The word at a position.
-fn word_at(mark: u64, slots: &[Slot], position: u64) -> Option<&Word>
+fn word_at(mark: u64, slots: &[SmallSlot], position: u64) -> Option<&Word>
     requires { mark + length slots.now ≤ position_limit }
     ensures { option_copied result ≡ word_in (entry_at mark slots.now position) }
 {
-    match entry(mark, slots, position) {
-        Some(slot) => slot.word(),
-        None => None,
-    }
+    entry(mark, slots, position)?.word()
 }
 
 /// The share at a position.
-fn share_at(mark: u64, slots: &[Slot], position: u64) -> Option<&Shared>
+fn share_at(mark: u64, slots: &[SmallSlot], position: u64) -> Option<&Shared>
     requires { mark + length slots.now ≤ position_limit }
     ensures { option_copied result ≡ shared_in (entry_at mark slots.now position) }
 {
-    match entry(mark, slots, position) {
-        Some(slot) => share_of(slot),
-        None => None,
-    }
-}
-
-/// The share of an entry whose word was received or solved.
-fn share_of(slot: &Slot) -> Option<&Shared>
-    ensures { option_copied result ≡ shared_in slot.now }
-{
-    match slot {
-        Slot::Media(share) | Slot::Solved(share) => Some(share),
-        Slot::Empty | Slot::Filled(_) => None,
-    }
+    entry(mark, slots, position)?.share()
 }
 
 /// Whether there is a word at a position that was not received.
-fn is_found_at(mark: u64, slots: &[Slot], position: u64) -> bool
+fn is_found_at(mark: u64, slots: &[SmallSlot], position: u64) -> bool
     requires { mark + length slots.now ≤ position_limit }
     ensures { result ≡ is_found (entry_at mark slots.now position) }
 {
-    matches!(
-        entry(mark, slots, position),
-        Some(Slot::Solved(_) | Slot::Filled(_))
-    )
+    match entry(mark, slots, position) {
+        Some(slot) => slot.is_found(),
+        None => false,
+    }
 }
 
 /// Whether the solved words are still media words where this one comes.
@@ -358,25 +341,9 @@ fn low_of(mark: u64) -> i64
     mark as i64 - KEPT as i64
 }
 
-/// Peels entries the first of which stands for the position `low`. Where all words there are known to be
-/// media words, that takes less time.
-fn peel_entries(low: i64, slots: &mut [Slot], lines: &Slab<Line>, all_media: bool) -> Verdict
-    requires first { negsuc 99 ≤ℤ low }
-    requires last { (low +ℤ pos (length slots.old)) ≤ℤ pos position_limit }
-    requires lines { AllFit low slots.old lines.now }
-    requires media { IsTrue all_media → AreMedia (words_at low slots.old) }
-    ensures { Peels low lines.now slots.old slots.new result }
-{
-    if all_media {
-        peel_media(low, slots, lines)
-    } else {
-        peel(low, slots, lines)
-    }
-}
-
 /// Peels the buffer's entries, and tells whether the words that were not received are media words and
 /// each complete equation comes out.
-fn recover_words(mark: u64, slots: &mut [Slot], lines: &Slab<Line>, all_media: bool) -> bool
+fn recover_words(mark: u64, slots: &mut [SmallSlot], lines: &Slab<Line>, all_media: bool) -> bool
     requires entries { AreEntries mark slots.old }
     requires within { AllLieIn (buffer_of mark slots.old) lines.now }
     requires media { IsTrue all_media → AreMedia (words_of mark slots.old) }
@@ -391,7 +358,7 @@ fn recover_words(mark: u64, slots: &mut [Slot], lines: &Slab<Line>, all_media: b
 /// The same of the buffer's entries among the slots.
 fn recover_live(
     mark: u64,
-    slots: &mut [Slot],
+    slots: &mut [SmallSlot],
     front: usize,
     lines: &Slab<Line>,
     all_media: bool,
@@ -411,7 +378,7 @@ fn recover_live(
 
 /// Empties each of the buffer's entries from the mark on whose word stands alone or, where `solved` says
 /// so, was solved.
-fn forget_live(slots: &mut [Slot], front: usize, solved: bool)
+fn forget_live(slots: &mut [SmallSlot], front: usize, solved: bool)
     requires front { front ≤ SLACK }
     requires some { SLACK ≤ length slots.old }
     ensures forgets { Forgets solved (live_entries front slots.old) (live_entries front slots.new) }
@@ -422,7 +389,7 @@ fn forget_live(slots: &mut [Slot], front: usize, solved: bool)
 }
 
 /// The last entry with a word, from the mark on.
-fn last_word(slots: &[Slot]) -> Option<usize>
+fn last_word(slots: &[SmallSlot]) -> Option<usize>
     ensures some { IfSome result (IsLastWord slots.now) }
     ensures none { IfNone result (HasNoWordFrom slots.now KEPT) }
 {
@@ -435,24 +402,17 @@ fn last_word(slots: &[Slot]) -> Option<usize>
 }
 
 /// Empties each entry from the mark on whose word stands alone or, where `solved` says so, was solved.
-fn forget_words(slots: &mut [Slot], solved: bool)
+fn forget_words(slots: &mut [SmallSlot], solved: bool)
     ensures { Forgets solved slots.old slots.new }
 {
     for i in KEPT..slots.len() {
-        let goes = match slots[i] {
-            Slot::Filled(_) => true,
-            Slot::Solved(_) => solved,
-            Slot::Empty | Slot::Media(_) => false,
-        };
-        if goes {
-            slots[i] = Slot::Empty;
-        }
+        slots[i].forget(solved);
     }
 }
 
 /// Passes the first `count` of the buffer's entries, and answers where the first one then stands. The
 /// entries are moved only where no room is left after them.
-fn move_on(slots: &mut [Slot], front: usize, count: usize) -> usize
+fn move_on(slots: &mut [SmallSlot], front: usize, count: usize) -> usize
     requires some { 1 ≤ count }
     requires within { count + SLACK ≤ length slots.old }
     requires front { front ≤ SLACK }
@@ -470,7 +430,7 @@ fn move_on(slots: &mut [Slot], front: usize, count: usize) -> usize
 
 /// Moves each entry to the place `count` before it. The first `count` entries go, and the last ones
 /// are then empty.
-fn shift_down(slots: &mut [Slot], count: usize)
+fn shift_down(slots: &mut [SmallSlot], count: usize)
     requires some { 1 ≤ count }
     requires within { count ≤ length slots.old }
     ensures { (k : ℕ) → slice_index_or slots.new k Slot.Empty
@@ -482,7 +442,7 @@ fn shift_down(slots: &mut [Slot], count: usize)
 }
 
 /// Moves what the entries `count` places later have to each of the first `rest` entries.
-fn take_later(slots: &mut [Slot], count: usize, rest: usize)
+fn take_later(slots: &mut [SmallSlot], count: usize, rest: usize)
     requires some { 1 ≤ count }
     requires within { rest + count ≤ length slots.old }
     ensures { (k : ℕ) → k < rest
@@ -490,58 +450,17 @@ fn take_later(slots: &mut [Slot], count: usize, rest: usize)
 {
     for i in 0..rest {
         let (front, back) = slots.split_at_mut(i + count);
-        take_entry(&mut front[i], &mut back[0]);
-    }
-}
-
-/// Puts into an entry what another has, which is then to be written anew. A word that has a share
-/// is moved as the share.
-fn take_entry(slot: &mut Slot, other: &mut Slot)
-    ensures { slot.new ≡ other.old }
-{
-    match other {
-        Slot::Empty => clear_entry(slot),
-        Slot::Media(later) => {
-            if let Slot::Media(share) = slot {
-                mem::swap(share, later);
-            } else {
-                take_share(slot, other);
-            }
-        }
-        Slot::Solved(_) => take_share(slot, other),
-        Slot::Filled(_) => mem::swap(slot, other),
-    }
-}
-
-/// Moves the share of an entry to another one. Nothing else of the entry is copied.
-fn take_share(slot: &mut Slot, other: &mut Slot)
-    requires { IsSome (shared_in other.old) }
-    ensures { slot.new ≡ other.old }
-{
-    match mem::replace(other, Slot::Empty) {
-        Slot::Media(share) => *slot = Slot::Media(share),
-        Slot::Solved(share) => *slot = Slot::Solved(share),
-        Slot::Empty | Slot::Filled(_) => {}
-    }
-}
-
-/// Empties an entry. One that is empty is left alone, since a write costs as much as a word.
-fn clear_entry(slot: &mut Slot)
-    ensures { slot.new ≡ Slot.Empty }
-{
-    match slot {
-        Slot::Empty => {}
-        _ => *slot = Slot::Empty,
+        mem::swap(&mut front[i], &mut back[0]);
     }
 }
 
 /// Empties the entries from this one on.
-fn empty_from(slots: &mut [Slot], first: usize)
+fn empty_from(slots: &mut [SmallSlot], first: usize)
     ensures below { (k : ℕ) → k < first
         → slice_index_or slots.new k Slot.Empty ≡ slice_index_or slots.old k Slot.Empty }
     ensures above { (k : ℕ) → first ≤ k → slice_index_or slots.new k Slot.Empty ≡ Slot.Empty }
 {
     for i in first..slots.len() {
-        clear_entry(&mut slots[i]);
+        slots[i].clear();
     }
 }

@@ -12,15 +12,15 @@ loop-i-preserved c =
     let back : List Slot = c.split_at_mut-front.result.1.now in
     let i : ℕ = c.loop-i.i in
     let count : ℕ = c.args.count in
-    let x : Slot = c.take_entry.new.slot in
-    let y : Slot = c.take_entry.new.other in
+    let x : Slot = c.swap.new.x in
+    let y : Slot = c.swap.new.y in
     let cut = c.split_at_mut-front.ensures in
     let within : i + count < length old = omega arith in
     let some = c.requires.some in
     let new : List Slot = set front i x ++ set back 0 y in
     let here : get_or new i Empty ≡ get_or c.args.slots.now (i + count) Empty =
     moved_here old front back i count x y cut.value cut.front_len some within
-    ∙ taken_is old front back i count x y cut.value cut.front_len some within _ c.take_entry.ensures
+    ∙ taken_is old front back i count x y cut.value cut.front_len some within _ c.swap.ensures.x_after
     ∙ c.loop-i.invariant.1 (i + count) (omega arith) in (
       λ k less.
           ⊎_elim

@@ -1,8 +1,8 @@
-use Rattle.std.proofs.Common.{◌+◌, ◌-◌, ◌<◌, ◌≤◌, List, length, subst, sym, ap, ◌∙◌, arith}
+use Rattle.std.proofs.Common.{◌+◌, ◌-◌, ◌<◌, ◌≤◌, List, length, set, subst, sym, ap, ◌∙◌, arith}
 use Rattle.fg_peel.specs.declared.Slot.{Slot}
 use Rattle.fg_peel.specs.declared.Slot.TheVariants.{Media}
 use Rattle.fg_buffer.specs.PlayoutBuffer.{BufferState, receives}
-use Rattle.fg_buffer.specs.BufferEntries.{buffer_of, live_entries, SolvedAreMedia}
+use Rattle.fg_buffer.specs.BufferEntries.{buffer_of, live_entries, AreStored, SolvedAreMedia}
 use Rattle.fg_buffer.proofs.BufferChanges.{put_media, received_buffer}
 use Rattle.fg_buffer.proofs.BufferStored.{live_long, stored_put, put_is}
 use Rattle.fg_buffer.proofs.playout_buffer.PlayoutBuffer.put_media.Goals as goal
@@ -28,12 +28,14 @@ invariant_of-self c =
     let front = c.self.inside.front in
     let old = c.self.inside.slots.items in
     let index = c.place_of-index.result in (
-      stored_put mark front old c.self.invariant.0 c.args.position (Media c.args.share) (ahead s) (near s) index c.place_of-index.ensures,
+      subst (λ (e : Slot). AreStored mark front (set old index e)) (sym c.put_media.ensures)
+          (stored_put mark front old c.self.invariant.0 c.args.position (Media c.args.share) (ahead s) (near s) index c.place_of-index.ensures),
       λ known.
-          subst (λ (xs : List Slot). SolvedAreMedia xs)
+          subst (λ (e : Slot). SolvedAreMedia (live_entries front (set old index e))) (sym c.put_media.ensures)
+          (subst (λ (xs : List Slot). SolvedAreMedia xs)
           (sym (put_is mark front old c.self.invariant.0 c.args.position (Media c.args.share) (ahead s) (near s) index c.place_of-index.ensures))
           (put_media mark (live_entries front old) c.args.position (Media c.args.share) c.self.invariant.0.entries (ahead s) (near s)
-          (c.self.invariant.1 known) (λ word is. absurd (cc))),
+          (c.self.invariant.1 known) (λ word is. absurd (cc)))),
     )
 
 pub returns : goal.returns
@@ -42,7 +44,8 @@ returns c =
     let mark = c.self.inside.mark in
     let front = c.self.inside.front in
     let old = c.self.inside.slots.items in
-    ap (λ (xs : List Slot). buffer_of mark xs)
+    ap (λ (e : Slot). buffer_of mark (live_entries front (set old c.place_of-index.result e))) c.put_media.ensures
+    ∙ ap (λ (xs : List Slot). buffer_of mark xs)
     (put_is mark front old c.self.invariant.0 c.args.position (Media c.args.share) (ahead s) (near s)
     c.place_of-index.result c.place_of-index.ensures)
     ∙ received_buffer mark (live_entries front old) c.args.position c.args.share c.self.invariant.0.entries (ahead s) (near s)
