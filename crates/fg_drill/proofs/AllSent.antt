@@ -16,7 +16,7 @@ use Rattle.fg_encode.specs.Ends.{column_bases, columns_ending, row_bases, rows_e
 use Rattle.fg_encode.specs.Encoding.{column_record, encoding, records_at, row_record, sequence_of, word_at}
 use Rattle.fg_encode.specs.Payloads.{ArePayloads}
 use Rattle.fg_results.specs.Flow.{Arrives, is_of, records_of}
-use Rattle.fg_drill.specs.Thinned.{without}
+use Rattle.fg_thin.specs.Thinned.{without}
 use Rattle.fg_drill.specs.True.{AreInFull}
 use Rattle.fg_drill.proofs.Reading.{column_arrival, column_can_arrive, media_can_arrive, row_arrival, row_can_arrive}
 use Rattle.fg_drill.proofs.Turns.{on_column_port, on_media_port, on_row_port}

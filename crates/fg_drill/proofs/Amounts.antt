@@ -16,7 +16,7 @@ use Rattle.fg_encode.specs.Ends.{column_bases, columns_ending, row_bases, rows_e
 use Rattle.fg_encode.specs.Encoding.{column_record, encoding, payload_at, records_at, row_record}
 use Rattle.fg_encode.specs.Laws.{ColumnsAreTheLayouts, RowsAreTheLayouts}
 use Rattle.fg_results.specs.Flow.{Arrives, is_of, records_of}
-use Rattle.fg_drill.specs.Thinned.{thinned, without}
+use Rattle.fg_thin.specs.Thinned.{thinned, without}
 
 -- Lists made over a range
 

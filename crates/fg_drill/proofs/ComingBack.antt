@@ -20,7 +20,7 @@ use Rattle.fg_results.specs.Flow.{Arrives, FlowResult, IsFlowResult, all_shown, 
 use Rattle.fg_drill.specs.ComesBack.{CanComeBack, stream_of}
 use Rattle.fg_drill.specs.Repaired.{ArrivalsPeel, Peels, is_shown, stream_shown}
 use Rattle.fg_drill.specs.Sent.{ArriveOneWay, FewArrive, SentRecordsAreTrue, SentWordsAreMedia, words_sent}
-use Rattle.fg_drill.specs.Thinned.{thinned}
+use Rattle.fg_thin.specs.Thinned.{thinned}
 use Rattle.fg_drill.specs.True.{AreSentTrue}
 use Rattle.fg_drill.specs.TrueLaws.{PeeledSlotsAreShown, TrueRunsAreRepaired, TrueRunsShowTheTruth}
 use Rattle.fg_drill.proofs.Truth.{word_below}

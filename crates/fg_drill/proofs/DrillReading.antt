@@ -18,9 +18,9 @@ use Rattle.fg_encode.proofs.ReadLemmas.{any_ending}
 use Rattle.fg_drill.specs.Drill.{Answer, IsFault, answer_to, ending_of, records_sent}
 use Rattle.fg_drill.specs.DrillLaws.{trace_sent}
 use Rattle.fg_drill.specs.DrillSteps.{TellsAll, TellsEnding}
-use Rattle.fg_drill.specs.Payloads.{payloads_of}
-use Rattle.fg_drill.specs.ThinnedSource.{ThinnedFixed, ending_told}
-use Rattle.fg_drill.specs.TraceLaws.{StreamIsTrace}
+use Rattle.fg_thin.specs.Payloads.{payloads_of}
+use Rattle.fg_thin.specs.ThinnedSource.{ThinnedFixed, ending_told}
+use Rattle.fg_thin.specs.TraceLaws.{StreamIsTrace}
 use Rattle.fg_drill.proofs.Drills.{sent_trace}
 
 -- A drill

@@ -19,10 +19,10 @@ use Rattle.fg_results.specs.Lanes.{OthersStay, PutsAll, PutsAllPart}
 use Rattle.fg_results.specs.Laws.{OneResult}
 use Rattle.fg_results.specs.Repair.{AreResults, Gain, Outputs, OutputsPart, Finishes, lanes_of, report_text}
 use Rattle.fg_drill.specs.Drill.{Answer, DrillsPart, IsFault, IsPassedOn, answer_to, records_sent}
-use Rattle.fg_drill.specs.PayloadLaws.{CutPayloads}
-use Rattle.fg_drill.specs.Payloads.{payloads_of}
-use Rattle.fg_drill.specs.ThinnedSource.{EndsFor, ThinnedFixed, thinned_trace}
-use Rattle.fg_drill.specs.TraceLaws.{StreamIsTrace}
+use Rattle.fg_thin.specs.PayloadLaws.{CutPayloads}
+use Rattle.fg_thin.specs.Payloads.{payloads_of}
+use Rattle.fg_thin.specs.ThinnedSource.{EndsFor, ThinnedFixed, thinned_trace}
+use Rattle.fg_thin.specs.TraceLaws.{StreamIsTrace}
 use Rattle.fg_drill.specs.DrillLaws.{DrillsAreExact, RepairsAreDrills, trace_sent}
 use Rattle.fg_drill.specs.DrillSteps.{DrillsTrace, FollowsTrace, IsEndingsAnswer}
 

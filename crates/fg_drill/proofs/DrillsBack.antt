@@ -17,11 +17,11 @@ use Rattle.fg_results.specs.Lanes.{PutsAll}
 use Rattle.fg_results.specs.Repair.{lanes_of}
 use Rattle.fg_drill.specs.Drill.{Answer, DrillsStream, StreamComesBack, records_sent}
 use Rattle.fg_drill.specs.ComesBack.{CanComeBack, NothingIsInconsistent, WhatIsShownComesBack, PeelingBringsAllBack, stream_of}
-use Rattle.fg_drill.specs.Drawn.{sample_layout, sample_settings}
-use Rattle.fg_drill.specs.Few.{LossesAreFew}
+use Rattle.fg_thin.specs.Drawn.{sample_layout, sample_settings}
+use Rattle.fg_thin.specs.Few.{LossesAreFew}
 use Rattle.fg_shape.specs.Losses.{MayLose}
-use Rattle.fg_drill.specs.Made.{MadeIsCut, MadeIsPackets, made_stream}
-use Rattle.fg_drill.specs.Thinned.{is_lost}
+use Rattle.fg_thin.specs.Made.{MadeIsCut, MadeIsPackets, made_stream}
+use Rattle.fg_thin.specs.Thinned.{is_lost}
 use Rattle.fg_drill.specs.DrillLaws.{DrillsComeBack, SamplesComeBack}
 use Rattle.fg_drill.specs.Sample.{SampleComesBack, Samples, losses_made, payloads_made, sample_sent}
 use Rattle.fg_drill.proofs.Samples.{can as sample_can}

@@ -19,9 +19,9 @@ use Rattle.fg_results.specs.Lanes.{PutsAll}
 use Rattle.fg_results.specs.Repair.{AreResults, Gain, Outputs, Finishes, lanes_of}
 use Rattle.fg_results.specs.Stops.{Stops, Flushing, Making, HasGained, HasGainedPart}
 use Rattle.fg_drill.specs.ComesBack.{ThinnedTraceComesBack, ThinnedTraceIsRead}
-use Rattle.fg_drill.specs.PayloadLaws.{CutPayloads}
-use Rattle.fg_drill.specs.ThinnedSource.{thinned_trace}
-use Rattle.fg_drill.specs.TraceLaws.{StreamIsTrace}
+use Rattle.fg_thin.specs.PayloadLaws.{CutPayloads}
+use Rattle.fg_thin.specs.ThinnedSource.{thinned_trace}
+use Rattle.fg_thin.specs.TraceLaws.{StreamIsTrace}
 use Rattle.fg_drill.specs.Drill.{Answer, IsFault, StopsLanes, answer_to, records_sent}
 use Rattle.fg_drill.specs.DrillLaws.{RepairsComeBack, trace_sent}
 use Rattle.fg_drill.specs.DrillSteps.{IsEndingsAnswer, StopsTrace}

@@ -16,15 +16,15 @@ use Rattle.fg_encode.specs.Stream.{payload_of}
 use Rattle.fg_results.specs.Lanes.{PutsAll, PutsAllPart}
 use Rattle.fg_results.specs.Repair.{OutputsPart, Finishes, lanes_of, report_text}
 use Rattle.fg_shape.specs.declared.encoding.Losses.{Losses}
-use Rattle.fg_drill.specs.Drawn.{drawn_drops, sample_layout, sample_settings}
-use Rattle.fg_drill.specs.Few.{RecordsAreCounted}
+use Rattle.fg_thin.specs.Drawn.{drawn_drops, sample_layout, sample_settings}
+use Rattle.fg_thin.specs.Few.{RecordsAreCounted}
 use Rattle.fg_shape.specs.Losses.{MayLose}
-use Rattle.fg_drill.specs.Made.{made_stream, MadeIsCut, MadeIsPackets}
-use Rattle.fg_drill.specs.PayloadLaws.{CutPayloads}
-use Rattle.fg_drill.specs.Payloads.{payloads_of}
-use Rattle.fg_drill.specs.Thinned.{is_lost, media_number, thinned}
-use Rattle.fg_drill.specs.ThinnedSource.{thinned_trace}
-use Rattle.fg_drill.specs.TraceLaws.{StreamIsTrace}
+use Rattle.fg_thin.specs.Made.{made_stream, MadeIsCut, MadeIsPackets}
+use Rattle.fg_thin.specs.PayloadLaws.{CutPayloads}
+use Rattle.fg_thin.specs.Payloads.{payloads_of}
+use Rattle.fg_thin.specs.Thinned.{is_lost, media_number, thinned}
+use Rattle.fg_thin.specs.ThinnedSource.{thinned_trace}
+use Rattle.fg_thin.specs.TraceLaws.{StreamIsTrace}
 use Rattle.fg_drill.specs.Sample.{Samples, SamplesPart, drops_made, losses_made, payloads_made, records_made, sample_line, sample_sent}
 use Rattle.fg_drill.specs.DrillLaws.{SamplesAreCounted, SamplesAreTraces}
 use Rattle.fg_drill.proofs.Drills.{gained}

@@ -21,7 +21,7 @@ use Rattle.fg_encode.specs.Encoding.{column_record, column_shape, media_record, 
 use Rattle.fg_encode.specs.Payloads.{ArePayloads}
 use Rattle.fg_results.specs.Flow.{Arrives, is_of, parity_of, records_of}
 use Rattle.fg_drill.specs.Sent.{words_sent}
-use Rattle.fg_drill.specs.Thinned.{AreFew, media_number, without}
+use Rattle.fg_thin.specs.Thinned.{AreFew, media_number, without}
 use Rattle.fg_drill.specs.True.{AreTrueArrivals, ComesInTurn, IsTrueArrival, IsTrueParity, last_after}
 use Rattle.fg_drill.proofs.Reading.{column_arrives, media_arrives, row_arrives}
 use Rattle.fg_drill.proofs.Truth.{parity_is_true, word_sent}

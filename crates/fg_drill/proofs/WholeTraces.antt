@@ -8,11 +8,11 @@ use Rattle.fg_encode.specs.Laws.{RecordsFit}
 use Rattle.fg_results.specs.Flow.{Arrives, IsFlowResult, records_of}
 use Rattle.fg_drill.specs.ComesBack.{EncodingComesBack, NothingIsInconsistent, NothingLostIsAll, NothingLostIsFew, NothingLostPeels, PeelingBringsAllBack, ThinnedTraceComesBack, ThinnedTraceIsRead, WhatIsShownComesBack}
 use Rattle.fg_drill.specs.Sent.{AllRecordsArrive, FewArrive, SentRecordsAreTrue, SentWordsAreMedia, words_sent}
-use Rattle.fg_drill.specs.Thinned.{media_number, thinned}
+use Rattle.fg_thin.specs.Thinned.{media_number, thinned}
 use Rattle.fg_drill.specs.TrueLaws.{FullArrivalsPeel}
 use Rattle.fg_drill.proofs.AllSent.{all_kept}
 use Rattle.fg_drill.proofs.ComingBack.{sent_true}
-use Rattle.fg_drill.proofs.TraceLemmas.{fits_without}
+use Rattle.fg_thin.proofs.TraceLemmas.{fits_without}
 
 -- Nothing is left out
 

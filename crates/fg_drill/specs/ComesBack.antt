@@ -10,7 +10,7 @@ use Rattle.fg_encode.specs.Encoding.{encoding}
 use Rattle.fg_encode.specs.Payloads.{total_length, ArePayloads}
 use Rattle.fg_results.specs.Flow.{FlowResult, IsFlowResult}
 use Rattle.fg_drill.specs.Repaired.{Peels, stream_shown}
-use Rattle.fg_drill.specs.Thinned.{AreFew, thinned}
+use Rattle.fg_thin.specs.Thinned.{AreFew, thinned}
 
 -- The payloads of a stream one after another.
 abbrev pub stream_of : List (List ℕ) → List ℕ

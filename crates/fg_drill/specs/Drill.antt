@@ -18,7 +18,7 @@ use Rattle.fg_results.specs.Repair.{AreResults, Gain, Outputs, lanes_of, report_
 use Rattle.fg_results.specs.Stops.{Stops}
 use Rattle.fg_drill.specs.ComesBack.{stream_of}
 use Rattle.fg_drill.specs.Repaired.{Peels, stream_shown}
-use Rattle.fg_drill.specs.Thinned.{is_lost, thinned}
+use Rattle.fg_thin.specs.Thinned.{is_lost, thinned}
 
 -- How a drill ends: as the repair of what is sent does; or, where that was done, early with its stream.
 abbrev pub Answer : Type 0

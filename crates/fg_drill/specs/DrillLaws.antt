@@ -11,11 +11,11 @@ use Rattle.fg_flows.specs.Plan.{PlanFits}
 use Rattle.fg_shape.specs.Settings.{CanEncode}
 use Rattle.fg_results.specs.Repair.{Outputs}
 use Rattle.fg_drill.specs.Drill.{Answer, Drills, IsFault, StreamComesBack, answer_to}
-use Rattle.fg_drill.specs.Drawn.{drawn_drops, sample_layout, sample_settings}
+use Rattle.fg_thin.specs.Drawn.{drawn_drops, sample_layout, sample_settings}
 use Rattle.fg_shape.specs.Losses.{MayLose}
-use Rattle.fg_drill.specs.Made.{made_stream}
-use Rattle.fg_drill.specs.Thinned.{media_number}
-use Rattle.fg_drill.specs.ThinnedSource.{thinned_trace}
+use Rattle.fg_thin.specs.Made.{made_stream}
+use Rattle.fg_thin.specs.Thinned.{media_number}
+use Rattle.fg_thin.specs.ThinnedSource.{thinned_trace}
 use Rattle.fg_drill.specs.DrillSteps.{DrillsTrace}
 use Rattle.fg_drill.specs.Repairs.{EncodingsComeBack}
 use Rattle.fg_drill.specs.Sample.{SampleComesBack, Samples, losses_made, records_made, sample_sent}

@@ -7,7 +7,7 @@ use Rattle.fg_flows.specs.declared.Plan.{Plan}
 use Rattle.fg_encode.specs.Stream.{StreamEnding}
 use Rattle.fg_results.specs.Repair.{Outputs}
 use Rattle.fg_drill.specs.Drill.{Answer, IsFault, StopsLanes, answer_to}
-use Rattle.fg_drill.specs.ThinnedSource.{EndsFor, ending_told}
+use Rattle.fg_thin.specs.ThinnedSource.{EndsFor, ending_told}
 
 -- The answer is that of the stream's ending, where it tells its bytes, and else that of some ending.
 abbrev pub IsEndingsAnswer : ℕ → ℕ → Option (List ℕ) → Answer → Type 0

@@ -15,9 +15,9 @@ use Rattle.fg_results.specs.Flow.{FlowResult}
 use Rattle.fg_results.specs.Lanes.{OthersStay, PutsAll, PutsAllPart}
 use Rattle.fg_results.specs.Repair.{AreResults, lanes_of, report_text}
 use Rattle.fg_drill.specs.ComesBack.{FlowComesBack, stream_of}
-use Rattle.fg_drill.specs.Drawn.{drawn_drops, sample_settings}
-use Rattle.fg_drill.specs.Made.{made_stream}
-use Rattle.fg_drill.specs.Thinned.{is_lost, thinned}
+use Rattle.fg_thin.specs.Drawn.{drawn_drops, sample_settings}
+use Rattle.fg_thin.specs.Made.{made_stream}
+use Rattle.fg_thin.specs.Thinned.{is_lost, thinned}
 
 -- The payloads of the made stream, seven packets each.
 abbrev pub payloads_made : ℕ → ℕ → List (List ℕ)

@@ -10,7 +10,7 @@ use Rattle.fg_shape.specs.Settings.{CanEncode}
 use Rattle.fg_encode.specs.Encoding.{encoding, word_at}
 use Rattle.fg_encode.specs.Payloads.{total_length, ArePayloads}
 use Rattle.fg_results.specs.Flow.{Arrives, records_of}
-use Rattle.fg_drill.specs.Thinned.{AreFew, thinned}
+use Rattle.fg_thin.specs.Thinned.{AreFew, thinned}
 use Rattle.fg_drill.specs.True.{AreInFull, AreTrueArrivals}
 
 -- The true words of an encoding: each payload's, at its slot.

@@ -1,9 +1,10 @@
-//! Laws of thinned encodings. Each is the contract of a function that does nothing, or only calls laws of other crates.
+//! Laws of what comes back of thinned encodings. Each is the contract of a function that does nothing, or only calls laws of
+//! other crates.
+
+pub use fg_thin::laws::{few, payloads};
 
 pub mod drills;
-pub mod few;
 pub mod full;
-pub mod payloads;
 pub mod repaired;
 pub mod sent;
 pub mod true_runs;

@@ -1,15 +1,10 @@
-//! Encodings with losses: which records are left out, and what a repair gives for the rest.
+//! Drills and samples: what a repair gives for an encoding with losses, and what of its stream comes back.
 #![tactic(auto)]
 
-mod drawing;
 mod drilling;
 pub mod laws;
-mod made;
 mod sampling;
-mod thinned;
 
-pub use drawing::{drawn, sample_settings};
 pub use drilling::drill;
-pub use made::Made;
+pub use fg_thin::{Made, StreamFault, Thinned, Thinning, drawn, sample_settings};
 pub use sampling::sample;
-pub use thinned::{StreamFault, Thinned, Thinning};

@@ -8,16 +8,14 @@ ghost use Rattle.fg_results.specs.Repair.{Finishes, OutputsPart};
 ghost use Rattle.fg_drill.specs.Drill.{StopsLanes};
 ghost use Rattle.fg_drill.specs.DrillSteps.{StopsTrace};
 ghost use Rattle.fg_drill.specs.Sample.{SampleComesBack, Samples, SamplesPart, sample_sent};
-ghost use Rattle.fg_drill.specs.ThinnedSource.{trace_left};
+ghost use Rattle.fg_thin.specs.ThinnedSource.{trace_left};
 
-use crate::drawing::{drawn, sample_settings};
 use crate::laws::drills::{samples_are_traces, samples_come_back};
-use crate::made::Made;
-use crate::thinned::Thinned;
 use fg_flows::Plan;
 use fg_io::laws::{parts_of_writes, writes_join};
 use fg_io::{Outlet, Sink, write_all};
 use fg_results::Repair;
+use fg_thin::{Made, Thinned, drawn, sample_settings};
 use fg_trace::Finish;
 use fg_trace::laws::one_trace;
 use itoa::Buffer;

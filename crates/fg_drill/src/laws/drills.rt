@@ -1,13 +1,13 @@
 //! Laws of drills and samples, and of what comes back where a trace is repaired.
 ghost use Rattle.fg_drill.specs.DrillLaws.{DrillsAreExact, DrillsComeBack, RepairsAreDrills, RepairsComeBack, SamplesAreCounted, SamplesAreTraces, SamplesComeBack};
 
-use crate::laws::few::{
-    losses_are_few, made_streams_are_cut, made_streams_are_packets, records_are_counted,
-};
-use crate::laws::payloads::{payloads_are_the_cut, thinned_traces_are_traces};
 use crate::laws::repaired::{thinned_comes_back, thinned_traces_come_back};
 use fg_encode::laws::{cuts_are_payloads, whole_cut_is_all};
 use fg_encode::stream::one_cut;
+use fg_thin::laws::few::{
+    losses_are_few, made_streams_are_cut, made_streams_are_packets, records_are_counted,
+};
+use fg_thin::laws::payloads::{payloads_are_the_cut, thinned_traces_are_traces};
 use fg_trace::laws::one_trace;
 
 /// What a repair of the trace of a thinned encoding gives is what a drill comes to.

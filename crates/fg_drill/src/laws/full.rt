@@ -1,11 +1,11 @@
 //! Where no media datagram is missing, each slot peels.
 ghost use Rattle.fg_drill.specs.TrueLaws.{FullArrivalsPeel};
 
+use fg_peel::laws::true_words_solve;
 use fg_playout::laws::{
     admissions_add, flushes_end, live_equations, mark_makes_no_difference, runs_exist, runs_join,
     runs_stay_within,
 };
-use fg_peel::laws::true_words_solve;
 
 /// True datagrams of which no media datagram is missing peel, at every playout: each slot is
 /// received before the play that closes it, and the flush closes the rest.

@@ -2,11 +2,11 @@
 
 ghost use Rattle.fg_drill.specs.TrueLaws.{NothingElseIsShown, PeeledSlotsAreShown, TrueRunsAreRepaired, TrueRunsShowTheTruth};
 
+use fg_peel::laws::true_words_solve;
 use fg_playout::laws::{
     admissions_add, due_plays_come_next, facts_are_kept, flush_steps_come_next, flushes_end,
     live_equations, mark_makes_no_difference, runs_join, runs_only_add, runs_stay_within,
 };
-use fg_peel::laws::true_words_solve;
 
 /// In a run of true datagrams each play is repaired, each word shown is the true one of its slot, and
 /// nothing else is shown.

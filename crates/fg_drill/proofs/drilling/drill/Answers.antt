@@ -4,7 +4,7 @@ use Rattle.fg_encode.specs.Reading.{IsStreamReadFor}
 use Rattle.fg_encode.specs.Stream.{LeavesNothing}
 use Rattle.fg_drill.specs.Drill.{ending_of}
 use Rattle.fg_shape.specs.declared.encoding.Settings.{Settings}
-use Rattle.fg_drill.specs.ThinnedSource.{ThinningState, trace_left}
+use Rattle.fg_thin.specs.ThinnedSource.{ThinningState, trace_left}
 use Rattle.fg_drill.specs.DrillLaws.{trace_sent}
 use Rattle.fg_drill.proofs.Drills.{as_told, drills_part, part_as_told}
 use Rattle.fg_trace.specs.declared.step.Finish.TheVariants as finish

@@ -1,6 +1,6 @@
 use Rattle.std.proofs.Common.{◌<◌, drop, inr, length, rules, arith}
 use Rattle.std.proofs.lemmas.Grind.{common_steps}
-use Rattle.fg_drill.specs.ThinnedSource.{thinned_trace}
+use Rattle.fg_thin.specs.ThinnedSource.{thinned_trace}
 use Rattle.fg_drill.proofs.DrillReading.{last_tells}
 use Rattle.fg_drill.proofs.drilling.ending.Goals as goal
 

@@ -1,5 +1,5 @@
 use Rattle.std.proofs.Common.{drop}
-use Rattle.fg_drill.specs.ThinnedSource.{fixed_of, thinned_trace}
+use Rattle.fg_thin.specs.ThinnedSource.{fixed_of, thinned_trace}
 use Rattle.fg_drill.proofs.Drills.{done_drills, done_outputs, other_drills, part_of_whole, same_ending}
 use Rattle.fg_drill.proofs.DrillReading.{done_tells, other_tells, same_stream}
 use Rattle.fg_drill.proofs.Repairs.{done_stops, finish_stops}

@@ -2,9 +2,9 @@ use Rattle.std.proofs.Common.{◌∙◌, ◌^◌, Some, Ok, List, ℕ, ap, sym, 
 use Rattle.fg_io.specs.Sink.{GainsPart}
 use Rattle.fg_shape.specs.declared.encoding.Settings.{Settings}
 use Rattle.fg_trace.specs.Trace.{IsTrace, Ended}
-use Rattle.fg_drill.specs.Drawn.{drawn_drops, sample_settings}
-use Rattle.fg_drill.specs.Made.{made_stream}
-use Rattle.fg_drill.specs.ThinnedSource.{thinned_trace, trace_left}
+use Rattle.fg_thin.specs.Drawn.{drawn_drops, sample_settings}
+use Rattle.fg_thin.specs.Made.{made_stream}
+use Rattle.fg_thin.specs.ThinnedSource.{thinned_trace, trace_left}
 use Rattle.fg_drill.specs.Sample.{sample_sent}
 use Rattle.fg_drill.proofs.Drills.{part_as_told}
 use Rattle.fg_trace.specs.declared.step.Finish.TheVariants as finish

@@ -1,5 +1,0 @@
-use Rattle.fg_drill.proofs.FewLemmas.{records_counted}
-use Rattle.fg_drill.proofs.laws.few.records_are_counted.Goals as goal
-
-pub returns : goal.returns
-returns c = records_counted

@@ -1,5 +1,0 @@
-use denote.Param.Send.{IsSend, owning_send}
-use Rattle.fg_drill.specs.contracts.thinned.history.History.{the_row, the_type}
-
-pub send : IsSend the_row
-send = owning_send the_type tt (λ d. tt) (λ k x w. tt)
