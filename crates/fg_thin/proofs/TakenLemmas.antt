@@ -21,7 +21,9 @@ use Rattle.fg_shape.specs.declared.encoding.Settings.{Settings}
 use Rattle.fg_shape.specs.declared.encoding.Losses.{Losses}
 use Rattle.fg_thin.specs.PayloadLaws.{CutPayloads, FirstPayloads}
 use Rattle.fg_thin.specs.Payloads.{payloads_of}
-use Rattle.fg_thin.specs.Sending.{SenderState, CanGoOn, IsUnderWay, given_of, trace_so_far}
+use Rattle.fg_thin.specs.declared.thinned.taking.Taking.{Taking}
+use Rattle.fg_thin.specs.Sending.{SenderState, CanGoOn, IsReadOut, IsUnderWay, given_of, trace_so_far}
+use Rattle.fg_thin.specs.Taking.{IsWay, KeepsWay, way_stream}
 use Rattle.fg_thin.specs.Thinned.{is_lost, thinned, without}
 use Rattle.fg_thin.specs.ThinnedSource.{EndsFor, ending_told, whole_stream, thinned_trace}
 use Rattle.fg_encode.proofs.StreamPayloadLemmas.{joined}
@@ -114,31 +116,41 @@ goes_on new old_place taken encoder after payloads there packets place (inl whol
     )
 
 -- Nothing was answered, so nothing was sent.
-pub no_payload :
-    (old new : StreamState) (sender : SenderState) (payloads : List (List ℕ)) (told now_told : Bool) (fault now_fault : StreamEnding) (left rest : Option (List ℕ))
-    → IsUnderWay old sender payloads told fault left → told ≡ false → sender.held ≡ []
-    → ReaderStands new (whole_stream payloads old.held left) rest payloads
-    → new.payload ≡ [] → new.packets ≡ old.packets → new.max ≡ old.max → new.place ≡ old.place + length new.payload
-    → (old.ended ≡ true → (new.ended ≡ true) × (new.payload ++ new.held ≡ old.held))
-    → (now_told ≡ true → new.kept ≡ Some now_fault) → (now_told ≡ false → (new.kept ≡ None) × (now_fault ≡ None))
-    → ReadsLittle new → IsUnderWay new sender payloads now_told now_fault rest
-no_payload old new sender payloads told now_told fault now_fault left rest h unended empty stands none packets max place ended says quiet little =
-    let still : new.place ≡ old.place = omega (arith, place, ap length none) in
+pub nothing_taken :
+    (old : Taking) (reader : StreamState) (told : Bool) (fault : StreamEnding) (left rest : Option (List ℕ))
+    → IsWay old left → old.told ≡ false → old.sender.held ≡ []
+    → ReaderStands reader (way_stream old left) rest old.history.payloads
+    → reader.payload ≡ [] → reader.packets ≡ old.reader.packets → reader.max ≡ old.reader.max → reader.place ≡ old.reader.place + length reader.payload
+    → (old.reader.ended ≡ true → (reader.ended ≡ true) × (reader.payload ++ reader.held ≡ old.reader.held))
+    → (told ≡ true → reader.kept ≡ Some fault) → (told ≡ false → (reader.kept ≡ None) × (fault ≡ None))
+    → ReadsLittle reader → IsReadOut told fault rest
+    → KeepsWay old left (record old { reader = reader; told = told; fault = fault }) rest
+nothing_taken old reader told fault left rest h unended empty stands none packets max place ended says quiet little read_out =
+    let payloads = old.history.payloads in
+    let still : reader.place ≡ old.reader.place = omega (arith, place, ap length none) in
     record {
-      stands = stands_there new (whole_stream payloads old.held left) rest payloads stands;
-      fits = h.fits;
-      packets = packets ∙ h.packets;
-      limit = omega (arith, max, h.limit);
-      little = little;
-      number = h.number;
-      counted = omega (arith, still, h.counted);
-      goes_on = ⊎_elim
-          (λ (can : StandsAfter sender.encoder payloads × (old.place ≡ 188 * old.packets * length payloads)). inl (can.0, still ∙ can.1 ∙ ap (λ n. 188 * n * length payloads) (sym packets)))
-          (λ (over : (old.ended ≡ true) × (old.held ≡ [])). let now = ended over.0 in inr (now.0, sym (ap (λ t. t ++ new.held) none) ∙ now.1 ∙ over.1))
-          h.goes_on;
-      held = h.held;
-      told_all = λ is. (empty, says is);
-      untold = quiet;
+      way = record {
+        stands = stands_there reader (way_stream old left) rest payloads stands;
+        fits = h.fits;
+        packets = packets ∙ h.packets;
+        limit = omega (arith, max, h.limit);
+        little = little;
+        number = h.number;
+        counted = omega (arith, still, h.counted);
+        goes_on = ⊎_elim
+            (λ (can : StandsAfter old.sender.encoder payloads × (old.reader.place ≡ 188 * old.reader.packets * length payloads)). inl (can.0, still ∙ can.1 ∙ ap (λ n. 188 * n * length payloads) (sym packets)))
+            (λ (over : (old.reader.ended ≡ true) × (old.reader.held ≡ [])). let now = ended over.0 in inr (now.0, sym (ap (λ t. t ++ reader.held) none) ∙ now.1 ∙ over.1))
+            h.goes_on;
+        held = h.held;
+        told_all = λ is. (empty, says is);
+        untold = quiet;
+      };
+      read_out = read_out;
+      stream = stream_stays reader (way_stream old left) rest payloads stands;
+      given = refl;
+      settings = refl;
+      losses = refl;
+      max = max;
     }
 
 -- The trace after a payload that was sent.

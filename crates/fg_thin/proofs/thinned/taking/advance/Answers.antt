@@ -1,4 +1,4 @@
-use Rattle.std.proofs.Common.{◌≡◌, ◌⊎◌, ⊎_elim, ℕ, ◌+◌, ◌*◌, true, false, Some, Ok, List, [], ◌∷◌, ◌++◌, length, refl, sym, ap, subst, ◌∙◌, arith}
+use Rattle.std.proofs.Common.{◌≡◌, ◌⊎◌, ⊎_elim, ℕ, ◌+◌, ◌*◌, true, false, Ok, List, [], ◌∷◌, ◌++◌, length, sym, ap, subst, ◌∙◌, arith}
 use Rattle.std.specs.List.{flat_map}
 use Rattle.fg_trace.specs.Trace.{spelling}
 use Rattle.fg_encode.specs.declared.stream.StreamStep.{StreamStep}
@@ -8,9 +8,10 @@ use Rattle.fg_encode.specs.Encoding.{records_at}
 use Rattle.fg_encode.specs.Reading.{ReadsLittle}
 use Rattle.fg_encode.specs.StreamReader.{Walks, ending_told}
 use Rattle.fg_thin.specs.Sending.{IsUnderWay, given_of}
+use Rattle.fg_thin.specs.Taking.{way_stream}
 use Rattle.fg_thin.specs.Thinned.{is_lost, without}
 use Rattle.fg_thin.specs.ThinnedSource.{whole_stream}
-use Rattle.fg_thin.proofs.TakenLemmas.{can_take, no_payload, none_given, payload_sent, stream_stays}
+use Rattle.fg_thin.proofs.TakenLemmas.{can_take, none_given, nothing_taken, payload_sent, stream_stays}
 use Rattle.fg_thin.proofs.thinned.taking.advance.Goals as goal
 
 pub send-requires-clause-stands : goal.send-requires-clause-stands
@@ -33,50 +34,32 @@ pub returns-in_err-next-clause-keeps : goal.returns-in_err-next-clause-keeps
 returns-in_err-next-clause-keeps g c =
     let old = c.args.taking.now in
     let way = c.requires.way in
-    let payloads = old.history.payloads in
-    let first = whole_stream payloads old.reader.held (g.S.Source.left c.args.from.now) in
-    let rest = g.S.Source.left c.next.new.from in
-    let stands = c.in_err-next.ensures.walks first payloads way.stands in
+    let left = g.S.Source.left c.args.from.now in
     let none : c.next.new.self.payload ≡ [] = ⊎_elim (λ is. absurd (let a = is in cc)) (λ e. e) c.in_err-next.ensures.other in
-    record {
-      way = no_payload old.reader c.next.new.self old.sender payloads old.told old.told old.fault old.fault (g.S.Source.left c.args.from.now) rest way c.requires.open c.requires.empty stands none
-          c.next.ensures.packets c.next.ensures.max c.next.ensures.place c.next.ensures.ended
-          (λ is. absurd (let a : true ≡ false = sym is ∙ c.requires.open in cc))
-          (λ is. (c.in_err-next.ensures.kept, (way.untold c.requires.open).1))
-          (record { within = c.next.ensures.within; bounded = c.next.ensures.bounded; few = c.next.ensures.few; ending = c.next.ensures.ending });
-      read_out = λ is. absurd (let a : true ≡ false = sym is ∙ c.requires.open in cc);
-      stream = stream_stays c.next.new.self first rest payloads stands;
-      given = refl;
-      settings = refl;
-      losses = refl;
-      max = c.next.ensures.max;
-    }
+    nothing_taken old c.next.new.self old.told old.fault left (g.S.Source.left c.next.new.from) way c.requires.open c.requires.empty
+    (c.in_err-next.ensures.walks (way_stream old left) old.history.payloads way.stands) none
+    c.next.ensures.packets c.next.ensures.max c.next.ensures.place c.next.ensures.ended
+    (λ is. absurd (let a : true ≡ false = sym is ∙ c.requires.open in cc))
+    (λ is. (c.in_err-next.ensures.kept, (way.untold c.requires.open).1))
+    (record { within = c.next.ensures.within; bounded = c.next.ensures.bounded; few = c.next.ensures.few; ending = c.next.ensures.ending })
+    (λ is. absurd (let a : true ≡ false = sym is ∙ c.requires.open in cc))
 
 pub returns-in-End-clause-keeps : goal.returns-in-End-clause-keeps
 returns-in-End-clause-keeps g c =
     let old = c.args.taking.now in
-    let way = c.requires.way in
-    let payloads = old.history.payloads in
-    let first = whole_stream payloads old.reader.held (g.S.Source.left c.args.from.now) in
+    let left = g.S.Source.left c.args.from.now in
     let rest = g.S.Source.left c.next.new.from in
-    let ending = c.in-End.ending in
-    let walks = subst (λ (s : StreamStep). Walks (Ok s) c.next.new.self first rest payloads) c.in-End.is (c.in_ok-next.ensures.walks first payloads way.stands) in
-    let kept : c.next.new.self.kept ≡ Some ending = subst (λ (s : StreamStep). c.next.new.self.kept ≡ ending_told (Ok s)) c.in-End.is c.in_ok-next.ensures.kept in
+    let walks = subst (λ (s : StreamStep). Walks (Ok s) c.next.new.self (way_stream old left) rest old.history.payloads) c.in-End.is
+    (c.in_ok-next.ensures.walks (way_stream old left) old.history.payloads c.requires.way.stands) in
+    let kept = subst (λ (s : StreamStep). c.next.new.self.kept ≡ ending_told (Ok s)) c.in-End.is c.in_ok-next.ensures.kept in
     let other : (Ok c.in_ok-next.field-0 ≡ Ok Payload) ⊎ (c.next.new.self.payload ≡ []) = c.in_ok-next.ensures.other in
     let none : c.next.new.self.payload ≡ [] = ⊎_elim (λ (is : Ok c.in_ok-next.field-0 ≡ Ok Payload). absurd (let a = c.in-End.is in cc)) (λ e. e) other in
-    record {
-      way = no_payload old.reader c.next.new.self old.sender payloads old.told true old.fault ending (g.S.Source.left c.args.from.now) rest way c.requires.open c.requires.empty walks.0 none
-          c.next.ensures.packets c.next.ensures.max c.next.ensures.place c.next.ensures.ended
-          (λ is. kept)
-          (λ is. absurd (let a : true ≡ false = is in cc))
-          (record { within = c.next.ensures.within; bounded = c.next.ensures.bounded; few = c.next.ensures.few; ending = c.next.ensures.ending });
-      read_out = λ is. walks.2;
-      stream = stream_stays c.next.new.self first rest payloads walks.0;
-      given = refl;
-      settings = refl;
-      losses = refl;
-      max = c.next.ensures.max;
-    }
+    nothing_taken old c.next.new.self true c.in-End.ending left rest c.requires.way c.requires.open c.requires.empty walks.0 none
+    c.next.ensures.packets c.next.ensures.max c.next.ensures.place c.next.ensures.ended
+    (λ is. kept)
+    (λ is. absurd (let a : true ≡ false = is in cc))
+    (record { within = c.next.ensures.within; bounded = c.next.ensures.bounded; few = c.next.ensures.few; ending = c.next.ensures.ending })
+    (λ is. walks.2)
 
 pub returns-in-Payload-clause-keeps : goal.returns-in-Payload-clause-keeps
 returns-in-Payload-clause-keeps g c =
