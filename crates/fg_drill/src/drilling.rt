@@ -89,6 +89,7 @@ pub fn drill<R: Repair, S: Source + Send, K: Sink + Send, O: Outlet + Send>(
 }
 
 /// Has what is sent of a stream repaired, and answers how the stream ends.
+#[tactic(auto, using(crate::proofs::DrillReading::other_tells, crate::proofs::Drills::other_drills, crate::proofs::Repairs::finish_stops))]
 fn repair_sent<R: Repair, S: Source + Send, K: Sink + Send, O: Outlet + Send>(
     by: &R,
     alloc: Global,
@@ -119,7 +120,12 @@ fn repair_sent<R: Repair, S: Source + Send, K: Sink + Send, O: Outlet + Send>(
     parts_of_writes();
     match by.repair(alloc, plan, source, out, lanes) {
         Finish::Done => ending(source),
-        finish => Ok(finish),
+        Finish::ReadFault => Ok(Finish::ReadFault),
+        Finish::WriteFault => Ok(Finish::WriteFault),
+        Finish::NotTrace(at) => Ok(Finish::NotTrace(at)),
+        Finish::Cut(at) => Ok(Finish::Cut(at)),
+        Finish::TooLong(at) => Ok(Finish::TooLong(at)),
+        Finish::Memory => Ok(Finish::Memory),
     }
 }
 
