@@ -8,18 +8,15 @@ use Rattle.fg_shape.specs.Laws.{LayoutsAreRead}
 use Rattle.fg_rtp.specs.Laws.{WrittenIsRead as MediaWrittenIsRead}
 use Rattle.fg_fechead.specs.Laws.{WrittenIsRead as ParityWrittenIsRead}
 use Rattle.fg_trace.specs.Trace.{Record}
-use Rattle.fg_shape.specs.declared.kind.Kind.{Kind}
-use Rattle.fg_shape.specs.declared.kind.Kind.TheVariants as kind
-use Rattle.fg_shape.specs.Kind.{port_of}
 use Rattle.fg_playout.specs.Run.{Arrival, carries}
 use Rattle.fg_encode.specs.Ends.{column_bases, columns_ending, row_bases, rows_ending}
 use Rattle.fg_encode.specs.Encoding.{column_record, encoding, records_at, row_record, sequence_of, word_at}
 use Rattle.fg_encode.specs.Payloads.{ArePayloads}
-use Rattle.fg_results.specs.Flow.{Arrives, is_of, records_of}
+use Rattle.fg_results.specs.Flow.{Arrives, records_of}
+use Rattle.fg_results.proofs.ArrivalLemmas.{is_of_its_flow}
 use Rattle.fg_thin.specs.Thinned.{without}
 use Rattle.fg_drill.specs.True.{AreInFull}
 use Rattle.fg_drill.proofs.Reading.{column_arrival, column_can_arrive, media_can_arrive, row_arrival, row_can_arrive}
-use Rattle.fg_drill.proofs.Turns.{on_column_port, on_media_port, on_row_port}
 
 -- Nothing is left out
 
@@ -31,11 +28,6 @@ all_kept lost number (r ∷ records) none =
 
 -- Records of the flow
 
-on_its_port : (flow : ℕ) (r : Record) (k : Kind) → port_of flow k ≡ r.port → is_of flow r ≡ true
-on_its_port flow r kind.Media on = on_media_port flow r (sym on)
-on_its_port flow r kind.Column on = on_column_port flow r (sym on)
-on_its_port flow r kind.Row on = on_row_port flow r (sym on)
-
 -- Records that arrive for the flow are all of the flow.
 pub all_are_of :
     (flow : ℕ) (records : List Record) (arrivals : List Arrival) → AllZip (Arrives flow) records arrivals
@@ -43,7 +35,7 @@ pub all_are_of :
 all_are_of flow [] arrivals zip = refl
 all_are_of flow (r ∷ records) [] zip = absurd zip
 all_are_of flow (r ∷ records) (a ∷ arrivals) zip =
-    ap (λ (b : Bool). cond b (r ∷ records_of flow records) (records_of flow records)) (on_its_port flow r zip.0.0 zip.0.1)
+    ap (λ (b : Bool). cond b (r ∷ records_of flow records) (records_of flow records)) (is_of_its_flow flow zip.0.0 r zip.0.1)
     ∙ ap (λ (rs : List Record). r ∷ rs) (all_are_of flow records arrivals zip.1)
 
 -- Lists place by place

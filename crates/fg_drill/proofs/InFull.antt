@@ -23,10 +23,12 @@ use Rattle.fg_playout.specs.Laws.{IsRead, LiveStandUnderSerials, SolutionsArePee
 use Rattle.fg_drill.specs.Repaired.{MakesPlay, due, flushed, Closes, ArrivalsPeel}
 use Rattle.fg_drill.specs.True.{number_of, AreInFull, IsTrueArrival, ComesInTurn, AreTrueArrivals, last_after, AreSentTrue}
 use Rattle.fg_drill.specs.TrueLaws.{FullArrivalsPeel}
-use Rattle.fg_drill.proofs.Peeled.{played_keep_window, takings_keep_window}
-use Rattle.fg_drill.proofs.TrueDesks.{known_ahead}
+use Rattle.fg_drill.proofs.Peeled.{takings_keep_window}
+use Rattle.fg_peel.proofs.Options.{some_and}
+use Rattle.fg_playout.proofs.Orderly.{known_ahead}
+use Rattle.fg_playout.proofs.Reaching.{due_keep_window}
 use Rattle.fg_drill.proofs.TrueRuns.{all_are_read, is_read, opening_is_true}
-use Rattle.fg_drill.proofs.TrueTakings.{LeavesTruth, due_plays_are_true, is_taken_truly, media_is_admitted, media_reaches, next_slot, position_is_slot, some_and}
+use Rattle.fg_drill.proofs.TrueTakings.{LeavesTruth, due_plays_are_true, is_taken_truly, media_is_admitted, media_reaches, next_slot, position_is_slot}
 
 -- Each slot from the mark on and before this one is known.
 abbrev AllReceived : ℕ → State → Type 0
@@ -130,7 +132,7 @@ module _ (playout : Playout) (arrivals : List Arrival) where
     due_peel earlier later number word taken first filled next before now (play ∷ plays) new arrivals_are takes played are up =
         let then = are.1.0 in
         let same : now.playout.window ≡ playout.window =
-        played_keep_window filled number before now played
+        due_keep_window filled number before now played
         ∙ takings_keep_window (opening playout) earlier taken first filled takes in
         let makes : MakesPlay playout arrivals now play =
         due earlier later number word taken before first filled then arrivals_are takes played are.0

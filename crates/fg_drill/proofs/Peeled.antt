@@ -3,60 +3,30 @@ use Rattle.std.proofs.Common.{◌≡◌, ◌+◌, ◌-◌, ◌++◌, ℕ, min, t
 use Rattle.std.proofs.lemmas.List.{get_or_append_left, length-append}
 use Rattle.std.specs.List.{All}
 use Rattle.fg_shape.specs.Playout.{Playout}
-use Rattle.fg_words.specs.declared.Word.{Word}
 use Rattle.fg_playout.specs.declared.reply.Reply.{Reply}
-use Rattle.fg_playout.specs.declared.reply.Reply.TheVariants.{Admitted}
 use Rattle.fg_playout.specs.declared.reply.Outcome.{Outcome}
 use Rattle.fg_playout.specs.declared.reply.Outcome.TheVariants.{Repaired}
 use Rattle.fg_playout.specs.State.{State, opening}
-use Rattle.fg_playout.specs.Admission.{Parity, IsLeastFree, IsAfterMedia, IsAfterParity, position_on, with_media, with_equation, equation_at}
 use Rattle.fg_playout.specs.Solution.{InClosure, IsSolution}
 use Rattle.fg_playout.specs.Play.{Play, Shown, Decides, IsPlay, nothing_shown}
-use Rattle.fg_playout.specs.Run.{Arrival, carries, protects, refused, ArePlaysDue, Takes, TakesAll, IsRun}
-use Rattle.fg_playout.specs.Laws.{IsRead, HavePlayed, PlaysDueJoin, FlushStepsJoin, AreInSuccession, PlaysFollow, DuePlaysComeNext, FlushStepsComeNext}
+use Rattle.fg_playout.specs.Run.{Arrival, carries, protects, refused, Takes, TakesAll, IsRun}
+use Rattle.fg_playout.specs.Laws.{IsRead, PlaysDueJoin, FlushStepsJoin, AreInSuccession, PlaysFollow, DuePlaysComeNext, FlushStepsComeNext}
+use Rattle.fg_playout.proofs.Joining.{plays_due_end}
+use Rattle.fg_playout.proofs.Reaching.{due_keep_window, media_keeps_window, parity_keeps_window}
 use Rattle.fg_drill.specs.Repaired.{MakesPlay, due, flushed, Closes, is_shown}
 use Rattle.fg_drill.specs.TrueLaws.{TrueRunsAreRepaired, PeeledSlotsAreShown}
 use Rattle.fg_drill.proofs.TrueRuns.{all_are_read}
-use Rattle.fg_drill.proofs.TrueTakings.{some_and}
 use Rattle.fg_drill.proofs.TrueShown.{shows_at, of_one}
 
 -- Nothing changes the window.
-
-play_keeps_window : (count : ℕ) (old : State) (play : Play) (new : State) → IsPlay count old play new → new.playout.window ≡ old.playout.window
-play_keeps_window count old play new is = ap (λ (s : State). s.playout.window) is.rest
-
-due_keep_window :
-    (old : State) (seq : ℕ) (plays : List Play) (new : State) → ArePlaysDue old seq plays new → new.playout.window ≡ old.playout.window
-due_keep_window old seq [] new are = ap (λ (s : State). s.playout.window) are.1
-due_keep_window old seq (play ∷ plays) new are =
-    due_keep_window are.1.0 seq plays new are.1.2 ∙ play_keeps_window old.playout.window old play are.1.0 are.1.1
-
-pub played_keep_window :
-    (old : State) (seq : ℕ) (plays : List Play) (new : State) → HavePlayed old seq plays new → new.playout.window ≡ old.playout.window
-played_keep_window old seq [] new played = ap (λ (s : State). s.playout.window) played
-played_keep_window old seq (play ∷ plays) new played =
-    played_keep_window played.1.0 seq plays new played.1.2 ∙ play_keeps_window old.playout.window old play played.1.0 played.1.1
-
-media_keeps_window :
-    (old new : State) (seq : ℕ) (word : Word) (reply : Reply) → IsAfterMedia old seq word reply new → new.playout.window ≡ old.playout.window
-media_keeps_window old new seq word Admitted after =
-    ap (λ (s : State). s.playout.window) (some_and (position_on old seq) (λ p. new ≡ with_media old seq p word) after).2
-media_keeps_window old new seq word reply after = ap (λ (s : State). s.playout.window) after
-
-parity_keeps_window :
-    (old new : State) (parity : Parity) (reply : Reply) → IsAfterParity old parity reply new → new.playout.window ≡ old.playout.window
-parity_keeps_window old new parity Admitted after =
-    let a = some_and (position_on old parity.base)
-    (λ position. (place : ℕ) × IsLeastFree old.equations place × (new ≡ with_equation old place (equation_at position parity))) after in
-    ap (λ (s : State). s.playout.window) a.2.2
-parity_keeps_window old new parity reply after = ap (λ (s : State). s.playout.window) after
 
 taking_keeps_window :
     (old : State) (arrival : Arrival) (plays : List Play) (reply : Option Reply) (new : State)
     → Takes old arrival plays reply new → new.playout.window ≡ old.playout.window
 taking_keeps_window old (carries seq word) plays None new takes = absurd takes
 taking_keeps_window old (carries seq word) plays (Some reply) new takes =
-    media_keeps_window takes.0 new seq word reply takes.2.after ∙ due_keep_window old seq plays takes.0 takes.1
+    media_keeps_window takes.0 new seq word reply takes.2.after
+    ∙ due_keep_window old seq plays takes.0 ((plays_due_end old takes.0 seq plays).0 takes.1).0
 taking_keeps_window old (protects stream parity) plays None new takes = absurd takes
 taking_keeps_window old (protects stream parity) plays (Some reply) new takes =
     parity_keeps_window old new parity reply takes.1.after
@@ -101,7 +71,7 @@ module _
   made_is_among : (desk : State) (play : Play) → MakesPlay playout arrivals desk play → IsAmong plays desk play
   made_is_among desk play (due earlier later seq word taken before first filled next arrivals_are takes played is_due is) =
       let same : desk.playout.window ≡ playout.window =
-      played_keep_window filled seq before desk played ∙ takings_keep_window (opening playout) earlier taken first filled takes in
+      due_keep_window filled seq before desk played ∙ takings_keep_window (opening playout) earlier taken first filled takes in
       let joined = due_join filled desk next seq before (play ∷ []) played
       (is_due, (next, subst (λ (n : ℕ). IsPlay n desk play next) (sym same) is, refl)) in
       let placed = due_next playout seq word earlier later taken (before ++ play ∷ []) plays first replies filled next

@@ -1,7 +1,6 @@
 -- What a repair comes to: what comes back of a thinned encoding, and where a fault stops it.
-use Rattle.std.proofs.Common.{◌≡◌, ◌⊎◌, inl, inr, ℕ, zero, suc, ◌<◌, ◌≤◌, ◌^◌, Option, None, Some, IfSome, Ok, List, [], ◌∷◌, ◌++◌, length, take, refl, sym, subst, arith}
+use Rattle.std.proofs.Common.{◌≡◌, ◌⊎◌, inl, inr, ℕ, zero, suc, ◌<◌, ◌≤◌, ◌^◌, Option, None, Some, IfSome, Ok, List, [], ◌∷◌, ◌++◌, length, refl, sym, subst, arith}
 use Rattle.std.specs.List.{AllZip, Contains, slice_index_or}
-use Rattle.std.proofs.lemmas.List.{take_all}
 use Rattle.fg_io.specs.Outlet.{Lanes, lane_bytes, lane_of}
 use Rattle.fg_shape.specs.declared.encoding.Losses.{Losses}
 use Rattle.fg_shape.specs.declared.encoding.Settings.{Settings}
@@ -17,7 +16,8 @@ use Rattle.fg_encode.specs.Stream.{StreamEnding, IsCut}
 use Rattle.fg_results.specs.Flow.{FlowResult, IsFlowResult}
 use Rattle.fg_results.specs.Lanes.{PutsAll}
 use Rattle.fg_results.specs.Repair.{AreResults, Gain, Outputs, Finishes, lanes_of}
-use Rattle.fg_results.specs.Stops.{Stops, Flushing, Making, HasGained, HasGainedPart}
+use Rattle.fg_results.specs.Stops.{Stops, Making}
+use Rattle.fg_results.proofs.StopLemmas.{stops_whole}
 use Rattle.fg_drill.specs.ComesBack.{ThinnedTraceComesBack, ThinnedTraceIsRead}
 use Rattle.fg_thin.specs.PayloadLaws.{CutPayloads}
 use Rattle.fg_thin.specs.ThinnedSource.{thinned_trace}
@@ -103,33 +103,7 @@ nothing_stops plan answer records lanes = record {
 pub stops_first : (plan : Plan) (answer : Finish) (records : List Record) (lanes : Option Lanes) → StopsLanes plan (Ok answer) records lanes lanes
 stops_first plan answer records lanes = (answer, refl, nothing_stops plan answer records lanes)
 
--- all lanes are whole
-each_whole : (plan : Plan) (records : List Record) (broken : Option ℕ) (n : ℕ) (ports : List ℕ) (results : List FlowResult) → AllZip (IsFlowResult (playout_of plan) records) ports results
-    → ((port : ℕ) → Contains ports port → Contains (take n plan.table) port)
-    → AllZip (λ flow piece. HasGained plan records (Flushing n) flow piece ⊎ ((broken ≡ Some flow) × HasGainedPart plan records (Flushing n) flow piece)) ports (lanes_of results)
-each_whole plan records broken n [] [] h f = tt
-each_whole plan records broken n [] (r ∷ results) h f = absurd h
-each_whole plan records broken n (p ∷ ports) [] h f = absurd h
-each_whole plan records broken n (p ∷ ports) (r ∷ results) h f = (
-  inl (inl (f p (0, omega arith, refl), record { result = r; is_result = h.0; bytes_are = refl })),
-  each_whole plan records broken n ports results h.1 (λ port c. f port (suc c.0, omega (arith, c.1), c.2)),
-)
-
-first_all : (ports : List ℕ) (port : ℕ) → Contains ports port → Contains (take (length ports) ports) port
-first_all ports port c = subst (λ (all : List ℕ). Contains all port) (sym (take_all (length ports) ports (omega arith))) c
-
-stops_whole : (plan : Plan) (answer : Finish) (records : List Record) (results : List FlowResult) (lanes lanes' : Option Lanes)
-    → AreResults plan records results → PutsAll lanes plan.table (lanes_of results) lanes' → Stops plan answer records lanes lanes'
-stops_whole plan answer records results lanes lanes' are puts = record {
-  stage = Flushing (length plan.table);
-  broken = None;
-  unbroken = λ e. refl;
-  pieces = lanes_of results;
-  gained = each_whole plan records None (length plan.table) plan.table results are (first_all plan.table);
-  puts = puts;
-}
-
--- after them a read failed
+-- after whole lanes a read failed
 pub last_read_stops : OneTrace → (plan : Plan) (trace : Option (List ℕ)) (lanes lanes' : Option Lanes) (written written' : Option (List ℕ))
     → Outputs plan Ended trace lanes lanes' written written' → StopsTrace plan trace (Ok finish.ReadFault) lanes lanes'
 last_read_stops one plan None lanes lanes' written written' h = tt

@@ -1,7 +1,6 @@
 -- A desk all of whose words and equations are true makes a true play, and is such a desk after it.
-use Rattle.std.proofs.Common.{◌≡◌, ◌+◌, ◌<◌, ◌≤◌, ◌&&◌, ℕ, Bool, true, false, cond, ltb, leb, length, get_or, Option, Some, None, refl, sym, ap, subst, ◌∙◌, ⊎_elim, arith, lt-ltb, le-ltb}
+use Rattle.std.proofs.Common.{◌≡◌, ◌+◌, ◌<◌, ◌≤◌, ◌&&◌, ℕ, cond, ltb, leb, length, get_or, Option, Some, refl, sym, ap, subst, ◌∙◌, ⊎_elim, arith, lt-ltb, le-ltb}
 use Rattle.std.proofs.lemmas.Bool.{cases_lt, cond-true, cond-false}
-use Rattle.std.proofs.lemmas.Option.{none-some}
 use Rattle.std.specs.List.{Contains}
 use Rattle.std.specs.FinMap.{get}
 use Rattle.fg_words.specs.declared.Word.{Word}
@@ -14,6 +13,8 @@ use Rattle.fg_playout.specs.Admission.{kept_count}
 use Rattle.fg_playout.specs.Play.{Play, Shown, Decides, IsPlay, nothing_shown, shown_at}
 use Rattle.fg_playout.specs.Facts.{Holds}
 use Rattle.fg_playout.specs.Laws.{LiveStandUnderSerials, SolutionsArePeelings}
+use Rattle.fg_peel.proofs.Options.{chosen, passed_over}
+use Rattle.fg_playout.proofs.Orderly.{known_ahead, known_below}
 
 -- All that is known on the desk is true, and so are its live equations.
 pub record IsTrueWindow (truth : ℕ → Option Word) (desk : State) : Type 0 where
@@ -26,22 +27,6 @@ pub record IsTruePlay (truth : ℕ → Option Word) (play : Play) : Type 0 where
   pub shows :
       (i : ℕ) (word : Word) → i < length play.shown → (get_or play.shown i nothing_shown).word ≡ Some word
       → truth (play.first + i) ≡ Some word
-
-pub known_below : (desk : State) (position : ℕ) → position < desk.mark → known desk position ≡ get desk.kept position
-known_below desk position below =
-    cond-true (ltb position desk.mark) (get desk.kept position) (get desk.media position) (lt-ltb position desk.mark below)
-
-pub known_ahead : (desk : State) (position : ℕ) → desk.mark ≤ position → known desk position ≡ get desk.media position
-known_ahead desk position ahead =
-    cond-false (ltb position desk.mark) (get desk.kept position) (get desk.media position) (le-ltb position desk.mark ahead)
-
-chosen : {X : Type 0} (b : Bool) (o : Option X) (x : X) → cond b o None ≡ Some x → (b ≡ true) × (o ≡ Some x)
-chosen true o x is = (refl, is)
-chosen false o x is = absurd (none-some x is)
-
-passed_over : {X : Type 0} (b : Bool) (o : Option X) (x : X) → cond b None o ≡ Some x → (b ≡ false) × (o ≡ Some x)
-passed_over true o x is = absurd (none-some x is)
-passed_over false o x is = (refl, is)
 
 module _
     (stand : LiveStandUnderSerials) (peelings : SolutionsArePeelings) (solvable : TruthIsSolvable) (found : SolutionsAreTrue)

@@ -17,7 +17,8 @@ use Rattle.fg_playout.specs.Run.{Arrival, carries, protects, refused, TakesAll, 
 use Rattle.fg_playout.specs.Facts.{Holds}
 use Rattle.fg_playout.specs.Laws.{IsRead, LiveStandUnderSerials, SolutionsArePeelings, MediaAdds, ParityAdds, FlushStepKeeps, RunsStayWithin, TakingsJoin}
 use Rattle.fg_drill.specs.True.{IsTrueArrival, AreTrueArrivals, last_after, AreSentTrue}
-use Rattle.fg_drill.proofs.TrueDesks.{IsTrueWindow, IsTruePlay, known_ahead, play_is_true, true_after_play}
+use Rattle.fg_playout.proofs.Orderly.{known_ahead}
+use Rattle.fg_drill.proofs.TrueDesks.{IsTrueWindow, IsTruePlay, play_is_true, true_after_play}
 use Rattle.fg_drill.proofs.TrueTakings.{LeavesTruth, is_taken_truly}
 
 -- A true datagram is read.

@@ -20,7 +20,9 @@ use Rattle.fg_playout.specs.Facts.{Holds}
 use Rattle.fg_playout.specs.Laws.{LiveStandUnderSerials, SolutionsArePeelings, MediaAdds, ParityAdds, HavePlayed}
 use Rattle.fg_drill.specs.True.{number_of, IsTrueParity, IsTrueArrival, ComesInTurn, last_after}
 use Rattle.fg_drill.proofs.TrueNumbers.{position_is}
-use Rattle.fg_drill.proofs.TrueDesks.{IsTrueWindow, IsTruePlay, known_ahead, play_is_true, received_before, true_after_play}
+use Rattle.fg_peel.proofs.Options.{none_or_some, some_and}
+use Rattle.fg_playout.proofs.Orderly.{known_ahead}
+use Rattle.fg_drill.proofs.TrueDesks.{IsTrueWindow, IsTruePlay, play_is_true, received_before, true_after_play}
 
 -- The slot after the last media datagram.
 abbrev pub next_slot : Option ℕ → ℕ
@@ -35,14 +37,6 @@ pub record IsTrueTop (seq : ℕ) (last : Option ℕ) (limit : ℕ) (desk : State
   pub top : desk.top ≡ option_map (top_at seq) last
   pub mark : desk.mark ≤ limit
   pub unknown : (position : ℕ) → next_slot last ≤ position → desk.mark ≤ position → known desk position ≡ None
-
-none_or_not : {X : Type 0} (o : Option X) → ((x : X) → o ≡ Some x → ⊥) → o ≡ None
-none_or_not None not = refl
-none_or_not (Some x) not = absurd (not x refl)
-
-pub some_and : {X : Type 0} (o : Option X) (P : X → Type 0) → IsSomeAnd o P → (x : X) × (o ≡ Some x) × P x
-some_and None P h = absurd h
-some_and (Some x) P h = (x, refl, h)
 
 -- A slot whose number is read as the slot.
 abbrev pub InReach : Option ℕ → ℕ → Type 0
@@ -258,10 +252,12 @@ module _
       record {
         top = ap (λ (s : State). s.top) plays.rest ∙ top.top;
         mark = omega (arith, far, mark, depth);
-        unknown = λ p past beyond. none_or_not (known new p)
-            (λ w is_known. none-some w
+        unknown = λ p past beyond. ⊎_elim
+            (λ none. none)
+            (λ some. absurd (none-some some.0
             (sym (top.unknown p past (omega (arith, mark, beyond)))
-            ∙ received_before stand peelings solvable found truth media old.playout.window old play new holds is plays p w beyond is_known));
+            ∙ received_before stand peelings solvable found truth media old.playout.window old play new holds is plays p some.0 beyond some.1)))
+            (none_or_some (known new p));
       }
 
   pub due_plays_are_true :

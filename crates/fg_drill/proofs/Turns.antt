@@ -1,10 +1,8 @@
 -- The records of a thinned encoding arrive in their turn.
-use Rattle.std.proofs.Common.{◌≡◌, ℕ, zero, suc, ◌+◌, ◌-◌, ◌*◌, ◌<◌, ◌≤◌, ◌==◌, ◌||◌, Bool, true, false, cond, List, [], ◌∷◌, ◌++◌, length, map, Option, Some, None, MatchOption, refl, sym, ap, subst, ⊎_elim, ◌∙◌, arith, add-one, add-zero, zero-add, length-append}
+use Rattle.std.proofs.Common.{◌≡◌, ℕ, zero, suc, ◌+◌, ◌-◌, ◌*◌, ◌<◌, ◌≤◌, ◌==◌, Bool, true, false, cond, List, [], ◌∷◌, ◌++◌, length, map, Option, Some, None, MatchOption, refl, sym, ap, subst, ⊎_elim, ◌∙◌, arith, add-zero, length-append}
 use Rattle.std.specs.List.{All, AllZip, filter, flat_map, range_with_len}
 use Rattle.std.proofs.lemmas.Bool.{cases_lt, eqb-true}
-use Rattle.std.proofs.lemmas.Bool.Decides.{nat_tests}
-use Rattle.std.proofs.lemmas.List.{append-nil, append_assoc}
-use Rattle.std.proofs.lemmas.List.Concat.{flat_map-append}
+use Rattle.std.proofs.lemmas.List.{append_assoc}
 use Rattle.std.proofs.lemmas.List.Elements.{All-nil, All-head, All-tail, All-weaker, filter_passes}
 use Rattle.fg_shape.specs.declared.layouts.Layout.{Layout}
 use Rattle.fg_shape.specs.declared.encoding.Settings.{Settings}
@@ -19,53 +17,19 @@ use Rattle.fg_playout.specs.Run.{Arrival, carries, protects}
 use Rattle.fg_encode.specs.Ends.{column_bases, columns_before, columns_ending, row_bases, rows_before, rows_ending}
 use Rattle.fg_encode.specs.Encoding.{column_record, column_shape, media_record, parity_at, records_at, row_record, row_shape, sequence_of, word_at}
 use Rattle.fg_encode.specs.Payloads.{ArePayloads}
+use Rattle.fg_encode.proofs.ListLemmas.{flat_more_at}
 use Rattle.fg_results.specs.Flow.{Arrives, is_of, parity_of, records_of}
+use Rattle.fg_results.proofs.ArrivalLemmas.{is_of_its_flow}
 use Rattle.fg_drill.specs.Sent.{words_sent}
 use Rattle.fg_thin.specs.Thinned.{AreFew, media_number, without}
 use Rattle.fg_drill.specs.True.{AreTrueArrivals, ComesInTurn, IsTrueArrival, IsTrueParity, last_after}
 use Rattle.fg_drill.proofs.Reading.{column_arrives, media_arrives, row_arrives}
 use Rattle.fg_drill.proofs.Truth.{parity_is_true, word_sent}
 
--- Ports
-
-test_true : (a b : ℕ) → a ≡ b → (a == b) ≡ true
-test_true a b same = grind (arith, nat_tests)
-
-or_true : (a b : Bool) → b ≡ true → (a || b) ≡ true
-or_true true b is = refl
-or_true false b is = is
-
-or_first : (a b : Bool) → a ≡ true → (a || b) ≡ true
-or_first true b is = refl
-or_first false b is = absurd (cc)
-
-pub on_media_port : (flow : ℕ) (r : Record) → r.port ≡ flow → is_of flow r ≡ true
-on_media_port flow r on = or_first (flow == r.port || flow + 2 == r.port) (flow + 4 == r.port) (or_first (flow == r.port) (flow + 2 == r.port) (test_true flow r.port (sym on)))
-
-pub on_column_port : (flow : ℕ) (r : Record) → r.port ≡ flow + 2 → is_of flow r ≡ true
-on_column_port flow r on = or_first (flow == r.port || flow + 2 == r.port) (flow + 4 == r.port) (or_true (flow == r.port) (flow + 2 == r.port) (test_true (flow + 2) r.port (sym on)))
-
-pub on_row_port : (flow : ℕ) (r : Record) → r.port ≡ flow + 4 → is_of flow r ≡ true
-on_row_port flow r on = or_true (flow == r.port || flow + 2 == r.port) (flow + 4 == r.port) (test_true (flow + 4) r.port (sym on))
-
 -- Numbers of records
 
-range_more : (a n : ℕ) → range_with_len a (suc n) ≡ range_with_len a n ++ (a + n) ∷ []
-range_more a zero = ap (λ (x : ℕ). x ∷ []) (sym (add-zero a))
-range_more a (suc n) =
-    let step : (a + 1) + n ≡ a + suc n = omega arith in
-    ap (λ (l : List ℕ). a ∷ l) (range_more (a + 1) n ∙ ap (λ (x : ℕ). range_with_len (a + 1) n ++ x ∷ []) step)
-
-flat_more : {X : Type 0} (g : ℕ → List X) (n : ℕ) → flat_map g (range_with_len 0 (n + 1)) ≡ flat_map g (range_with_len 0 n) ++ g n
-flat_more {X} g n =
-    ap (λ (m : ℕ). flat_map g (range_with_len 0 m)) (add-one n)
-    ∙ ap (λ (l : List ℕ). flat_map g l) (range_more 0 n)
-    ∙ flat_map-append g (range_with_len 0 n) ((0 + n) ∷ [])
-    ∙ ap (λ (l : List X). flat_map g (range_with_len 0 n) ++ l) (append-nil (g (0 + n)))
-    ∙ ap (λ (m : ℕ). flat_map g (range_with_len 0 n) ++ g m) (zero-add n)
-
 count_more : (g : ℕ → List ℕ) (n : ℕ) → length (flat_map g (range_with_len 0 (n + 1))) ≡ length (flat_map g (range_with_len 0 n)) + length (g n)
-count_more g n = ap (λ (l : List ℕ). length l) (flat_more g n) ∙ length-append (flat_map g (range_with_len 0 n)) (g n)
+count_more g n = ap (λ (l : List ℕ). length l) (flat_more_at g n) ∙ length-append (flat_map g (range_with_len 0 n)) (g n)
 
 next_number :
     (layout : Layout) (slot : ℕ)
@@ -195,9 +159,9 @@ module _ (settings : Settings) (payloads : List (List ℕ)) (lost : ℕ → Bool
         let columns : List ℕ = columns_ending settings.layout slot in
         let rows : List ℕ = rows_ending settings.layout slot in
         parities_more (column_record settings payloads slot) columns (map (row_record settings payloads slot) rows ++ rest) number slot before
-        (λ base. on_column_port settings.port (column_record settings payloads slot base) refl) low high (columns_true slot below)
+        (λ base. is_of_its_flow settings.port kind.Column (column_record settings payloads slot base) refl) low high (columns_true slot below)
         (parities_more (row_record settings payloads slot) rows rest (number + length columns) slot before
-        (λ base. on_row_port settings.port (row_record settings payloads slot base) refl) low high (rows_true slot below) goes)
+        (λ base. is_of_its_flow settings.port kind.Row (row_record settings payloads slot base) refl) low high (rows_true slot below) goes)
 
     module _ (few : AreFew settings.layout (length payloads) lost) (media_law : MediaWrittenIsRead) where
       gap :
@@ -259,7 +223,7 @@ module _ (settings : Settings) (payloads : List (List ℕ)) (lost : ℕ → Bool
           subst (λ (tail : List Record). GoesOn number last (media ∷ tail)) (sym (append_assoc columns rows rest))
           (λ arrivals zip.
           record_more (lost number) media (without lost (number + 1) (columns ++ (rows ++ rest))) slot last arrivals
-          (on_media_port settings.port media refl)
+          (is_of_its_flow settings.port kind.Media media refl)
           (λ gone more. left_out slot last rest below stands gone goes arrivals more)
           (λ kept a more arrives more'.
           let is = media_arrives settings payloads most are media_law slot below a arrives in

@@ -1,10 +1,9 @@
 -- What an encoding writes is a datagram: its words are media words, and its parities can be written.
 use Rattle.std.proofs.Common.{◌≡◌, ℕ, zero, suc, ◌+◌, ◌-◌, ◌*◌, ◌<◌, ◌≤◌, ◌%◌, ◌/◌, ◌^◌, Bool, bit_xor, List, [], ◌∷◌, length, map, get_or, replicate, refl, sym, ap, subst, ⊎_elim, ◌∙◌, arith, lit<, length-append}
 use Rattle.std.specs.Int.{to_be_bytes, w32}
-use Rattle.std.specs.Simd.Lanes.{zip2}
 use Rattle.std.proofs.lemmas.Bool.{cases_lt}
 use Rattle.std.proofs.lemmas.Nat.{xor_lt, mod_below}
-use Rattle.std.proofs.lemmas.List.{get_or_append_left, get_or-append_right, get_or_past, get_or-replicate, length-replicate}
+use Rattle.std.proofs.lemmas.List.{get_or_append_left, get_or-append_right, get_or_past, length-replicate}
 use Rattle.std.proofs.lemmas.Simd.{length-zip2}
 use Rattle.fg_words.specs.Word.{word_sum, HasRoom, IsMedia}
 use Rattle.fg_shape.specs.declared.Shape.{Shape}
@@ -13,20 +12,7 @@ use Rattle.fg_shape.specs.Shape.{slots_of, IsShape}
 use Rattle.fg_fechead.specs.ParityDatagram.{CanBeWritten}
 use Rattle.fg_encode.specs.Encoding.{longest, parity_at, payload_at, bits_before, word_at}
 use Rattle.fg_encode.specs.Payloads.{ArePayloads}
-
--- Bytes that are 0
-
-zeros_everywhere : (n i : ℕ) → get_or (replicate {A = ℕ} n 0) i 0 ≡ 0
-zeros_everywhere n i = ⊎_elim
-    (λ (inside : i < n). get_or-replicate n i 0 0 inside)
-    (λ (past : n ≤ i). get_or_past (replicate n 0) i 0 (omega (arith, length-replicate {A = ℕ} n 0)))
-    (cases_lt i n)
-
-zero_at : (xs ys : List ℕ) (i : ℕ) → get_or xs i 0 ≡ 0 → get_or ys i 0 ≡ 0 → get_or (zip2 bit_xor xs ys) i 0 ≡ 0
-zero_at [] ys i x y = refl
-zero_at (a ∷ xs) [] i x y = refl
-zero_at (a ∷ xs) (b ∷ ys) zero x y = ap (λ (n : ℕ). bit_xor n b) x ∙ ap (λ (n : ℕ). bit_xor 0 n) y
-zero_at (a ∷ xs) (b ∷ ys) (suc i) x y = zero_at xs ys i x y
+use Rattle.fg_encode.proofs.ZeroLemmas.{zero_at, zeros_everywhere}
 
 -- The lowest four bytes of a number are those of its rest.
 pub low_bytes : (n : ℕ) → to_be_bytes w32 (n % 2 ^ 32) ≡ to_be_bytes w32 n

@@ -46,7 +46,7 @@ reach_append old between new one other a b =
 reach_same : (old new new' : State) (plays : List Play) → new'.mark ≡ new.mark → Reach old plays new → Reach old plays new'
 reach_same old new new' plays same reach = let ends = reach.0 in (omega (arith, same, ends), reach.1)
 
-play_keeps_window : (count : ℕ) (old : State) (play : Play) (new : State) → IsPlay count old play new → new.playout.window ≡ old.playout.window
+pub play_keeps_window : (count : ℕ) (old : State) (play : Play) (new : State) → IsPlay count old play new → new.playout.window ≡ old.playout.window
 play_keeps_window count old play new is = ap (λ (s : State). s.playout.window) is.rest
 
 pub due_reach : DuePlaysReachTheMark
@@ -65,19 +65,19 @@ steps_reach old new (play ∷ plays) some steps =
     reach_play (min old.playout.window (step.highest + 1 - old.mark)) old play steps.0 plays new (omega (arith, some, more)) step.plays
     (steps_reach steps.0 new plays (omega (arith, some, window)) steps.2)
 
-media_keeps_window : (old new : State) (seq : ℕ) (word : Word) (reply : Reply) → IsAfterMedia old seq word reply new → new.playout.window ≡ old.playout.window
+pub media_keeps_window : (old new : State) (seq : ℕ) (word : Word) (reply : Reply) → IsAfterMedia old seq word reply new → new.playout.window ≡ old.playout.window
 media_keeps_window old new seq word Admitted after =
     let a = some_and (position_on old seq) (λ p. new ≡ with_media old seq p word) after in ap (λ (s : State). s.playout.window) a.2
 media_keeps_window old new seq word reply after = ap (λ (s : State). s.playout.window) after
 
-parity_keeps_window : (old new : State) (parity : Parity) (reply : Reply) → IsAfterParity old parity reply new → new.playout.window ≡ old.playout.window
+pub parity_keeps_window : (old new : State) (parity : Parity) (reply : Reply) → IsAfterParity old parity reply new → new.playout.window ≡ old.playout.window
 parity_keeps_window old new parity Admitted after =
     let a = some_and (position_on old parity.base)
     (λ position. (place : ℕ) × IsLeastFree old.equations place × (new ≡ with_equation old place (equation_at position parity))) after in
     ap (λ (s : State). s.playout.window) a.2.2
 parity_keeps_window old new parity reply after = ap (λ (s : State). s.playout.window) after
 
-due_keep_window : (old : State) (seq : ℕ) (plays : List Play) (new : State) → HavePlayed old seq plays new → new.playout.window ≡ old.playout.window
+pub due_keep_window : (old : State) (seq : ℕ) (plays : List Play) (new : State) → HavePlayed old seq plays new → new.playout.window ≡ old.playout.window
 due_keep_window old seq [] new played = ap (λ (s : State). s.playout.window) played
 due_keep_window old seq (play ∷ plays) new played =
     due_keep_window played.1.0 seq plays new played.1.2 ∙ play_keeps_window old.playout.window old play played.1.0 played.1.1

@@ -6,9 +6,9 @@ use Rattle.std.proofs.lemmas.List.FromFn.{get_or-range_with_len, length-range_wi
 use Rattle.std.proofs.lemmas.List.Sums.{count_by-le-length, length-filter}
 use Rattle.rand_pcg.specs.Lcg.{Lcg, advance, next}
 use Rattle.rand_pcg.specs.Pcg.{multiplier_64, output_xsh_rr, pcg32}
+use Rattle.fg_encode.proofs.ListLemmas.{range_more}
 use Rattle.fg_thin.specs.Drawn.{draw, drawn_drops}
 use Rattle.fg_thin.specs.Made.{generator_of}
-use Rattle.fg_thin.proofs.FewLemmas.{range_more}
 use Rattle.fg_thin.proofs.MadeLemmas.{advance_next}
 
 -- Whether a record is left out.

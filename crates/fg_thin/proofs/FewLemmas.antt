@@ -1,9 +1,8 @@
 -- Losses are few: near each slot is one where no column and no row ends, so that two media records have successive numbers.
-use Rattle.std.proofs.Common.{◌≡◌, ◌≢◌, ◌⊎◌, ℕ, zero, suc, ◌+◌, ◌*◌, ◌-◌, ◌/◌, ◌%◌, ◌<◌, ◌≤◌, Bool, true, false, cond, ltb, eqb, ◌&&◌, ◌||◌, List, [], ◌∷◌, ◌++◌, length, map, All, get_or, refl, sym, ap, ◌∙◌, subst, inl, inr, ⊎_elim, arith, add-one, add-zero, zero-add, append-nil, length-append, add-mul, eqb-true, eq-eqb, ne_eqb, lt-ltb, le-ltb, ltb-true}
+use Rattle.std.proofs.Common.{◌≡◌, ◌≢◌, ◌⊎◌, ℕ, zero, suc, ◌+◌, ◌*◌, ◌-◌, ◌/◌, ◌%◌, ◌<◌, ◌≤◌, Bool, true, false, cond, ltb, eqb, ◌&&◌, ◌||◌, List, [], ◌∷◌, length, map, All, get_or, refl, sym, ap, ◌∙◌, subst, inl, inr, ⊎_elim, arith, add-one, add-zero, length-append, add-mul, eqb-true, eq-eqb, ne_eqb, lt-ltb, le-ltb, ltb-true}
 use Rattle.std.specs.List.{flat_map, list_any, range_with_len}
 use Rattle.std.proofs.lemmas.Bool.{cases_lt}
 use Rattle.std.proofs.lemmas.List.{length-map}
-use Rattle.std.proofs.lemmas.List.Concat.{flat_map-append}
 use Rattle.std.proofs.lemmas.List.Folds.{list_any_none}
 use Rattle.std.proofs.lemmas.Nat.{div-mul-add, mod-mul-add}
 use Rattle.fg_shape.specs.declared.layouts.Layout.{Layout}
@@ -14,12 +13,9 @@ use Rattle.fg_shape.specs.Laws.{NumbersItsSlots}
 use Rattle.fg_encode.specs.Encoding.{column_record, encoding, records_at, row_record}
 use Rattle.fg_encode.specs.Ends.{columns_ending, rows_ending}
 use Rattle.fg_encode.specs.Laws.{ColumnsAreTheLayouts, RowsAreTheLayouts}
+use Rattle.fg_encode.proofs.ListLemmas.{bool_cases, flat_more}
 use Rattle.fg_shape.specs.Losses.{MayLose}
 use Rattle.fg_thin.specs.Thinned.{AreFew, is_lost, media_number}
-
-bool_cases : (b : Bool) → (b ≡ true) ⊎ (b ≡ false)
-bool_cases true = inl refl
-bool_cases false = inr refl
 
 list_cases : (xs : List ℕ) → (xs ≡ []) ⊎ (xs ≢ [])
 list_cases [] = inl refl
@@ -113,20 +109,7 @@ windows_fit (suc n) edge ds each =
     let more = count_more ds last.0 (edge (n + 1)) last.2 last.3 in
     subst (λ (k : ℕ). k ≤ count_below ds (edge k)) (add-one n) (omega arith)
 
--- Ranges and what comes of them.
-pub range_more : (a n : ℕ) → range_with_len a (suc n) ≡ range_with_len a n ++ (a + n) ∷ []
-range_more a zero = ap (λ (x : ℕ). x ∷ []) (sym (add-zero a))
-range_more a (suc n) =
-    let step : (a + 1) + n ≡ a + suc n = omega arith in
-    ap (λ (l : List ℕ). a ∷ l) (range_more (a + 1) n ∙ ap (λ (x : ℕ). range_with_len (a + 1) n ++ x ∷ []) step)
-
-flat_more : {X : Type 0} (g : ℕ → List X) (n : ℕ) → flat_map g (range_with_len 0 (suc n)) ≡ flat_map g (range_with_len 0 n) ++ g n
-flat_more {X} g n =
-    ap (λ (l : List ℕ). flat_map g l) (range_more 0 n)
-    ∙ flat_map-append g (range_with_len 0 n) ((0 + n) ∷ [])
-    ∙ ap (λ (l : List X). flat_map g (range_with_len 0 n) ++ l) (append-nil (g (0 + n)))
-    ∙ ap (λ (m : ℕ). flat_map g (range_with_len 0 n) ++ g m) (zero-add n)
-
+-- What comes of ranges.
 pub length_more : {X : Type 0} (g : ℕ → List X) (n : ℕ)
     → length (flat_map g (range_with_len 0 (suc n))) ≡ length (flat_map g (range_with_len 0 n)) + length (g n)
 length_more {X} g n = ap (λ (l : List X). length l) (flat_more g n) ∙ length-append (flat_map g (range_with_len 0 n)) (g n)
