@@ -9,7 +9,7 @@ use Rattle.fg_playout.specs.Run.{Arrival, carries, protects, refused, came_by, k
 use Rattle.fg_playout.specs.Laws.{CountsAdd}
 use Rattle.fg_report.specs.declared.marks.Marks.{Marks}
 use Rattle.fg_report.specs.declared.flow_sum.FlowSum.{FlowSum}
-use Rattle.fg_results.specs.Flow.{IsReadAs, marks_of, sum_of}
+use Rattle.fg_results.specs.Flow.{IsReadAsMedia, IsReadAsParity, IsReadAs, marks_of, sum_of}
 use Rattle.fg_repair.specs.Steps.{with_reply, with_answer}
 
 -- Marks with so many more of each reply.
@@ -98,16 +98,20 @@ answered kind.Column answer sum =
 answered kind.Row answer sum =
     λ i. record sum { media = plus_none sum.media i; column = plus_none sum.column i; row = plus_one sum.row answer i }
 
+came_on_media : (bytes : List ℕ) (arrival : Arrival) → IsReadAsMedia bytes arrival → came_by arrival ≡ kind.Media
+came_on_media bytes (carries seq word) read = refl
+came_on_media bytes (protects by parity) read = absurd read
+came_on_media bytes (refused by) read = read.0
+
+came_on_parity : (kind : Kind) (bytes : List ℕ) (arrival : Arrival) → IsReadAsParity kind bytes arrival → came_by arrival ≡ kind
+came_on_parity kind bytes (carries seq word) read = absurd read
+came_on_parity kind bytes (protects by parity) read = read.0
+came_on_parity kind bytes (refused by) read = read.0
+
 came_by_its_stream : (kind : Kind) (bytes : List ℕ) (arrival : Arrival) → IsReadAs kind bytes arrival → came_by arrival ≡ kind
-came_by_its_stream kind.Media bytes (carries seq word) read = refl
-came_by_its_stream kind.Media bytes (protects by parity) read = absurd read
-came_by_its_stream kind.Media bytes (refused by) read = read.0
-came_by_its_stream kind.Column bytes (carries seq word) read = absurd read
-came_by_its_stream kind.Column bytes (protects by parity) read = read.0
-came_by_its_stream kind.Column bytes (refused by) read = read.0
-came_by_its_stream kind.Row bytes (carries seq word) read = absurd read
-came_by_its_stream kind.Row bytes (protects by parity) read = read.0
-came_by_its_stream kind.Row bytes (refused by) read = read.0
+came_by_its_stream kind.Media bytes arrival read = came_on_media bytes arrival read
+came_by_its_stream kind.Column bytes arrival read = came_on_parity kind.Column bytes arrival read
+came_by_its_stream kind.Row bytes arrival read = came_on_parity kind.Row bytes arrival read
 
 pub answer_added :
     CountsAdd → (flow : ℕ) (came : Kind) (bytes : List ℕ) (arrivals : List Arrival) (arrival : Arrival) (plays : List Play)

@@ -8,21 +8,24 @@ use Rattle.fg_playout.specs.declared.reply.Reply.{Reply}
 use Rattle.fg_playout.specs.State.{State}
 use Rattle.fg_playout.specs.Admission.{AdmitsParity}
 use Rattle.fg_playout.specs.Run.{Arrival, protects, refused, Takes}
-use Rattle.fg_results.specs.Flow.{IsReadAs, parity_of}
+use Rattle.fg_results.specs.Flow.{IsReadAsParity, IsReadAs, parity_of}
+
+-- On a port that isn't for media a datagram is read as a parity datagram.
+as_parity : (kind : Kind) (bytes : List ℕ) (arrival : Arrival) → kind ≢ Media → IsReadAsParity kind bytes arrival → IsReadAs kind bytes arrival
+as_parity Media bytes arrival other read = absurd (other refl)
+as_parity Column bytes arrival other read = read
+as_parity Row bytes arrival other read = read
 
 pub parity_is_read :
     (kind : Kind) (bytes : List ℕ) (parity : ParityRead) → kind ≢ Media → IsParityDatagram bytes parity
     → IsReadAs kind bytes (protects kind (parity_of parity))
-parity_is_read Media bytes parity other is = absurd (other refl)
-parity_is_read Column bytes parity other is = (refl, (parity, is, refl))
-parity_is_read Row bytes parity other is = (refl, (parity, is, refl))
+parity_is_read kind bytes parity other is =
+    as_parity kind bytes (protects kind (parity_of parity)) other (refl, (parity, is, refl))
 
 parity_is_refused :
     (kind : Kind) (bytes : List ℕ) → kind ≢ Media → ((parity : ParityRead) → ¬ IsParityDatagram bytes parity)
     → IsReadAs kind bytes (refused kind)
-parity_is_refused Media bytes other none = absurd (other refl)
-parity_is_refused Column bytes other none = (refl, none)
-parity_is_refused Row bytes other none = (refl, none)
+parity_is_refused kind bytes other none = as_parity kind bytes (refused kind) other (refl, none)
 
 -- A datagram on a parity port that was read so, and does so.
 abbrev ParityTakes : State → Kind → List ℕ → Option Reply → State → Type 0

@@ -15,7 +15,7 @@ use Rattle.fg_shape.specs.Kind.{port_of}
 use Rattle.fg_playout.specs.Admission.{Parity}
 use Rattle.fg_playout.specs.Run.{Arrival, carries, protects, refused}
 use Rattle.fg_playout.specs.Laws.{IsRead}
-use Rattle.fg_results.specs.Flow.{is_of, records_of, parity_of, IsReadAs, Arrives}
+use Rattle.fg_results.specs.Flow.{is_of, records_of, parity_of, IsReadAsMedia, IsReadAsParity, IsReadAs, Arrives}
 use Rattle.fg_results.proofs.Zips.{zip_one, zip_begins, zip_length, zip_all}
 
 -- The flow's records among more of them.
@@ -65,16 +65,20 @@ parity_is_good : (parity : Parity) (read : ParityRead) {bytes : List ℕ} → Is
 parity_is_good parity read is same =
     subst (λ (p : Parity). IsRead (protects kind.Column p)) (sym same) (is.base_size, is.shape)
 
+media_is_read : (bytes : List ℕ) (arrival : Arrival) → IsReadAsMedia bytes arrival → IsRead arrival
+media_is_read bytes (carries seq word) read = (read.1.seq_size, read.1.media)
+media_is_read bytes (protects by parity) read = absurd read
+media_is_read bytes (refused by) read = tt
+
+parity_is_read : (kind : Kind) (bytes : List ℕ) (arrival : Arrival) → IsReadAsParity kind bytes arrival → IsRead arrival
+parity_is_read kind bytes (carries seq word) read = absurd read
+parity_is_read kind bytes (protects by parity) read = parity_is_good parity read.1.0 read.1.1 read.1.2
+parity_is_read kind bytes (refused by) read = tt
+
 is_read : (kind : Kind) (bytes : List ℕ) (arrival : Arrival) → IsReadAs kind bytes arrival → IsRead arrival
-is_read kind.Media bytes (carries seq word) read = (read.1.seq_size, read.1.media)
-is_read kind.Media bytes (protects by parity) read = absurd read
-is_read kind.Media bytes (refused by) read = tt
-is_read kind.Column bytes (carries seq word) read = absurd read
-is_read kind.Column bytes (protects by parity) read = parity_is_good parity read.1.0 read.1.1 read.1.2
-is_read kind.Column bytes (refused by) read = tt
-is_read kind.Row bytes (carries seq word) read = absurd read
-is_read kind.Row bytes (protects by parity) read = parity_is_good parity read.1.0 read.1.1 read.1.2
-is_read kind.Row bytes (refused by) read = tt
+is_read kind.Media bytes arrival read = media_is_read bytes arrival read
+is_read kind.Column bytes arrival read = parity_is_read kind.Column bytes arrival read
+is_read kind.Row bytes arrival read = parity_is_read kind.Row bytes arrival read
 
 pub arrivals_are_read :
     (flow : ℕ) (records : List Record) (arrivals : List Arrival) → AllZip (Arrives flow) (records_of flow records) arrivals
@@ -110,33 +114,35 @@ module _ (media : MediaReadsOneWay) (parity : ParityReadsOneWay) where
   one_refused : (by by' is : Kind) → by ≡ is → by' ≡ is → refused by ≡ refused by'
   one_refused by by' is p q = ap refused (p ∙ sym q)
 
-  one_reading :
-      (kind : Kind) (bytes : List ℕ) (one other : Arrival) → IsReadAs kind bytes one → IsReadAs kind bytes other → one ≡ other
-  one_reading kind.Media bytes (carries seq word) (carries seq' word') a b =
+  one_media_reading :
+      (bytes : List ℕ) (one other : Arrival) → IsReadAsMedia bytes one → IsReadAsMedia bytes other → one ≡ other
+  one_media_reading bytes (carries seq word) (carries seq' word') a b =
       let same = media bytes seq a.0 seq' b.0 word word' a.1 b.1 in
       λ i. carries (same.0 i) (same.2 i)
-  one_reading kind.Media bytes (carries seq word) (protects by' parity') a b = absurd b
-  one_reading kind.Media bytes (carries seq word) (refused by') a b = absurd (b.1 seq a.0 word a.1)
-  one_reading kind.Media bytes (protects by parity) other a b = absurd a
-  one_reading kind.Media bytes (refused by) (carries seq' word') a b = absurd (a.1 seq' b.0 word' b.1)
-  one_reading kind.Media bytes (refused by) (protects by' parity') a b = absurd b
-  one_reading kind.Media bytes (refused by) (refused by') a b = one_refused by by' kind.Media a.0 b.0
-  one_reading kind.Column bytes (carries seq word) other a b = absurd a
-  one_reading kind.Column bytes (protects by parity) (carries seq' word') a b = absurd b
-  one_reading kind.Column bytes (protects by parity) (protects by' parity') a b =
-      one_parity bytes by by' kind.Column parity parity' a.0 b.0 a.1 b.1
-  one_reading kind.Column bytes (protects by parity) (refused by') a b = absurd (b.1 a.1.0 a.1.1)
-  one_reading kind.Column bytes (refused by) (carries seq' word') a b = absurd b
-  one_reading kind.Column bytes (refused by) (protects by' parity') a b = absurd (a.1 b.1.0 b.1.1)
-  one_reading kind.Column bytes (refused by) (refused by') a b = one_refused by by' kind.Column a.0 b.0
-  one_reading kind.Row bytes (carries seq word) other a b = absurd a
-  one_reading kind.Row bytes (protects by parity) (carries seq' word') a b = absurd b
-  one_reading kind.Row bytes (protects by parity) (protects by' parity') a b =
-      one_parity bytes by by' kind.Row parity parity' a.0 b.0 a.1 b.1
-  one_reading kind.Row bytes (protects by parity) (refused by') a b = absurd (b.1 a.1.0 a.1.1)
-  one_reading kind.Row bytes (refused by) (carries seq' word') a b = absurd b
-  one_reading kind.Row bytes (refused by) (protects by' parity') a b = absurd (a.1 b.1.0 b.1.1)
-  one_reading kind.Row bytes (refused by) (refused by') a b = one_refused by by' kind.Row a.0 b.0
+  one_media_reading bytes (carries seq word) (protects by' parity') a b = absurd b
+  one_media_reading bytes (carries seq word) (refused by') a b = absurd (b.1 seq a.0 word a.1)
+  one_media_reading bytes (protects by parity) other a b = absurd a
+  one_media_reading bytes (refused by) (carries seq' word') a b = absurd (a.1 seq' b.0 word' b.1)
+  one_media_reading bytes (refused by) (protects by' parity') a b = absurd b
+  one_media_reading bytes (refused by) (refused by') a b = one_refused by by' kind.Media a.0 b.0
+
+  one_parity_reading :
+      (kind : Kind) (bytes : List ℕ) (one other : Arrival) → IsReadAsParity kind bytes one → IsReadAsParity kind bytes other
+      → one ≡ other
+  one_parity_reading kind bytes (carries seq word) other a b = absurd a
+  one_parity_reading kind bytes (protects by parity) (carries seq' word') a b = absurd b
+  one_parity_reading kind bytes (protects by parity) (protects by' parity') a b =
+      one_parity bytes by by' kind parity parity' a.0 b.0 a.1 b.1
+  one_parity_reading kind bytes (protects by parity) (refused by') a b = absurd (b.1 a.1.0 a.1.1)
+  one_parity_reading kind bytes (refused by) (carries seq' word') a b = absurd b
+  one_parity_reading kind bytes (refused by) (protects by' parity') a b = absurd (a.1 b.1.0 b.1.1)
+  one_parity_reading kind bytes (refused by) (refused by') a b = one_refused by by' kind a.0 b.0
+
+  pub one_reading :
+      (kind : Kind) (bytes : List ℕ) (one other : Arrival) → IsReadAs kind bytes one → IsReadAs kind bytes other → one ≡ other
+  one_reading kind.Media bytes one other a b = one_media_reading bytes one other a b
+  one_reading kind.Column bytes one other a b = one_parity_reading kind.Column bytes one other a b
+  one_reading kind.Row bytes one other a b = one_parity_reading kind.Row bytes one other a b
 
   pub one_arrival : (flow : ℕ) (r : Record) (one other : Arrival) → Arrives flow r one → Arrives flow r other → one ≡ other
   one_arrival flow r one other a b =

@@ -43,18 +43,25 @@ parity_of parity = record {
   word = parity.word;
 }
 
--- A datagram on a port of this kind is read so: on the media port as a media datagram, on the others as a parity datagram.
--- One that isn't what its port carries is refused.
-abbrev pub IsReadAs : Kind → List ℕ → Arrival → Type 0
-IsReadAs kind.Media bytes (carries seq word) = (ssrc : ℕ) × IsMediaDatagram bytes seq ssrc word
-IsReadAs kind.Media bytes (protects by parity) = ⊥
-IsReadAs kind.Media bytes (refused by) =
+-- A datagram on the media port is read so: as a media datagram. One that is none is refused.
+abbrev pub IsReadAsMedia : List ℕ → Arrival → Type 0
+IsReadAsMedia bytes (carries seq word) = (ssrc : ℕ) × IsMediaDatagram bytes seq ssrc word
+IsReadAsMedia bytes (protects by parity) = ⊥
+IsReadAsMedia bytes (refused by) =
     (by ≡ kind.Media) × ((seq ssrc : ℕ) (word : Word) → ¬ IsMediaDatagram bytes seq ssrc word)
-IsReadAs kind bytes (carries seq word) = ⊥
-IsReadAs kind bytes (protects by parity) =
+
+-- And so is one on a port for parity, which is told by its kind: as a parity datagram.
+abbrev pub IsReadAsParity : Kind → List ℕ → Arrival → Type 0
+IsReadAsParity kind bytes (carries seq word) = ⊥
+IsReadAsParity kind bytes (protects by parity) =
     (by ≡ kind) × ((read : ParityRead) × IsParityDatagram bytes read × (parity ≡ parity_of read))
-IsReadAs kind bytes (refused by) =
+IsReadAsParity kind bytes (refused by) =
     (by ≡ kind) × ((read : ParityRead) → ¬ IsParityDatagram bytes read)
+
+-- A datagram on a port of this kind is read so.
+abbrev pub IsReadAs : Kind → List ℕ → Arrival → Type 0
+IsReadAs kind.Media bytes arrival = IsReadAsMedia bytes arrival
+IsReadAs kind bytes arrival = IsReadAsParity kind bytes arrival
 
 -- A record of the flow arrives so.
 abbrev pub Arrives : ℕ → Record → Arrival → Type 0
