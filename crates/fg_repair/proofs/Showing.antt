@@ -24,6 +24,10 @@ mark_after :
 mark_after count old play new is =
     is.mark ∙ ap (λ (n : ℕ). old.mark + n) (sym is.length_is ∙ sym (shown_of_one play))
 
+-- It keeps the settings.
+pub keeps_playout : (count : ℕ) (old : State) (play : Play) (new : State) → IsPlay count old play new → new.playout ≡ old.playout
+keeps_playout count old play new is = ap (λ (s : State). s.playout) is.rest
+
 -- No play adds nothing.
 pub counts_none : (sum : FlowSum) (first : ℕ) → sum ≡ with_plays sum first []
 counts_none sum first =

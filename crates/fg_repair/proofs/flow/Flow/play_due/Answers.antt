@@ -1,12 +1,11 @@
-use Rattle.std.proofs.Common.{List, refl, ap, ◌∙◌}
-use Rattle.fg_playout.specs.State.{State}
+use Rattle.std.proofs.Common.{List, refl, ◌∙◌}
 use Rattle.fg_playout.specs.Play.{Play}
 use Rattle.fg_playout.specs.Admission.{IsDue}
 use Rattle.fg_playout.specs.Run.{ArePlaysDue}
 use Rattle.fg_playout.specs.Laws.{HavePlayed}
 use Rattle.fg_repair.specs.Steps.{play_on}
 use Rattle.fg_repair.proofs.Results.{on_err}
-use Rattle.fg_repair.proofs.Showing.{retold, one_more_shown, breaks_off, within_one_more, due_after, fails}
+use Rattle.fg_repair.proofs.Showing.{retold, one_more_shown, breaks_off, within_one_more, due_after, fails, keeps_playout}
 use Rattle.fg_repair.proofs.flow.Flow.play_due.Goals as goal
 
 pub loop-self-preserved : goal.loop-self-preserved
@@ -25,7 +24,8 @@ loop-self-preserved g c =
       counts = within_one_more now.self.desk.state.playout.window now.self.desk.state c.play_in_place-played.new.self.state now.self.sum c.put_play.new.sum play
           now.invariant.counts c.play_in_place-played.ensures.play holds.window.0 c.in_ok-put_play.ensures.counts;
       port = c.in_ok-put_play.ensures.port ∙ now.invariant.port;
-      playout = ap (λ (s : State). s.playout) c.play_in_place-played.ensures.play.rest ∙ now.invariant.playout;
+      playout = keeps_playout now.self.desk.state.playout.window now.self.desk.state play c.play_in_place-played.new.self.state c.play_in_place-played.ensures.play
+          ∙ now.invariant.playout;
       faults = c.in_ok-put_play.ensures.faults.no_write (λ e. e) ∙ now.invariant.faults;
     }
 

@@ -1,11 +1,10 @@
-use Rattle.std.proofs.Common.{◌+◌, ◌-◌, min, List, ap, ◌∙◌}
-use Rattle.fg_playout.specs.State.{State}
+use Rattle.std.proofs.Common.{◌+◌, ◌-◌, min, List, ◌∙◌}
 use Rattle.fg_playout.specs.Play.{Play}
 use Rattle.fg_playout.specs.Run.{IsFlush}
 use Rattle.fg_playout.specs.Laws.{AreFlushSteps}
 use Rattle.fg_repair.specs.Steps.{play_on}
 use Rattle.fg_repair.proofs.Results.{on_err}
-use Rattle.fg_repair.proofs.Showing.{retold, one_more_shown, breaks_off, within_one_more, step_after, step_shows}
+use Rattle.fg_repair.proofs.Showing.{retold, one_more_shown, breaks_off, within_one_more, step_after, step_shows, keeps_playout}
 use Rattle.fg_repair.proofs.flow.Flow.play_rest.Goals as goal
 
 pub loop-played-preserved : goal.loop-played-preserved
@@ -26,7 +25,7 @@ loop-played-preserved g c =
           now.invariant.counts step.plays (step_shows now.self.desk.state c.flush_step_in_place.new.self.state play step holds.window.0)
           c.in_ok-put_play.ensures.counts;
       port = c.in_ok-put_play.ensures.port ∙ now.invariant.port;
-      playout = ap (λ (s : State). s.playout) step.plays.rest ∙ now.invariant.playout;
+      playout = keeps_playout count now.self.desk.state play c.flush_step_in_place.new.self.state step.plays ∙ now.invariant.playout;
       faults = c.in_ok-put_play.ensures.faults.no_write (λ e. e) ∙ now.invariant.faults;
     }
 
