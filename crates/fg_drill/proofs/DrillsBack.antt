@@ -70,7 +70,7 @@ record Laws : Type 0 where
 
 of_stream : Laws → (settings : Settings) (plan : Plan) (losses : Losses) (max : ℕ) (answer : Answer) (bytes : List ℕ) (lanes lanes' : Option Lanes) (written written' : Option (List ℕ))
     → CanEncode settings → PlanFits plan → plan.table ≡ settings.port ∷ [] → MayLose losses → max ≤ 2 ^ 40
-    → DrillsStream settings plan losses max answer bytes lanes lanes' written written' → StreamComesBack settings plan losses max bytes lanes lanes'
+    → DrillsStream settings plan losses max answer bytes lanes lanes' written written' → StreamComesBack settings plan losses max answer bytes lanes lanes'
 of_stream laws settings plan losses max answer bytes lanes lanes' written written' can fits flow may limit h =
     let records = records_sent settings losses h.payloads in
     let P : ℕ → FlowResult → Type 0 = IsFlowResult (playout_of plan) records in
@@ -88,6 +88,7 @@ of_stream laws settings plan losses max answer bytes lanes lanes' written writte
       end = h.end;
       result = one.result;
       cut = h.cut;
+      answer_is = h.answer_is;
       is = one.is;
       consistent = laws.consistent (playout_of plan) settings h.payloads (is_lost losses) one.result back one.is;
       shown = laws.shown (playout_of plan) settings h.payloads (is_lost losses) one.result back one.is;

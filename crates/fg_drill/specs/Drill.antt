@@ -99,14 +99,15 @@ StopsLanes plan answer records lanes lanes' =
 
 -- What comes back of a stream: no play is inconsistent, and the lane at the flow's port gains the stream without the slots
 -- that no play shows. Where what is sent peels, these are all payloads, one after another; and where the stream ends with its
--- last payload, all payloads are the whole stream.
+-- last payload, all payloads are the whole stream. The answer is that of the stream's ending.
 pub record StreamComesBack
-    (settings : Settings) (plan : Plan) (losses : Losses) (max : ℕ) (bytes : List ℕ)
+    (settings : Settings) (plan : Plan) (losses : Losses) (max : ℕ) (answer : Answer) (bytes : List ℕ)
     (lanes lanes' : Option Lanes) : Type 0 where
   pub payloads : List (List ℕ)
   pub end : StreamEnding
   pub result : FlowResult
   pub cut : IsCut settings.packets max bytes payloads end
+  pub answer_is : answer ≡ answer_to end
   pub is : IsFlowResult (playout_of plan) (records_sent settings losses payloads) settings.port result
   pub consistent : result.sum.inconsistent ≡ 0
   pub shown : result.lane ≡ stream_shown payloads is.plays

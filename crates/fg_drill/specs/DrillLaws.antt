@@ -50,7 +50,7 @@ DrillsComeBack =
     (lanes lanes' : Option Lanes) (written written' : Option (List ℕ))
     → CanEncode settings → PlanFits plan → plan.table ≡ settings.port ∷ [] → MayLose losses → max ≤ 2 ^ 40
     → IsFault answer ⊎ Drills settings plan losses max answer input lanes lanes' written written'
-    → IfSome input (λ bytes. IsFault answer ⊎ StreamComesBack settings plan losses max bytes lanes lanes')
+    → IfSome input (λ bytes. IsFault answer ⊎ StreamComesBack settings plan losses max answer bytes lanes lanes')
 
 -- A sample has as many records as come before the media record of the next slot.
 abbrev pub SamplesAreCounted : Type 0

@@ -70,7 +70,7 @@ pub fn drill<R: Repair, S: Source + Send, K: Sink + Send, O: Outlet + Send>(
 
     // With no fault the stream comes back.
     ensures comes_back { IfSome (S.left input.old) (λ bytes. IsFault result
-        ⊎ StreamComesBack settings plan.now losses max bytes (O.lanes lanes.old) (O.lanes lanes.new)) }
+        ⊎ StreamComesBack settings plan.now losses max result bytes (O.lanes lanes.old) (O.lanes lanes.new)) }
     ensures faults { CountsFaults (result ≡ Ok Finish.ReadFault) (result ≡ Ok Finish.WriteFault)
         ((S.faults input.old, S.faults input.new) ∷ [])
         ((K.faults out.old, K.faults out.new) ∷ (O.faults lanes.old, O.faults lanes.new) ∷ []) }

@@ -23,7 +23,7 @@ use Rattle.fg_run.specs.Encode.{EndsStream, IsStreamAnswer}
 use Rattle.fg_run.specs.Ended.{IsFault}
 use Rattle.fg_run.specs.Endings.{why_of_drill, why_of_stream}
 use Rattle.fg_run.specs.Reading.{ReadsStream}
-use Rattle.fg_run.specs.Run.{DrillsFor}
+use Rattle.fg_run.specs.Run.{DrillComesBack, DrillsFor}
 use Rattle.fg_run.specs.Stopping.{StopsLanes}
 use Rattle.fg_run.proofs.Completing.{complete_told, none_wrong}
 use Rattle.fg_run.proofs.Stopping.{fault_of, is_fault}
@@ -42,17 +42,20 @@ is_drill_fault : (answer : Answer) → IsDrillFault answer → IsFault (why_of_d
 is_drill_fault (Ok finish) h = is_fault finish h
 is_drill_fault (Err fault) h = absurd h
 
-told_unless_fault : (answer : Answer) (input : Option (List ℕ)) (P : List ℕ → Type 0) → IfSome input (λ bytes. IsDrillFault answer ⊎ P bytes) → IfSome input (λ bytes. IsFault (why_of_drill answer) ⊎ P bytes)
-told_unless_fault answer None P h = tt
-told_unless_fault answer (Some bytes) P (inl fault) = inl (is_drill_fault answer fault)
-told_unless_fault answer (Some bytes) P (inr p) = inr p
-
 -- the outputs are whole
 drills_for : (settings : Settings) (plan : Plan) (losses : Losses) (max : ℕ) (answer : Answer) (input : Option (List ℕ)) (lanes lanes' : Option Lanes) (written written' : Option (List ℕ))
     → IsDrillFault answer ⊎ Drills settings plan losses max answer input lanes lanes' written written'
     → IsFault (why_of_drill answer) ⊎ DrillsFor settings plan losses max (why_of_drill answer) input lanes lanes' written written'
 drills_for settings plan losses max answer input lanes lanes' written written' (inl fault) = inl (is_drill_fault answer fault)
 drills_for settings plan losses max answer input lanes lanes' written written' (inr h) = inr (answer, refl, h)
+
+-- what comes back
+drill_comes_back : (settings : Settings) (plan : Plan) (losses : Losses) (max : ℕ) (answer : Answer) (input : Option (List ℕ)) (lanes lanes' : Option Lanes)
+    → IfSome input (λ bytes. IsDrillFault answer ⊎ StreamComesBack settings plan losses max answer bytes lanes lanes')
+    → IfSome input (λ bytes. IsFault (why_of_drill answer) ⊎ DrillComesBack settings plan losses max (why_of_drill answer) bytes lanes lanes')
+drill_comes_back settings plan losses max answer None lanes lanes' h = tt
+drill_comes_back settings plan losses max answer (Some bytes) lanes lanes' (inl fault) = inl (is_drill_fault answer fault)
+drill_comes_back settings plan losses max answer (Some bytes) lanes lanes' (inr back) = inr (answer, refl, back)
 
 -- the answer to a stream
 same_why : (end : StreamEnding) → why_of_drill (answer_to end) ≡ why_of_stream end
@@ -153,7 +156,7 @@ pub drill_answered : {S O K : Type 0} {left : S → Option (List ℕ)} {input_fa
     → (IsDrillFault answer → DrillsPart settings plan losses max (left input) (lanes_of lanes) (lanes_of lanes') written out out')
     → (IsDrillFault answer → IfSome (left input) (λ bytes. (payloads : List (List ℕ)) (end : StreamEnding) → IsCut settings.packets max bytes payloads end
     → DrillStops plan answer (records_sent settings losses payloads) (lanes_of lanes) (lanes_of lanes')))
-    → IfSome (left input) (λ bytes. IsDrillFault answer ⊎ StreamComesBack settings plan losses max bytes (lanes_of lanes) (lanes_of lanes'))
+    → IfSome (left input) (λ bytes. IsDrillFault answer ⊎ StreamComesBack settings plan losses max answer bytes (lanes_of lanes) (lanes_of lanes'))
     → CountsFaults (answer ≡ Ok finish.ReadFault) (answer ≡ Ok finish.WriteFault) ((input_faults input, input_faults input') ∷ [])
     ((out_faults out, out_faults out') ∷ (lane_faults lanes, lane_faults lanes') ∷ [])
     → RequestAnswered (Ordered (Drill settings plan losses max)) (why_of_drill answer) left input_faults input input' lanes_of lane_faults lanes lanes' written out_faults out out'
@@ -161,7 +164,7 @@ drill_answered settings plan losses max answer whole is ends read part stopped b
     let due = exactly settings.packets max answer _ is in
     record {
       answers = drills_for settings plan losses max answer _ _ _ _ _ whole;
-      comes_back = told_unless_fault answer _ _ back;
+      comes_back = drill_comes_back settings plan losses max answer _ _ _ back;
       exactly = due;
       complete = complete_told _ _ _ (why_of_drill answer) _ (IsStreamAnswer settings.packets max) due (λ e. counts.read (read_of answer e)) (λ e. counts.write (write_of answer e));
       part = λ fault. part (drill_fault_of answer fault);

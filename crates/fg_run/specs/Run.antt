@@ -52,6 +52,13 @@ DrillsFor settings plan losses max answer input lanes lanes' written written' =
     (drilled : Drilled) × (answer ≡ why_of_drill drilled)
     × Drills settings plan losses max drilled input lanes lanes' written written'
 
+-- What comes back of the stream, where the drill has this answer.
+abbrev pub DrillComesBack :
+    Settings → Plan → Losses → ℕ → Why → List ℕ → Option Lanes → Option Lanes → Type 0
+DrillComesBack settings plan losses max answer bytes lanes lanes' =
+    (drilled : Drilled) × (answer ≡ why_of_drill drilled)
+    × StreamComesBack settings plan losses max drilled bytes lanes lanes'
+
 -- The request has this answer, and the lanes and the sink have gained what is defined for it over the input.
 abbrev pub Answers :
     Request → Why → Option (List ℕ) → Option Lanes → Option Lanes → Option (List ℕ) → Option (List ℕ) → Type 0
@@ -191,7 +198,7 @@ ComesBack (Ordered (Repair plan)) answer input lanes lanes' =
     IfSome input (λ bytes. IsFault answer ⊎ EncodingsComeBack plan bytes lanes lanes')
 ComesBack (Ordered (Encode settings max)) answer input lanes lanes' = ⊤
 ComesBack (Ordered (Drill settings plan losses max)) answer input lanes lanes' =
-    IfSome input (λ bytes. IsFault answer ⊎ StreamComesBack settings plan losses max bytes lanes lanes')
+    IfSome input (λ bytes. IsFault answer ⊎ DrillComesBack settings plan losses max answer bytes lanes lanes')
 ComesBack (Ordered (Inspect table max)) answer input lanes lanes' = ⊤
 ComesBack (Ordered (Sample seed datagrams loss plan)) answer input lanes lanes' =
     IsFault answer ⊎ SampleComesBack seed datagrams loss plan lanes lanes'
