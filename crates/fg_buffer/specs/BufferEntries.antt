@@ -122,7 +122,7 @@ SolvedAreMedia entries =
 -- The slots have more room than the buffer has entries, by so much: the entries stand from some place on, and past them
 -- all is empty.
 abbrev pub slack : ℕ
-slack = 100
+slack = 64
 
 abbrev pub live_entries : ℕ → List Slot → List Slot
 live_entries front slots = take (length slots - slack) (drop front slots)

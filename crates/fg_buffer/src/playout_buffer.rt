@@ -30,7 +30,7 @@ pub const KEPT: usize = 100;
 
 /// How many positions the mark may pass before the entries are moved. Until then they stand further on
 /// in the memory.
-const SLACK: usize = 100;
+const SLACK: usize = 64;
 
 /// The entries of the 100 positions before the mark and of those from the mark on. An entry is
 /// 24 bytes, and has a place of 1.3 kB elsewhere, which is touched only where a word is found.
@@ -43,7 +43,7 @@ pub struct PlayoutBuffer {
     mark: u64,
     /// Where the first entry stands.
     front: usize,
-    /// The entries, before them those that were passed, and after them empty ones.
+    /// The entries, and before and after them empty ones.
     slots: Vec<SmallSlot>,
     /// Whether all solved words at the mark and past it are known to be media words.
     solved_media: bool,
@@ -410,8 +410,8 @@ fn forget_words(slots: &mut [SmallSlot], solved: bool)
     }
 }
 
-/// Passes the first `count` of the buffer's entries, and answers where the first one then stands. The
-/// entries are moved only where no room is left after them.
+/// Passes the first `count` of the buffer's entries, which gives their shares back, and answers where the
+/// first one then stands. The entries are moved only where no room is left after them.
 fn move_on(slots: &mut [SmallSlot], front: usize, count: usize) -> usize
     requires some { 1 ≤ count }
     requires within { count + SLACK ≤ length slots.old }
@@ -422,6 +422,7 @@ fn move_on(slots: &mut [SmallSlot], front: usize, count: usize) -> usize
         ≡ slice_index_or slots.old (front + count + k) Slot.Empty }
 {
     if front + count <= SLACK {
+        empty_entries(slots, front, front + count);
         return front + count;
     }
     shift_down(slots, front + count);
@@ -438,7 +439,7 @@ fn shift_down(slots: &mut [SmallSlot], count: usize)
 {
     let rest = slots.len() - count;
     take_later(slots, count, rest);
-    empty_from(slots, rest);
+    empty_entries(slots, rest, slots.len());
 }
 
 /// Moves what the entries `count` places later have to each of the first `rest` entries.
@@ -454,13 +455,18 @@ fn take_later(slots: &mut [SmallSlot], count: usize, rest: usize)
     }
 }
 
-/// Empties the entries from this one on.
-fn empty_from(slots: &mut [SmallSlot], first: usize)
+/// Empties the entries from one on up to another.
+fn empty_entries(slots: &mut [SmallSlot], first: usize, end: usize)
+    requires order { first ≤ end }
+    requires within { end ≤ length slots.old }
     ensures below { (k : ℕ) → k < first
         → slice_index_or slots.new k Slot.Empty ≡ slice_index_or slots.old k Slot.Empty }
-    ensures above { (k : ℕ) → first ≤ k → slice_index_or slots.new k Slot.Empty ≡ Slot.Empty }
+    ensures emptied { (k : ℕ) → first ≤ k → k < end
+        → slice_index_or slots.new k Slot.Empty ≡ Slot.Empty }
+    ensures above { (k : ℕ) → end ≤ k
+        → slice_index_or slots.new k Slot.Empty ≡ slice_index_or slots.old k Slot.Empty }
 {
-    for i in first..slots.len() {
+    for i in first..end {
         slots[i].clear();
     }
 }

@@ -3,7 +3,7 @@ use Rattle.std.proofs.lemmas.List.{with_items_is}
 use Rattle.fg_peel.specs.declared.Slot.{Slot}
 use Rattle.fg_peel.specs.declared.Slot.TheVariants.{Empty}
 use Rattle.fg_buffer.specs.PlayoutBuffer.{BufferState, Advances}
-use Rattle.fg_buffer.specs.BufferEntries.{buffer_of, live_entries, IsEmptyPast, AreStored, SolvedAreMedia}
+use Rattle.fg_buffer.specs.BufferEntries.{buffer_of, slack, live_entries, IsEmptyPast, AreStored, SolvedAreMedia}
 use Rattle.fg_buffer.proofs.BufferStored.{live_long, stored_moved, media_moved, buffer_moved}
 use Rattle.fg_buffer.proofs.playout_buffer.PlayoutBuffer.advance.Goals as goal
 use Rattle.fg_buffer.proofs.playout_buffer.PlayoutBuffer.advance.Goals.{After-move_on-self-inside}
@@ -32,7 +32,7 @@ module _ (c : After-move_on-self-inside) where
   full : length c.move_on-self-inside.new.slots ≡ vec_len c.self.inside.slots
   full = omega (arith, size)
 
-  limit : c.self.inside.mark + c.args.count + (length c.self.inside.slots.items - 100) ≤ 2 ^ 62
+  limit : c.self.inside.mark + c.args.count + (length c.self.inside.slots.items - slack) ≤ 2 ^ 62
   limit =
       let long = live_long c.self.inside.front c.self.inside.slots.items c.self.invariant.0.near c.self.invariant.0.some in
       omega (arith, ap (λ (r : BufferState). r.mark) c.self.view_is, ap (λ (r : BufferState). r.reach) c.self.view_is, long, c.requires.limit)

@@ -1,13 +1,13 @@
 use Rattle.std.proofs.Common.{◌≡◌, ◌+◌, ◌≤◌, ℕ, length, get_or, ◌∙◌, arith}
 use Rattle.fg_peel.specs.declared.Slot.TheVariants.{Empty}
-use Rattle.fg_buffer.specs.BufferEntries.{live_entries}
+use Rattle.fg_buffer.specs.BufferEntries.{slack, live_entries}
 use Rattle.fg_buffer.proofs.BufferChanges.{opened_are, opened_media, opened_buffer_is}
 use Rattle.fg_buffer.proofs.BufferStored.{live_long, live_at}
 use Rattle.fg_buffer.proofs.playout_buffer.PlayoutBuffer.new.Goals as goal
 use Rattle.fg_buffer.proofs.playout_buffer.PlayoutBuffer.new.Goals.{After-loop}
 
 module _ (c : After-loop) where
-  some : 100 ≤ length c.loop.slots.items
+  some : slack ≤ length c.loop.slots.items
   some = omega (arith, c.loop.invariant.0)
 
   long : length (live_entries 0 c.loop.slots.items) ≡ c.args.depth + 200
