@@ -1,6 +1,6 @@
 //! The buffer of entries around the mark.
 
-ghost use Rattle.std.specs.Prelude.{◌≡◌, ◌+◌, ◌-◌, ◌<◌, ◌≤◌, ◌^◌, ◌↔◌, ◌++◌, ◌∷◌, [], ℕ, pos, negsuc, ◌-ℤ◌, ◌+ℤ◌, ◌≤ℤ◌, length, slice_index_or, unwrap_or, Option, None, IsSome, IsTrue, IfOk, IfSome, IfNone};
+ghost use Rattle.std.specs.Prelude.{◌≡◌, ◌+◌, ◌-◌, ◌<◌, ◌≤◌, ◌^◌, ◌↔◌, ◌++◌, ◌∷◌, [], ℕ, pos, ◌-ℤ◌, length, slice_index_or, unwrap_or, Option, None, IsSome, IsTrue, IfOk, IfSome, IfNone};
 ghost use Rattle.std.specs.Option.{option_copied};
 ghost use Rattle.std.specs.FinMap.{empty, get};
 ghost use Rattle.std.specs.FinSet as set;
@@ -10,8 +10,7 @@ ghost use Rattle.fg_peel.specs.declared.Slot.{Slot};
 ghost use Rattle.fg_peel.specs.Solution.{IsSolution};
 ghost use Rattle.fg_peel.specs.Equation.{AreMedia, IsComplete};
 ghost use Rattle.fg_peel.specs.Peeling.{EndsPeeling};
-ghost use Rattle.fg_peel.specs.Peels.{Peels};
-ghost use Rattle.fg_peel.specs.Slots.{word_in, words_at, equation_of, equations_of, AllFit};
+ghost use Rattle.fg_peel.specs.Slots.{word_in, equation_of, equations_of};
 ghost use Rattle.fg_buffer.specs.PlayoutBuffer.{opened_buffer, buffer_received, buffer_words, buffer_known, buffer_shared, IsBuffer, receives, publishes, AllLieIn, IsHighestWord, Advances};
 ghost use Rattle.fg_buffer.specs.BufferEntries.{entry_at, words_of, buffer_of, live_entries, IsEmptyPast, StaysPast, received_in, solved_in, shared_in, is_found, AreEntries, Recovers, IsLastWord, HasNoWordFrom, Forgets, forgets};
 

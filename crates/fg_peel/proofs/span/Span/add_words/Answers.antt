@@ -42,7 +42,7 @@ loop-group-preserved g c =
     short_added (with_added (with_added (with_added sum first) second) third) fourth
     (short_added (with_added (with_added sum first) second) third (short_added (with_added sum first) second
     (short_added sum first c.loop-group.invariant.1))) in
-    subst (λ (w : Word). (word_xor w (sum_at words (drop (4 * (c.loop-group.group + 1)) xs)) ≡ total) × IsShort w) (sym c.add_four.ensures) (
+    subst (λ (w : Word). (word_xor w (sum_at words (drop (4 * (c.loop-group.group + 1)) xs)) ≡ total) × IsShort w) (sym {b = all} c.add_four.ensures) (
       four,
       short,
     )
