@@ -85,7 +85,8 @@ fn repair<S: Source, K: Sink, O: Outlet>(
         ((K.faults out.old, K.faults out.new) ∷ (O.faults lanes.old, O.faults lanes.new) ∷ []) }
     ensures fixed { S.fixed input.new ≡ S.fixed input.old }
 {
-    // What is no trace has a result for each flow too, and what a reader has read is as far as each answer needs.
+    // What is no trace has a result for each flow too. Where lanes stop, they have gained parts of the results. And what a
+    // reader has read is as far as each answer needs.
     results_exist();
     stops_leave_parts();
     one_trace();
@@ -122,7 +123,8 @@ fn repair_records<S: Source, K: Sink, O: Outlet>(
         ((K.faults out.old, K.faults out.new) ∷ (O.faults lanes.old, O.faults lanes.new) ∷ []) }
     ensures fixed { S.fixed input.new ≡ S.fixed input.old }
 {
-    // The lanes are those of the one trace, and their results the ones that the report tells.
+    // The lanes are those of the one trace, and their results the ones that the report tells. Where they stop, they have
+    // gained parts of those.
     one_trace();
     one_flow_result();
     stops_leave_parts();

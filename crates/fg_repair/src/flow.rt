@@ -1,5 +1,5 @@
 //! One flow of a repair.
-ghost use Rattle.std.specs.Prelude.{◌≡◌, ◌≢◌, ◌≤◌, ◌<◌, ◌^◌, ℕ, List, [], ◌∷◌, length, IfOk, OnOk, OnErr};
+ghost use Rattle.std.specs.Prelude.{◌≡◌, ◌≢◌, ◌<◌, ℕ, List, [], ◌∷◌, IfOk, OnOk, OnErr};
 ghost use Rattle.fg_io.specs.Faults.{Counts};
 ghost use Rattle.fg_trace.specs.Trace.{Record};
 ghost use Rattle.fg_fechead.specs.declared.Parity.{Parity as ParityRead};
@@ -7,13 +7,13 @@ ghost use Rattle.fg_fechead.specs.ParityDatagram.{IsParityDatagram};
 ghost use Rattle.fg_shape.specs.declared.kind.Kind.{Kind as KindOf};
 ghost use Rattle.fg_shape.specs.Kind.{port_of};
 ghost use Rattle.fg_shape.specs.Playout.{PlayoutFits};
-ghost use Rattle.fg_playout.specs.State.{State, opening};
+ghost use Rattle.fg_playout.specs.State.{State};
 ghost use Rattle.fg_playout.specs.Admission.{IsDue};
 ghost use Rattle.fg_playout.specs.Room.{HasRoom, farthest_limit};
 ghost use Rattle.fg_playout.specs.Run.{Arrival, ArePlaysDue, Takes, IsFlush};
 ghost use Rattle.fg_playout.specs.Laws.{HavePlayed, AreFlushSteps};
 ghost use Rattle.fg_desk.specs.Arrivals.{StaysWithin, FlushesWithin};
-ghost use Rattle.fg_results.specs.Flow.{IsReadAs, lane_of, sum_of};
+ghost use Rattle.fg_results.specs.Flow.{IsReadAs, lane_of};
 ghost use Rattle.fg_repair.specs.Steps.{HasTaken, IsUnderway, TakesRecord, BreaksAtRecord, EndsFlow, BreaksAtEnd};
 ghost use Rattle.fg_repair.specs.Steps.{CountsWithin, Grows, GrowsPart, HaveShown, BreakOff, AdmitsDatagram, BreaksAtDatagram, with_plays, play_on};
 

@@ -1,5 +1,5 @@
 //! The bytes that a play adds to a lane.
-ghost use Rattle.std.specs.Prelude.{◌≡◌, ◌≤◌, ◌<◌, ◌^◌, [], ◌∷◌, OnOk};
+ghost use Rattle.std.specs.Prelude.{◌≡◌, ◌<◌, [], ◌∷◌, OnOk};
 ghost use Rattle.fg_playout.specs.Room.{farthest_limit};
 ghost use Rattle.fg_rtp.specs.MediaDatagram.{payload_of};
 ghost use Rattle.fg_results.specs.Flow.{lane_of};
