@@ -9,19 +9,51 @@ use std::process::Abort;
 use std::test::Fail;
 
 mod drills;
+mod examples;
 mod failing;
-mod faults;
 mod flows;
 mod lengths;
 mod order;
-mod repairs;
 mod streams;
 mod traces;
 mod words;
 
 use traces::{BLOCK, Sent, lane_of, media, push_record, push_sent, trace};
 
-/// What the outside is like, and what it holds after a run.
+/// What the outside is like: how much it gives and takes, and which of its calls fail.
+#[derive(Clone, Copy)]
+struct Setting<'a> {
+    /// The most bytes that a read gives.
+    piece: usize,
+    /// How many bytes the sink takes.
+    out: usize,
+    /// How many bytes the error sink takes.
+    err: usize,
+    /// The ports that may have a lane.
+    ports: &'a [u16],
+    /// How many bytes each lane takes.
+    lane: usize,
+    /// The calls of the source, the sink, the error sink and the outlet that fail.
+    reads: &'a [u64],
+    writes: &'a [u64],
+    tells: &'a [u64],
+    puts: &'a [u64],
+}
+
+/// An outside with room for short runs of the flows 5000, 6000 and 7000, of which no call fails.
+const PLAIN: Setting<'static> = Setting {
+    piece: 1000,
+    out: 2000,
+    err: 100,
+    ports: &[5000, 6000, 7000],
+    lane: 30_000,
+    reads: &[],
+    writes: &[],
+    tells: &[],
+    puts: &[],
+};
+
+/// What a run leaves of the outside.
 #[derive(Drop)]
 struct Outside {
     input: MemSource,
@@ -31,34 +63,60 @@ struct Outside {
 }
 
 impl Outside {
-    /// An outside with room for the lanes of flows 5000, 6000 and 7000.
-    fn new(alloc: Global, bytes: &[u8]) -> Result<Outside, AllocError> {
+    /// An outside that is so, with these bytes to read.
+    fn new(alloc: Global, setting: &Setting<'_>, bytes: &[u8]) -> Result<Outside, AllocError> {
         Ok(Outside {
-            input: MemSource::new(alloc, bytes, 1000, &[])?,
-            out: MemSink::new(alloc, 2000, &[])?,
-            err: MemSink::new(alloc, 100, &[])?,
-            lanes: MemOutlet::new(alloc, &[5000, 6000, 7000], 30_000, &[])?,
+            input: MemSource::new(alloc, bytes, setting.piece.max(1), setting.reads)?,
+            out: MemSink::new(alloc, setting.out, setting.writes)?,
+            err: MemSink::new(alloc, setting.err, setting.tells)?,
+            lanes: MemOutlet::new(alloc, setting.ports, setting.lane, setting.puts)?,
         })
     }
 
-    /// Runs the words between the blanks of the line.
-    fn run<W: Threads + Wait + Sync>(
-        &mut self,
-        rt: &W,
+    /// Checks that the port's lane has the payloads of these media datagrams, or that there is none.
+    fn check_lane(
+        &self,
+        rt: &impl Abort,
         alloc: Global,
-        line: &str,
-    ) -> Result<Ended, AllocError> {
-        Ok(run(
-            rt,
-            alloc,
-            &words_of(alloc, line)?,
-            &mut self.input,
-            &mut self.out,
-            &mut self.err,
-            &mut self.lanes,
-            &NoGate,
-        ))
+        port: u16,
+        numbers: Option<&[u16]>,
+    ) -> Result<(), AllocError> {
+        let Some(numbers) = numbers else {
+            assert!(rt; self.lanes.lane(port).is_none());
+            return Ok(());
+        };
+        let lane = lane_of(alloc, numbers)?;
+        assert!(rt; self.lanes.lane(port) == Some(lane.as_slice()));
+        Ok(())
     }
+
+    /// What the lane of port 5000 has, or no byte where it isn't there.
+    fn lane(&self) -> &[u8] {
+        self.lanes.lane(5000).unwrap_or(b"")
+    }
+}
+
+/// Runs the words between the blanks of the line on these bytes.
+fn run_line<W: Threads + Wait + Sync>(
+    rt: &W,
+    alloc: Global,
+    setting: &Setting<'_>,
+    line: &str,
+    bytes: &[u8],
+) -> Result<(Ended, Outside), AllocError> {
+    let words = words_of(alloc, line)?;
+    let mut outside = Outside::new(alloc, setting, bytes)?;
+    let ended = run(
+        rt,
+        alloc,
+        &words,
+        &mut outside.input,
+        &mut outside.out,
+        &mut outside.err,
+        &mut outside.lanes,
+        &NoGate,
+    );
+    Ok((ended, outside))
 }
 
 /// The words between the blanks of the line, and none where it is empty.
@@ -85,6 +143,15 @@ struct Wanted<'a> {
     lane: Option<&'a [u16]>,
 }
 
+/// All is done, and nothing was written or put.
+const DONE: Wanted<'static> = Wanted {
+    status: 0,
+    why: Why::Done,
+    line: "",
+    out: "",
+    lane: None,
+};
+
 impl Wanted<'_> {
     /// Checks that the run ended so, and left this.
     fn check(
@@ -98,13 +165,7 @@ impl Wanted<'_> {
         assert_eq!(rt; ended.status, self.status);
         assert_eq!(rt; outside.err.bytes(), self.line.as_bytes());
         assert_eq!(rt; outside.out.bytes(), self.out.as_bytes());
-        let Some(numbers) = self.lane else {
-            assert_eq!(rt; outside.lanes.lane(5000), None);
-            return Ok(());
-        };
-        let lane = lane_of(alloc, numbers)?;
-        assert_eq!(rt; outside.lanes.lane(5000), Some(lane.as_slice()));
-        Ok(())
+        outside.check_lane(rt, alloc, 5000, self.lane)
     }
 }
 
@@ -112,12 +173,12 @@ impl Wanted<'_> {
 fn expect<W: Abort + Threads + Wait + Sync>(
     rt: &W,
     alloc: Global,
+    setting: &Setting<'_>,
     line: &str,
     bytes: &[u8],
     wanted: &Wanted<'_>,
 ) -> Result<(), AllocError> {
-    let mut outside = Outside::new(alloc, bytes)?;
-    let ended = outside.run(rt, alloc, line)?;
+    let (ended, outside) = run_line(rt, alloc, setting, line, bytes)?;
     wanted.check(rt, alloc, ended, &outside)
 }
 
@@ -134,3 +195,6 @@ const TEN: [Sent; 3] = [Sent::Media(10), Sent::Media(11), Sent::Media(12)];
 
 /// The records of the block that are left out in the example of two passes.
 const TWO_PASSES: [usize; 5] = [6, 7, 12, 13, 22];
+
+/// All numbers of a block's media datagrams.
+const ALL: [u16; 16] = [0, 1, 2, 3, 4, 5, 6, 7, 8, 9, 10, 11, 12, 13, 14, 15];

@@ -26,12 +26,12 @@ fn stream_without(alloc: Global, datagrams: u16, missing: &[u16]) -> Result<Vec<
 }
 
 /// An outside with room for the lane of a long stream.
-fn wide(alloc: Global, bytes: &[u8]) -> Result<Outside, AllocError> {
-    let mut outside = Outside::new(alloc, bytes)?;
-    outside.input = MemSource::new(alloc, bytes, 100_000, &[])?;
-    outside.lanes = MemOutlet::new(alloc, &[5000], 3_000_000, &[])?;
-    Ok(outside)
-}
+const WIDE: Setting<'static> = Setting {
+    piece: 100_000,
+    ports: &[5000],
+    lane: 3_000_000,
+    ..PLAIN
+};
 
 impl Drill<'_> {
     /// Runs the drill, and checks the report and the lane.
@@ -44,11 +44,10 @@ impl Drill<'_> {
         stream.truncate(self.bytes);
         let mut lane = stream_without(alloc, self.datagrams, self.missing)?;
         lane.truncate(self.bytes);
-        let mut outside = wide(alloc, &stream)?;
-        let ended = outside.run(rt, alloc, self.line)?;
+        let (ended, outside) = run_line(rt, alloc, &WIDE, self.line, &stream)?;
         assert_eq!(rt; ended.status, 0);
         assert_eq!(rt; outside.out.bytes(), self.report.as_bytes());
-        assert_eq!(rt; outside.lanes.lane(5000), Some(lane.as_slice()));
+        assert!(rt; outside.lane() == lane.as_slice());
         Ok(())
     }
 }
@@ -111,40 +110,49 @@ other 0
     missing: &[],
 };
 
-#[test]
-fn drills(rt: HostRuntime) -> Result<(), Fail> {
-    for drill in &[
-        BLOCK_OF_TWO_PASSES,
-        FOUR_IN_A_SQUARE,
-        COLUMN_AFTER_ITS_FIRST_SLOTS,
-        SHORT_LAST_DATAGRAM,
-    ] {
-        drill.check(&rt, rt.alloc())?;
-    }
-    Ok(())
-}
-
 // Of 2,400 records 64 are left out: 53 media, 5 columns and 6 rows. No row loses two of its records.
-#[test]
-fn each_37th_record_is_left_out(rt: HostRuntime) -> Result<(), Fail> {
-    for line in [
-        "drill columns=10 rows=10 window=100 depth=400 workers=0 every=37",
-        "drill columns=10 rows=10 window=100 depth=400 workers=1 every=37",
-        "drill columns=10 rows=10 window=100 depth=400 workers=4 every=37",
-        "drill columns=10 rows=10 window=100 depth=400 workers=16 every=37",
-    ] {
-        let drill = Drill {
-            line,
-            datagrams: 2000,
-            bytes: 2_632_000,
-            report: "flow 5000 shown 2000 repaired 53 missing 0 windows 20 inconsistent 0
+const EACH_37TH_RECORD: Drill<'static> = Drill {
+    line: "drill columns=10 rows=10 window=100 depth=400 workers=0 every=37",
+    datagrams: 2000,
+    bytes: 2_632_000,
+    report: "flow 5000 shown 2000 repaired 53 missing 0 windows 20 inconsistent 0
 media 5000 admitted 1947 duplicate 0 conflict 0 late 0 bad 0
 column 5000 admitted 195 duplicate 0 conflict 0 late 0 notstarted 0 beforestart 0 ahead 0 crowded 0 bad 0
 row 5000 admitted 194 duplicate 0 conflict 0 late 0 notstarted 0 beforestart 0 ahead 0 crowded 0 bad 0
 other 0
 ",
-            missing: &[],
-        };
+    missing: &[],
+};
+
+const BY_ONE_WORKER: Drill<'static> = Drill {
+    line: "drill columns=10 rows=10 window=100 depth=400 workers=1 every=37",
+    ..EACH_37TH_RECORD
+};
+
+const BY_FOUR: Drill<'static> = Drill {
+    line: "drill columns=10 rows=10 window=100 depth=400 workers=4 every=37",
+    ..EACH_37TH_RECORD
+};
+
+const BY_SIXTEEN: Drill<'static> = Drill {
+    line: "drill columns=10 rows=10 window=100 depth=400 workers=16 every=37",
+    ..EACH_37TH_RECORD
+};
+
+const DRILLS: [Drill<'static>; 8] = [
+    BLOCK_OF_TWO_PASSES,
+    FOUR_IN_A_SQUARE,
+    COLUMN_AFTER_ITS_FIRST_SLOTS,
+    SHORT_LAST_DATAGRAM,
+    EACH_37TH_RECORD,
+    BY_ONE_WORKER,
+    BY_FOUR,
+    BY_SIXTEEN,
+];
+
+#[test]
+fn drills(rt: HostRuntime) -> Result<(), Fail> {
+    for drill in &DRILLS {
         drill.check(&rt, rt.alloc())?;
     }
     Ok(())
@@ -171,15 +179,20 @@ fn comes_back_as<W: Abort + Threads + Wait + Sync>(
     lost: u16,
     lane: &[u8],
 ) -> Result<(), AllocError> {
-    let mut outside = Outside::new(alloc, stream)?;
-    outside.input = MemSource::new(alloc, stream, 100_000, &[])?;
-    outside.lanes = MemOutlet::new(alloc, &[5000], 37_600, &[])?;
     let line = burst(alloc, first, lost)?;
-    let ended = outside.run(rt, alloc, &line)?;
+    let (ended, outside) = run_line(rt, alloc, &SHORT, &line, stream)?;
     assert_eq!(rt; ended.status, 0);
-    assert!(rt; outside.lanes.lane(5000) == Some(lane));
+    assert!(rt; outside.lane() == lane);
     Ok(())
 }
+
+/// An outside with room for the lane of 200 packets.
+const SHORT: Setting<'static> = Setting {
+    piece: 100_000,
+    ports: &[5000],
+    lane: 37_600,
+    ..PLAIN
+};
 
 /// The stream without its packets 45 and 55.
 fn without_two(alloc: Global, stream: &[u8]) -> Result<Vec<u8>, AllocError> {
@@ -196,21 +209,11 @@ fn packets(alloc: Global) -> Result<Vec<u8>, AllocError> {
     Ok(stream)
 }
 
-// Ten slots in a row are in ten columns.
+// Ten slots in a row are in ten columns, or in two matrices.
 #[test]
-fn ten_lost_of_a_matrix_come_back(rt: HostRuntime) -> Result<(), Fail> {
+fn ten_lost_come_back(rt: HostRuntime) -> Result<(), Fail> {
     let stream = packets(rt.alloc())?;
-    for first in 1..50 {
-        comes_back_as(&rt, rt.alloc(), &stream, first, 10, &stream)?;
-    }
-    Ok(())
-}
-
-// Or in two matrices.
-#[test]
-fn ten_lost_of_two_matrices_come_back(rt: HostRuntime) -> Result<(), Fail> {
-    let stream = packets(rt.alloc())?;
-    for first in 50..100 {
+    for first in 1..100 {
         comes_back_as(&rt, rt.alloc(), &stream, first, 10, &stream)?;
     }
     Ok(())
@@ -225,46 +228,50 @@ fn eleven_lost_leave_two_out(rt: HostRuntime) -> Result<(), Fail> {
     Ok(())
 }
 
-// 100 media records, 10 columns and 10 rows.
-#[test]
-fn a_sample_without_losses(rt: HostRuntime) -> Result<(), Fail> {
-    let mut outside = wide(rt.alloc(), b"")?;
-    let ended = outside.run(
-        &rt,
-        rt.alloc(),
-        "sample seed=1 datagrams=100 loss=0 workers=0",
-    )?;
-    assert_eq!(rt; ended.status, 0);
-    let report = "sample seed 1 datagrams 100 records 120 lost 0
+/// A sample of 100 datagrams without losses: 100 media records, 10 columns and 10 rows.
+const SAMPLE: &str = "sample seed 1 datagrams 100 records 120 lost 0
 flow 5000 shown 100 repaired 0 missing 0 windows 1 inconsistent 0
 media 5000 admitted 100 duplicate 0 conflict 0 late 0 bad 0
 column 5000 admitted 10 duplicate 0 conflict 0 late 0 notstarted 0 beforestart 0 ahead 0 crowded 0 bad 0
 row 5000 admitted 10 duplicate 0 conflict 0 late 0 notstarted 0 beforestart 0 ahead 0 crowded 0 bad 0
 other 0
 ";
-    assert_eq!(rt; outside.out.bytes(), report.as_bytes());
-    let lane = outside.lanes.lane(5000).map(|lane| lane.len());
-    assert_eq!(rt; lane, Some(131_600));
+
+#[test]
+fn a_sample_without_losses(rt: HostRuntime) -> Result<(), Fail> {
+    let line = "sample seed=1 datagrams=100 loss=0 workers=0";
+    let (ended, outside) = run_line(&rt, rt.alloc(), &WIDE, line, b"")?;
+    assert_eq!(rt; ended.status, 0);
+    assert_eq!(rt; outside.out.bytes(), SAMPLE.as_bytes());
+    assert_eq!(rt; outside.lane().len(), 131_600);
     Ok(())
+}
+
+/// What the line's sample writes, and then its lane.
+fn sampled<W: Abort + Threads + Wait + Sync>(
+    rt: &W,
+    alloc: Global,
+    line: &str,
+) -> Result<Vec<u8>, AllocError> {
+    let (ended, outside) = run_line(rt, alloc, &WIDE, line, b"")?;
+    assert_eq!(rt; ended.status, 0);
+    let mut all = Vec::from_slice(alloc, outside.out.bytes())?;
+    all.extend_from_slice(outside.lane())?;
+    Ok(all)
 }
 
 #[test]
 fn workers_change_nothing_of_a_sample(rt: HostRuntime) -> Result<(), Fail> {
-    let mut one = wide(rt.alloc(), b"")?;
-    let mut many = wide(rt.alloc(), b"")?;
-    let ended = one.run(
+    let one = sampled(
         &rt,
         rt.alloc(),
         "sample seed=1 datagrams=100 loss=3 workers=0",
     )?;
-    let other = many.run(
+    let four = sampled(
         &rt,
         rt.alloc(),
         "sample seed=1 datagrams=100 loss=3 workers=4",
     )?;
-    assert_eq!(rt; ended, other);
-    assert_eq!(rt; ended.status, 0);
-    assert_eq!(rt; one.out.bytes(), many.out.bytes());
-    assert_eq!(rt; one.lanes.lane(5000), many.lanes.lane(5000));
+    assert!(rt; one.as_slice() == four.as_slice());
     Ok(())
 }

@@ -1,107 +1,238 @@
-//! Drills and samples, each of whose calls to the outside fails in turn.
-use super::faults::Part;
+//! A source, a sink or an outlet that fails or is full.
 use super::*;
 
-/// What is run, and on which bytes.
+/// Which part of the outside is to fail.
+#[derive(Clone, Copy)]
+enum Part {
+    Input,
+    Out,
+    Lanes,
+}
+
+impl Part {
+    /// An outside with much room, of which these calls of the part fail.
+    fn failing<'a>(self, calls: &'a [u64]) -> Setting<'a> {
+        let roomy = Setting {
+            out: 100_000,
+            ..PLAIN
+        };
+        match self {
+            Part::Input => Setting {
+                reads: calls,
+                ..roomy
+            },
+            Part::Out => Setting {
+                writes: calls,
+                ..roomy
+            },
+            Part::Lanes => Setting {
+                puts: calls,
+                ..roomy
+            },
+        }
+    }
+
+    /// Whether the run ended with the part's fault, and told it.
+    fn has_failed(self, ended: Ended, outside: &Outside) -> bool {
+        let told = outside.err.bytes();
+        match self {
+            Part::Input => ended.status == 2 && told == b"read fault\n".as_slice(),
+            Part::Out | Part::Lanes => ended.status == 3 && told == b"write fault\n".as_slice(),
+        }
+    }
+}
+
+/// What is run while each call fails in turn.
 #[derive(Clone, Copy)]
 struct Work<'a> {
     line: &'a str,
-    bytes: &'a [u8],
+    /// How many bytes are written before any lane is made.
+    head: usize,
+    /// The least numbers of calls of the source, the sink and the outlet; where it is 0 there is none.
+    least: [u64; 3],
 }
 
 impl Work<'_> {
-    /// Runs it with a part of the outside that fails at this call.
+    /// Runs it with a part of the outside that fails at these calls.
     fn with_failing<W: Threads + Wait + Sync>(
         &self,
         rt: &W,
         alloc: Global,
+        bytes: &[u8],
         part: Part,
-        call: u64,
+        calls: &[u64],
     ) -> Result<(Ended, Outside), AllocError> {
-        let mut outside = Outside::new(alloc, self.bytes)?;
-        match part {
-            Part::Input => outside.input = MemSource::new(alloc, self.bytes, 4000, &[call])?,
-            Part::Out => outside.out = MemSink::new(alloc, 2000, &[call])?,
-            Part::Lanes => outside.lanes = MemOutlet::new(alloc, &[5000], 30_000, &[call])?,
-        }
-        let ended = outside.run(rt, alloc, self.line)?;
-        Ok((ended, outside))
+        run_line(rt, alloc, &part.failing(calls), self.line, bytes)
     }
 
-    /// How many calls of the part are made. Each ends the run where it fails, with the status of that fault, and leaves what
-    /// may be left of the whole run.
+    /// Whether a run that the failing part stopped left what may be left of the whole run: a part of the lane, and then a part of
+    /// what is written after it. No lane is flushed after a failed read.
+    fn is_left(&self, part: Part, outside: &Outside, whole: &Outside) -> bool {
+        let is_begun = outside.out.bytes().len() > self.head;
+        let is_whole = outside.lane() == whole.lane();
+        let is_in_order = match part {
+            Part::Input => outside.lane().is_empty() && (is_whole || !is_begun),
+            Part::Out => is_whole || !is_begun && self.head > 0,
+            Part::Lanes => !is_begun,
+        };
+        is_in_order
+            && whole.lane().starts_with(outside.lane())
+            && whole.out.bytes().starts_with(outside.out.bytes())
+    }
+
+    /// How many calls of the part are made. Each ends the run where it fails.
     fn failing_calls<W: Abort + Threads + Wait + Sync>(
         &self,
         rt: &W,
         alloc: Global,
+        bytes: &[u8],
         part: Part,
     ) -> Result<u64, AllocError> {
-        let (done, whole) = self.with_failing(rt, alloc, part, 1000)?;
-        assert_eq!(rt; done.status, 0);
+        let (_, whole) = self.with_failing(rt, alloc, bytes, part, &[])?;
         for call in 0..100 {
-            let (ended, outside) = self.with_failing(rt, alloc, part, call)?;
+            let (ended, outside) = self.with_failing(rt, alloc, bytes, part, &[call])?;
             if ended.status == 0 {
                 return Ok(call);
             }
-            assert_eq!(rt; ended.status, status_of(part));
-            assert!(rt; is_part(&outside, &whole));
+            assert!(rt; part.has_failed(ended, &outside));
+            assert!(rt; self.is_left(part, &outside, &whole));
         }
         Ok(100)
     }
-}
 
-/// The status of a fault of this part.
-fn status_of(part: Part) -> u8 {
-    match part {
-        Part::Input => 2,
-        Part::Out | Part::Lanes => 3,
+    /// Has each call fail in turn.
+    fn check<W: Abort + Threads + Wait + Sync>(
+        &self,
+        rt: &W,
+        alloc: Global,
+        bytes: &[u8],
+    ) -> Result<(), AllocError> {
+        for (part, least) in [Part::Input, Part::Out, Part::Lanes]
+            .iter()
+            .zip(&self.least)
+        {
+            let calls = self.failing_calls(rt, alloc, bytes, *part)?;
+            assert!(rt; *least <= calls && calls < 100);
+            assert_eq!(rt; calls == 0, *least == 0);
+        }
+        Ok(())
     }
 }
 
-/// What the lane has, or no byte where it isn't there.
-fn lane_in(outside: &Outside) -> &[u8] {
-    match outside.lanes.lane(5000) {
-        Some(lane) => lane,
-        None => &[],
-    }
-}
+// The trace has 25,580 bytes, so 26 pieces, and a read gives nothing. The lane is made, and then put to.
+const REPAIR: Work<'static> = Work {
+    line: "repair flow=5000",
+    head: 0,
+    least: [27, 1, 2],
+};
 
-/// Whether the sink and the lane have prefixes of what they have after the whole run.
-fn is_part(outside: &Outside, whole: &Outside) -> bool {
-    let (lane, text) = (lane_in(outside), outside.out.bytes());
-    let (all, whole_text) = (lane_in(whole), whole.out.bytes());
-    all.starts_with(lane) && whole_text.starts_with(text)
-}
+// It is the same trace.
+const INSPECTION: Work<'static> = Work {
+    line: "inspect flow=5000",
+    head: 0,
+    least: [27, 1, 0],
+};
 
-// The stream has 21,056 bytes, which come in 6 pieces, and a read gives none. The lane is made, and then put to.
 #[test]
-fn a_drill_that_fails_at_any_call(rt: HostRuntime) -> Result<(), Fail> {
-    let numbers = [0, 1, 2, 3, 4, 5, 6, 7, 8, 9, 10, 11, 12, 13, 14, 15];
-    let stream = lane_of(rt.alloc(), &numbers)?;
-    let work = Work {
-        line: "drill columns=4 rows=4 drop=6 drop=7 drop=12 drop=13 drop=22",
-        bytes: &stream,
-    };
-    let reads = work.failing_calls(&rt, rt.alloc(), Part::Input)?;
-    assert!(rt; 7 <= reads && reads < 100);
-    let writes = work.failing_calls(&rt, rt.alloc(), Part::Out)?;
-    assert!(rt; 1 <= writes && writes < 100);
-    let puts = work.failing_calls(&rt, rt.alloc(), Part::Lanes)?;
-    assert!(rt; 2 <= puts && puts < 100);
+fn commands_over_a_trace(rt: HostRuntime) -> Result<(), Fail> {
+    let bytes = trace(rt.alloc(), &BLOCK, &TWO_PASSES)?;
+    REPAIR.check(&rt, rt.alloc(), &bytes)?;
+    INSPECTION.check(&rt, rt.alloc(), &bytes)?;
     Ok(())
 }
 
+// The stream has 21,056 bytes, which come in 22 pieces, and a read gives none.
+const DRILL: Work<'static> = Work {
+    line: "drill columns=4 rows=4 drop=6 drop=7 drop=12 drop=13 drop=22",
+    head: 0,
+    least: [23, 1, 2],
+};
+
 // The input isn't read. The line is written, and then the report.
+const SAMPLE: Work<'static> = Work {
+    line: "sample seed=1 datagrams=20 loss=3",
+    head: 45,
+    least: [0, 2, 2],
+};
+
 #[test]
-fn a_sample_that_fails_at_any_call(rt: HostRuntime) -> Result<(), Fail> {
-    let work = Work {
-        line: "sample seed=1 datagrams=20 loss=3",
-        bytes: b"",
+fn commands_over_a_stream(rt: HostRuntime) -> Result<(), Fail> {
+    let bytes = lane_of(rt.alloc(), &ALL)?;
+    DRILL.check(&rt, rt.alloc(), &bytes)?;
+    SAMPLE.check(&rt, rt.alloc(), &bytes)?;
+    Ok(())
+}
+
+// The stream has 65,800 bytes, which come in 66 pieces; its trace is more than a buffer holds.
+const ENCODING: Work<'static> = Work {
+    line: "encode columns=4 rows=4",
+    head: 0,
+    least: [67, 2, 0],
+};
+
+#[test]
+fn an_encoding(rt: HostRuntime) -> Result<(), Fail> {
+    let bytes = lane_of(rt.alloc(), &[7; 50])?;
+    ENCODING.check(&rt, rt.alloc(), &bytes)?;
+    Ok(())
+}
+
+// 1,500 bytes were given before.
+#[test]
+fn a_source_that_fails_at_a_byte(rt: HostRuntime) -> Result<(), Fail> {
+    let setting = Setting {
+        piece: 1,
+        reads: &[1500],
+        ..PLAIN
     };
-    assert_eq!(rt; work.failing_calls(&rt, rt.alloc(), Part::Input)?, 0);
-    let writes = work.failing_calls(&rt, rt.alloc(), Part::Out)?;
-    assert!(rt; 2 <= writes && writes < 100);
-    let puts = work.failing_calls(&rt, rt.alloc(), Part::Lanes)?;
-    assert!(rt; 2 <= puts && puts < 100);
+    let wanted = Wanted {
+        status: 2,
+        why: Why::ReadFault,
+        line: "read fault\n",
+        lane: Some(&[]),
+        ..DONE
+    };
+    let bytes = trace(rt.alloc(), &TEN, &[])?;
+    expect(
+        &rt,
+        rt.alloc(),
+        &setting,
+        "repair flow=5000",
+        &bytes,
+        &wanted,
+    )?;
+    Ok(())
+}
+
+/// Repairs three datagrams in order, with so much room in the lane and the sink.
+fn with_room<W: Threads + Wait + Sync>(
+    rt: &W,
+    alloc: Global,
+    lane: usize,
+    out: usize,
+) -> Result<(Ended, Outside), AllocError> {
+    let setting = Setting { lane, out, ..PLAIN };
+    let bytes = trace(alloc, &TEN, &[])?;
+    run_line(rt, alloc, &setting, "repair flow=5000", &bytes)
+}
+
+// The report isn't begun.
+#[test]
+fn a_full_lane(rt: HostRuntime) -> Result<(), Fail> {
+    let whole = lane_of(rt.alloc(), &[10, 11, 12])?;
+    let (ended, outside) = with_room(&rt, rt.alloc(), 2000, 2000)?;
+    assert_eq!(rt; ended.status, 3);
+    assert!(rt; Some(outside.lane()) == whole.get(..2000));
+    assert!(rt; outside.out.bytes().is_empty());
+    Ok(())
+}
+
+#[test]
+fn a_full_sink(rt: HostRuntime) -> Result<(), Fail> {
+    let (ended, outside) = with_room(&rt, rt.alloc(), 4000, 100)?;
+    assert_eq!(rt; ended.status, 3);
+    assert!(rt; outside.out.bytes().len() == 100);
+    assert!(rt; THREE.as_bytes().starts_with(outside.out.bytes()));
+    outside.check_lane(&rt, rt.alloc(), 5000, Some(&[10, 11, 12]))?;
     Ok(())
 }

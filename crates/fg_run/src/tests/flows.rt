@@ -29,51 +29,54 @@ fn two_flows(alloc: Global) -> Result<Vec<u8>, AllocError> {
     Ok(bytes)
 }
 
-/// Checks what both flows come to, whose lines stand in this order.
-fn expect_both<W: Abort + Threads + Wait + Sync>(
+/// Runs the line's words on the two flows, and checks the report and the lanes: that of flow 7000, and that of flow 5000 where
+/// it is repaired.
+fn expect_lanes<W: Abort + Threads + Wait + Sync>(
     rt: &W,
     alloc: Global,
     line: &str,
-    one: &str,
-    other: &str,
+    report: &str,
+    first: Option<&[u16]>,
 ) -> Result<(), AllocError> {
-    let mut outside = Outside::new(alloc, &two_flows(alloc)?)?;
-    let ended = outside.run(rt, alloc, line)?;
+    let bytes = two_flows(alloc)?;
+    let (ended, outside) = run_line(rt, alloc, &PLAIN, line, &bytes)?;
     assert_eq!(rt; ended.status, 0);
-    let report = format!(in alloc; "{one}{other}other 0\n")?;
-    assert_eq!(rt; outside.out.bytes(), report.as_bytes());
-    let all = [0, 1, 2, 3, 4, 5, 6, 7, 8, 9, 10, 11, 12, 13, 14, 15];
-    let first = lane_of(alloc, &all)?;
-    assert_eq!(rt; outside.lanes.lane(5000), Some(first.as_slice()));
-    let second = lane_of(alloc, &all[3..])?;
-    assert_eq!(rt; outside.lanes.lane(7000), Some(second.as_slice()));
-    Ok(())
+    assert!(rt; outside.out.bytes() == report.as_bytes());
+    outside.check_lane(rt, alloc, 5000, first)?;
+    outside.check_lane(rt, alloc, 7000, Some(&ALL[3..]))
 }
 
 #[test]
 fn two_flows_are_each_alone(rt: HostRuntime) -> Result<(), Fail> {
-    expect_both(&rt, rt.alloc(), "repair flow=5000 flow=7000", FIRST, SECOND)?;
-    expect_both(&rt, rt.alloc(), "repair flow=7000 flow=5000", SECOND, FIRST)?;
+    for (line, one, other) in [
+        ("repair flow=5000 flow=7000", FIRST, SECOND),
+        ("repair flow=7000 flow=5000", SECOND, FIRST),
+    ] {
+        let report = format!(in rt.alloc(); "{one}{other}other 0\n")?;
+        expect_lanes(&rt, rt.alloc(), line, &report, Some(&ALL))?;
+    }
     Ok(())
 }
 
 #[test]
 fn records_of_another_flow_are_other(rt: HostRuntime) -> Result<(), Fail> {
-    let mut outside = Outside::new(rt.alloc(), &two_flows(rt.alloc())?)?;
-    let ended = outside.run(&rt, rt.alloc(), "repair flow=7000")?;
-    assert_eq!(rt; ended.status, 0);
     let report = format!(in rt.alloc(); "{SECOND}other 19\n")?;
-    assert_eq!(rt; outside.out.bytes(), report.as_bytes());
-    assert_eq!(rt; outside.lanes.lane(5000), None);
+    expect_lanes(&rt, rt.alloc(), "repair flow=7000", &report, None)?;
     Ok(())
+}
+
+/// Three datagrams on flow 5000, and one on a port of no flow.
+fn one_more(alloc: Global) -> Result<Vec<u8>, AllocError> {
+    let mut bytes = trace(alloc, &TEN, &[])?;
+    push_sent(alloc, &mut bytes, 4999, Sent::Media(0))?;
+    Ok(bytes)
 }
 
 #[test]
 fn a_flow_without_records(rt: HostRuntime) -> Result<(), Fail> {
-    let mut bytes = trace(rt.alloc(), &TEN, &[])?;
-    push_sent(rt.alloc(), &mut bytes, 4999, Sent::Media(0))?;
-    let mut outside = Outside::new(rt.alloc(), &bytes)?;
-    let ended = outside.run(&rt, rt.alloc(), "repair flow=6000 flow=5000")?;
+    let bytes = one_more(rt.alloc())?;
+    let line = "repair flow=6000 flow=5000";
+    let (ended, outside) = run_line(&rt, rt.alloc(), &PLAIN, line, &bytes)?;
     assert_eq!(rt; ended.status, 0);
     assert!(rt;
         outside.out.bytes().starts_with(
@@ -83,7 +86,7 @@ media 6000 admitted 0 duplicate 0 conflict 0 late 0 bad 0
         )
     );
     assert!(rt; outside.out.bytes().ends_with(b"other 1\n"));
-    assert_eq!(rt; outside.lanes.lane(6000), Some(b"".as_slice()));
+    outside.check_lane(&rt, rt.alloc(), 6000, Some(&[]))?;
     Ok(())
 }
 
@@ -105,29 +108,30 @@ fn words_for(alloc: Global, ports: &[u16]) -> Result<String, AllocError> {
     Ok(line)
 }
 
-/// Runs 64 flows of a datagram each.
-fn many_flows<W: Threads + Wait + Sync>(
-    rt: &W,
-    alloc: Global,
-) -> Result<(Ended, Outside), AllocError> {
+/// A datagram of each flow, which has its port's number.
+fn one_of_each(alloc: Global, ports: &[u16]) -> Result<Vec<u8>, AllocError> {
     let mut bytes = Vec::from_slice(alloc, b"FECTRAC1")?;
-    for port in ports() {
-        push_sent(alloc, &mut bytes, port, Sent::Media(port))?;
+    for port in ports {
+        push_sent(alloc, &mut bytes, *port, Sent::Media(*port))?;
     }
-    let mut outside = Outside::new(alloc, &bytes)?;
-    outside.out = MemSink::new(alloc, 30_000, &[])?;
-    outside.lanes = MemOutlet::new(alloc, &ports(), 2000, &[])?;
-    let ended = outside.run(rt, alloc, words_for(alloc, &ports())?.as_str())?;
-    Ok((ended, outside))
+    Ok(bytes)
 }
 
 #[test]
 fn sixty_four_flows(rt: HostRuntime) -> Result<(), Fail> {
-    let (ended, outside) = many_flows(&rt, rt.alloc())?;
+    let ports = ports();
+    let setting = Setting {
+        out: 30_000,
+        ports: &ports,
+        lane: 2000,
+        ..PLAIN
+    };
+    let line = words_for(rt.alloc(), &ports)?;
+    let bytes = one_of_each(rt.alloc(), &ports)?;
+    let (ended, outside) = run_line(&rt, rt.alloc(), &setting, &line, &bytes)?;
     assert_eq!(rt; ended.status, 0);
-    for port in ports() {
-        let lane = lane_of(rt.alloc(), &[port])?;
-        assert_eq!(rt; outside.lanes.lane(port), Some(lane.as_slice()));
+    for port in &ports {
+        outside.check_lane(&rt, rt.alloc(), *port, Some(&[*port]))?;
     }
     let lines = outside.out.bytes().iter().filter(|byte| **byte == b'\n');
     assert_eq!(rt; lines.count(), 257);

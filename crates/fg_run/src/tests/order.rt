@@ -47,26 +47,38 @@ impl Outlet for Changes {
     }
 }
 
-/// What changes in a repair, as these words say, of a trace with two media datagrams on each of three ports, in turn.
+/// A trace with two media datagrams on each of three ports, in turn.
+fn in_turn(alloc: Global) -> Result<Vec<u8>, AllocError> {
+    let mut bytes = Vec::from_slice(alloc, b"FECTRAC1")?;
+    for (port, number) in [
+        (5000, 0),
+        (6000, 0),
+        (7000, 0),
+        (5000, 1),
+        (6000, 1),
+        (7000, 1),
+    ] {
+        push_sent(alloc, &mut bytes, port, Sent::Media(number))?;
+    }
+    Ok(bytes)
+}
+
+/// What changes in a repair of the bytes, as these words say.
 fn changes_of<W: Threads + Wait + Sync>(
     rt: &W,
     alloc: Global,
     line: &str,
+    bytes: &[u8],
 ) -> Result<Vec<Change>, AllocError> {
-    let mut bytes = Vec::from_slice(alloc, b"FECTRAC1")?;
-    for number in 0..2 {
-        for port in [5000, 6000, 7000] {
-            push_sent(alloc, &mut bytes, port, Sent::Media(number))?;
-        }
-    }
-    let mut outside = Outside::new(alloc, &bytes)?;
+    let words = words_of(alloc, line)?;
+    let mut outside = Outside::new(alloc, &PLAIN, bytes)?;
     let mut lanes = Changes {
         changes: Vec::new(alloc),
     };
     let _ = run(
         rt,
         alloc,
-        &words_of(alloc, line)?,
+        &words,
         &mut outside.input,
         &mut outside.out,
         &mut outside.err,
@@ -79,13 +91,14 @@ fn changes_of<W: Threads + Wait + Sync>(
 // Nothing is due before the flushes.
 #[test]
 fn lanes_are_made_and_flushed_in_the_order_of_the_words(rt: HostRuntime) -> Result<(), Fail> {
+    let bytes = in_turn(rt.alloc())?;
     for (line, ports) in [
         ("repair flow=7000 flow=5000 flow=6000", [7000, 5000, 6000]),
         ("repair flow=6000 flow=7000 flow=5000", [6000, 7000, 5000]),
     ] {
         let made = ports.map(Change::Made);
         let gained = ports.map(Change::Gained);
-        let changes = changes_of(&rt, rt.alloc(), line)?;
+        let changes = changes_of(&rt, rt.alloc(), line, &bytes)?;
         assert_eq!(rt; changes.get(..3), Some(made.as_slice()));
         assert_eq!(rt; changes.get(3..), Some(gained.as_slice()));
     }

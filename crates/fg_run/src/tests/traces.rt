@@ -42,6 +42,34 @@ pub const BLOCK: [Sent; 24] = [
     Sent::Row(3),
 ];
 
+/// The block whose parity of row 1 has a flipped bit.
+pub const FLIPPED: [Sent; 24] = [
+    Sent::Media(0),
+    Sent::Media(1),
+    Sent::Media(2),
+    Sent::Media(3),
+    Sent::Row(0),
+    Sent::Media(4),
+    Sent::Media(5),
+    Sent::Media(6),
+    Sent::Media(7),
+    Sent::FlippedRow(1),
+    Sent::Media(8),
+    Sent::Media(9),
+    Sent::Media(10),
+    Sent::Media(11),
+    Sent::Row(2),
+    Sent::Media(12),
+    Sent::Column(0),
+    Sent::Media(13),
+    Sent::Column(1),
+    Sent::Media(14),
+    Sent::Column(2),
+    Sent::Media(15),
+    Sent::Column(3),
+    Sent::Row(3),
+];
+
 /// The timestamp of a media datagram.
 fn stamp(number: u16) -> u32 {
     u32::from(number) * 1000
