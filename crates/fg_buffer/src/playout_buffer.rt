@@ -32,7 +32,7 @@ pub const KEPT: usize = 100;
 const SLACK: usize = 64;
 
 /// The entries of the 100 positions before the mark and of those from the mark on. An entry is
-/// 24 bytes, and has a place of 1.3 kB elsewhere, which is touched only where a word is found.
+/// 24 bytes, and has a place of 1.3 kB elsewhere, which after `new` is touched only for a found word.
 ///
 /// Before the mark an entry has the share of a kept word, which was received or solved, or a kept word
 /// that stands alone. From the mark on it has the share of a received or a solved word, or a word that
