@@ -1,15 +1,10 @@
 -- Answers of calls that may fail.
-use Rattle.std.proofs.Common.{◌≡◌, Result, Ok, Err, IfErr, OnErr, refl, sym, ◌∙◌, subst}
+use Rattle.std.proofs.Common.{◌≡◌, Result, Ok, Err, IfErr, refl, sym, ◌∙◌, subst}
 use Rattle.std.specs.Result.{IsErrAnd}
 use Rattle.fg_io.specs.declared.fault.Fault.{Fault}
 use Rattle.fg_io.specs.declared.fault.Fault.TheVariants.{Read, Write, Memory}
 use Rattle.fg_trace.specs.declared.step.Finish.TheVariants as finish
 use Rattle.fg_trace.specs.Finish.{finish_after}
-
--- a fact for an `Err` that holds of any result
-pub on_err : {T E : Type 0} (r : Result T E) (P : Type 0) → P → OnErr r P
-on_err (Ok x) P p = tt
-on_err (Err e) P p = p
 
 -- an `Err` that is passed on is of the same cause
 pub same_cause : {T E : Type 0} (r : Result T E) (e cause : E) → IsErrAnd r (λ x. x ≡ e) → r ≡ Err cause → e ≡ cause

@@ -2,7 +2,7 @@ use Rattle.std.proofs.Common.{ℕ, [], ◌<◌, ◌∙◌, subst, length, slice_
 use Rattle.fg_io.specs.Outlet.{Puts, PutsPart}
 use Rattle.fg_repair.proofs.Firsts.{others_none, others_more, makes_first}
 use Rattle.fg_repair.proofs.Lanes.{grow_none, grow_still, made_none, made_more, made_all, contains_at, puts_grows, puts_part_grows}
-use Rattle.fg_repair.proofs.Results.{on_err}
+use Rattle.fg_io.proofs.FaultLemmas.{on_err}
 use Rattle.fg_repair.proofs.engine.make_lanes.Goals as goal
 
 pub loop-i-init : goal.loop-i-init

@@ -1,5 +1,5 @@
 use Rattle.fg_repair.proofs.Standing.{come_none, come_some, breaks_some}
-use Rattle.fg_repair.proofs.Results.{on_err}
+use Rattle.fg_io.proofs.FaultLemmas.{on_err}
 use Rattle.fg_repair.proofs.engine.Engine.take.Goals as goal
 
 pub returns-in_err-take-in-Some-clause-breaks : goal.returns-in_err-take-in-Some-clause-breaks

@@ -4,7 +4,7 @@ use Rattle.fg_words.specs.declared.Word.{Word}
 use Rattle.fg_rtp.specs.declared.media.MediaFault.{MediaFault}
 use Rattle.fg_rtp.specs.MediaDatagram.{IsMediaDatagram}
 use Rattle.fg_repair.proofs.Admitting.{plays_nothing, parity_without_memory, media_is_refused, media_is_admitted, media_without_memory, media_breaks_off}
-use Rattle.fg_repair.proofs.Results.{on_err}
+use Rattle.fg_io.proofs.FaultLemmas.{on_err}
 use Rattle.fg_repair.proofs.flow.Flow.admit.Goals as goal
 
 pub admit_parity-requires : goal.admit_parity-requires

@@ -4,7 +4,7 @@ use Rattle.fg_playout.specs.Admission.{IsDue}
 use Rattle.fg_playout.specs.Run.{ArePlaysDue}
 use Rattle.fg_playout.specs.Laws.{HavePlayed}
 use Rattle.fg_repair.specs.Steps.{play_on}
-use Rattle.fg_repair.proofs.Results.{on_err}
+use Rattle.fg_io.proofs.FaultLemmas.{on_err}
 use Rattle.fg_repair.proofs.Showing.{retold, one_more_shown, breaks_off, within_one_more, due_after, fails, keeps_playout}
 use Rattle.fg_repair.proofs.flow.Flow.play_due.Goals as goal
 

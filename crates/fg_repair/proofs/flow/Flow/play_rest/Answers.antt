@@ -3,7 +3,7 @@ use Rattle.fg_playout.specs.Play.{Play}
 use Rattle.fg_playout.specs.Run.{IsFlush}
 use Rattle.fg_playout.specs.Laws.{AreFlushSteps}
 use Rattle.fg_repair.specs.Steps.{play_on}
-use Rattle.fg_repair.proofs.Results.{on_err}
+use Rattle.fg_io.proofs.FaultLemmas.{on_err}
 use Rattle.fg_repair.proofs.Showing.{retold, one_more_shown, breaks_off, within_one_more, step_after, step_shows, keeps_playout}
 use Rattle.fg_repair.proofs.flow.Flow.play_rest.Goals as goal
 

@@ -2,7 +2,7 @@ use Rattle.std.proofs.Common.{sym, subst}
 use Rattle.fg_repair.specs.Steps.{RepliesHaveRoom}
 use Rattle.fg_repair.proofs.Underway.{stays_within, counts_within, replies_have_room}
 use Rattle.fg_repair.proofs.Taking.{record_taken, record_breaks}
-use Rattle.fg_repair.proofs.Results.{on_err}
+use Rattle.fg_io.proofs.FaultLemmas.{on_err}
 use Rattle.fg_repair.proofs.flow.Flow.take.Goals as goal
 
 pub admit-requires-clause-within : goal.admit-requires-clause-within
