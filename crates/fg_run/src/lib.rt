@@ -59,7 +59,7 @@ pub fn run<
 ) -> Ended
     ensures status { result.status ≡ status_of result.why }
 
-    // Whatever the words ask for is what is done.
+    // The headline, on one thread, and what a run keeps beside it: whatever the words ask for is what is done.
     ensures answered { WordsAnswered (map string_bytes words.now) result.why S.left S.faults input.old input.new
         O.lanes O.faults lanes.old lanes.new K.written K.faults out.old out.new }
 
