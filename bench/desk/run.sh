@@ -17,14 +17,14 @@ use Rattle.std.proofs.Common.{◌≡◌}
 use Rattle.desk_work.proofs.take_media.Given as goal
 
 abbrev pub invariant-loop : goal.invariant-loop
-invariant-loop l = (l.desk.state.window ≡ l.fn.desk.state.window) × (l.tray.window ≡ l.fn.tray.window)
+invariant-loop l = (l.desk.state.playout.window ≡ l.fn.desk.state.playout.window) × (l.tray.window ≡ l.fn.tray.window)
 END
 cat > "$work/crates/desk_work/proofs/run_all/Invariants.antt" <<'END'
 use Rattle.std.proofs.Common.{◌≤◌}
 use Rattle.desk_work.proofs.run_all.Given as goal
 
 abbrev pub invariant-loop-number : goal.invariant-loop-number
-invariant-loop-number l = l.desk.state.window ≤ l.tray.window
+invariant-loop-number l = l.desk.state.playout.window ≤ l.tray.window
 END
 cd "$work/crates/desk_work"
 rt run -- bare 400 100 0 > "$work/log" 2>&1 || { cat "$work/log"; exit 1; }
