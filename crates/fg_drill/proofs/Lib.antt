@@ -2,7 +2,6 @@ pub mod AllSent
 pub mod Amounts
 pub mod ComingBack
 pub mod InFull
-pub mod OneWay
 pub mod Peeled
 pub mod Reading
 pub mod TrueDesks

@@ -18,7 +18,7 @@ use Rattle.fg_playout.specs.Run.{Arrival, carries, protects, refused}
 use Rattle.fg_encode.specs.Encoding.{bits_before, column_record, column_shape, longest, media_record, parity_at, row_record, row_shape, sequence_of, timestamp_of, word_at}
 use Rattle.fg_encode.specs.Ends.{columns_before, rows_before}
 use Rattle.fg_encode.specs.Payloads.{ArePayloads}
-use Rattle.fg_results.specs.Flow.{Arrives, IsReadAs, parity_of}
+use Rattle.fg_results.specs.Flow.{Arrives, IsReadAs, IsReadAsParity, parity_of}
 use Rattle.fg_drill.proofs.Written.{low_bytes, parity_can_be_written, sum_len, sum_room, sum_ts, time_is_small, word_is_media}
 
 -- The kind of a port
@@ -50,23 +50,15 @@ read_as_media bytes seq ssrc word is one (carries seq' word') read =
 read_as_media bytes seq ssrc word is one (protects by parity) read = absurd read
 read_as_media bytes seq ssrc word is one (refused by) read = absurd (read.1 seq ssrc word is)
 
-pub read_as_column :
-    (bytes : List ℕ) (p : ParityRead) → IsParityDatagram bytes p → ((other : ParityRead) → IsParityDatagram bytes other → p ≡ other)
-    → (a : Arrival) → IsReadAs kind.Column bytes a → a ≡ protects kind.Column (parity_of p)
-read_as_column bytes p is one (carries seq word) read = absurd read
-read_as_column bytes p is one (protects by parity) read =
+pub read_as_parity :
+    (by : Kind) (bytes : List ℕ) (p : ParityRead) → IsParityDatagram bytes p
+    → ((other : ParityRead) → IsParityDatagram bytes other → p ≡ other)
+    → (a : Arrival) → IsReadAsParity by bytes a → a ≡ protects by (parity_of p)
+read_as_parity by bytes p is one (carries seq word) read = absurd read
+read_as_parity by bytes p is one (protects other parity) read =
     let same : parity ≡ parity_of p = read.1.2 ∙ ap parity_of (sym (one read.1.0 read.1.1)) in
     λ i. protects (read.0 i) (same i)
-read_as_column bytes p is one (refused by) read = absurd (read.1 p is)
-
-pub read_as_row :
-    (bytes : List ℕ) (p : ParityRead) → IsParityDatagram bytes p → ((other : ParityRead) → IsParityDatagram bytes other → p ≡ other)
-    → (a : Arrival) → IsReadAs kind.Row bytes a → a ≡ protects kind.Row (parity_of p)
-read_as_row bytes p is one (carries seq word) read = absurd read
-read_as_row bytes p is one (protects by parity) read =
-    let same : parity ≡ parity_of p = read.1.2 ∙ ap parity_of (sym (one read.1.0 read.1.1)) in
-    λ i. protects (read.0 i) (same i)
-read_as_row bytes p is one (refused by) read = absurd (read.1 p is)
+read_as_parity by bytes p is one (refused other) read = absurd (read.1 p is)
 
 module _ (settings : Settings) (payloads : List (List ℕ)) (most : settings.packets ≤ 7) (are : ArePayloads settings.packets payloads) where
   number_is_small : (slot : ℕ) → sequence_of settings slot < 2 ^ 16
@@ -153,7 +145,7 @@ module _ (settings : Settings) (payloads : List (List ℕ)) (most : settings.pac
       let shape : Shape = column_shape settings.layout in
       let written = parity_is_written law slot base (columns_before settings.layout slot) shape false read below in
       let bytes : List ℕ = (column_record settings payloads slot base).datagram in
-      read_as_column bytes (parity_at settings payloads base shape false) written.0 written.1 a
+      read_as_parity kind.Column bytes (parity_at settings payloads base shape false) written.0 written.1 a
       (on_column settings.port arrives.0 bytes a arrives.1 arrives.2)
 
   pub row_arrives :
@@ -163,5 +155,5 @@ module _ (settings : Settings) (payloads : List (List ℕ)) (most : settings.pac
       let shape : Shape = row_shape settings.layout in
       let written = parity_is_written law slot base (rows_before settings.layout slot) shape true read below in
       let bytes : List ℕ = (row_record settings payloads slot base).datagram in
-      read_as_row bytes (parity_at settings payloads base shape true) written.0 written.1 a
+      read_as_parity kind.Row bytes (parity_at settings payloads base shape true) written.0 written.1 a
       (on_row settings.port arrives.0 bytes a arrives.1 arrives.2)
