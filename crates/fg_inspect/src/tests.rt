@@ -87,6 +87,19 @@ fn told(
 
 const MOST: u64 = 1_099_511_627_776;
 
+/// Inspects a trace of whole records, and compares its text with this one.
+fn is_told_whole(
+    rt: &impl Abort,
+    alloc: Global,
+    trace: &[u8],
+    text: &str,
+) -> Result<(), AllocError> {
+    let (finish, out) = told(rt, alloc, trace, MOST)?;
+    assert_eq!(rt; finish, Finish::Done);
+    assert_eq!(rt; out.bytes(), text.as_bytes());
+    Ok(())
+}
+
 /// The worked trace: three media datagrams with the sequence numbers 10, 11 and 12, which has 4,028 bytes.
 fn three(alloc: Global) -> Result<Vec<u8>, AllocError> {
     let mut trace = magic(alloc)?;
@@ -186,15 +199,6 @@ const MEDIA_FAULTS: &str = "0 0 5000 11 media bad 1
 7 0 5000 1328 media bad 3
 ";
 
-#[test]
-fn each_fault_of_media(rt: HostRuntime) -> Result<(), Fail> {
-    let trace = media_faults(rt.alloc())?;
-    let (finish, out) = told(&rt, rt.alloc(), &trace, MOST)?;
-    assert_eq!(rt; finish, Finish::Done);
-    assert_eq!(rt; out.bytes(), MEDIA_FAULTS.as_bytes());
-    Ok(())
-}
-
 /// Parity datagrams with each fault.
 fn parity_faults(alloc: Global) -> Result<Vec<u8>, AllocError> {
     let mut trace = magic(alloc)?;
@@ -216,11 +220,11 @@ const PARITY_FAULTS: &str = "0 0 5002 27 column bad 1
 ";
 
 #[test]
-fn each_fault_of_parity(rt: HostRuntime) -> Result<(), Fail> {
+fn each_fault(rt: HostRuntime) -> Result<(), Fail> {
+    let trace = media_faults(rt.alloc())?;
+    is_told_whole(&rt, rt.alloc(), &trace, MEDIA_FAULTS)?;
     let trace = parity_faults(rt.alloc())?;
-    let (finish, out) = told(&rt, rt.alloc(), &trace, MOST)?;
-    assert_eq!(rt; finish, Finish::Done);
-    assert_eq!(rt; out.bytes(), PARITY_FAULTS.as_bytes());
+    is_told_whole(&rt, rt.alloc(), &trace, PARITY_FAULTS)?;
     Ok(())
 }
 

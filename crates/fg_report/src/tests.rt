@@ -114,25 +114,34 @@ fn lines(text: &[u8]) -> usize {
     text.iter().filter(|byte| **byte == b'\n').count()
 }
 
+/// How many lines the report has in a sink of so much room. There is none where the sink is asked as often as this call, which
+/// fails.
+fn lines_in(
+    alloc: Global,
+    flows: &[FlowSum],
+    room: usize,
+    fails: u64,
+) -> Result<Option<usize>, AllocError> {
+    let mut out = MemSink::new(alloc, room, &[fails])?;
+    match report_to(alloc, flows, &mut out) {
+        Ok(()) => Ok(Some(lines(out.bytes()))),
+        Err(_) => Ok(None),
+    }
+}
+
 // Of these lines no flow may be left out, and the pieces are few: the sink would fail at its third write.
 #[test]
 fn tells_64_flows(rt: HostRuntime) -> Result<(), Fail> {
-    let alloc = rt.alloc();
-    let flows = many_flows(alloc, 64)?;
-    let mut out = MemSink::new(alloc, 65_536, &[2])?;
-    assert_eq!(rt; report_to(alloc, &flows, &mut out), Ok(()));
-    assert_eq!(rt; lines(out.bytes()), 257);
+    let flows = many_flows(rt.alloc(), 64)?;
+    assert_eq!(rt; lines_in(rt.alloc(), &flows, 65_536, 2)?, Some(257));
     Ok(())
 }
 
 // The text has some 200 kB. A sink that fails at its 16th write isn't asked that often.
 #[test]
 fn many_gaps_are_few_writes(rt: HostRuntime) -> Result<(), Fail> {
-    let alloc = rt.alloc();
-    let flows = [flow(5000, many_gaps(alloc, 10_000)?)];
-    let mut out = MemSink::new(alloc, 400_000, &[15])?;
-    assert_eq!(rt; report_to(alloc, &flows, &mut out), Ok(()));
-    assert_eq!(rt; lines(out.bytes()), 10_005);
+    let flows = [flow(5000, many_gaps(rt.alloc(), 10_000)?)];
+    assert_eq!(rt; lines_in(rt.alloc(), &flows, 400_000, 15)?, Some(10_005));
     Ok(())
 }
 

@@ -4,14 +4,10 @@ use Rattle.fg_repair.proofs.Taking.{flow_ends, flow_breaks}
 use Rattle.fg_repair.proofs.flow.Flow.flush.Goals as goal
 
 pub play_rest-requires-clause-within : goal.play_rest-requires-clause-within
-play_rest-requires-clause-within g c =
-    let state = c.args.self.now.desk.state in
-    flushes_within c.runs_stay_within.ensures.flushing state.playout c.args.self.now.sum.port state c.args.self.now.sum c.requires.underway
+play_rest-requires-clause-within g c = flushes_within c.runs_stay_within.ensures.flushing _ _ _ _ c.requires.underway
 
 pub play_rest-requires-clause-counts : goal.play_rest-requires-clause-counts
-play_rest-requires-clause-counts g c =
-    let state = c.args.self.now.desk.state in
-    counts_within c.plays_reach_the_mark.ensures.taken state.playout c.args.self.now.sum.port state c.args.self.now.sum c.requires.underway
+play_rest-requires-clause-counts g c = counts_within c.plays_reach_the_mark.ensures.taken _ _ _ _ c.requires.underway
 
 pub returns-clause-ends : goal.returns-clause-ends
 returns-clause-ends g c =

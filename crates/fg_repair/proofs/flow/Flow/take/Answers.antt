@@ -6,14 +6,10 @@ use Rattle.fg_io.proofs.FaultLemmas.{on_err}
 use Rattle.fg_repair.proofs.flow.Flow.take.Goals as goal
 
 pub admit-requires-clause-within : goal.admit-requires-clause-within
-admit-requires-clause-within g c =
-    let state = c.args.self.now.desk.state in
-    stays_within c.runs_stay_within.ensures.taking state.playout c.args.self.now.sum.port state c.args.self.now.sum c.requires.underway
+admit-requires-clause-within g c = stays_within c.runs_stay_within.ensures.taking _ _ _ _ c.requires.underway
 
 pub admit-requires-clause-counts : goal.admit-requires-clause-counts
-admit-requires-clause-counts g c =
-    let state = c.args.self.now.desk.state in
-    counts_within c.plays_reach_the_mark.ensures.taken state.playout c.args.self.now.sum.port state c.args.self.now.sum c.requires.underway
+admit-requires-clause-counts g c = counts_within c.plays_reach_the_mark.ensures.taken _ _ _ _ c.requires.underway
 
 pub count_answer-requires : goal.count_answer-requires
 count_answer-requires g c =
