@@ -70,6 +70,7 @@ pub(crate) fn settle(turn: &Turn<Flow>, seat: &mut Seat<Flow>, flow: Flow, deed:
           left = Some flow;
         } }
 {
+    // The event keeps what the lock's rule says of the board, and what it tells holds.
     events_keep_owned();
     events_keep_told();
     answers_hold();

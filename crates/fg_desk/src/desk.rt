@@ -335,6 +335,8 @@ impl Desk {
         ensures count { result.count ≡ self.old.state.playout.window }
         ensures changes { ChangesInPlay result.verdict self.old self.new }
     {
+        // What was found is the end of a peeling, so it is the closure and, where there is one, the solution; and it stays one
+        // past the play.
         found_words_may_be_known();
         peelings_fill_the_closure();
         solved_stays_peeled();
@@ -388,6 +390,8 @@ impl Desk {
             × ChangesInPlay played.verdict self.old self.new) }
         ensures none { IfNone result (self.new ≡ record self.old { state = self.new.state }) }
     {
+        // What was found is the end of a peeling, so it is the closure and, where there is one, the solution; and it stays one
+        // past the play.
         found_words_may_be_known();
         peelings_fill_the_closure();
         solved_stays_peeled();

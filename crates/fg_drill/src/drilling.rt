@@ -75,6 +75,7 @@ pub fn drill<R: Repair, S: Source + Send, K: Sink + Send, O: Outlet + Send>(
         ((S.faults input.old, S.faults input.new) ∷ [])
         ((K.faults out.old, K.faults out.new) ∷ (O.faults lanes.old, O.faults lanes.new) ∷ []) }
 {
+    // What the source gives is the trace of what is sent, so its repair is the stream's drill, and what comes back follows.
     repairs_are_drills();
     drills_come_back();
     payloads_are_the_cut();

@@ -63,6 +63,7 @@ pub fn sample<R: Repair, K: Sink + Send, O: Outlet + Send>(
     ensures faults { CountsFaults (result ≡ Finish.ReadFault) (result ≡ Finish.WriteFault) []
         ((K.faults out.old, K.faults out.new) ∷ (O.faults lanes.old, O.faults lanes.new) ∷ []) }
 {
+    // A sample is the drill of a made stream. Its report is written after the line.
     samples_are_traces();
     samples_come_back();
     one_trace();

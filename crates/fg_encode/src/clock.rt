@@ -1,5 +1,6 @@
 //! When datagrams are sent, and how they are numbered.
 ghost use Rattle.std.specs.Prelude.{◌≡◌, ◌≤◌, ◌^◌};
+ghost use Rattle.fg_shape.specs.Shape.{position_limit};
 ghost use Rattle.fg_encode.specs.Encoding.{sequence_of, time_of, timestamp_of};
 
 use fg_shape::Settings;
@@ -24,7 +25,7 @@ pub fn timestamp_after(settings: &Settings, bits: u64) -> u32
 
 /// The RTP sequence number of a slot's media datagram.
 pub fn sequence_at(settings: &Settings, slot: u64) -> u16
-    requires { slot ≤ 2 ^ 62 }
+    requires { slot ≤ position_limit }
     ensures { result ≡ sequence_of settings.now slot }
 {
     ((u64::from(settings.seq) + slot) % (1 << 16)) as u16

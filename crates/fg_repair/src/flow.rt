@@ -91,6 +91,8 @@ impl Flow {
         ensures playout { self.new.desk.state.playout ≡ self.old.desk.state.playout }
         ensures faults { Counts result [] ((O.faults lanes.old, O.faults lanes.new) ∷ []) }
     {
+        // What a flow has come to is said of its run: how runs join, stay within the limits and are counted, that what is taken
+        // later only adds, and that a taking, its outcome and what a datagram is read as are each one.
         runs_join();
         runs_stay_within();
         plays_reach_the_mark();
@@ -128,6 +130,7 @@ impl Flow {
         ensures port { self.new.sum.port ≡ self.old.sum.port }
         ensures faults { Counts result [] ((O.faults lanes.old, O.faults lanes.new) ∷ []) }
     {
+        // A flush ends the run, stays within the limits, and its steps are the run's next plays.
         flushes_end();
         runs_stay_within();
         plays_reach_the_mark();
