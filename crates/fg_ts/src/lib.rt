@@ -2,7 +2,7 @@
 #![tactic(auto)]
 
 ghost use Rattle.std.specs.Prelude.{◌≡◌, ℕ, ◌<◌, ◌/◌, ◌↔◌, Ok, IfOk, IsErrOf, IsTrue, MatchOption, length};
-ghost use Rattle.fg_ts.specs.Fields.{counter_of, null_pid, pid_of};
+ghost use Rattle.fg_ts.specs.Fields.{AnnouncesBreak, HasPayload, adaptation_field_control, counter_of, null_pid, pid_of};
 ghost use Rattle.fg_ts.specs.Packets.{ArePackets, FirstFault, IsFirstUnsynced, IsSynced};
 
 #[cfg(test)]
@@ -77,4 +77,26 @@ pub fn null_packet(packet: &[u8; PACKET_LENGTH]) -> bool
     ensures { IsTrue result ↔ (pid_of packet.now ≡ null_pid) }
 {
     pid(packet) == NULL_PID
+}
+
+/// What follows the first four bytes, of 2 bits.
+fn field_control(packet: &[u8; PACKET_LENGTH]) -> u8
+    ensures { result ≡ adaptation_field_control packet.now }
+{
+    packet[3] >> 4 & 0x03
+}
+
+/// Whether the packet has a payload, by its adaptation_field_control.
+pub fn payload_there(packet: &[u8; PACKET_LENGTH]) -> bool
+    ensures { IsTrue result ↔ HasPayload packet.now }
+{
+    field_control(packet) & 0x01 == 1
+}
+
+/// Whether the packet announces that its counter breaks off: it has an adaptation field that isn't empty, and the
+/// discontinuity_indicator is set there.
+pub fn break_there(packet: &[u8; PACKET_LENGTH]) -> bool
+    ensures { IsTrue result ↔ AnnouncesBreak packet.now }
+{
+    field_control(packet) >> 1 == 1 && packet[4] != 0 && packet[5] >> 7 == 1
 }

@@ -2,7 +2,10 @@
 
 ghost use Rattle.std.specs.Prelude.{◌≤◌};
 
-use crate::{PACKET_LENGTH, SYNC_BYTE, TsFault, counter, null_packet, packet_count, pid};
+use crate::{
+    PACKET_LENGTH, SYNC_BYTE, TsFault, break_there, counter, null_packet, packet_count,
+    payload_there, pid,
+};
 
 /// The bytes of three packets.
 fn packets() -> [u8; 564] {
@@ -55,4 +58,33 @@ fn a_packet_has_its_fields(rt: HostRuntime) {
     packet[2] = 0xff;
     assert_eq!(rt; pid(&packet), 0x1fff);
     assert!(rt; null_packet(&packet));
+}
+
+/// A packet that has these bytes after its PID.
+fn packet_with(fields: [u8; 3]) -> [u8; PACKET_LENGTH] {
+    let mut packet = [0; PACKET_LENGTH];
+    packet[0] = SYNC_BYTE;
+    packet[3] = fields[0];
+    packet[4] = fields[1];
+    packet[5] = fields[2];
+    packet
+}
+
+// A payload alone, an adaptation field alone, both, and neither.
+#[test]
+fn a_payload_is_seen(rt: HostRuntime) {
+    assert!(rt; payload_there(&packet_with([0x10, 0, 0])));
+    assert!(rt; !payload_there(&packet_with([0xef, 0xff, 0xff])));
+    assert!(rt; payload_there(&packet_with([0x30, 1, 0])));
+    assert!(rt; !payload_there(&packet_with([0xcf, 0xff, 0xff])));
+}
+
+// Bytes that would announce a break don't where they are payload, nor where the adaptation field ends before them.
+#[test]
+fn a_break_is_announced(rt: HostRuntime) {
+    assert!(rt; break_there(&packet_with([0x20, 1, 0x80])));
+    assert!(rt; break_there(&packet_with([0x30, 0xb7, 0xff])));
+    assert!(rt; !break_there(&packet_with([0xdf, 1, 0x80])));
+    assert!(rt; !break_there(&packet_with([0x30, 0, 0x80])));
+    assert!(rt; !break_there(&packet_with([0x30, 1, 0x7f])));
 }
