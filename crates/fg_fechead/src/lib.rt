@@ -137,10 +137,11 @@ pub fn read(bytes: &[u8]) -> Result<Parity, FecFault>
 }
 
 /// Reads a parity datagram: its header and a share of its word. The payload is copied once, to where
-/// the share keeps it. The fault is that of `parity_header`, and there is no memory only for what is
-/// a parity datagram.
+/// the share keeps it: where a spare share's word stood, if nobody else has a share of that. The fault
+/// is that of `parity_header`, and there is no memory only for what is a parity datagram.
 pub fn parity_share(
     alloc: Global,
+    spare: Option<Shared>,
     bytes: &[u8],
 ) -> Result<Result<(ParityHeader, Shared), FecFault>, AllocError>
     ensures ok { IfOk result (λ read. IfOk read (λ t. IsParityDatagram bytes.now (parity_from t.0 t.1))) }
@@ -154,7 +155,14 @@ pub fn parity_share(
         Ok(header) => header,
         Err(fault) => return Ok(Err(fault)),
     };
-    let share = Shared::of_payload(alloc, header.pt, header.ts, header.len, payload(bytes))?;
+    let share = Shared::refill(
+        alloc,
+        spare,
+        header.pt,
+        header.ts,
+        header.len,
+        payload(bytes),
+    )?;
     Ok(Ok((header, share)))
 }
 

@@ -101,11 +101,12 @@ pub fn media_word(bytes: &[u8]) -> Result<(u16, u32, Word), MediaFault>
 }
 
 /// Reads a media datagram: its sequence number, its synchronization source and a share of its word. The payload is copied
-/// once, to where the share keeps it.
+/// once, to where the share keeps it: where a spare share's word stood, if nobody else has a share of that.
 ///
 /// The fault is the first that applies, in the order of its variants. There is no memory only for what is a media datagram.
 pub fn media_share(
     alloc: Global,
+    spare: Option<Shared>,
     bytes: &[u8],
 ) -> Result<Result<(u16, u32, Shared), MediaFault>, AllocError>
     ensures ok { IfOk result (λ read. IfOk read (λ t. IsMediaDatagram bytes.now t.0 t.1 t.2)) }
@@ -119,7 +120,7 @@ pub fn media_share(
         Ok(header) => header,
         Err(fault) => return Ok(Err(fault)),
     };
-    let share = share_of(alloc, header.ts, payload(bytes))?;
+    let share = share_of(alloc, spare, header.ts, payload(bytes))?;
     Ok(Ok((header.seq, header.ssrc, share)))
 }
 
@@ -187,12 +188,18 @@ fn is_synced(bytes: &[u8]) -> bool
     true
 }
 
-/// A share of the word of transport packets with this timestamp.
-fn share_of(alloc: Global, ts: u32, payload: &[u8]) -> Result<Shared, AllocError>
+/// A share of the word of transport packets with this timestamp, where a spare share's word stood.
+fn share_of(
+    alloc: Global,
+    spare: Option<Shared>,
+    ts: u32,
+    payload: &[u8],
+) -> Result<Shared, AllocError>
     requires { length payload.now ≤ PAYLOAD_LIMIT }
     ensures { IfOk result (λ share. share ≡ transport_word ts payload.now) }
 {
-    Shared::of_payload(alloc, TRANSPORT_TYPE, ts, payload.len() as u16, payload)
+    let len = payload.len() as u16;
+    Shared::refill(alloc, spare, TRANSPORT_TYPE, ts, len, payload)
 }
 
 /// The word of transport packets with this timestamp.

@@ -1,6 +1,6 @@
 -- A list of bytes after a vector was stored in it, and what is zero of it.
 use Rattle.std.proofs.Common.{◌≡◌, ℕ, zero, suc, ◌+◌, ◌-◌, ◌*◌, ◌/◌, ◌%◌, ◌<◌, ◌≤◌, ◌↔◌, List, [], ◌∷◌, ◌++◌, length, replicate, take, drop, get_or, bit_xor, bit_or, refl, sym, ap, subst, ⊎_elim, ◌∙◌, arith, length-append, length-drop, below_more}
-use Rattle.std.specs.Int.Bits.{or_zero_l, xor_assoc}
+use Rattle.std.specs.Int.Bits.{or_zero_l}
 use Rattle.std.specs.Simd.Lanes.{zip2, fold_l, chunk, put_chunk}
 use Rattle.std.proofs.lemmas.Nat.{le_or_l, le_or_r}
 use Rattle.std.proofs.lemmas.Bool.{cases_lt}
@@ -238,27 +238,6 @@ xor_fours_more v n w start xs first second third fourth long a b c d fits done a
     (chunk-all (w * v) (n - w * v) w first second third fourth)
     (xor_vectors_more v n w start xs (all_of first second third fourth) long (all_long n first second third fourth a b c d) fits done ahead)
 
--- Two bytes added one after the other.
-pub xor_both : (n : ℕ) (one other : List ℕ) (i a b c : ℕ) → length one ≡ n → length other ≡ n → i < n
-    → b ≡ bit_xor a (get_or one i 0) → c ≡ bit_xor b (get_or other i 0) → c ≡ bit_xor a (get_or (zip2 bit_xor one other) i 0)
-xor_both n one other i a b c one_long other_long within first second =
-    second
-    ∙ ap (λ (k : ℕ). bit_xor k (get_or other i 0)) first
-    ∙ xor_assoc a (get_or one i 0) (get_or other i 0)
-    ∙ ap (λ (k : ℕ). bit_xor a k) (sym (get_or-zip2 bit_xor one other i 0 0 0 (omega arith) (omega arith)))
-
--- And four.
-pub xor_all : (n : ℕ) (first second third fourth : List ℕ) (i x y z v w : ℕ) → length first ≡ n → length second ≡ n
-    → length third ≡ n → length fourth ≡ n → i < n
-    → y ≡ bit_xor x (get_or first i 0) → z ≡ bit_xor y (get_or second i 0)
-    → v ≡ bit_xor z (get_or third i 0) → w ≡ bit_xor v (get_or fourth i 0)
-    → w ≡ bit_xor x (get_or (all_of first second third fourth) i 0)
-xor_all n first second third fourth i x y z v w a b c d within one two three four =
-    xor_both n (zip2 bit_xor first second) (zip2 bit_xor third fourth) i x z w
-    (length-zip2 bit_xor first second (a ∙ sym b) ∙ a) (length-zip2 bit_xor third fourth (c ∙ sym d) ∙ c) within
-    (xor_both n first second i x y z a b within one two)
-    (xor_both n third fourth i z v w c d within three four)
-
 -- Bytes that are the XOR of two lists' bytes at each place.
 pub xor_of_bytes : (n : ℕ) (xs ys zs : List ℕ) → length xs ≡ n → length ys ≡ n → length zs ≡ n →
     ((i : ℕ) → i < n → get_or zs i 0 ≡ bit_xor (get_or xs i 0) (get_or ys i 0)) → zs ≡ zip2 bit_xor xs ys
@@ -267,6 +246,39 @@ xor_of_bytes n xs ys zs long other_long result_long each =
     ext_get_or 0 zs (zip2 bit_xor xs ys) (result_long ∙ sym both) (λ i lt.
     let below : i < n = omega arith in
     each i below ∙ sym (get_or-zip2 bit_xor xs ys i 0 0 0 (omega arith) (omega arith)))
+
+-- After the last vector, of the w bytes at the end, all is added.
+pub xor_ends : (a n w : ℕ) (start xs ys : List ℕ) → length start ≡ n → length xs ≡ n → length ys ≡ n → a + w ≡ n →
+    ((i : ℕ) → i < a → get_or xs i 0 ≡ bit_xor (get_or start i 0) (get_or ys i 0)) →
+    ((i : ℕ) → a ≤ i → get_or xs i 0 ≡ get_or start i 0) →
+    stepped a n w xs ys ≡ zip2 bit_xor start ys
+xor_ends a n w start xs ys start_long long other_long end done ahead =
+    let fits : a + w ≤ n = omega arith in
+    xor_of_bytes n start ys (stepped a n w xs ys) start_long other_long (stepped_long a n w xs ys long other_long fits) (λ i lt. ⊎_elim
+    (λ (below : i < a). stepped-below a n w xs ys long other_long fits i below ∙ done i below)
+    (λ (from : a ≤ i). stepped-inside a n w xs ys long other_long fits i from (omega arith) ∙ ap (λ (k : ℕ). bit_xor k (get_or ys i 0)) (ahead i from))
+    (cases_lt i a))
+
+pub xor_pairs_end : (a n w : ℕ) (start xs one other : List ℕ) → length start ≡ n → length xs ≡ n → length one ≡ n → length other ≡ n → a + w ≡ n →
+    ((i : ℕ) → i < a → get_or xs i 0 ≡ bit_xor (get_or start i 0) (get_or (zip2 bit_xor one other) i 0)) →
+    ((i : ℕ) → a ≤ i → get_or xs i 0 ≡ get_or start i 0) →
+    stored a n w xs (zip2 bit_xor (chunk 0 w (mid_of a (n - a) one)) (chunk 0 w (mid_of a (n - a) other))) ≡ zip2 bit_xor start (zip2 bit_xor one other)
+xor_pairs_end a n w start xs one other start_long long one_long other_long end done ahead =
+    subst (λ (both : List ℕ). stored a n w xs both ≡ zip2 bit_xor start (zip2 bit_xor one other))
+    (chunk-zip a (n - a) w one other)
+    (xor_ends a n w start xs (zip2 bit_xor one other) start_long long (length-zip2 bit_xor one other (one_long ∙ sym other_long) ∙ one_long) end done ahead)
+
+pub xor_fours_end : (a n w : ℕ) (start xs first second third fourth : List ℕ) → length start ≡ n → length xs ≡ n
+    → length first ≡ n → length second ≡ n → length third ≡ n → length fourth ≡ n → a + w ≡ n →
+    ((i : ℕ) → i < a → get_or xs i 0 ≡ bit_xor (get_or start i 0) (get_or (all_of first second third fourth) i 0)) →
+    ((i : ℕ) → a ≤ i → get_or xs i 0 ≡ get_or start i 0) →
+    stored a n w xs (all_of (chunk 0 w (mid_of a (n - a) first)) (chunk 0 w (mid_of a (n - a) second))
+    (chunk 0 w (mid_of a (n - a) third)) (chunk 0 w (mid_of a (n - a) fourth)))
+    ≡ zip2 bit_xor start (all_of first second third fourth)
+xor_fours_end a n w start xs first second third fourth start_long long one two three four end done ahead =
+    subst (λ (all : List ℕ). stored a n w xs all ≡ zip2 bit_xor start (all_of first second third fourth))
+    (chunk-all a (n - a) w first second third fourth)
+    (xor_ends a n w start xs (all_of first second third fourth) start_long long (all_long n first second third fourth one two three four) end done ahead)
 
 -- Bytes that are all zero.
 pub zeros_of_bytes : (n : ℕ) (xs : List ℕ) → length xs ≡ n → ((i : ℕ) → i < n → get_or xs i 0 ≡ 0) → xs ≡ replicate n 0

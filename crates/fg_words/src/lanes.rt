@@ -19,12 +19,71 @@ const WHOLE: usize = VECTORS * LANES;
 pub fn xor_bytes(bytes: &mut [u8; PAYLOAD_LIMIT], other: &[u8; PAYLOAD_LIMIT])
     ensures { bytes.new ≡ zip2 bit_xor bytes.old other.now }
 {
-    xor_whole(bytes, other);
-    xor_rest(bytes, other);
+    for vector in 0..VECTORS {
+        let at = LANES * vector;
+        let sum = u8x32::from_slice(&bytes[at..]) ^ u8x32::from_slice(&other[at..]);
+        sum.copy_to_slice(&mut bytes[at..]);
+    }
+    let rest = u8x4::from_slice(&bytes[WHOLE..]) ^ u8x4::from_slice(&other[WHOLE..]);
+    rest.copy_to_slice(&mut bytes[WHOLE..]);
 }
 
 /// XORs bytes into the front of these.
 pub fn xor_front(bytes: &mut [u8; PAYLOAD_LIMIT], front: &[u8])
+    requires { length front.now ≤ PAYLOAD_LIMIT }
+    ensures { bytes.new ≡ zip2 bit_xor bytes.old (front.now ++ replicate (PAYLOAD_LIMIT - length front.now) 0) }
+{
+    match <&[u8; PAYLOAD_LIMIT]>::try_from(front) {
+        Ok(whole) => xor_bytes(bytes, whole),
+        Err(_) => xor_shorter(bytes, front),
+    }
+}
+
+/// XORs bytes into the front of both. One pass for both is less work than two.
+pub fn xor_front_into_two(
+    one: &mut [u8; PAYLOAD_LIMIT],
+    other: &mut [u8; PAYLOAD_LIMIT],
+    front: &[u8],
+)
+    requires { length front.now ≤ PAYLOAD_LIMIT }
+    ensures one { one.new ≡ zip2 bit_xor one.old (front.now ++ replicate (PAYLOAD_LIMIT - length front.now) 0) }
+    ensures other { other.new ≡ zip2 bit_xor other.old (front.now ++ replicate (PAYLOAD_LIMIT - length front.now) 0) }
+{
+    match <&[u8; PAYLOAD_LIMIT]>::try_from(front) {
+        Ok(whole) => xor_into_two(one, other, whole),
+        Err(_) => {
+            xor_shorter(one, front);
+            xor_shorter(other, front);
+        }
+    }
+}
+
+/// XORs the same bytes into both.
+fn xor_into_two(
+    one: &mut [u8; PAYLOAD_LIMIT],
+    other: &mut [u8; PAYLOAD_LIMIT],
+    bytes: &[u8; PAYLOAD_LIMIT],
+)
+    ensures one { one.new ≡ zip2 bit_xor one.old bytes.now }
+    ensures other { other.new ≡ zip2 bit_xor other.old bytes.now }
+{
+    for vector in 0..VECTORS {
+        let at = LANES * vector;
+        let next = u8x32::from_slice(&bytes[at..]);
+        let first = u8x32::from_slice(&one[at..]) ^ next;
+        let second = u8x32::from_slice(&other[at..]) ^ next;
+        first.copy_to_slice(&mut one[at..]);
+        second.copy_to_slice(&mut other[at..]);
+    }
+    let next = u8x4::from_slice(&bytes[WHOLE..]);
+    let first = u8x4::from_slice(&one[WHOLE..]) ^ next;
+    let second = u8x4::from_slice(&other[WHOLE..]) ^ next;
+    first.copy_to_slice(&mut one[WHOLE..]);
+    second.copy_to_slice(&mut other[WHOLE..]);
+}
+
+/// XORs bytes whose number isn't known before into the front of these.
+fn xor_shorter(bytes: &mut [u8; PAYLOAD_LIMIT], front: &[u8])
     requires { length front.now ≤ PAYLOAD_LIMIT }
     ensures { bytes.new ≡ zip2 bit_xor bytes.old (front.now ++ replicate (PAYLOAD_LIMIT - length front.now) 0) }
 {
@@ -60,6 +119,25 @@ fn xor_front_rest(bytes: &mut [u8; PAYLOAD_LIMIT], front: &[u8], start: usize)
     }
 }
 
+/// XORs the bytes of two others into these. One pass for both is less work than two.
+pub fn xor_two(
+    bytes: &mut [u8; PAYLOAD_LIMIT],
+    one: &[u8; PAYLOAD_LIMIT],
+    other: &[u8; PAYLOAD_LIMIT],
+)
+    ensures { bytes.new ≡ zip2 bit_xor bytes.old (zip2 bit_xor one.now other.now) }
+{
+    for vector in 0..VECTORS {
+        let at = LANES * vector;
+        let both = u8x32::from_slice(&one[at..]) ^ u8x32::from_slice(&other[at..]);
+        let sum = u8x32::from_slice(&bytes[at..]) ^ both;
+        sum.copy_to_slice(&mut bytes[at..]);
+    }
+    let both = u8x4::from_slice(&one[WHOLE..]) ^ u8x4::from_slice(&other[WHOLE..]);
+    let rest = u8x4::from_slice(&bytes[WHOLE..]) ^ both;
+    rest.copy_to_slice(&mut bytes[WHOLE..]);
+}
+
 /// XORs the bytes of four others into these. One pass for all is less work than four.
 pub fn xor_four(
     bytes: &mut [u8; PAYLOAD_LIMIT],
@@ -71,26 +149,6 @@ pub fn xor_four(
     ensures { bytes.new ≡ zip2 bit_xor bytes.old
         (zip2 bit_xor (zip2 bit_xor first.now second.now) (zip2 bit_xor third.now fourth.now)) }
 {
-    xor_four_whole(bytes, first, second, third, fourth);
-    xor_rest(bytes, first);
-    xor_rest(bytes, second);
-    xor_rest(bytes, third);
-    xor_rest(bytes, fourth);
-}
-
-/// XORs the bytes of four others that lie in whole vectors into these.
-fn xor_four_whole(
-    bytes: &mut [u8; PAYLOAD_LIMIT],
-    first: &[u8; PAYLOAD_LIMIT],
-    second: &[u8; PAYLOAD_LIMIT],
-    third: &[u8; PAYLOAD_LIMIT],
-    fourth: &[u8; PAYLOAD_LIMIT],
-)
-    ensures below { (i : ℕ) → i < WHOLE → slice_index bytes.new i
-        ≡ bit_xor (slice_index bytes.old i) (slice_index
-        (zip2 bit_xor (zip2 bit_xor first.now second.now) (zip2 bit_xor third.now fourth.now)) i) }
-    ensures rest { (i : ℕ) → WHOLE ≤ i → slice_index bytes.new i ≡ slice_index bytes.old i }
-{
     for vector in 0..VECTORS {
         let at = LANES * vector;
         let two = u8x32::from_slice(&first[at..]) ^ u8x32::from_slice(&second[at..]);
@@ -99,61 +157,10 @@ fn xor_four_whole(
         let sum = u8x32::from_slice(&bytes[at..]) ^ all;
         sum.copy_to_slice(&mut bytes[at..]);
     }
-}
-
-/// XORs the bytes of two others into these. One pass for both is less work than two.
-pub fn xor_two(
-    bytes: &mut [u8; PAYLOAD_LIMIT],
-    one: &[u8; PAYLOAD_LIMIT],
-    other: &[u8; PAYLOAD_LIMIT],
-)
-    ensures { bytes.new ≡ zip2 bit_xor bytes.old (zip2 bit_xor one.now other.now) }
-{
-    xor_two_whole(bytes, one, other);
-    xor_rest(bytes, one);
-    xor_rest(bytes, other);
-}
-
-/// XORs the bytes of two others that lie in whole vectors into these.
-fn xor_two_whole(
-    bytes: &mut [u8; PAYLOAD_LIMIT],
-    one: &[u8; PAYLOAD_LIMIT],
-    other: &[u8; PAYLOAD_LIMIT],
-)
-    ensures below { (i : ℕ) → i < WHOLE → slice_index bytes.new i
-        ≡ bit_xor (slice_index bytes.old i) (slice_index (zip2 bit_xor one.now other.now) i) }
-    ensures rest { (i : ℕ) → WHOLE ≤ i → slice_index bytes.new i ≡ slice_index bytes.old i }
-{
-    for vector in 0..VECTORS {
-        let at = LANES * vector;
-        let both = u8x32::from_slice(&one[at..]) ^ u8x32::from_slice(&other[at..]);
-        let sum = u8x32::from_slice(&bytes[at..]) ^ both;
-        sum.copy_to_slice(&mut bytes[at..]);
-    }
-}
-
-/// XORs those of the other bytes that lie in whole vectors into these.
-fn xor_whole(bytes: &mut [u8; PAYLOAD_LIMIT], other: &[u8; PAYLOAD_LIMIT])
-    ensures below { (i : ℕ) → i < WHOLE
-        → slice_index bytes.new i ≡ bit_xor (slice_index bytes.old i) (slice_index other.now i) }
-    ensures rest { (i : ℕ) → WHOLE ≤ i → slice_index bytes.new i ≡ slice_index bytes.old i }
-{
-    for vector in 0..VECTORS {
-        let at = LANES * vector;
-        let sum = u8x32::from_slice(&bytes[at..]) ^ u8x32::from_slice(&other[at..]);
-        sum.copy_to_slice(&mut bytes[at..]);
-    }
-}
-
-/// XORs those of the other bytes that follow the last whole vector into these.
-fn xor_rest(bytes: &mut [u8; PAYLOAD_LIMIT], other: &[u8; PAYLOAD_LIMIT])
-    ensures below { (i : ℕ) → i < WHOLE → slice_index bytes.new i ≡ slice_index bytes.old i }
-    ensures rest { (i : ℕ) → WHOLE ≤ i
-        → slice_index bytes.new i ≡ bit_xor (slice_index bytes.old i) (slice_index other.now i) }
-{
-    for at in WHOLE..PAYLOAD_LIMIT {
-        bytes[at] ^= other[at];
-    }
+    let two = u8x4::from_slice(&first[WHOLE..]) ^ u8x4::from_slice(&second[WHOLE..]);
+    let others = u8x4::from_slice(&third[WHOLE..]) ^ u8x4::from_slice(&fourth[WHOLE..]);
+    let rest = u8x4::from_slice(&bytes[WHOLE..]) ^ (two ^ others);
+    rest.copy_to_slice(&mut bytes[WHOLE..]);
 }
 
 /// Whether all bytes are zero.

@@ -84,6 +84,24 @@ impl Word {
         lanes::xor_front(&mut self.bytes, payload);
     }
 
+    /// XORs the word of transport packets into both words. One call for both is less work than two.
+    ///
+    /// `ts` is its timestamp. The packets have at most 1,316 bytes.
+    pub fn xor_transport_into_two(one: &mut Word, other: &mut Word, ts: u32, payload: &[u8])
+        requires { length payload.now ≤ PAYLOAD_LIMIT }
+        ensures one { one.new ≡ word_xor one.old (transport_word ts payload.now) }
+        ensures other { other.new ≡ word_xor other.old (transport_word ts payload.now) }
+    {
+        let len = payload.len() as u16;
+        one.pt ^= TRANSPORT_TYPE;
+        one.ts ^= ts;
+        one.len ^= len;
+        other.pt ^= TRANSPORT_TYPE;
+        other.ts ^= ts;
+        other.len ^= len;
+        lanes::xor_front_into_two(&mut one.bytes, &mut other.bytes, payload);
+    }
+
     /// XORs two other words into this one. One call for both is less work than two.
     pub fn xor_in_two(&mut self, one: &Word, other: &Word)
         ensures { self.new ≡ word_xor self.old (word_xor one.now other.now) }

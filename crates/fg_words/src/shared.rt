@@ -54,6 +54,29 @@ impl Shared {
         Ok(Shared { word })
     }
 
+    /// The share that `of_payload` gives, but where the word of a spare share stood, if nobody else has a share of that. What
+    /// somebody else has a share of stays as it is.
+    pub fn refill(
+        alloc: Global,
+        spare: Option<Shared>,
+        pt: u8,
+        ts: u32,
+        len: u16,
+        payload: &[u8],
+    ) -> Result<Shared, AllocError>
+        requires { length payload.now ≤ PAYLOAD_LIMIT }
+        ensures { IfOk result (λ shared. shared ≡ padded_word pt ts len payload.now) }
+    {
+        let Some(Shared { mut word }) = spare else {
+            return Shared::of_payload(alloc, pt, ts, len, payload);
+        };
+        match Arc::get_mut(&mut word) {
+            Some(own) => own.fill(pt, ts, len, payload),
+            None => return Shared::of_payload(alloc, pt, ts, len, payload),
+        }
+        Ok(Shared { word })
+    }
+
     /// Another share of the same word. The word isn't copied. Answers want of memory alone.
     pub fn lend(&self) -> Result<Shared, AllocError>
         ensures { IfOk result (λ shared. shared ≡ self.now) }

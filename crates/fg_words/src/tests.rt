@@ -3,6 +3,7 @@
 ghost use Rattle.std.specs.Prelude.{◌≤◌};
 
 use crate::{PAYLOAD_LIMIT, Shared, Word};
+use std::alloc::{AllocError, Global};
 
 /// A media word of these packets, whose other bytes differ from place to place.
 fn media(packets: u16) -> Word
@@ -72,6 +73,20 @@ fn packets_are_added_as_their_word(rt: HostRuntime) {
 }
 
 #[test]
+fn packets_are_added_to_two_words_as_to_each(rt: HostRuntime) {
+    let whole = media(7);
+    let short = media(2);
+    let mut one = media(5);
+    let mut other = media(6);
+    Word::xor_transport_into_two(&mut one, &mut other, whole.ts, &whole.bytes);
+    Word::xor_transport_into_two(&mut one, &mut other, short.ts, &short.bytes[..376]);
+    one.xor_in_two(&whole, &short);
+    other.xor_in_two(&whole, &short);
+    assert!(rt; one.same(&media(5)));
+    assert!(rt; other.same(&media(6)));
+}
+
+#[test]
 fn several_words_at_once_are_one_after_another(rt: HostRuntime) {
     let mut sum = media(7);
     sum.xor_in_two(&media(3), &media(4));
@@ -112,5 +127,31 @@ fn a_share_has_the_word_given(rt: HostRuntime) {
             }
         }
         Err(_) => assert!(rt; false),
+    }
+}
+
+/// Whether a share of the first word, with or without a second owner, is refilled to the other.
+fn is_refilled(alloc: Global, held: bool) -> Result<bool, AllocError> {
+    let share = media(7).share(alloc)?;
+    let lent = share.lend()?;
+    let word = media(2);
+    let rest = &word.bytes[..376];
+    if held {
+        let next = Shared::refill(alloc, Some(share), 33, word.ts, 376, rest)?;
+        Ok(next.word().same(&word) && lent.word().same(&media(7)))
+    } else {
+        drop(lent);
+        let next = Shared::refill(alloc, Some(share), 33, word.ts, 376, rest)?;
+        Ok(next.word().same(&word))
+    }
+}
+
+#[test]
+fn a_share_that_is_used_again_touches_no_other(rt: HostRuntime) {
+    for held in [false, true] {
+        match is_refilled(rt.alloc(), held) {
+            Ok(is_right) => assert!(rt; is_right),
+            Err(_) => assert!(rt; false),
+        }
     }
 }

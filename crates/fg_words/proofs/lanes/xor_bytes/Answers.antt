@@ -1,11 +1,13 @@
-use Rattle.std.proofs.Common.{ℕ, ◌<◌, ◌≤◌, ⊎_elim, ◌∙◌, ap, bit_xor, slice_index}
-use Rattle.std.proofs.lemmas.Bool.{cases_lt}
-use Rattle.fg_words.proofs.ByteLemmas.{xor_of_bytes}
+use Rattle.fg_words.proofs.ByteLemmas.{xor_vectors_more, xor_ends}
+use Rattle.std.proofs.Common.{arith, refl}
 use Rattle.fg_words.proofs.lanes.xor_bytes.Goals as goal
 
--- src/lanes.rt:19:1
+pub loop-vector-preserved : goal.loop-vector-preserved
+loop-vector-preserved c =
+    let more = xor_vectors_more c.loop-vector.vector 1316 32 c.args.bytes.now c.loop-vector.bytes c.args.other.now c.loop-vector.invariant.long c.told-other (omega arith) c.loop-vector.invariant.done c.loop-vector.invariant.ahead in
+    record { long = more.2; done = more.0; ahead = more.1 }
+
 pub returns : goal.returns
-returns c = xor_of_bytes 1316 c.args.bytes.now c.args.other.now c.xor_rest.new.bytes c.told-bytes c.told-other c.xor_rest.array_long (λ i lt. ⊎_elim
-    (λ (below : i < 1312). c.xor_rest.ensures.below i below ∙ c.xor_whole.ensures.below i below)
-    (λ (from : 1312 ≤ i). c.xor_rest.ensures.rest i from ∙ ap (λ (k : ℕ). bit_xor k (slice_index c.args.other.now i)) (c.xor_whole.ensures.rest i from))
-    (cases_lt i 1312))
+returns c =
+    xor_ends 1312 1316 4 c.args.bytes.now c.loop-vector.bytes c.args.other.now c.told-bytes c.loop-vector.invariant.long c.told-other refl
+    (λ i lt. c.loop-vector.invariant.done i (omega arith)) (λ i le. c.loop-vector.invariant.ahead i (omega arith))

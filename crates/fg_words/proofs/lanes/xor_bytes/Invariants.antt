@@ -1,5 +1,5 @@
 use Rattle.std.proofs.Common.{◌≡◌, ℕ, ◌*◌, ◌<◌, ◌≤◌, bit_xor, length, slice_index}
-use Rattle.fg_words.proofs.lanes.xor_whole.Given as goal
+use Rattle.fg_words.proofs.lanes.xor_bytes.Given as goal
 
 abbrev pub invariant-loop-vector : goal.invariant-loop-vector
 invariant-loop-vector l = record {

@@ -1,7 +1,7 @@
 use Rattle.std.proofs.Common.{ℕ, ◌*◌, ◌/◌, ◌<◌, ◌≤◌, ⊎_elim, ◌∙◌, ap, sym, bit_xor, length, slice_index}
 use Rattle.std.proofs.lemmas.Bool.{cases_lt}
 use Rattle.fg_words.proofs.ByteLemmas.{padded, padded_at, padded_long, xor_of_bytes}
-use Rattle.fg_words.proofs.lanes.xor_front.Goals as goal
+use Rattle.fg_words.proofs.lanes.xor_shorter.Goals as goal
 
 pub returns : goal.returns
 returns c =

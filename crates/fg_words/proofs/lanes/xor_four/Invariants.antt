@@ -1,11 +1,10 @@
 use Rattle.std.proofs.Common.{◌≡◌, ℕ, ◌*◌, ◌<◌, ◌≤◌, bit_xor, length, slice_index}
-use Rattle.std.specs.Simd.Lanes.{zip2}
-use Rattle.fg_words.proofs.lanes.xor_two_whole.Given as goal
+use Rattle.fg_words.proofs.ByteLemmas.{all_of}
+use Rattle.fg_words.proofs.lanes.xor_four.Given as goal
 
 abbrev pub invariant-loop-vector : goal.invariant-loop-vector
 invariant-loop-vector l = record {
   long : length l.bytes ≡ 1316;
-  done : (i : ℕ) → i < 32 * l.vector
-      → slice_index l.bytes i ≡ bit_xor (slice_index l.initial.bytes i) (slice_index (zip2 bit_xor l.one l.other) i);
+  done : (i : ℕ) → i < 32 * l.vector → slice_index l.bytes i ≡ bit_xor (slice_index l.initial.bytes i) (slice_index (all_of l.first l.second l.third l.fourth) i);
   ahead : (i : ℕ) → 32 * l.vector ≤ i → slice_index l.bytes i ≡ slice_index l.initial.bytes i;
 }

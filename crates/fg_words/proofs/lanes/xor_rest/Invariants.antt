@@ -1,9 +1,0 @@
-use Rattle.std.proofs.Common.{◌≡◌, ℕ, ◌<◌, ◌≤◌, bit_xor, slice_index}
-use Rattle.fg_words.proofs.lanes.xor_rest.Given as goal
-
-abbrev pub invariant-loop-at : goal.invariant-loop-at
-invariant-loop-at l = record {
-  below : (i : ℕ) → i < 1312 → slice_index l.bytes i ≡ slice_index l.initial.bytes i;
-  done : (i : ℕ) → 1312 ≤ i → i < l.at → slice_index l.bytes i ≡ bit_xor (slice_index l.initial.bytes i) (slice_index l.other i);
-  ahead : (i : ℕ) → l.at ≤ i → slice_index l.bytes i ≡ slice_index l.initial.bytes i;
-}

@@ -1,9 +1,0 @@
-use Rattle.fg_words.proofs.ByteLemmas.{xor_vectors_more}
-use Rattle.std.proofs.Common.{arith}
-use Rattle.fg_words.proofs.lanes.xor_whole.Goals as goal
-
--- src/lanes.rt:31:5
-pub loop-vector-preserved : goal.loop-vector-preserved
-loop-vector-preserved c =
-    let more = xor_vectors_more c.loop-vector.vector 1316 32 c.args.bytes.now c.loop-vector.bytes c.args.other.now c.loop-vector.invariant.long c.told-other (omega arith) c.loop-vector.invariant.done c.loop-vector.invariant.ahead in
-    record { long = more.2; done = more.0; ahead = more.1 }
