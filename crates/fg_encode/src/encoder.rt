@@ -15,7 +15,7 @@ ghost use Rattle.fg_shape.specs.Settings.{CanEncode};
 use crate::Batch;
 use crate::clock::{sequence_at, time_after, timestamp_after};
 use crate::laws::ends_are_the_layouts;
-use crate::lines::{add_to_column, add_to_row};
+use crate::lines::add_to_lines;
 use fg_fechead::Parity;
 use fg_shape::{Kind, LAST_PORT, Layout, Settings, Shape};
 use fg_ts::PACKET_LENGTH;
@@ -95,8 +95,14 @@ impl Encoder {
         let at = next_moment(&settings, self.taken);
         let seq = sequence_at(&settings, at.slot);
         into.put_media(at.time, settings.port, seq, at.ts, settings.ssrc, payload);
-        add_to_column(&mut self.columns, &settings, at.slot, at.ts, payload);
-        add_to_row(&mut self.row, &settings, at.slot, at.ts, payload);
+        add_to_lines(
+            &mut self.columns,
+            &mut self.row,
+            &settings,
+            at.slot,
+            at.ts,
+            payload,
+        );
         send_column(&self.columns, &settings, at, &mut self.columns_sent, into);
         send_row(&self.row, &settings, at, &mut self.rows_sent, into);
         self.taken += 1;

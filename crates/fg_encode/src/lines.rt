@@ -1,7 +1,7 @@
 //! The parities under way: one for each column, and one for the row.
-ghost use Rattle.std.specs.Prelude.{◌≡◌, ◌+◌, ◌*◌, ◌<◌, ◌≤◌, ◌↔◌, ◌^◌, ◌%◌, ℕ, true, IsTrue, length, get_or};
+ghost use Rattle.std.specs.Prelude.{◌≡◌, ◌+◌, ◌*◌, ◌<◌, ◌≤◌, ◌↔◌, ◌^◌, ◌%◌, ◌≢◌, ℕ, true, false, IsTrue, length, get_or};
 ghost use Rattle.fg_words.specs.declared.Word.{Word};
-ghost use Rattle.fg_words.specs.Word.{transport_word, HasRoom, payload_limit};
+ghost use Rattle.fg_words.specs.Word.{transport_word, word_xor, HasRoom, payload_limit};
 ghost use Rattle.fg_shape.specs.Layout.{column_base};
 ghost use Rattle.fg_encode.specs.Encoder.{ColumnsAreUnderWay, RowIsUnderWay};
 ghost use Rattle.fg_encode.specs.Lines.{added};
@@ -59,9 +59,11 @@ fn begins_column(layout: &Layout, slot: u64) -> bool
     layout.ending_at(end).column.is_some()
 }
 
-/// Adds the payload of a slot, with this timestamp, to the parity under way of its column.
-pub fn add_to_column(
+/// Adds the payload of a slot, with this timestamp, to the parity under way of its column, and to that of the row where rows
+/// are sent. Where neither begins, one pass over the payload is enough.
+pub fn add_to_lines(
     columns: &mut [Parity],
+    row: &mut Parity,
     settings: &Settings,
     slot: u64,
     ts: u32,
@@ -70,13 +72,64 @@ pub fn add_to_column(
     requires payload { length payload.now ≤ payload_limit }
     requires width { length columns.old ≡ settings.now.layout.l }
     requires limit { slot ≤ 2 ^ 60 }
+    ensures columns { (words : ℕ → Word) → words slot ≡ transport_word ts payload.now → ((s : ℕ) → HasRoom (words s))
+        → ColumnsAreUnderWay settings.now words slot columns.old
+        → ColumnsAreUnderWay settings.now words (slot + 1) columns.new }
+    ensures row { IsTrue settings.now.layout.rows → (words : ℕ → Word) → words slot ≡ transport_word ts payload.now
+        → ((s : ℕ) → HasRoom (words s)) → RowIsUnderWay settings.now words slot row.old
+        → RowIsUnderWay settings.now words (slot + 1) row.new }
+{
+    let begins = begins_column(&settings.layout, slot);
+    if both_go_on(&settings.layout, begins, slot) {
+        let column = (slot % u64::from(settings.layout.l)) as usize;
+        xor_is_a_group();
+        sum_ignores_order();
+        add_to_both(&mut columns[column], row, ts, payload);
+    } else {
+        add_to_column(columns, settings, slot, begins, ts, payload);
+        add_to_row(row, settings, slot, ts, payload);
+    }
+}
+
+/// Whether rows are sent and neither the column, as told, nor the row begins at the slot.
+fn both_go_on(layout: &Layout, column_begins: bool, slot: u64) -> bool
+    requires { 1 ≤ layout.now.l }
+    ensures { IsTrue result
+        ↔ (IsTrue layout.now.rows × (column_begins ≡ false) × (slot % layout.now.l ≢ 0)) }
+{
+    layout.rows && !column_begins && slot % u64::from(layout.l) != 0
+}
+
+/// Adds a payload with this timestamp to two parities under way, neither of which begins with it.
+fn add_to_both(column: &mut Parity, row: &mut Parity, ts: u32, payload: &[u8])
+    requires { length payload.now ≤ payload_limit }
+    ensures column { column.new
+        ≡ (record column.old { word = word_xor column.old.word (transport_word ts payload.now) }) }
+    ensures row { row.new ≡ (record row.old { word = word_xor row.old.word (transport_word ts payload.now) }) }
+{
+    Word::xor_transport_into_two(&mut column.word, &mut row.word, ts, payload);
+}
+
+/// Adds the payload of a slot, with this timestamp, to the parity under way of its column, which may begin with it.
+fn add_to_column(
+    columns: &mut [Parity],
+    settings: &Settings,
+    slot: u64,
+    begins: bool,
+    ts: u32,
+    payload: &[u8],
+)
+    requires payload { length payload.now ≤ payload_limit }
+    requires width { length columns.old ≡ settings.now.layout.l }
+    requires limit { slot ≤ 2 ^ 60 }
+    requires begins { IsTrue begins
+        ↔ ((m c : ℕ) × (c < settings.now.layout.l) × (slot ≡ column_base settings.now.layout m c)) }
     ensures { (words : ℕ → Word) → words slot ≡ transport_word ts payload.now → ((s : ℕ) → HasRoom (words s))
         → ColumnsAreUnderWay settings.now words slot columns.old
         → ColumnsAreUnderWay settings.now words (slot + 1) columns.new }
 {
     let Layout { l, d, .. } = settings.layout;
     let column = (slot % u64::from(l)) as usize;
-    let begins = begins_column(&settings.layout, slot);
     let base = sequence_at(settings, slot);
     let shape = Shape { offset: l, na: d };
     xor_is_a_group();
@@ -93,7 +146,7 @@ pub fn add_to_column(
 }
 
 /// Adds the payload of a slot, with this timestamp, to the parity under way of the row, where rows are sent.
-pub fn add_to_row(row: &mut Parity, settings: &Settings, slot: u64, ts: u32, payload: &[u8])
+fn add_to_row(row: &mut Parity, settings: &Settings, slot: u64, ts: u32, payload: &[u8])
     requires payload { length payload.now ≤ payload_limit }
     requires limit { slot ≤ 2 ^ 60 }
     ensures { IsTrue settings.now.layout.rows → (words : ℕ → Word) → words slot ≡ transport_word ts payload.now
