@@ -2,11 +2,13 @@ pub mod Choices
 pub mod LiveBounds
 pub mod LiveCalls
 pub mod LiveInserts
+pub mod LiveKeys
 pub mod LiveLists
 pub mod LiveMoves
 pub mod LiveSearch
 pub mod LiveViews
 pub mod Lost
+pub mod Watched
 pub mod BufferChanges
 pub mod BufferLoops
 pub mod BufferMaps

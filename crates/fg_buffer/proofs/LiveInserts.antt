@@ -60,7 +60,7 @@ module _ (first second : Slab Line) (places : List Bool) (sound : AreSound first
     fresh_serial other stands same =
         none-some (live_of other) (sym fresh ∙ live_under first second sound.serials other stands line.serial same)
 
-    fresh_place : (other : Line) → Stands first second other → other.place ≢ line.place
+    pub fresh_place : (other : Line) → Stands first second other → other.place ≢ line.place
     fresh_place other stands same =
         let t : get_or places line.place false ≡ true =
         subst (λ (p : ℕ). get_or places p false ≡ true) same (sound.taken other stands) in

@@ -166,6 +166,30 @@ module _ (IsLeft IsGone : Line → Type 0) (key : ℕ) (source target source' ta
     over = below.over;
   }
 
+-- The same moved, where the slab that they left was only cleared of what is vacant.
+pub moves_same :
+    (IsLeft IsGone : Line → Type 0) (source target source' target' other : Slab Line)
+    → Moves IsLeft IsGone source target source' target' → ((key : ℕ) → get other key ≡ get source' key)
+    → slab_len other ≡ slab_len source' → other.capacity ≡ source'.capacity → Moves IsLeft IsGone source target other target'
+moves_same IsLeft IsGone source target source' target' other moves same count room = record {
+  left = λ line h. moves.left line (h.0, sym (same h.0) ∙ h.1);
+  over = record {
+    gone = moves.over.gone;
+    every = λ line stands. ⊎_elim (λ a. inl (a.0, same a.0 ∙ a.1)) (λ b. inr b) (moves.over.every line stands);
+    kept = moves.over.kept;
+    each = λ number e.
+        let was = moves.over.each number e in
+        record {
+          in_first = λ k k' one two is is'. was.in_first k k' one two (sym (same k) ∙ is) (sym (same k') ∙ is');
+          in_second = was.in_second;
+          apart = λ k k' one two is is'. was.apart k k' one two (sym (same k) ∙ is) is';
+        };
+    count = (let c = moves.over.count in omega (arith, count, c));
+    source_capacity = room ∙ moves.over.source_capacity;
+    target_capacity = moves.over.target_capacity;
+  };
+}
+
 -- One line moves: the one with this number.
 pub moves_numbered :
     (number : Line → ℕ) (source target out into : Slab Line) (key key' : ℕ) (line : Line)

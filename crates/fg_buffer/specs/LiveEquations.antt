@@ -8,8 +8,9 @@ use Rattle.slab.specs.Slab.{Slab}
 use Rattle.fg_words.specs.declared.Word.{Word}
 use Rattle.fg_shape.specs.Shape.{IsShape, slots_of, position_limit}
 use Rattle.fg_peel.specs.declared.Line.{Line}
-use Rattle.fg_peel.specs.Equation.{slots, IsComplete}
-use Rattle.fg_peel.specs.Slots.{equation_of, lines_of}
+use Rattle.fg_peel.specs.declared.span.Missing.TheVariants.{Several}
+use Rattle.fg_peel.specs.Equation.{Equation, slots, IsComplete}
+use Rattle.fg_peel.specs.Slots.{equation_of, lines_of, IsMissing}
 use Rattle.fg_peel.specs.Live.{Live, last_slot, live_limit, Survives}
 use Rattle.fg_peel.specs.Words.{Words}
 
@@ -46,6 +47,16 @@ AreSettled lines settled_lines =
 -- The line stands in one of two slabs.
 abbrev pub IsAmong : Slab Line → Slab Line → Line → Type 0
 IsAmong first second line = Contains (lines_of first) line ⊎ Contains (lines_of second) line
+
+-- The equation misses at least two of these words: nothing follows from it alone, and it isn't complete.
+abbrev pub IsStuck : (ℕ → Option Word) → Equation → Type 0
+IsStuck words equation = IsMissing words equation Several
+
+-- That is so of each live equation that is open.
+abbrev pub AreStuck : (ℕ → Option Word) → LiveState → Type 0
+AreStuck words lines =
+    (serial : ℕ) (live : Live) → get lines.live serial ≡ Some live → set.contains lines.settled serial ≡ false
+    → IsStuck words live.equation
 
 -- The same equations are live, and those are settled that were, or that are complete in these words.
 pub record Settles (words : ℕ → Option Word) (old new : LiveState) : Type 0 where

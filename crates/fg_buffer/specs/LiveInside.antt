@@ -80,6 +80,16 @@ pub record AreSound (open_lines settled_lines : Slab Line) (places : List Bool) 
   pub open_room : live_limit ≤ open_lines.capacity
   pub settled_room : live_limit ≤ settled_lines.capacity
 
+-- The key that is told for a line's place is the one that it has in its slab.
+abbrev pub IsKeyed : List ℕ → Slab Line → Type 0
+IsKeyed keys lines = (key : ℕ) (line : Line) → get lines key ≡ Some line → slice_index_or keys line.place 0 ≡ key
+
+-- That is so in both slabs, and there is a key for each place.
+pub record AreKeyed (keys : List ℕ) (first second : Slab Line) : Type 0 where
+  pub count : length keys ≡ live_limit
+  pub in_first : IsKeyed keys first
+  pub in_second : IsKeyed keys second
+
 -- The last slots of all lines lie between these positions.
 abbrev pub AreBetween : ℕ → ℕ → Slab Line → Slab Line → Type 0
 AreBetween earliest latest open_lines settled_lines =
@@ -87,8 +97,9 @@ AreBetween earliest latest open_lines settled_lines =
     → (earliest ≤ last_slot (equation_of line)) × (last_slot (equation_of line) ≤ latest)
 
 -- All that is true of the fields.
-pub record AreKept (open_lines settled_lines : Slab Line) (places : List Bool) (earliest latest : ℕ) : Type 0 where
+pub record AreKept (open_lines settled_lines : Slab Line) (places : List Bool) (keys : List ℕ) (earliest latest : ℕ) : Type 0 where
   pub sound : AreSound open_lines settled_lines places
+  pub keyed : AreKeyed keys open_lines settled_lines
   pub between : AreBetween earliest latest open_lines settled_lines
 
 -- LiveEquations move from one slab to another: none but these.

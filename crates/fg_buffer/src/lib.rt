@@ -4,6 +4,9 @@
 mod live_equations;
 mod playout_buffer;
 mod small_slot;
+mod spares;
+mod watches;
 
 pub use live_equations::{LIVE_LIMIT, LiveEquations, lost_slot};
 pub use playout_buffer::{KEPT, PlayoutBuffer};
+pub use watches::Watches;

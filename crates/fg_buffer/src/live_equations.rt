@@ -11,10 +11,11 @@ ghost use Rattle.fg_peel.specs.declared.Line.{Line as LiveLine};
 ghost use Rattle.fg_peel.specs.Slots.{equation_of};
 ghost use Rattle.fg_peel.specs.Live.{last_slot, Survives, HasSlots, IsFree, IsLeastFree};
 ghost use Rattle.fg_buffer.specs.PlayoutBuffer.{buffer_words};
-ghost use Rattle.fg_buffer.specs.LiveEquations.{no_equations, AreLive, AreOpen, AreSettled, IsLiveLine, Settles, SettlesAt, Reopens, SettledAreBased, Retires, IsLost};
-ghost use Rattle.fg_buffer.specs.LiveInside.{Holds, Stands, IsTaken, AreWithin, Moves, IsCompleteAs, IsBased, Drops};
+ghost use Rattle.fg_buffer.specs.LiveEquations.{no_equations, AreLive, AreOpen, AreSettled, AreStuck, IsLiveLine, Settles, SettlesAt, Reopens, SettledAreBased, Retires, IsLost};
+ghost use Rattle.fg_buffer.specs.LiveInside.{Holds, Stands, IsOneEach, IsTaken, IsKeyed, AreKeyed, AreWithin, Moves, IsCompleteAs, IsBased, Drops};
 
 use crate::playout_buffer::PlayoutBuffer;
+use crate::watches::Watches;
 use fg_peel::Line;
 use fg_shape::{Shape, last, slot};
 use fg_words::Shared;
@@ -32,6 +33,8 @@ pub struct LiveEquations {
     open: Slab<Line>,
     settled: Slab<Line>,
     places: Places,
+    /// The key that the line at each place has in its group. At a free place it tells nothing.
+    keys: Vec<usize>,
     /// No line's last slot lies before this position, and none past the other: most searches and passes
     /// end here.
     earliest: u64,
@@ -48,7 +51,7 @@ impl Model for LiveEquations {
 
     ghost view = { λ a. state_of a.«open» a.settled };
 
-    ghost invariant = { λ a. AreKept a.«open» a.settled a.places a.earliest a.latest };
+    ghost invariant = { λ a. AreKept a.«open» a.settled a.places a.keys.items a.earliest a.latest };
 }
 
 /// Which of the places 0 to 511 are taken.
@@ -124,6 +127,7 @@ impl LiveEquations {
             open: Slab::with_capacity(alloc, LIVE_LIMIT)?,
             settled: Slab::with_capacity(alloc, LIVE_LIMIT)?,
             places: Places::new(alloc)?,
+            keys: vec![in alloc; 0; LIVE_LIMIT]?,
             earliest: u64::MAX,
             latest: 0,
         })
@@ -143,6 +147,17 @@ impl LiveEquations {
             → IsTrue (set.contains self.now.settled serial)) }
     {
         self.open.is_empty()
+    }
+
+    /// Whether each open one is known to miss at least two of the buffer's words, so that nothing follows
+    /// from it and it isn't complete.
+    pub fn are_stuck(&self, watches: &mut Watches, buffer: &PlayoutBuffer) -> bool
+        ensures { IsTrue result → AreStuck (buffer_words buffer.now) self.now }
+    {
+        if self.none_open() {
+            return true;
+        }
+        watches.all_stuck(&self.open, buffer)
     }
 
     /// The open ones.
@@ -183,9 +198,9 @@ impl LiveEquations {
             × (line.now.place ≡ place)) }
         ensures none { IfNone result (IsFree self.now.live place) }
     {
-        match find_place(&self.open, place) {
+        match find_place(&self.open, &self.keys, place) {
             Some(line) => Some(line),
-            None => find_place(&self.settled, place),
+            None => find_place(&self.settled, &self.keys, place),
         }
     }
 
@@ -209,34 +224,40 @@ impl LiveEquations {
               });
             }) }
     {
-        let place = self.places.take() as u32;
+        let place = self.places.take();
         let end = last(base, shape);
         self.earliest = self.earliest.min(end);
         self.latest = self.latest.max(end);
-        self.open.insert_reserved(Line {
+        self.keys[place] = self.open.insert_reserved(Line {
             base,
             shape,
             parity,
             serial,
-            place,
+            place: place as u32,
         });
-        place
+        place as u32
     }
 
     /// Settles each open one that is complete in the buffer.
     pub fn settle(&mut self, buffer: &PlayoutBuffer)
         ensures { Settles (buffer_words buffer.now) self.old self.new }
     {
-        move_lines(&mut self.open, &mut self.settled, buffer, true);
+        move_lines(
+            &mut self.open,
+            &mut self.settled,
+            &mut self.keys,
+            buffer,
+            true,
+        );
     }
 
     /// Settles the one at this place.
     pub fn settle_at(&mut self, place: u32)
         ensures { SettlesAt place self.old self.new }
     {
-        if let Some(key) = key_at(&self.open, place) {
+        if let Some(key) = key_at(&self.open, &self.keys, place) {
             let line = self.open.remove(key);
-            self.settled.insert_reserved(line);
+            self.keys[place as usize] = self.settled.insert_reserved(line);
         }
     }
 
@@ -244,7 +265,13 @@ impl LiveEquations {
     pub fn reopen(&mut self, buffer: &PlayoutBuffer)
         ensures { Reopens (buffer_words buffer.now) self.old self.new }
     {
-        move_lines(&mut self.settled, &mut self.open, buffer, false);
+        move_lines(
+            &mut self.settled,
+            &mut self.open,
+            &mut self.keys,
+            buffer,
+            false,
+        );
     }
 
     /// Drops those that do not survive a play up to the buffer's mark. The words below the mark are kept
@@ -285,31 +312,44 @@ fn find_in(lines: &Slab<Line>, base: u64, shape: Shape) -> Option<&Line>
     None
 }
 
-/// The line at this place.
-fn find_place(lines: &Slab<Line>, place: u32) -> Option<&Line>
+/// The line at this place, where `keys` tells the key of each place's line.
+fn find_place<'a>(lines: &'a Slab<Line>, keys: &[usize], place: u32) -> Option<&'a Line>
+    requires within { AreWithin lines.now }
+    requires keyed { IsKeyed keys.now lines.now }
     ensures some { IfSome result (λ line. Holds lines.now line.now × (line.now.place ≡ place)) }
     ensures none { IfNone result ((line : LiveLine) → Holds lines.now line
         → ¬ (line.place ≡ place)) }
 {
-    match key_at(lines, place) {
+    match key_at(lines, keys, place) {
         Some(key) => lines.get(key),
         None => None,
     }
 }
 
-/// The key of the line at this place.
-fn key_at(lines: &Slab<Line>, place: u32) -> Option<usize>
+/// The key of the line at this place, where `keys` tells the key of each place's line.
+fn key_at(lines: &Slab<Line>, keys: &[usize], place: u32) -> Option<usize>
+    requires within { AreWithin lines.now }
+    requires keyed { IsKeyed keys.now lines.now }
     ensures some { IfSome result (λ key. (line : LiveLine) × (slabs.get lines.now key ≡ Some line)
         × (line.place ≡ place)) }
     ensures none { IfNone result ((line : LiveLine) → Holds lines.now line
         → ¬ (line.place ≡ place)) }
 {
-    for (key, line) in lines.iter() {
-        if line.place == place {
-            return Some(key);
-        }
+    let key = told_key(keys, place);
+    match lines.get(key) {
+        Some(line) if line.place == place => Some(key),
+        _ => None,
     }
-    None
+}
+
+/// The key that is told for a place, or 0 past all of them.
+fn told_key(keys: &[usize], place: u32) -> usize
+    ensures { result ≡ slice_index_or keys.now place 0 }
+{
+    match keys.get(place as usize) {
+        Some(key) => *key,
+        None => 0,
+    }
 }
 
 /// A key past those of all lines: a pass over the keys needn't go farther.
@@ -355,20 +395,37 @@ fn free_all(places: &mut [bool])
 fn move_lines(
     source: &mut Slab<Line>,
     target: &mut Slab<Line>,
+    keys: &mut [usize],
     buffer: &PlayoutBuffer,
     complete: bool,
 )
     requires within { AreWithin source.old }
     requires room { slab_len source.old + slab_len target.old ≤ target.old.capacity }
-    ensures { Moves (IsCompleteAs (not complete) (buffer_words buffer.now))
+    requires numbers { IsOneEach (λ line. line.place) source.old target.old }
+    requires keyed { AreKeyed keys.old source.old target.old }
+    ensures moves { Moves (IsCompleteAs (not complete) (buffer_words buffer.now))
         (IsCompleteAs complete (buffer_words buffer.now))
         source.old target.old source.new target.new }
+    ensures keyed { AreKeyed keys.new source.new target.new }
 {
     for key in 0..end_of(source) {
         if goes(source, key, buffer, complete) {
             let line = source.remove(key);
-            target.insert_reserved(line);
+            let place = line.place as usize;
+            keys[place] = target.insert_reserved(line);
         }
+    }
+    forget_vacant(source);
+}
+
+/// Forgets the vacant keys of a slab where no line is left, so that no later pass goes over them.
+fn forget_vacant(lines: &mut Slab<Line>)
+    ensures same { (key : ℕ) → slabs.get lines.new key ≡ slabs.get lines.old key }
+    ensures count { slab_len lines.new ≡ slab_len lines.old }
+    ensures capacity { lines.new.capacity ≡ lines.old.capacity }
+{
+    if lines.is_empty() {
+        lines.clear();
     }
 }
 
@@ -497,6 +554,9 @@ pub fn lost_slot(base: u64, shape: Shape, buffer: &PlayoutBuffer) -> Option<u64>
         → slot < buffer.now.mark → IsSome (get buffer.now.kept slot)) }
 {
     let mark = buffer.mark();
+    if base >= mark {
+        return None;
+    }
     for j in 0..shape.na {
         let position = slot(base, shape, j);
         if position < mark && buffer.word(position).is_none() {

@@ -15,6 +15,7 @@ ghost use Rattle.fg_buffer.specs.PlayoutBuffer.{opened_buffer, buffer_received, 
 ghost use Rattle.fg_buffer.specs.BufferEntries.{entry_at, words_of, buffer_of, live_entries, IsEmptyPast, StaysPast, received_in, solved_in, shared_in, is_found, AreEntries, Recovers, IsLastWord, HasNoWordFrom, Forgets, forgets};
 
 use crate::small_slot::SmallSlot;
+use crate::spares::Spares;
 use fg_peel::laws::{confluence, maximal_peelings_are_tested};
 use fg_peel::{Entry, Line, Verdict, peel_entries};
 use fg_shape::slot;
@@ -37,6 +38,9 @@ const SLACK: usize = 64;
 /// Before the mark an entry has the share of a kept word, which was received or solved, or a kept word
 /// that stands alone. From the mark on it has the share of a received or a solved word, or a word that
 /// was found ahead of its play. Entries for positions below 0 are empty.
+///
+/// The shares of entries that are passed stay as spares, 128 at most, until the next payloads are put
+/// where their words stood. Contracts don't see them.
 #[derive(Drop)]
 pub struct PlayoutBuffer {
     mark: u64,
@@ -46,6 +50,7 @@ pub struct PlayoutBuffer {
     slots: Vec<SmallSlot>,
     /// Whether all solved words at the mark and past it are known to be media words.
     solved_media: bool,
+    spares: Spares,
 }
 
 impl Model for PlayoutBuffer {
@@ -79,6 +84,7 @@ impl PlayoutBuffer {
             front: 0,
             slots,
             solved_media: true,
+            spares: Spares::new(alloc)?,
         })
     }
 
@@ -265,8 +271,27 @@ impl PlayoutBuffer {
         requires limit { self.old.mark + count + self.old.reach + 100 ≤ position_limit }
         ensures { Advances count self.old self.new }
     {
-        self.front = move_on(&mut self.slots, self.front, count as usize);
+        self.front = move_on(
+            &mut self.slots,
+            self.front,
+            count as usize,
+            &mut self.spares,
+        );
         self.mark += u64::from(count);
+    }
+
+    /// A share that was let go, where there is one, for the next payload.
+    pub fn spare(&mut self) -> Option<Shared>
+        ensures { self.new ≡ self.old }
+    {
+        self.spares.take()
+    }
+
+    /// Keeps a share that is let go as a spare, where there is room for one more.
+    pub fn keep_spare(&mut self, share: Shared)
+        ensures { self.new ≡ self.old }
+    {
+        self.spares.keep(share);
     }
 }
 
@@ -409,9 +434,9 @@ fn forget_words(slots: &mut [SmallSlot], solved: bool)
     }
 }
 
-/// Passes the first `count` of the buffer's entries, which gives their shares back, and answers where the
+/// Passes the first `count` of the buffer's entries, whose shares become spares, and answers where the
 /// first one then stands. The entries are moved only where no room is left after them.
-fn move_on(slots: &mut [SmallSlot], front: usize, count: usize) -> usize
+fn move_on(slots: &mut [SmallSlot], front: usize, count: usize, spares: &mut Spares) -> usize
     requires some { 1 ≤ count }
     requires within { count + SLACK ≤ length slots.old }
     requires front { front ≤ SLACK }
@@ -421,16 +446,16 @@ fn move_on(slots: &mut [SmallSlot], front: usize, count: usize) -> usize
         ≡ slice_index_or slots.old (front + count + k) Slot.Empty }
 {
     if front + count <= SLACK {
-        empty_entries(slots, front, front + count);
+        empty_entries(slots, front, front + count, spares);
         return front + count;
     }
-    shift_down(slots, front + count);
+    shift_down(slots, front + count, spares);
     0
 }
 
 /// Moves each entry to the place `count` before it. The first `count` entries go, and the last ones
 /// are then empty.
-fn shift_down(slots: &mut [SmallSlot], count: usize)
+fn shift_down(slots: &mut [SmallSlot], count: usize, spares: &mut Spares)
     requires some { 1 ≤ count }
     requires within { count ≤ length slots.old }
     ensures { (k : ℕ) → slice_index_or slots.new k Slot.Empty
@@ -438,7 +463,7 @@ fn shift_down(slots: &mut [SmallSlot], count: usize)
 {
     let rest = slots.len() - count;
     take_later(slots, count, rest);
-    empty_entries(slots, rest, slots.len());
+    empty_entries(slots, rest, slots.len(), spares);
 }
 
 /// Moves what the entries `count` places later have to each of the first `rest` entries.
@@ -454,8 +479,8 @@ fn take_later(slots: &mut [SmallSlot], count: usize, rest: usize)
     }
 }
 
-/// Empties the entries from one on up to another.
-fn empty_entries(slots: &mut [SmallSlot], first: usize, end: usize)
+/// Empties the entries from one on up to another. Their shares become spares.
+fn empty_entries(slots: &mut [SmallSlot], first: usize, end: usize, spares: &mut Spares)
     requires order { first ≤ end }
     requires within { end ≤ length slots.old }
     ensures below { (k : ℕ) → k < first
@@ -466,6 +491,6 @@ fn empty_entries(slots: &mut [SmallSlot], first: usize, end: usize)
         → slice_index_or slots.new k Slot.Empty ≡ slice_index_or slots.old k Slot.Empty }
 {
     for i in first..end {
-        slots[i].clear();
+        slots[i].pass(spares);
     }
 }

@@ -5,10 +5,12 @@ ghost use Rattle.std.specs.Option.{option_copied};
 ghost use Rattle.fg_peel.specs.declared.Slot.{Slot};
 ghost use Rattle.fg_buffer.specs.BufferEntries.{received_in, solved_in, shared_in, is_found, left_of};
 
+use crate::spares::Spares;
 use fg_peel::Entry;
 use fg_words::{Shared, Word};
 use std::alloc::{AllocError, Global};
 use std::marker::Model;
+use std::mem;
 
 /// What a small slot has.
 #[derive(Drop)]
@@ -124,6 +126,16 @@ impl SmallSlot {
         ensures { self.new ≡ Slot.Empty }
     {
         self.content = Content::Nothing;
+    }
+
+    /// Empties the slot, and keeps the share that it had as a spare.
+    pub(crate) fn pass(&mut self, spares: &mut Spares)
+        ensures { self.new ≡ Slot.Empty }
+    {
+        match mem::replace(&mut self.content, Content::Nothing) {
+            Content::Media(share) | Content::Solved(share) => spares.keep(share),
+            Content::Nothing | Content::Found => {}
+        }
     }
 }
 

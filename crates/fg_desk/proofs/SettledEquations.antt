@@ -1,5 +1,6 @@
 -- What settled equations add to a peeling: nothing.
-use Rattle.std.proofs.Common.{◌≡◌, ◌⊎◌, ℕ, Bool, true, false, List, [], Option, Some, IsSome, IsTrue, inl, inr, refl, sym, subst, ◌∙◌, ⊎_elim}
+use Rattle.std.proofs.Common.{◌≡◌, ◌≢◌, ◌⊎◌, ℕ, Bool, true, false, List, [], Option, Some, IsSome, IsTrue, inl, inr, refl, sym, subst, ◌∙◌, ⊎_elim}
+use Rattle.std.proofs.lemmas.Bool.{cases_eq}
 use Rattle.std.proofs.lemmas.Option.{none-some}
 use Rattle.std.specs.List.{Contains}
 use Rattle.std.specs.FinMap.{get}
@@ -8,7 +9,7 @@ use Rattle.slab.specs.Slab.{Slab}
 use Rattle.fg_words.specs.declared.Word.{Word}
 use Rattle.fg_peel.specs.declared.Line.{Line}
 use Rattle.fg_peel.specs.Slots.{lines_of, equation_of, equations_of}
-use Rattle.fg_peel.specs.Equation.{Equation, Keeps, IsComplete, IsSettled}
+use Rattle.fg_peel.specs.Equation.{Equation, Keeps, IsComplete, IsSettled, slots}
 use Rattle.fg_peel.specs.Closure.{InClosure, given, derived}
 use Rattle.fg_peel.specs.Solution.{IsSolution}
 use Rattle.fg_peel.specs.Peeling.{Step, CanFollow, EndsPeeling, end_of}
@@ -16,7 +17,7 @@ use Rattle.fg_peel.specs.Laws.{AddsSettled, PeelingsTakeEquations, PeelingsKeepW
 use Rattle.fg_peel.proofs.Lists.{Contains-nil, Contains-map, Contains-from_map}
 use Rattle.fg_peel.proofs.Options.{value_of, has_value}
 use Rattle.fg_playout.specs.State.{State, Live, opening}
-use Rattle.fg_buffer.specs.LiveEquations.{LiveState, AreOpen, live_of}
+use Rattle.fg_buffer.specs.LiveEquations.{LiveState, AreOpen, IsStuck, AreStuck, live_of}
 use Rattle.fg_desk.specs.Storage.{EachSettled, equations_in}
 use Rattle.fg_playout.proofs.Equations.{serial_of, live_at}
 
@@ -27,6 +28,19 @@ no_step_of_complete :
 no_step_of_complete known end equations step keeps complete can =
     let v = value_of (known step.position) (complete step.position can.slot) in
     none-some v.0 (sym can.unknown ∙ keeps step.position v.0 v.1)
+
+-- An equation isn't stuck of which all slots but one have words.
+not_stuck :
+    (known : ℕ → Option Word) (equation : Equation) (position : ℕ)
+    → ((other : ℕ) → Contains (slots equation) other → other ≢ position → IsSome (known other)) → IsStuck known equation → ⊥
+not_stuck known equation position all stuck = ⊎_elim
+    (λ here.
+    let v = value_of (known stuck.1) (all stuck.1 stuck.3 (λ same. stuck.4 (here ∙ sym same))) in
+    none-some v.0 (sym stuck.6 ∙ v.1))
+    (λ differs.
+    let v = value_of (known stuck.0) (all stuck.0 stuck.2 differs) in
+    none-some v.0 (sym stuck.5 ∙ v.1))
+    (cases_eq stuck.0 position)
 
 pub ends_with_settled :
     PeelingsTakeEquations → PeelingsKeepWords → (known words : ℕ → Option Word) (few many : List Equation)
@@ -49,22 +63,6 @@ ends_with_settled takes keep known words few many adds ends = (
   ends.2,
 )
 
--- Without equations nothing follows.
-follows_of_none : (known : ℕ → Option Word) (position : ℕ) → InClosure known [] position → IsSome (known position)
-follows_of_none known position (given some) = some
-follows_of_none known position (derived equation listed slot others) = absurd (Contains-nil equation listed)
-
-pub solution_of_none : (known : ℕ → Option Word) → IsSolution known [] known
-solution_of_none known = record {
-  domain = λ p. (λ some. given some, follows_of_none known p);
-  keeps = λ q w is. is;
-  media = λ q w none is. absurd (none-some w (sym none ∙ is));
-  sums = λ equation listed. absurd (Contains-nil equation listed);
-}
-
-pub ends_of_none : (known : ℕ → Option Word) → EndsPeeling [] known known
-ends_of_none known = ([], record { peeling = tt; no_more = λ step can. Contains-nil step.equation can.listed }, refl)
-
 -- A desk of which these are the live equations.
 abbrev pub desk_of : LiveState → State
 desk_of lines = record (opening (record { window = 0; depth = 0 })) { equations = lines.live }
@@ -76,18 +74,51 @@ serial_in lines equation c = serial_of (desk_of lines) equation c
 pub live_in_at : (lines : LiveState) (serial : ℕ) (live : Live) → get lines.live serial ≡ Some live → Contains (equations_in lines) live.equation
 live_in_at lines serial live is = live_at (desk_of lines) serial live is
 
--- Where all are settled, they add nothing to none.
-pub all_add_nothing :
-    (lines : LiveState) (known : ℕ → Option Word) → EachSettled lines (IsSettled known)
-    → ((serial : ℕ) → IsSome (get lines.live serial) → IsTrue (set.contains lines.settled serial))
-    → AddsSettled known [] (equations_in lines)
-all_add_nothing lines known settled all = record {
-  listed = λ equation c. absurd (Contains-nil equation c);
-  settled = λ equation c.
-      (let r = serial_in lines equation c in
-      inr (subst (λ (e : Equation). IsSettled known e) r.3
-      (settled r.0 r.1 r.2 (all r.0 (has_value (get lines.live r.0) r.1 r.2)))));
-}
+-- Where the settled ones come out and the others are stuck, nothing follows.
+module _
+    (lines : LiveState) (known : ℕ → Option Word) (settled : EachSettled lines (IsSettled known)) (stuck : AreStuck known lines) where
+  one_of : (equation : Equation) → Contains (equations_in lines) equation → IsSettled known equation ⊎ IsStuck known equation
+  one_of equation c =
+      let r = serial_in lines equation c in go r (set.contains lines.settled r.0) refl
+    where
+      go :
+          (r : (serial : ℕ) × (live : Live) × (get lines.live serial ≡ Some live) × (live.equation ≡ equation))
+          (b : Bool) → set.contains lines.settled r.0 ≡ b → IsSettled known equation ⊎ IsStuck known equation
+      go r true is = inl (subst (λ (e : Equation). IsSettled known e) r.3 (settled r.0 r.1 r.2 is))
+      go r false is = inr (subst (λ (e : Equation). IsStuck known e) r.3 (stuck r.0 r.1 r.2 is))
+
+  follows_not : (position : ℕ) → InClosure known (equations_in lines) position → IsSome (known position)
+  follows_not position (given some) = some
+  follows_not position (derived equation listed slot others) = ⊎_elim
+      (λ done. done.0 position slot)
+      (λ open_still. absurd (not_stuck known equation position
+      (λ other c differs. follows_not other (others other c differs)) open_still))
+      (one_of equation listed)
+
+  pub nothing_ends : EndsPeeling (equations_in lines) known known
+  nothing_ends = (
+    [],
+    record {
+      peeling = tt;
+      no_more = λ step can. ⊎_elim
+          (λ done. no_step_of_complete known known (equations_in lines) step (λ q w is. is) done.0 can)
+          (λ open_still. not_stuck known step.equation step.position can.others_known open_still)
+          (one_of step.equation can.listed);
+    },
+    refl,
+  )
+
+  pub nothing_solves : IsSolution known (equations_in lines) known
+  nothing_solves = record {
+    domain = λ p. (λ some. given some, follows_not p);
+    keeps = λ q w is. is;
+    media = λ q w none is. absurd (none-some w (sym none ∙ is));
+    sums = λ equation listed inside. ⊎_elim
+        (λ done. done.1)
+        (λ open_still. absurd (not_stuck known equation open_still.0
+        (λ other c differs. follows_not other (inside other c)) open_still))
+        (one_of equation listed);
+  }
 
 abbrev pub line_with : ℕ → Live → Line
 line_with serial live = record {

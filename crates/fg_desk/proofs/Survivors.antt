@@ -43,14 +43,14 @@ complete_is_based count old new advances equation shape complete reaches slot c 
 
 module _
     (count : ℕ) (buffer new : BufferState) (old between : LiveState) (within : AreInBuffer buffer old) (advances : Advances count buffer new)
-    (settles : Settles (buffer_words buffer) old between) (complete : EachSettled old (IsComplete (buffer_words buffer))) where
+    (same : between.live ≡ old.live) (complete : EachSettled between (IsComplete (buffer_words buffer))) where
   was_live : (serial : ℕ) → get between.live serial ≡ get old.live serial
-  was_live serial = ap (λ (m : FinMap nat_cmp Live). get m serial) settles.live
+  was_live serial = ap (λ (m : FinMap nat_cmp Live). get m serial) same
 
   pub settled_are_based : SettledAreBased new.mark new.kept between
   settled_are_based serial live settled is reaches =
       complete_is_based count buffer new advances live.equation (within serial live (sym (was_live serial) ∙ is)).shape
-      (settles_complete (buffer_words buffer) old between settles complete serial live is settled) reaches
+      (complete serial live is settled) reaches
 
   pub keeps : (left : LiveState) → Retires new.mark new.kept between left → Keeps (buffer_words buffer) new.mark new.kept old left
   keeps left retires = record {
@@ -58,7 +58,5 @@ module _
       λ is. (let r = (retires.live serial live).0 is in (sym (was_live serial) ∙ r.0, r.1)),
       λ r. (retires.live serial live).1 (was_live serial ∙ r.0, r.1),
     );
-    settled = λ serial live is settled.
-        settles_complete (buffer_words buffer) old between settles complete serial live
-        ((retires.live serial live).0 is).0 ((retires.settled serial).0 settled).0;
+    settled = λ serial live is settled. complete serial live ((retires.live serial live).0 is).0 ((retires.settled serial).0 settled).0;
   }

@@ -1,5 +1,5 @@
 -- What contracts see of a desk and of a tray.
-use Rattle.std.specs.Prelude.{◌≡◌, ◌≢◌, ◌+◌, ◌<◌, ◌^◌, ◌&&◌, ℕ, not, is_some, List, map, nat_lt, Option, Some, None, IfSome, IsSome, IsSomeAnd, MatchOption, if◌then◌else◌}
+use Rattle.std.specs.Prelude.{◌≡◌, ◌≢◌, ◌+◌, ◌&&◌, ℕ, not, is_some, List, map, nat_lt, Option, Some, None, IsSome, IsSomeAnd, MatchOption, if◌then◌else◌}
 use Rattle.std.specs.List.{Contains, range_with_len}
 use Rattle.std.specs.Option.{option_or}
 use Rattle.std.specs.Ordering.{nat_cmp}

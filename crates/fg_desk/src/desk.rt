@@ -13,14 +13,14 @@ ghost use Rattle.fg_playout.specs.Facts.{Holds};
 ghost use Rattle.fg_buffer.specs.LiveEquations.{live_of, IsAmong};
 ghost use Rattle.fg_playout.specs.Room.{HasRoom, farthest_limit, call_limit};
 ghost use Rattle.fg_desk.specs.Contents.{opened, AreSolved, CanFill, IsLiveAt, IsPlaceAfter, GivesWay, IsAfterArrival, ChangesInPlay, filled, known_in, shared_at, kept_from, epoch_after};
-ghost use Rattle.fg_playout.specs.Admission.{IsDue, IsReplyAt, IsEquationReply, IsLeastFree, AdmitsMedia, AdmitsParity, farther as farther_top, with_media, with_equation};
+ghost use Rattle.fg_playout.specs.Admission.{IsDue, IsReplyAt, IsEquationReply, IsLeastFree, AdmitsMedia, AdmitsParity, counted, farther as farther_top, with_media, with_equation};
 ghost use Rattle.fg_playout.specs.Play.{IsPlay, Flushes};
 ghost use Rattle.fg_desk.specs.Inside.{IsLateAt, raised};
 ghost use Rattle.fg_desk.specs.Parts.{top_of};
 
 use crate::storage::{close, publish, receive, recover};
 use crate::tray::Tray;
-use fg_buffer::{KEPT, LIVE_LIMIT, LiveEquations, PlayoutBuffer, lost_slot};
+use fg_buffer::{KEPT, LIVE_LIMIT, LiveEquations, PlayoutBuffer, Watches, lost_slot};
 use fg_peel::Line;
 use fg_peel::laws::{
     confluence, found_words_may_be_known, peelings_fill_the_closure, peelings_stay,
@@ -50,6 +50,8 @@ pub struct Desk {
     top: Option<Farthest>,
     buffer: PlayoutBuffer,
     lines: LiveEquations,
+    /// By them a play tells quickly that nothing follows from an equation.
+    watches: Watches,
     admitted: u64,
     calls: u64,
     epoch: u64,
@@ -98,6 +100,7 @@ impl Desk {
             top: None,
             buffer: PlayoutBuffer::new(alloc, depth)?,
             lines: LiveEquations::new(alloc)?,
+            watches: Watches::new(alloc)?,
             admitted: 0,
             calls: 0,
             epoch: 0,
@@ -228,9 +231,17 @@ impl Desk {
         }
     }
 
+    /// A share that the desk let go, where it has one, for the payload of the next datagram. It keeps
+    /// 128 at most. Somebody else may have a share of the same word.
+    pub fn spare(&mut self) -> Option<Shared>
+        ensures { self.new ≡ self.old }
+    {
+        self.buffer.spare()
+    }
+
     /// Admits a media datagram, or says why not.
     ///
-    /// The share is dropped with every reply but `Admitted`. Where the word is admitted at a position at
+    /// The share is let go with every reply but `Admitted`. Where the word is admitted at a position at
     /// which another one was solved, all solved words are withdrawn and the epoch rises.
     pub fn admit_media(&mut self, seq: u16, share: Shared) -> Reply
         requires room { HasRoom self.old.state }
@@ -244,7 +255,7 @@ impl Desk {
             return Reply::Admitted;
         };
         let Some(position) = position(top.position, top.seq, seq) else {
-            self.calls += 1;
+            self.refuse(share);
             return Reply::Late;
         };
         match self.reply_at(position, share.word()) {
@@ -253,7 +264,7 @@ impl Desk {
                 Reply::Admitted
             }
             reply => {
-                self.calls += 1;
+                self.refuse(share);
                 reply
             }
         }
@@ -262,7 +273,7 @@ impl Desk {
     /// Admits a parity datagram's equation, or says why not. `base` is the sequence number of its
     /// base.
     ///
-    /// The share is dropped with every reply but `Admitted`.
+    /// The share is let go with every reply but `Admitted`.
     pub fn admit_parity(&mut self, base: u16, shape: Shape, share: Shared) -> Reply
         requires room { HasRoom self.old.state }
         requires shape { IsShape shape.offset shape.na }
@@ -285,11 +296,11 @@ impl Desk {
         ensures place { IsPlaceAfter self.old.state result.0 result.1 self.new.state }
     {
         let Some(top) = self.top else {
-            self.calls += 1;
+            self.refuse(share);
             return (Reply::NotStarted, None);
         };
         let Some(base) = position(top.position, top.seq, base) else {
-            self.calls += 1;
+            self.refuse(share);
             return (Reply::BeforeStart, None);
         };
         match self.equation_reply(base, shape, share.word()) {
@@ -298,7 +309,7 @@ impl Desk {
                 (Reply::Admitted, Some(place))
             }
             reply => {
-                self.calls += 1;
+                self.refuse(share);
                 (reply, None)
             }
         }
@@ -341,9 +352,16 @@ impl Desk {
         peelings_fill_the_closure();
         solved_stays_peeled();
         confluence();
-        let solved = recover(&mut self.buffer, &self.lines);
+        let stuck = self.lines.are_stuck(&mut self.watches, &self.buffer);
+        let solved = recover(&mut self.buffer, &self.lines, stuck);
         let first = self.buffer.mark();
-        let verdict = close(&mut self.buffer, &mut self.lines, solved, self.window);
+        let verdict = close(
+            &mut self.buffer,
+            &mut self.lines,
+            solved,
+            stuck,
+            self.window,
+        );
         self.calls += 1;
         self.epoch = next_epoch(self.epoch, verdict);
         Played {
@@ -396,14 +414,15 @@ impl Desk {
         peelings_fill_the_closure();
         solved_stays_peeled();
         confluence();
-        let solved = recover(&mut self.buffer, &self.lines);
+        let stuck = self.lines.are_stuck(&mut self.watches, &self.buffer);
+        let solved = recover(&mut self.buffer, &self.lines, stuck);
         let first = self.buffer.mark();
         self.calls += 1;
         let Some(highest) = self.buffer.highest() else {
             return None;
         };
         let count = u64::from(self.window).min(highest + 1 - first) as u32;
-        let verdict = close(&mut self.buffer, &mut self.lines, solved, count);
+        let verdict = close(&mut self.buffer, &mut self.lines, solved, stuck, count);
         self.epoch = next_epoch(self.epoch, verdict);
         Some(Played {
             first,
@@ -431,6 +450,15 @@ impl Desk {
         ensures { self.new ≡ self.old }
     {
         self.lines.settle_at(place);
+    }
+
+    /// Counts a call that refused a share, which is let go.
+    fn refuse(&mut self, share: Shared)
+        requires calls { self.old.state.calls < call_limit }
+        ensures { self.new ≡ record self.old { state = counted self.old.state } }
+    {
+        self.buffer.keep_spare(share);
+        self.calls += 1;
     }
 
     /// Takes a word in at a position that has none.

@@ -7,7 +7,7 @@ ghost use Rattle.fg_shape.specs.Shape.{position_limit};
 ghost use Rattle.fg_peel.specs.Equation.{AreMedia, IsComplete, IsSettled};
 ghost use Rattle.fg_playout.specs.declared.reply.Outcome.{Outcome as OutcomeValue};
 ghost use Rattle.fg_buffer.specs.PlayoutBuffer.{BufferState, buffer_received, buffer_known, buffer_words, receives, publishes, Advances};
-ghost use Rattle.fg_buffer.specs.LiveEquations.{no_equations};
+ghost use Rattle.fg_buffer.specs.LiveEquations.{no_equations, AreStuck};
 ghost use Rattle.fg_desk.specs.Storage.{equations_in, AreInBuffer, EachSettled, IsRecovered, Keeps, Closes, MakesWay, IsOther, without_found};
 
 use fg_buffer::{LiveEquations, PlayoutBuffer};
@@ -16,28 +16,32 @@ use fg_playout::Outcome;
 use fg_words::{Shared, Word};
 
 /// Finds each word that follows from the buffer's words and the live equations, and tells whether they
-/// have a solution and all words are media words.
-pub(crate) fn recover(buffer: &mut PlayoutBuffer, lines: &LiveEquations) -> bool
+/// have a solution and all words are media words. `stuck` tells that each open equation misses at least
+/// two words, so that nothing follows.
+pub(crate) fn recover(buffer: &mut PlayoutBuffer, lines: &LiveEquations, stuck: bool) -> bool
     requires within { AreInBuffer buffer.old lines.now }
     requires received { AreMedia (buffer_received buffer.old) }
     requires cached { AreMedia (get buffer.old.cached) }
     requires settled { EachSettled lines.now (IsSettled (buffer_words buffer.old)) }
+    requires stuck { IsTrue stuck → AreStuck (buffer_words buffer.old) lines.now }
     ensures { IsRecovered (equations_in lines.now) buffer.old buffer.new result }
 {
     settled_equations_add_nothing();
     peelings_fill_the_closure();
     peelings_stay();
-    if lines.none_open() && buffer.solved_are_media() {
+    if stuck && buffer.solved_are_media() {
         return true;
     }
     buffer.recover(lines.open())
 }
 
-/// Plays the first `count` positions. `solved` tells that the buffer's words are a solution.
+/// Plays the first `count` positions. `solved` tells that the buffer's words are a solution, and `stuck`
+/// that no open equation is complete in them.
 pub(crate) fn close(
     buffer: &mut PlayoutBuffer,
     lines: &mut LiveEquations,
     solved: bool,
+    stuck: bool,
     count: u32,
 ) -> Outcome
     requires some { 1 ≤ count }
@@ -49,7 +53,7 @@ pub(crate) fn close(
     ensures outcome { (result ≡ Outcome.Repaired) ↔ IsTrue solved }
 {
     if solved {
-        close_repaired(buffer, lines, count);
+        close_repaired(buffer, lines, stuck, count);
         Outcome::Repaired
     } else {
         close_received(buffer, lines, count);
@@ -57,8 +61,9 @@ pub(crate) fn close(
     }
 }
 
-/// Plays the buffer's words at the first `count` positions. Those equations stay live that survive.
-fn close_repaired(buffer: &mut PlayoutBuffer, lines: &mut LiveEquations, count: u32)
+/// Plays the buffer's words at the first `count` positions. Those equations stay live that survive. Where
+/// they are stuck there is none to be settled.
+fn close_repaired(buffer: &mut PlayoutBuffer, lines: &mut LiveEquations, stuck: bool, count: u32)
     requires some { 1 ≤ count }
     requires near { count ≤ buffer.old.reach }
     requires limit { buffer.old.mark + count + buffer.old.reach + 100 ≤ position_limit }
@@ -67,7 +72,9 @@ fn close_repaired(buffer: &mut PlayoutBuffer, lines: &mut LiveEquations, count: 
     ensures advances { Advances count buffer.old buffer.new }
     ensures lines { Keeps (buffer_words buffer.old) buffer.new.mark buffer.new.kept lines.old lines.new }
 {
-    lines.settle(buffer);
+    if !stuck {
+        lines.settle(buffer);
+    }
     buffer.advance(count);
     lines.retire(buffer);
 }

@@ -162,7 +162,8 @@ impl Flow {
     {
         match kind {
             Kind::Media => {
-                let Ok((seq, _, share)) = media_share(alloc, datagram)? else {
+                let spare = self.desk.spare();
+                let Ok((seq, _, share)) = media_share(alloc, spare, datagram)? else {
                     return Ok(None);
                 };
                 self.play_due(piece, seq, lanes)?;
@@ -231,7 +232,8 @@ fn admit_parity(
     ensures unchanged { OnErr result (desk.new ≡ desk.old) }
     ensures playout { desk.new.state.playout ≡ desk.old.state.playout }
 {
-    let Ok((parity, share)) = parity_share(alloc, datagram)? else {
+    let spare = desk.spare();
+    let Ok((parity, share)) = parity_share(alloc, spare, datagram)? else {
         return Ok(None);
     };
     Ok(Some(desk.admit_parity(parity.base, parity.shape, share)))

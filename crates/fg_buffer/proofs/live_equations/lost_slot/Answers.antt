@@ -5,8 +5,22 @@ use Rattle.std.specs.FinMap.{get}
 use Rattle.fg_shape.specs.Shape.{slots_of}
 use Rattle.fg_peel.proofs.Options.{none_of_copied}
 use Rattle.fg_buffer.proofs.LiveBounds.{known_before}
-use Rattle.fg_shape.proofs.ShapeLemmas.{length-slots_of}
+use Rattle.fg_shape.proofs.ShapeLemmas.{length-slots_of, get_or-slots_of}
 use Rattle.fg_buffer.proofs.live_equations.lost_slot.Goals as goal
+
+-- no slot lies before the first
+pub returns-then-base-mark : goal.returns-then-base-mark
+returns-then-base-mark c = record {
+  some = tt;
+  none =
+      λ slot member below.
+      (let shape = c.args.shape in
+      let xs = slots_of c.args.base shape.offset shape.na in
+      let same : get_or xs member.0 0 ≡ slot = get_or_default xs member.0 0 slot member.1 ∙ member.2 in
+      let within : member.0 < shape.na = omega (arith, member.1, length-slots_of c.args.base shape.offset shape.na) in
+      let at = get_or-slots_of c.args.base shape.offset shape.na member.0 0 within in
+      absurd (omega (arith, same, at, below, c.mark-mark.ensures.value, c.if-base-mark.true)));
+}
 
 pub returns-then-is_none : goal.returns-then-is_none
 returns-then-is_none c =

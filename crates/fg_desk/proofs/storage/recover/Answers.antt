@@ -1,25 +1,23 @@
-use Rattle.std.proofs.Common.{[], refl}
+use Rattle.std.proofs.Common.{refl}
 use Rattle.fg_peel.specs.Equation.{AreMedia}
 use Rattle.fg_peel.specs.Slots.{equations_of}
 use Rattle.fg_buffer.specs.LiveEquations.{live_of}
 use Rattle.fg_buffer.specs.PlayoutBuffer.{buffer_words}
 use Rattle.fg_desk.specs.Storage.{equations_in}
 use Rattle.fg_desk.proofs.DeskWords.{words_media}
-use Rattle.fg_desk.proofs.SettledEquations.{ends_with_settled, solution_of_none, ends_of_none, all_add_nothing, open_is_live, settled_add_nothing}
+use Rattle.fg_desk.proofs.SettledEquations.{ends_with_settled, nothing_ends, nothing_solves, open_is_live, settled_add_nothing}
 use Rattle.fg_desk.proofs.storage.recover.Goals as goal
 
 pub returns-then-solved_are_media : goal.returns-then-solved_are_media
 returns-then-solved_are_media c =
     let known = buffer_words c.args.buffer.now in
-    let all = equations_in c.args.lines.now in
-    let adds = all_add_nothing c.args.lines.now known c.requires.settled (c.none_open.ensures.0 c.if-none_open.true) in
+    let stuck = c.requires.stuck c.if-stuck.true in
     let media : AreMedia known =
     words_media c.args.buffer.now c.requires.received (c.solved_are_media.ensures c.if-solved_are_media.true) c.requires.cached in
     record {
       rest = refl;
-      peeling = ends_with_settled c.peelings_stay.ensures.equations c.peelings_fill_the_closure.ensures.keeps known known [] all
-          adds (ends_of_none known);
-      solved = λ _. (media, (c.settled_equations_add_nothing.ensures.solutions known [] all adds known).0 (solution_of_none known));
+      peeling = nothing_ends c.args.lines.now known c.requires.settled stuck;
+      solved = λ _. (media, nothing_solves c.args.lines.now known c.requires.settled stuck);
       solvable = λ _ _ _. refl;
     }
 

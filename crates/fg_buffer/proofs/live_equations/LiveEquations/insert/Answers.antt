@@ -8,7 +8,8 @@ use Rattle.fg_buffer.specs.LiveInside.{state_of, IsWithin, AreSound}
 use Rattle.fg_buffer.proofs.LiveViews.{count_live}
 use Rattle.fg_buffer.proofs.LiveCalls.{are_live}
 use Rattle.fg_peel.proofs.SlotRange.{last_is}
-use Rattle.fg_buffer.proofs.LiveInserts.{first_free_within, least_free, insert_sound, insert_is, is_or_stood}
+use Rattle.fg_buffer.proofs.LiveInserts.{first_free_within, least_free, insert_sound, insert_is, fresh_place, is_or_stood}
+use Rattle.fg_buffer.proofs.LiveKeys.{inserted_keyed}
 use Rattle.fg_buffer.proofs.live_equations.LiveEquations.insert.Goals as goal
 use Rattle.fg_buffer.proofs.live_equations.LiveEquations.insert.Goals.{After-take-place, After-insert_reserved}
 
@@ -62,6 +63,11 @@ invariant_of-self c =
     record {
       sound = subst (λ (ps : List Bool). AreSound c.insert_reserved.new.self c.self.inside.settled ps) (sym c.take-place.ensures.taken)
           (insert_sound c.self.inside.open c.self.inside.settled c.self.inside.places c.self.invariant.sound
+          c.insert_reserved.new.self c.insert_reserved.result (line_of d) e.was_vacant e.updates e.len e.capacity (is_within d) (fresh d)
+          c.take-place.ensures.free (fewer d));
+      keyed = inserted_keyed c.self.inside.keys.items c.self.inside.open c.self.inside.settled c.self.invariant.keyed
+          c.insert_reserved.new.self c.insert_reserved.result (line_of d) (is_within d).place e.updates
+          (fresh_place c.self.inside.open c.self.inside.settled c.self.inside.places c.self.invariant.sound
           c.insert_reserved.new.self c.insert_reserved.result (line_of d) e.was_vacant e.updates e.len e.capacity (is_within d) (fresh d)
           c.take-place.ensures.free (fewer d));
       between = λ line stands. ⊎_elim

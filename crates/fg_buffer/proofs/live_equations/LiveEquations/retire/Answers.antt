@@ -2,6 +2,7 @@ use Rattle.std.proofs.Common.{inr, sym, subst}
 use Rattle.fg_buffer.specs.LiveEquations.{LiveState, Retires, SettledAreBased}
 use Rattle.fg_buffer.specs.LiveInside.{AreSound, AreBetween, state_of}
 use Rattle.fg_buffer.proofs.LiveCalls.{retires_sound, retires, to_retired, based_settled}
+use Rattle.fg_buffer.proofs.LiveKeys.{keyed_fewer}
 use Rattle.fg_buffer.proofs.live_equations.LiveEquations.retire.Goals as goal
 use Rattle.fg_buffer.proofs.live_equations.LiveEquations.retire.Goals.{After-drop_settled}
 
@@ -45,6 +46,13 @@ invariant_of-self c =
     let d = (goal.at.invariant_of-self c).After-drop_settled in
     record {
       sound = sound_after d;
+      keyed = record {
+        count = c.self.invariant.keyed.count;
+        in_first = keyed_fewer c.self.inside.keys.items c.self.inside.open c.drop_lines.new.lines
+            (λ key line is. ((c.drop_lines.ensures.left key line).0 is).0) c.self.invariant.keyed.in_first;
+        in_second = keyed_fewer c.self.inside.keys.items c.self.inside.settled c.drop_settled.new.lines
+            (λ key line is. ((c.drop_settled.ensures.left key line).0 is).0) c.self.invariant.keyed.in_second;
+      };
       between = λ line stands. (c.earliest_after-self-inside.ensures line stands, (between_after d line stands).1);
     }
 

@@ -1,11 +1,10 @@
-use Rattle.std.proofs.Common.{◌≡◌, ◌<◌, ◌^◌, None, sym, subst, ap, ◌∙◌}
+use Rattle.std.proofs.Common.{◌≡◌, None, subst, ap, ◌∙◌}
 use Rattle.std.specs.FinMap.{get, get-empty}
 use Rattle.std.specs.Prelude.{option_map}
 use Rattle.std.specs.Ordering.{nat_cmp}
 use Rattle.fg_desk.specs.Contents.{Contents}
 use Rattle.fg_playout.specs.State.{Words}
-use Rattle.fg_desk.specs.Parts.{parts_of, top_of}
-use Rattle.fg_desk.proofs.DeskCounts.{counted_sound}
+use Rattle.fg_desk.specs.Parts.{top_of}
 use Rattle.fg_desk.proofs.desk.Desk.admit_media.Goals as goal
 
 pub take-requires-clause-none : goal.take-requires-clause-none
@@ -13,13 +12,3 @@ take-requires-clause-none c =
     let u = c.self.invariant.facts.unopened (ap (option_map top_of) c.in_default.is) in
     subst (λ (s : Contents). get s.state.media 0 ≡ None) c.self.view_is
     (ap (λ (m : Words). get m 0) u.1 ∙ get-empty nat_cmp 0)
-
-pub invariant_of-self : goal.invariant_of-self
-invariant_of-self c =
-    counted_sound (parts_of c.self.inside) c.self.invariant
-    (subst (λ (s : Contents). s.state.calls < 2 ^ 62) (sym c.self.view_is) c.requires.room.calls)
-
-pub invariant_of-self-in-Duplicate-1 : goal.invariant_of-self-in-Duplicate-1
-invariant_of-self-in-Duplicate-1 c =
-    counted_sound (parts_of c.self.inside) c.self.invariant
-    (subst (λ (s : Contents). s.state.calls < 2 ^ 62) (sym c.self.view_is) c.requires.room.calls)
