@@ -1,0 +1,193 @@
+-- How far the making of a trace has come, as records are read and sent on.
+use Rattle.std.proofs.Common.{◌≡◌, inr, ℕ, ◌+◌, ◌-◌, ◌*◌, ◌^◌, Option, None, Some, IfSome, List, [], ◌∷◌, ◌++◌, map, take, drop, sym, ap, ◌∙◌, refl, subst, arith, append_assoc, append-nil}
+use Rattle.std.specs.List.{flat_map}
+use Rattle.std.proofs.lemmas.Grind.{flat_map-append}
+use Rattle.fg_io.specs.InputBuffer.{InputState, TakesMore}
+use Rattle.fg_io.specs.Sent.{Sent}
+use Rattle.fg_io.specs.Sink.{Gains, GainsPart}
+use Rattle.fg_io.proofs.SentLemmas.{Sent-then, Sent-part, Sent-stop, Sent-whole, Sent-cut}
+use Rattle.fg_trace.specs.Trace.{Record, magic, spelling, trace_of}
+use Rattle.fg_pcap.specs.declared.file_header.Format.{Format}
+use Rattle.fg_pcap.specs.declared.file_header.TimeUnit.{TimeUnit}
+use Rattle.fg_pcap.specs.declared.finish.CaptureFinish.{CaptureFinish}
+use Rattle.fg_pcap.specs.declared.packet_header.PacketHeader.{PacketHeader}
+use Rattle.fg_pcap.specs.declared.finish.CaptureFinish.TheVariants as finish
+use Rattle.fg_pcap.specs.Capture.{Packet, Frame, Begins, CaptureEnding, Ended, NotCapture, Cut, TooLong, frame_of, microseconds, place_after}
+use Rattle.fg_pcap.specs.FromCapture.{Converts, IsFault, finish_of}
+use Rattle.fg_pcap.specs.Frame.{IsDatagramsOf}
+use Rattle.fg_pcap.specs.Reading.{StandsAfter, HoldsPacket, EndsAt, EndsHere, SendsFrames, SendsPart, HasSent, HasSentAll, HasPart, IsUnderway}
+use Rattle.fg_pcap.proofs.Datagrams.{datagrams_more}
+use Rattle.fg_pcap.proofs.Standing.{packet_at, passes, takes_in, stands_more, stands_taking, stands_begin}
+
+-- The frame of a record that is held
+
+pub frame_is : (unit : TimeUnit) (header : PacketHeader) (held : List ℕ) (time size : ℕ) (bytes : List ℕ) → time ≡ header.seconds * 10 ^ 6 + microseconds unit header.fraction → bytes ≡ take (size - 16) (drop 16 held) → size ≡ 16 + header.kept
+    → (let one : Frame = record { time = time; bytes = bytes } in one ≡ frame_of unit (packet_at header held))
+frame_is unit header held time size bytes when is count =
+    let kept : size - 16 ≡ header.kept = omega (arith, count) in
+    ap (λ t. let one : Frame = record { time = t; bytes = bytes } in one) when
+    ∙ ap (λ b. let one : Frame = record { time = header.seconds * 10 ^ 6 + microseconds unit header.fraction; bytes = b } in one) (is ∙ ap (λ n. take n (drop 16 held)) kept)
+
+map_more : (unit : TimeUnit) (ps : List Packet) (p : Packet) → map (frame_of unit) (ps ++ p ∷ []) ≡ map (frame_of unit) ps ++ frame_of unit p ∷ []
+map_more unit [] p = refl
+map_more unit (q ∷ ps) p = ap (λ t. frame_of unit q ∷ t) (map_more unit ps p)
+
+pub trace_more : (rs ss : List Record) → trace_of (rs ++ ss) ≡ trace_of rs ++ flat_map spelling ss
+trace_more rs ss = ap (λ t. magic ++ t) (flat_map-append spelling rs ss) ∙ sym (append_assoc magic (flat_map spelling rs) (flat_map spelling ss))
+
+-- One record more
+
+more_datagrams : (unit : TimeUnit) (packets : List Packet) (p : Packet) (frame : Frame) (rs ss : List Record) → frame ≡ frame_of unit p → IsDatagramsOf (map (frame_of unit) packets) rs → IsDatagramsOf (frame ∷ []) ss
+    → IsDatagramsOf (map (frame_of unit) (packets ++ p ∷ [])) (rs ++ ss)
+more_datagrams unit packets p frame rs ss is h k =
+    let one : IsDatagramsOf (frame_of unit p ∷ []) ss = subst (λ (f : Frame). IsDatagramsOf (f ∷ []) ss) is k in
+    subst (λ (fs : List Frame). IsDatagramsOf fs (rs ++ ss)) (sym (map_more unit packets p)) (datagrams_more (map (frame_of unit) packets) (frame_of unit p ∷ []) rs ss h one)
+
+sent_more : (unit : TimeUnit) (packets : List Packet) (p : Packet) (frame : Frame) (held next : List ℕ) (before at after : Option (List ℕ)) → frame ≡ frame_of unit p → HasSent unit packets held before at → SendsFrames (frame ∷ []) held next at after
+    → HasSent unit (packets ++ p ∷ []) next before after
+sent_more unit packets p frame held next before at after is h k = record {
+  records = h.records ++ k.records;
+  datagrams = more_datagrams unit packets p frame h.records k.records is h.datagrams k.datagrams;
+  sent = subst (λ t. Sent before t next after) (sym (trace_more h.records k.records)) (Sent-then before at after (trace_of h.records) held (flat_map spelling k.records) next h.sent k.sent);
+}
+
+pub underway_more : (format : Format) (input new : InputState) (header : PacketHeader) (frame : Frame) (first now : Option (List ℕ)) (held next : List ℕ) (before at after : Option (List ℕ)) → HoldsPacket format.order input header → new ≡ passes input (16 + header.kept)
+    → frame ≡ frame_of format.unit (packet_at header input.held) → SendsFrames (frame ∷ []) held next at after → IsUnderway format first now input held before at → IsUnderway format first now new next before after
+underway_more format input new header frame first now held next before at after holds step is sends h = record {
+  packets = h.packets ++ packet_at header input.held ∷ [];
+  stands = stands_more format input new header first now h.packets holds step h.stands;
+  sent = sent_more format.unit h.packets (packet_at header input.held) frame held next before at after is h.sent sends;
+}
+
+-- Parts
+
+part_standing : (format : Format) (input : InputState) (first now : Option (List ℕ)) (packets : List Packet) (records : List Record) (before after : Option (List ℕ)) → StandsAfter format input first now packets → IsDatagramsOf (map (frame_of format.unit) packets) records
+    → GainsPart before (trace_of records) after → IfSome first (λ bytes. HasPart format input.max bytes before after)
+part_standing format input None now packets records before after stands datagrams part = tt
+part_standing format input (Some bytes) now packets records before after stands datagrams part =
+    let begun = stands_begin format input bytes now packets stands in
+    record { packets = packets; rest = input.held ++ begun.0; begins = begun.2; records = records; datagrams = datagrams; part = part }
+
+part_sent : (before at : Option (List ℕ)) (text held : List ℕ) → Sent before text held at → GainsPart before text at
+part_sent before at text held sent = subst (λ t. GainsPart before t at) (append-nil text) (Sent-stop before at text held [] sent)
+
+-- nothing more was sent
+pub part_here : (format : Format) (input : InputState) (max : ℕ) (first now : Option (List ℕ)) (held : List ℕ) (before at : Option (List ℕ)) → input.max ≡ max → IsUnderway format first now input held before at → IfSome first (λ bytes. HasPart format max bytes before at)
+part_here format input max first now held before at limit h =
+    subst (λ n. IfSome first (λ bytes. HasPart format n bytes before at)) limit
+    (part_standing format input first now h.packets h.sent.records before at h.stands h.sent.datagrams (part_sent before at (trace_of h.sent.records) held h.sent.sent))
+
+-- a front of one more record's datagram was
+pub part_more : (format : Format) (input : InputState) (header : PacketHeader) (frame : Frame) (max : ℕ) (first now : Option (List ℕ)) (held : List ℕ) (before at after : Option (List ℕ)) → input.max ≡ max → HoldsPacket format.order input header
+    → frame ≡ frame_of format.unit (packet_at header input.held) → SendsPart (frame ∷ []) held at after → IsUnderway format first now input held before at → IfSome first (λ bytes. HasPart format max bytes before after)
+part_more format input header frame max first now held before at after limit holds is sends h =
+    let p : Packet = packet_at header input.held in
+    let new : InputState = passes input (16 + header.kept) in
+    let stands : StandsAfter format new first now (h.packets ++ p ∷ []) = stands_more format input new header first now h.packets holds refl h.stands in
+    let text : GainsPart before (trace_of (h.sent.records ++ sends.records)) after = subst (λ t. GainsPart before t after) (sym (trace_more h.sent.records sends.records))
+    (Sent-part before at after (trace_of h.sent.records) held (flat_map spelling sends.records) h.sent.sent sends.part) in
+    subst (λ n. IfSome first (λ bytes. HasPart format n bytes before after)) limit
+    (part_standing format new first now (h.packets ++ p ∷ []) (h.sent.records ++ sends.records) before after stands (more_datagrams format.unit h.packets p frame h.sent.records sends.records is h.sent.datagrams sends.datagrams) text)
+
+-- The end
+
+ends_there : (format : Format) (input : InputState) (first now : Option (List ℕ)) (packets : List Packet) (answer : CaptureFinish) → StandsAfter format input first now packets → EndsHere format.order answer input now
+    → IfSome first (λ bytes. (rest : List ℕ) × Begins bytes input.max format.order format.unit packets rest × EndsAt format.order answer input.max (place_after format.order packets) rest)
+ends_there format input None now packets answer stands ends = tt
+ends_there format input (Some bytes) now packets answer stands ends =
+    let begun = stands_begin format input bytes now packets stands in
+    let here : EndsAt format.order answer input.max input.place (input.held ++ begun.0) = subst (λ (left : Option (List ℕ)). EndsHere format.order answer input left) begun.1 ends in
+    (input.held ++ begun.0, begun.2, subst (λ n. EndsAt format.order answer input.max n (input.held ++ begun.0)) stands.place here)
+
+pub sent_all : (format : Format) (input : InputState) (max : ℕ) (first now : Option (List ℕ)) (answer : CaptureFinish) (held : List ℕ) (before at : Option (List ℕ)) → input.max ≡ max → EndsHere format.order answer input now → IsUnderway format first now input held before at
+    → HasSentAll format max first answer held before at
+sent_all format input max first now answer held before at limit ends h = record {
+  packets = h.packets;
+  sent = h.sent;
+  ends = subst (λ n. IfSome first (λ bytes. (rest : List ℕ) × Begins bytes n format.order format.unit h.packets rest × EndsAt format.order answer n (place_after format.order h.packets) rest)) limit
+      (ends_there format input first now h.packets answer h.stands ends);
+}
+
+-- bytes were taken in
+pub underway_taking : (format : Format) (old new : InputState) (first left now : Option (List ℕ)) (held : List ℕ) (before at : Option (List ℕ)) → TakesMore old.held left new.held now → new ≡ takes_in old new.held new.ended
+    → IsUnderway format first left old held before at → IsUnderway format first now new held before at
+underway_taking format old new first left now held before at takes same h = record {
+  packets = h.packets;
+  stands = stands_taking format old new first left now h.packets takes same h.stands;
+  sent = h.sent;
+}
+
+-- The magic
+
+pub underway_start : (format : Format) (input : InputState) (first now : Option (List ℕ)) (held next : List ℕ) (before after : Option (List ℕ)) → held ≡ [] → Sent before (held ++ magic) next after → StandsAfter format input first now [] → IsUnderway format first now input next before after
+underway_start format input first now held next before after none sent stands = record {
+  packets = [];
+  stands = stands;
+  sent = record { records = []; datagrams = refl; sent = subst (λ t. Sent before t next after) (ap (λ t. t ++ magic) none ∙ sym (append-nil magic)) sent };
+}
+
+pub part_first : (format : Format) (input : InputState) (first now : Option (List ℕ)) (held : List ℕ) (before after : Option (List ℕ)) → held ≡ [] → GainsPart before (held ++ magic) after → StandsAfter format input first now []
+    → IfSome first (λ bytes. HasPart format input.max bytes before after)
+part_first format input first now held before after none part stands =
+    part_standing format input first now [] [] before after stands refl (subst (λ t. GainsPart before t after) (ap (λ t. t ++ magic) none ∙ sym (append-nil magic)) part)
+
+-- What was held at the end is written, or a front of it
+
+pub part_last : (format : Format) (max : ℕ) (first : Option (List ℕ)) (answer : CaptureFinish) (held : List ℕ) (before at after : Option (List ℕ)) → HasSentAll format max first answer held before at → GainsPart at held after
+    → IfSome first (λ bytes. HasPart format max bytes before after)
+part_last format max None answer held before at after h part = tt
+part_last format max (Some bytes) answer held before at after h part = record {
+  packets = h.packets;
+  rest = h.ends.0;
+  begins = h.ends.1;
+  records = h.sent.records;
+  datagrams = h.sent.datagrams;
+  part = Sent-cut before at after (trace_of h.sent.records) held h.sent.sent part;
+}
+
+-- an answer that is no fault tells an ending
+pub end_of : (answer : CaptureFinish) → (¬ IsFault answer) → (end : CaptureEnding) × (answer ≡ finish_of end)
+end_of finish.Done h = (Ended, refl)
+end_of (finish.NotCapture n) h = (NotCapture n, refl)
+end_of (finish.Cut n) h = (Cut n, refl)
+end_of (finish.TooLong n) h = (TooLong n, refl)
+end_of finish.ReadFault h = absurd (h tt)
+end_of finish.WriteFault h = absurd (h tt)
+end_of finish.Memory h = absurd (h tt)
+
+pub converts : (format : Format) (max : ℕ) (first : Option (List ℕ)) (answer : CaptureFinish) (held : List ℕ) (before at after : Option (List ℕ)) → (¬ IsFault answer) → HasSentAll format max first answer held before at → Gains at held after
+    → Converts max answer first before after
+converts format max None answer held before at after right h gained =
+    let end = end_of answer right in
+    record {
+      trace = trace_of h.sent.records;
+      end = end.0;
+      answer_is = end.1;
+      of_input = tt;
+      gained = Sent-whole before at after (trace_of h.sent.records) held h.sent.sent gained;
+    }
+converts format max (Some bytes) answer held before at after right h gained =
+    let here = h.ends.2 in
+    record {
+      trace = trace_of h.sent.records;
+      end = here.end;
+      answer_is = here.answer_is;
+      of_input = inr (
+        h.sent.records,
+        record {
+          frames = map (frame_of format.unit) h.packets;
+          capture = record {
+            order = format.order;
+            unit = format.unit;
+            packets = h.packets;
+            rest = h.ends.0;
+            longest = record { begins = h.ends.1; none = here.none };
+            ending = here.ending;
+            frames_are = refl;
+          };
+          datagrams = h.sent.datagrams;
+        },
+        refl,
+      );
+      gained = Sent-whole before at after (trace_of h.sent.records) held h.sent.sent gained;
+    }

@@ -1,0 +1,4 @@
+//! What no clause says, by worked captures.
+
+mod reading;
+mod writing;
