@@ -64,6 +64,9 @@ no_both command.Encode x y = cc
 no_both command.Drill x y = cc
 no_both command.Inspect x y = cc
 no_both command.Sample x y = cc
+no_both command.FromCapture x y = cc
+no_both command.ToCapture x y = cc
+no_both command.Monitor x y = cc
 
 one_of_line : (c : Command) (ss : List Setting) (a b : WordFault) → length (values_of key.Depth ss) ≤ 1 → FirstOfLine c ss a → FirstOfLine c ss b → a ≡ b
 one_of_line c ss fault.NoCommand b few x y = absurd x

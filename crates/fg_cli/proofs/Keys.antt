@@ -10,7 +10,7 @@ use Rattle.fg_cli.specs.declared.grammar.Key.TheVariants as key
 use Rattle.fg_cli.specs.declared.grammar.Command.{Command}
 use Rattle.fg_cli.specs.declared.grammar.Command.TheVariants as command
 use Rattle.fg_cli.specs.declared.settings.Setting.{Setting}
-use Rattle.fg_cli.specs.Grammar.{row, place, same_key, Either, Allows, value_text, command_text}
+use Rattle.fg_cli.specs.Grammar.{row, place, same_key, Either, Allows, value_text, command_text, commands}
 use Rattle.fg_cli.specs.Lines.{word_of, setting_text, default_of}
 use Rattle.fg_cli.specs.Reading.{greatest_of}
 
@@ -236,9 +236,9 @@ command_place command.Encode = 1
 command_place command.Drill = 2
 command_place command.Inspect = 3
 command_place command.Sample = 4
-
-abbrev commands : List Command
-commands = command.Repair ∷ command.Encode ∷ command.Drill ∷ command.Inspect ∷ command.Sample ∷ []
+command_place command.FromCapture = 5
+command_place command.ToCapture = 6
+command_place command.Monitor = 7
 
 abbrev command_named : List ℕ → Command
 command_named text = get_or commands (position_or_len (λ t. pointwise nat_eq text t) (map command_text commands)) command.Repair
@@ -249,6 +249,9 @@ command_of_text command.Encode = refl
 command_of_text command.Drill = refl
 command_of_text command.Inspect = refl
 command_of_text command.Sample = refl
+command_of_text command.FromCapture = refl
+command_of_text command.ToCapture = refl
+command_of_text command.Monitor = refl
 
 pub command_injective : (b c : Command) → command_text b ≡ command_text c → b ≡ c
 command_injective b c e = sym (command_of_text b) ∙ ap (λ t. command_named t) e ∙ command_of_text c

@@ -85,6 +85,9 @@ same_order command.Sample ss (order.Sample s d l p) (order.Sample t e k q) x y =
     let loss : l ≡ k = x.2 ∙ sym y.2 in
     let plan = same_plan ss _ _ _ p q refl x.3 y.3 in
     λ i. order.Sample (seed i) (datagrams i) (loss i) (plan i)
+same_order command.FromCapture ss (order.FromCapture m) (order.FromCapture n) x y = ap (λ z. order.FromCapture z) (x ∙ sym y)
+same_order command.ToCapture ss (order.ToCapture m) (order.ToCapture n) x y = ap (λ z. order.ToCapture z) (x ∙ sym y)
+same_order command.Monitor ss (order.Monitor m) (order.Monitor n) x y = ap (λ z. order.Monitor z) (x ∙ sym y)
 same_order command.Repair ss (order.Repair a0) _ x y = absurd y
 same_order command.Repair ss _ b x y = absurd x
 same_order command.Encode ss (order.Encode a0 a1) _ x y = absurd y
@@ -95,6 +98,12 @@ same_order command.Inspect ss (order.Inspect a0 a1) _ x y = absurd y
 same_order command.Inspect ss _ b x y = absurd x
 same_order command.Sample ss (order.Sample a0 a1 a2 a3) _ x y = absurd y
 same_order command.Sample ss _ b x y = absurd x
+same_order command.FromCapture ss (order.FromCapture a0) _ x y = absurd y
+same_order command.FromCapture ss _ b x y = absurd x
+same_order command.ToCapture ss (order.ToCapture a0) _ x y = absurd y
+same_order command.ToCapture ss _ b x y = absurd x
+same_order command.Monitor ss (order.Monitor a0) _ x y = absurd y
+same_order command.Monitor ss _ b x y = absurd x
 
 pub one_reading : (words : List (List ℕ)) (a b : Order) → IsReading words a → IsReading words b → a ≡ b
 one_reading words a b x y =

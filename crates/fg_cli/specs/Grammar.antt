@@ -74,6 +74,12 @@ told_row key.Columns = needed (codes "columns") (Number 1 20) (Needed name.Colum
 told_row key.Rows = needed (codes "rows") (Number 4 20) (Needed name.Rows)
 told_row key = row key
 
+-- All commands, in the order in which the help tells them.
+abbrev pub commands : List Command
+commands =
+    command.Repair ∷ command.Encode ∷ command.Drill ∷ command.Inspect ∷ command.Sample ∷ command.FromCapture ∷ command.ToCapture
+    ∷ command.Monitor ∷ []
+
 -- The word of a command.
 abbrev pub command_text : Command → List ℕ
 command_text command.Repair = codes "repair"
@@ -81,6 +87,9 @@ command_text command.Encode = codes "encode"
 command_text command.Drill = codes "drill"
 command_text command.Inspect = codes "inspect"
 command_text command.Sample = codes "sample"
+command_text command.FromCapture = codes "fromcap"
+command_text command.ToCapture = codes "tocap"
+command_text command.Monitor = codes "monitor"
 
 -- What the help says of a command, and of a name.
 abbrev pub command_about : Command → List ℕ
@@ -89,6 +98,9 @@ command_about command.Encode = codes "encodes a transport stream with parity"
 command_about command.Drill = codes "encodes a stream, drops records, and repairs it"
 command_about command.Inspect = codes "writes a line for each record of a trace"
 command_about command.Sample = codes "makes a stream, drops records, and repairs it"
+command_about command.FromCapture = codes "writes the trace of the datagrams in a capture"
+command_about command.ToCapture = codes "writes a capture of the records of a trace"
+command_about command.Monitor = codes "writes a line for each break in a stream's continuity"
 
 abbrev pub about : Key → List ℕ
 about key.Flow = codes "media port P, with P+2 and P+4, up to 64 times"
@@ -123,6 +135,9 @@ keys_of command.Drill =
     ∷ key.Packets ∷ key.Rate ∷ key.Port ∷ key.Seq ∷ key.Ssrc ∷ key.Stamp ∷ key.Drop ∷ key.Every ∷ []
 keys_of command.Inspect = key.Flow ∷ key.Max ∷ []
 keys_of command.Sample = key.Workers ∷ key.Seed ∷ key.Datagrams ∷ key.Loss ∷ []
+keys_of command.FromCapture = key.Max ∷ []
+keys_of command.ToCapture = key.Max ∷ []
+keys_of command.Monitor = key.Max ∷ []
 
 -- The place of a name's row, by which names are told apart.
 abbrev pub place : Key → ℕ

@@ -5,11 +5,10 @@ use Rattle.std.specs.List.{flat_map}
 use Rattle.fg_cli.specs.declared.help.Question.{Question}
 use Rattle.fg_cli.specs.declared.help.Question.TheVariants as question
 use Rattle.fg_cli.specs.declared.grammar.Command.{Command}
-use Rattle.fg_cli.specs.declared.grammar.Command.TheVariants.{Repair, Encode, Drill, Inspect, Sample}
 use Rattle.fg_cli.specs.declared.grammar.Key.{Key}
 use Rattle.fg_cli.specs.declared.grammar.Absent.{Absent}
 use Rattle.fg_cli.specs.declared.grammar.Absent.TheVariants.{Needed, Default, Nothing}
-use Rattle.fg_cli.specs.Grammar.{Range, Number, Either, TableRow, about, command_about, command_text, keys_of, told_row, value_text}
+use Rattle.fg_cli.specs.Grammar.{Range, Number, Either, TableRow, about, command_about, command_text, commands, keys_of, told_row, value_text}
 
 -- Lines of text.
 abbrev pub lines_text : List (List ℕ) → List ℕ
@@ -75,8 +74,9 @@ intro =
     ∷ codes "       fgate --help"
     ∷ codes "       fgate --version"
     ∷ codes ""
-    ∷ codes "Standard input is a trace, for encode and drill a stream. Standard output is the"
-    ∷ codes "report, for encode a trace. Each flow goes to the file PORT.ts of this folder."
+    ∷ codes "Standard input is a trace; for encode, drill and monitor a stream, for fromcap a"
+    ∷ codes "capture. Standard output is the report, for encode or fromcap a trace, for tocap"
+    ∷ codes "a capture. Each flow goes to the file PORT.ts of this folder."
     ∷ [])
 
 -- The lines that name the first rule that the words break.
@@ -112,13 +112,14 @@ outro =
     ∷ codes "  5  the input is longer than max"
     ∷ codes "  6  there was no memory"
     ∷ codes "  7  the stream is not of whole transport packets"
+    ∷ codes "  8  the input is no capture, or a record does not fit one"
     ∷ codes ""
     ∷ codes "example: fgate repair flow=5000 flow=6000 < night.trace"
     ∷ [])
 
 -- The whole help: each command of the table, between what holds of all.
 abbrev pub help : List ℕ
-help = intro ++ flat_map command_part (Repair ∷ Encode ∷ Drill ∷ Inspect ∷ Sample ∷ []) ++ rules ++ outro
+help = intro ++ flat_map command_part commands ++ rules ++ outro
 
 abbrev pub version : List ℕ
 version = codes "fgate 0.1.0\n"

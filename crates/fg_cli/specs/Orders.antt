@@ -78,6 +78,9 @@ IsOrder command.Inspect settings (order.Inspect table max) =
 IsOrder command.Sample settings (order.Sample seed datagrams loss plan) =
     (seed ≡ number_of key.Seed settings) × (datagrams ≡ number_of key.Datagrams settings)
     × (loss ≡ number_of key.Loss settings) × IsPlan settings (5000 ∷ []) (2 ^ 42) plan
+IsOrder command.FromCapture settings (order.FromCapture max) = max ≡ number_of key.Max settings
+IsOrder command.ToCapture settings (order.ToCapture max) = max ≡ number_of key.Max settings
+IsOrder command.Monitor settings (order.Monitor max) = max ≡ number_of key.Max settings
 IsOrder _ settings _ = ⊥
 
 -- The words have this reading.
@@ -134,3 +137,6 @@ OrderFits (order.Drill s plan losses max) = SettingsFit s × IsInner s.port plan
 OrderFits (order.Inspect table max) = IsTable table × MaxFits max
 OrderFits (order.Sample seed datagrams loss plan) =
     (1 ≤ datagrams) × (datagrams ≤ 20000) × (loss ≤ 20) × IsInner 5000 plan
+OrderFits (order.FromCapture max) = MaxFits max
+OrderFits (order.ToCapture max) = MaxFits max
+OrderFits (order.Monitor max) = MaxFits max

@@ -1,6 +1,6 @@
 //! The commands, and the names that may stand after them: one row for each name.
 ghost use Rattle.std.specs.Prelude.{◌≡◌, ◌<◌, ◌^◌, ◌≤◌, ◌↔◌, IfNone, IfSome, IsTrue};
-ghost use Rattle.fg_cli.specs.Grammar.{Knows, Number, Either, about, command_about, command_text, keys_of, needed, optional, row, told_row};
+ghost use Rattle.fg_cli.specs.Grammar.{Knows, Number, Either, about, command_about, command_text, commands, keys_of, needed, optional, row, told_row};
 ghost use Rattle.fg_cli.specs.Reading.{BeginsPlain, Reads, range_seen, row_seen};
 
 use crate::Name;
@@ -14,6 +14,9 @@ pub enum Command {
     Drill,
     Inspect,
     Sample,
+    FromCapture,
+    ToCapture,
+    Monitor,
 }
 
 /// A name that may stand before an equals sign.
@@ -72,6 +75,22 @@ pub struct Row {
 }
 
 impl Command {
+    /// All commands, in the order in which the help tells them.
+    pub fn all() -> &'static [Command]
+        ensures { result.now ≡ commands }
+    {
+        &[
+            Command::Repair,
+            Command::Encode,
+            Command::Drill,
+            Command::Inspect,
+            Command::Sample,
+            Command::FromCapture,
+            Command::ToCapture,
+            Command::Monitor,
+        ]
+    }
+
     /// The word that names the command.
     pub fn word(self) -> &'static str
         ensures { result.now ≡ command_text self }
@@ -82,6 +101,9 @@ impl Command {
             Command::Drill => "drill",
             Command::Inspect => "inspect",
             Command::Sample => "sample",
+            Command::FromCapture => "fromcap",
+            Command::ToCapture => "tocap",
+            Command::Monitor => "monitor",
         }
     }
 
@@ -105,6 +127,15 @@ impl Command {
         if word == "sample" {
             return Some(Command::Sample);
         }
+        if word == "fromcap" {
+            return Some(Command::FromCapture);
+        }
+        if word == "tocap" {
+            return Some(Command::ToCapture);
+        }
+        if word == "monitor" {
+            return Some(Command::Monitor);
+        }
         None
     }
 
@@ -118,6 +149,9 @@ impl Command {
             Command::Drill => "encodes a stream, drops records, and repairs it",
             Command::Inspect => "writes a line for each record of a trace",
             Command::Sample => "makes a stream, drops records, and repairs it",
+            Command::FromCapture => "writes the trace of the datagrams in a capture",
+            Command::ToCapture => "writes a capture of the records of a trace",
+            Command::Monitor => "writes a line for each break in a stream's continuity",
         }
     }
 
@@ -140,6 +174,7 @@ impl Command {
             ],
             Command::Inspect => &[Flow, Max],
             Command::Sample => &[Workers, Seed, Datagrams, Loss],
+            Command::FromCapture | Command::ToCapture | Command::Monitor => &[Max],
         }
     }
 

@@ -1,7 +1,8 @@
 //! The help of the program, written from the table of the words, and its version.
 ghost use Rattle.std.specs.Prelude.{◌≡◌, ◌++◌, ◌∷◌, [], ◌-◌, ◌≤◌, IfNone, IfOk, IfSome, OnOk, drop, length, map, string_bytes};
 ghost use Rattle.std.specs.Fmt.{decimal};
-ghost use Rattle.fg_cli.specs.Grammar.{value_text};
+ghost use Rattle.std.specs.List.{flat_map};
+ghost use Rattle.fg_cli.specs.Grammar.{commands, value_text};
 ghost use Rattle.fg_cli.specs.Help.{IsQuestion, absent_text, answer_text, blanks, command_help, command_line, command_part, help, intro, key_line, outro, range_text, row_line, rules, spelling, times_text, version};
 ghost use Rattle.fg_cli.specs.Reading.{range_seen, row_seen};
 
@@ -21,8 +22,9 @@ usage: fgate COMMAND NAME=VALUE ..
        fgate --help
        fgate --version
 
-Standard input is a trace, for encode and drill a stream. Standard output is the
-report, for encode a trace. Each flow goes to the file PORT.ts of this folder.
+Standard input is a trace; for encode, drill and monitor a stream, for fromcap a
+capture. Standard output is the report, for encode or fromcap a trace, for tocap
+a capture. Each flow goes to the file PORT.ts of this folder.
 ";
 
 /// The lines that name the first rule that the words break.
@@ -53,6 +55,7 @@ status:
   5  the input is longer than max
   6  there was no memory
   7  the stream is not of whole transport packets
+  8  the input is no capture, or a record does not fit one
 
 example: fgate repair flow=5000 flow=6000 < night.trace
 ";
@@ -128,11 +131,7 @@ pub fn help_text(alloc: Global) -> Result<Vec<u8>, AllocError>
 {
     let mut text = Vec::new(alloc);
     push_intro(&mut text)?;
-    push_part(&mut text, Command::Repair)?;
-    push_part(&mut text, Command::Encode)?;
-    push_part(&mut text, Command::Drill)?;
-    push_part(&mut text, Command::Inspect)?;
-    push_part(&mut text, Command::Sample)?;
+    push_parts(&mut text)?;
     push_rules(&mut text)?;
     push_outro(&mut text)?;
     Ok(text)
@@ -176,6 +175,17 @@ fn push_outro(text: &mut Vec<u8>) -> Result<(), AllocError>
     ensures { OnOk result (text.new.items ≡ text.old.items ++ outro) }
 {
     text.extend_from_slice(OUTRO.as_bytes())
+}
+
+/// Pushes each command with its names, behind a blank line.
+fn push_parts(text: &mut Vec<u8>) -> Result<(), AllocError>
+    ensures { OnOk result (text.new.items ≡ text.old.items ++ flat_map command_part commands) }
+{
+    let commands = Command::all();
+    for command in commands {
+        push_part(text, *command)?;
+    }
+    Ok(())
 }
 
 /// Pushes a blank line and a command with its names.

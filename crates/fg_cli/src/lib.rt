@@ -49,6 +49,18 @@ pub enum Order {
         loss: u32,
         plan: Plan,
     },
+    /// Write the trace of the UDP datagrams in a capture of at most so many bytes.
+    FromCapture {
+        max: u64,
+    },
+    /// Write a capture of the records of a trace of at most so many bytes.
+    ToCapture {
+        max: u64,
+    },
+    /// Say where the continuity of a stream of at most so many bytes breaks.
+    Monitor {
+        max: u64,
+    },
 }
 
 /// A name that must be there.

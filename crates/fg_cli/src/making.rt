@@ -69,6 +69,9 @@ fn whole_order(alloc: Global, command: Command, settings: &[Setting]) -> Result<
         Command::Drill => drill(alloc, settings),
         Command::Inspect => inspect(alloc, settings),
         Command::Sample => sample(alloc, settings),
+        Command::FromCapture => from_capture(settings),
+        Command::ToCapture => to_capture(settings),
+        Command::Monitor => monitor(settings),
     }
 }
 
@@ -136,6 +139,33 @@ fn sample(alloc: Global, settings: &[Setting]) -> Result<Order, ReadWords>
         loss,
         plan,
     })
+}
+
+/// What `fromcap` orders.
+fn from_capture(settings: &[Setting]) -> Result<Order, ReadWords>
+    requires { CanBeOrdered command.FromCapture settings.now }
+    ensures { Orders command.FromCapture settings.now result }
+{
+    let max = max_of(settings);
+    Ok(Order::FromCapture { max })
+}
+
+/// What `tocap` orders.
+fn to_capture(settings: &[Setting]) -> Result<Order, ReadWords>
+    requires { CanBeOrdered command.ToCapture settings.now }
+    ensures { Orders command.ToCapture settings.now result }
+{
+    let max = max_of(settings);
+    Ok(Order::ToCapture { max })
+}
+
+/// What `monitor` orders.
+fn monitor(settings: &[Setting]) -> Result<Order, ReadWords>
+    requires { CanBeOrdered command.Monitor settings.now }
+    ensures { Orders command.Monitor settings.now result }
+{
+    let max = max_of(settings);
+    Ok(Order::Monitor { max })
 }
 
 /// The most bytes that the command takes.

@@ -91,6 +91,9 @@ fn least_and_greatest(rt: HostRuntime) {
         "drill columns=4 rows=4 every=9999999999999 window=1 depth=1 workers=16",
         "sample seed=0 datagrams=1 loss=0 workers=0",
         "sample seed=9999999999999 datagrams=20000 loss=20 workers=16",
+        "fromcap max=8",
+        "tocap max=1099511627776",
+        "monitor",
     ] {
         accept(&rt, rt.alloc(), line);
     }
@@ -116,6 +119,7 @@ fn below_and_above(rt: HostRuntime) -> Result<(), Fail> {
             "sample",
             "seed=10000000000000 datagrams=0 datagrams=20001 loss=21 workers=17",
         ),
+        ("monitor", "max=7 max=1099511627777"),
     ] {
         refuse_each(&rt, rt.alloc(), command, words)?;
     }
@@ -136,6 +140,8 @@ fn forms_of_words(rt: HostRuntime) -> Result<(), Fail> {
         ("encode", "flow=5000 window=5 fec=Both layout="),
         ("inspect", "window=5"),
         ("sample", "depth=5"),
+        ("fromcap", "flow=5000"),
+        ("tocap", "port=5000"),
     ] {
         refuse_each(&rt, rt.alloc(), command, words)?;
     }

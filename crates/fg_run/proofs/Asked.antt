@@ -7,8 +7,10 @@ use Rattle.fg_trace.specs.declared.step.Finish.TheVariants as finish
 use Rattle.fg_trace.specs.Trace.{Record, Ending, IsTrace}
 use Rattle.fg_flows.specs.declared.Plan.{Plan}
 use Rattle.fg_encode.proofs.ReadLemmas.{unread}
-use Rattle.fg_cli.specs.declared.Order.TheVariants.{Repair, Encode, Drill, Inspect, Sample}
+use Rattle.fg_cli.specs.declared.Order.TheVariants.{Repair, Encode, Drill, Inspect, Sample, FromCapture, ToCapture, Monitor}
 use Rattle.fg_drill.specs.Sample.{sample_sent}
+use Rattle.fg_pcap.specs.declared.finish.CaptureFinish.TheVariants as capture
+use Rattle.fg_pcap.specs.declared.writer.SpellingFinish.TheVariants as spelling
 use Rattle.fg_cli.specs.declared.WordFault.{WordFault}
 use Rattle.fg_run.specs.declared.ended.Why.{Why}
 use Rattle.fg_run.specs.declared.ended.Why.TheVariants.{Memory}
@@ -19,7 +21,7 @@ use Rattle.fg_run.specs.Answered.{RequestAnswered, WordsAnswered}
 use Rattle.fg_run.specs.Encode.{EndsStream}
 use Rattle.fg_run.specs.Ended.{IsFault}
 use Rattle.fg_run.specs.Laws.{OneRequest}
-use Rattle.fg_run.specs.Reading.{ReadsTrace}
+use Rattle.fg_run.specs.Reading.{ReadsCapture, ReadsToSpell, ReadsTrace}
 use Rattle.fg_run.specs.Request.{Asks}
 use Rattle.fg_run.specs.Run.{ComesBack, EndsTrace, Reads, ReadsAll, StopsAt}
 use Rattle.fg_run.specs.Stopping.{StopsLanes}
@@ -40,6 +42,9 @@ comes_back_not (Ordered (Encode settings max)) input lanes = tt
 comes_back_not (Ordered (Drill settings plan losses max)) input lanes = no_memory input _
 comes_back_not (Ordered (Inspect table max)) input lanes = tt
 comes_back_not (Ordered (Sample seed datagrams loss plan)) input lanes = inl tt
+comes_back_not (Ordered (FromCapture max)) input lanes = tt
+comes_back_not (Ordered (ToCapture max)) input lanes = tt
+comes_back_not (Ordered (Monitor max)) input lanes = tt
 
 -- and nothing was made or read
 first_of_trace : (plan : Plan) (input : Option (List ℕ)) (lanes : Option Lanes)
@@ -55,9 +60,18 @@ stops_not (Ordered (Encode settings max)) input lanes = refl
 stops_not (Ordered (Drill settings plan losses max)) input lanes = drill_stops_first settings plan losses max finish.Memory input lanes
 stops_not (Ordered (Inspect table max)) input lanes = refl
 stops_not (Ordered (Sample seed datagrams loss plan)) input lanes = stops_first plan finish.Memory (sample_sent seed datagrams loss) lanes
+stops_not (Ordered (FromCapture max)) input lanes = refl
+stops_not (Ordered (ToCapture max)) input lanes = refl
+stops_not (Ordered (Monitor max)) input lanes = refl
 
 no_trace_read : (max : ℕ) (bytes : List ℕ) → ReadsTrace max Memory bytes (Some bytes)
 no_trace_read max bytes = (finish.Memory, refl, record { read = []; rest = bytes; now_is = refl; all = refl; reaches = tt; bounded = omega arith })
+
+no_capture_read : (max : ℕ) (bytes : List ℕ) → ReadsCapture max Memory bytes (Some bytes)
+no_capture_read max bytes = (capture.Memory, refl, record { read = []; rest = bytes; now_is = refl; all = refl; reaches = tt; bounded = omega arith })
+
+no_spelling_read : (max : ℕ) (bytes : List ℕ) → ReadsToSpell max Memory bytes (Some bytes)
+no_spelling_read max bytes = (spelling.Memory, refl, record { read = []; rest = bytes; now_is = refl; all = refl; reaches = tt; bounded = omega arith })
 
 reads_none : (request : Request) (bytes : List ℕ) → Reads request Memory bytes (Some bytes)
 reads_none (Asked question) bytes = refl
@@ -67,6 +81,9 @@ reads_none (Ordered (Encode settings max)) bytes = inl (tt, unread max bytes)
 reads_none (Ordered (Drill settings plan losses max)) bytes = inl (tt, unread max bytes)
 reads_none (Ordered (Inspect table max)) bytes = no_trace_read max bytes
 reads_none (Ordered (Sample seed datagrams loss plan)) bytes = refl
+reads_none (Ordered (FromCapture max)) bytes = no_capture_read max bytes
+reads_none (Ordered (ToCapture max)) bytes = no_spelling_read max bytes
+reads_none (Ordered (Monitor max)) bytes = inl (tt, unread max bytes)
 
 reads_not : (request : Request) (input : Option (List ℕ)) → IfSome input (λ bytes. Reads request Memory bytes input)
 reads_not request None = tt
@@ -89,6 +106,9 @@ no_end (Ordered (Encode settings max)) h = no_stream_end h
 no_end (Ordered (Drill settings plan losses max)) h = no_stream_end h
 no_end (Ordered (Inspect table max)) h = no_trace_end h
 no_end (Ordered (Sample seed datagrams loss plan)) h = h
+no_end (Ordered (FromCapture max)) h = no_trace_end h
+no_end (Ordered (ToCapture max)) h = no_trace_end h
+no_end (Ordered (Monitor max)) h = no_stream_end h
 
 not_begun : {S O K : Type 0} → NoneIsPart → (request : Request)
     (left : S → Option (List ℕ)) (input_faults : S → ℕ) (input : S) (lanes_of : O → Option Lanes) (lane_faults : O → ℕ) (lanes : O)

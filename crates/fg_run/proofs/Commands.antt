@@ -11,10 +11,13 @@ use Rattle.fg_trace.specs.Finish.{IsFault as IsFinishFault}
 use Rattle.fg_flows.specs.declared.Plan.{Plan}
 use Rattle.fg_cli.specs.Help.{answer_text}
 use Rattle.fg_cli.specs.declared.help.Question.{Question}
-use Rattle.fg_cli.specs.declared.Order.TheVariants.{Encode, Inspect, Sample}
+use Rattle.fg_cli.specs.declared.Order.TheVariants.{Encode, Inspect, Sample, FromCapture, ToCapture, Monitor}
 use Rattle.fg_cli.specs.declared.WordFault.{WordFault}
 use Rattle.fg_encode.specs.Encode.{EncodesPart}
 use Rattle.fg_inspect.specs.Inspect.{TellsPart}
+use Rattle.fg_monitor.specs.Monitored.{MonitorsPart}
+use Rattle.fg_pcap.specs.FromCapture.{ConvertsPart}
+use Rattle.fg_pcap.specs.ToCapture.{SpellsPart}
 use Rattle.fg_drill.specs.Drill.{StopsLanes as DrillStops}
 use Rattle.fg_drill.specs.Sample.{SampleComesBack, Samples, SamplesPart, sample_sent}
 use Rattle.fg_run.specs.declared.ended.Why.{Why}
@@ -24,8 +27,8 @@ use Rattle.fg_run.specs.Answered.{RequestAnswered}
 use Rattle.fg_run.specs.Encode.{EncodesFor, EndsStream, IsStreamAnswer}
 use Rattle.fg_run.specs.Ended.{IsFault}
 use Rattle.fg_run.specs.Endings.{why_of_finish}
-use Rattle.fg_run.specs.Reading.{ReadsStream, ReadsTrace}
-use Rattle.fg_run.specs.Run.{EndsTrace, Inspects, IsNoTrace, IsTraceAnswer}
+use Rattle.fg_run.specs.Reading.{ReadsCapture, ReadsStream, ReadsToSpell, ReadsTrace}
+use Rattle.fg_run.specs.Run.{EndsTrace, Inspects, IsCaptureAnswer, IsNoCapture, IsNoTrace, IsSpellingAnswer, IsTraceAnswer, MonitorsFor, SpellsFor, ConvertsFor}
 use Rattle.fg_run.proofs.Completing.{complete_told, none_wrong}
 use Rattle.fg_run.proofs.Drilled.{why_stops}
 use Rattle.fg_run.proofs.Reading.{also, stays}
@@ -63,6 +66,33 @@ encoding_answered settings max answer whole is ends reads part counts = record {
   all_read = ends;
 }
 
+-- a monitoring
+pub monitoring_answered : {S O K : Type 0} {left : S → Option (List ℕ)} {input_faults : S → ℕ} {input input' : S}
+    {lanes_of : O → Option Lanes} {lane_faults : O → ℕ} {lanes : O} {written : K → Option (List ℕ)} {out_faults : K → ℕ} {out out' : K}
+    → (max : ℕ) (answer : Why)
+    → IsFault answer ⊎ MonitorsFor max answer (left input) (written out) (written out')
+    → IfSome (left input) (λ bytes. (due : Why) → IsStreamAnswer 1 max bytes due → IsFault answer ⊎ (answer ≡ due))
+    → (EndsStream answer → IsAtEnd (left input'))
+    → IfSome (left input) (λ bytes. ReadsStream max answer bytes (left input'))
+    → (IsFault answer → MonitorsPart max (left input) (written out) (written out'))
+    → CountsFaults (answer ≡ why.ReadFault) (answer ≡ why.WriteFault) ((input_faults input, input_faults input') ∷ []) ((out_faults out, out_faults out') ∷ [])
+    → RequestAnswered (Ordered (Monitor max)) answer left input_faults input input' lanes_of lane_faults lanes lanes written out_faults out out'
+monitoring_answered max answer whole is ends reads part counts = record {
+  answers = elim whole [ inl fault ↦ inl fault | inr h ↦ inr (refl, h) ];
+  comes_back = tt;
+  exactly = is;
+  complete = complete_told _ _ _ answer _ (IsStreamAnswer 1 max) is counts.read (sink_counts answer counts.write);
+  part = λ fault. (refl, part fault);
+  stops = λ fault. refl;
+  no_report = λ last e. absurd last;
+  nothing_read = λ h. absurd h;
+  nothing_written = λ h. absurd h;
+  no_lane = λ h. refl;
+  no_input = none_wrong _ _;
+  reads = reads;
+  all_read = ends;
+}
+
 -- an inspection
 pub inspection_answered : {S O K : Type 0} {left : S → Option (List ℕ)} {input_faults : S → ℕ} {input input' : S}
     {lanes_of : O → Option Lanes} {lane_faults : O → ℕ} {lanes : O} {written : K → Option (List ℕ)} {out_faults : K → ℕ} {out out' : K}
@@ -80,6 +110,62 @@ inspection_answered table max answer whole is ends reads refused part counts = r
   comes_back = tt;
   exactly = is;
   complete = complete_told _ _ _ answer _ (IsTraceAnswer max) is counts.read (sink_counts answer counts.write);
+  part = λ fault. (refl, part fault);
+  stops = λ fault. refl;
+  no_report = λ last e. absurd last;
+  nothing_read = λ h. absurd h;
+  nothing_written = λ h. absurd h;
+  no_lane = λ h. refl;
+  no_input = also _ (IsNoTrace max) _ _ refl refused;
+  reads = reads;
+  all_read = ends;
+}
+
+-- a capture made into a trace
+pub capture_answered : {S O K : Type 0} {left : S → Option (List ℕ)} {input_faults : S → ℕ} {input input' : S}
+    {lanes_of : O → Option Lanes} {lane_faults : O → ℕ} {lanes : O} {written : K → Option (List ℕ)} {out_faults : K → ℕ} {out out' : K}
+    → (max : ℕ) (answer : Why)
+    → IsFault answer ⊎ ConvertsFor max answer (left input) (written out) (written out')
+    → IfSome (left input) (λ bytes. (due : Why) → IsCaptureAnswer max bytes due → IsFault answer ⊎ (answer ≡ due))
+    → (EndsTrace answer → IsAtEnd (left input'))
+    → IfSome (left input) (λ bytes. ReadsCapture max answer bytes (left input'))
+    → IfSome (left input) (λ bytes. IsNoCapture max bytes → out' ≡ out)
+    → (IsFault answer → ConvertsPart max (left input) (written out) (written out'))
+    → CountsFaults (answer ≡ why.ReadFault) (answer ≡ why.WriteFault) ((input_faults input, input_faults input') ∷ []) ((out_faults out, out_faults out') ∷ [])
+    → RequestAnswered (Ordered (FromCapture max)) answer left input_faults input input' lanes_of lane_faults lanes lanes written out_faults out out'
+capture_answered max answer whole is ends reads refused part counts = record {
+  answers = elim whole [ inl fault ↦ inl fault | inr h ↦ inr (refl, h) ];
+  comes_back = tt;
+  exactly = is;
+  complete = complete_told _ _ _ answer _ (IsCaptureAnswer max) is counts.read (sink_counts answer counts.write);
+  part = λ fault. (refl, part fault);
+  stops = λ fault. refl;
+  no_report = λ last e. absurd last;
+  nothing_read = λ h. absurd h;
+  nothing_written = λ h. absurd h;
+  no_lane = λ h. refl;
+  no_input = also _ (IsNoCapture max) _ _ refl refused;
+  reads = reads;
+  all_read = ends;
+}
+
+-- a trace written as a capture
+pub spelling_answered : {S O K : Type 0} {left : S → Option (List ℕ)} {input_faults : S → ℕ} {input input' : S}
+    {lanes_of : O → Option Lanes} {lane_faults : O → ℕ} {lanes : O} {written : K → Option (List ℕ)} {out_faults : K → ℕ} {out out' : K}
+    → (max : ℕ) (answer : Why)
+    → IsFault answer ⊎ SpellsFor max answer (left input) (written out) (written out')
+    → IfSome (left input) (λ bytes. (due : Why) → IsSpellingAnswer max bytes due → IsFault answer ⊎ (answer ≡ due))
+    → (EndsTrace answer → IsAtEnd (left input'))
+    → IfSome (left input) (λ bytes. ReadsToSpell max answer bytes (left input'))
+    → IfSome (left input) (λ bytes. IsNoTrace max bytes → out' ≡ out)
+    → (IsFault answer → SpellsPart max (left input) (written out) (written out'))
+    → CountsFaults (answer ≡ why.ReadFault) (answer ≡ why.WriteFault) ((input_faults input, input_faults input') ∷ []) ((out_faults out, out_faults out') ∷ [])
+    → RequestAnswered (Ordered (ToCapture max)) answer left input_faults input input' lanes_of lane_faults lanes lanes written out_faults out out'
+spelling_answered max answer whole is ends reads refused part counts = record {
+  answers = elim whole [ inl fault ↦ inl fault | inr h ↦ inr (refl, h) ];
+  comes_back = tt;
+  exactly = is;
+  complete = complete_told _ _ _ answer _ (IsSpellingAnswer max) is counts.read (sink_counts answer counts.write);
   part = λ fault. (refl, part fault);
   stops = λ fault. refl;
   no_report = λ last e. absurd last;

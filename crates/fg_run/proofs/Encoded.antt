@@ -1,4 +1,4 @@
--- The answer of an encoding, as the program's.
+-- The answer of a command that reads a stream, as the program's.
 use Rattle.std.proofs.Common.{◌≡◌, ◌⊎◌, inl, inr, ℕ, Option, None, Some, IfSome, IfOk, OnErr, Result, Ok, Err, List, refl, sym, ap, ◌∙◌}
 use Rattle.std.specs.Io.KnownBytes.{IsAtEnd}
 use Rattle.fg_io.specs.declared.fault.Fault.{Fault}
@@ -9,15 +9,16 @@ use Rattle.fg_shape.specs.declared.encoding.Settings.{Settings}
 use Rattle.fg_encode.specs.declared.stream.StreamFault.TheVariants.{NotTransport, TooLong}
 use Rattle.fg_encode.specs.Encode.{Encodes, ending_of}
 use Rattle.fg_encode.specs.Reading.{IsStreamReadFor}
-use Rattle.fg_encode.specs.Stream.{LeavesNothing, StreamEnding, OneCut}
+use Rattle.fg_encode.specs.Stream.{IsCut, LeavesNothing, StreamEnding, OneCut}
+use Rattle.fg_monitor.specs.Monitored.{Monitors}
 use Rattle.fg_run.specs.declared.ended.Why.{Why}
 use Rattle.fg_run.specs.declared.ended.Why.TheVariants as why
-use Rattle.fg_run.specs.Encode.{EncodesFor, EndsStream, IsStreamAnswer}
+use Rattle.fg_run.specs.Encode.{EndsStream, IsStreamAnswer}
 use Rattle.fg_run.specs.Ended.{IsFault}
-use Rattle.fg_run.specs.Endings.{why_of_encoding, why_of_fault, why_of_stream}
+use Rattle.fg_run.specs.Endings.{why_of_streamed, why_of_fault, why_of_stream}
 use Rattle.fg_run.specs.Reading.{ReadsStream}
 
--- How an encoding ends.
+-- How such a command ends.
 abbrev Came : Type 0
 Came = Result StreamEnding Fault
 
@@ -31,23 +32,38 @@ no_fault None h = h
 no_fault (Some (TooLong n)) h = h
 no_fault (Some (NotTransport f)) h = h
 
-pub encodes_for : (settings : Settings) (max : ℕ) (came : Came) (input written written' : Option (List ℕ)) → IfOk came (λ ending. Encodes settings max ending input written written')
-    → IsFault (why_of_encoding came) ⊎ EncodesFor settings max (why_of_encoding came) input written written'
-encodes_for settings max (Ok ending) input written written' h = inr (ending, refl, h)
-encodes_for settings max (Err f) input written written' h = inl (is_fault f)
+-- it is a fault, or that of the ending for which this holds
+pub ends_for : (came : Came) (P : StreamEnding → Type 0) → IfOk came P
+    → IsFault (why_of_streamed came) ⊎ ((end : StreamEnding) × (why_of_streamed came ≡ why_of_stream end) × P end)
+ends_for (Ok ending) P h = inr (ending, refl, h)
+ends_for (Err f) P h = inl (is_fault f)
 
-pub part : (came : Came) (P : Type 0) → OnErr came P → IsFault (why_of_encoding came) → P
+pub part : (came : Came) (P : Type 0) → OnErr came P → IsFault (why_of_streamed came) → P
 part (Ok ending) P h fault = absurd (no_fault ending fault)
 part (Err f) P h fault = h
 
-pub exactly : OneCut → (settings : Settings) (max : ℕ) (came : Came) (input written written' : Option (List ℕ)) → IfOk came (λ ending. Encodes settings max ending input written written')
-    → IfSome input (λ bytes. (due : Why) → IsStreamAnswer settings.packets max bytes due → IsFault (why_of_encoding came) ⊎ (why_of_encoding came ≡ due))
-exactly one settings max came None written written' h = tt
-exactly one settings max (Ok ending) (Some bytes) written written' h = λ due k.
-    inr (ap why_of_stream (one settings.packets max bytes h.payloads k.0 ending k.1 h.of_input k.2).1 ∙ sym k.3)
-exactly one settings max (Err f) (Some bytes) written written' h = λ due k. inl (is_fault f)
+-- The stream in the input is cut so, and then ends so.
+abbrev CutsTo : ℕ → ℕ → Option (List ℕ) → StreamEnding → Type 0
+CutsTo packets max input ending = (payloads : List (List ℕ)) × IfSome input (λ bytes. IsCut packets max bytes payloads ending)
 
-pub reads : (max : ℕ) (came : Came) (input now : Option (List ℕ)) → IfSome input (λ bytes. IsStreamReadFor max (ending_of came) bytes now) → IfSome input (λ bytes. ReadsStream max (why_of_encoding came) bytes now)
+pub encoded_cuts : (settings : Settings) (max : ℕ) (came : Came) (input written written' : Option (List ℕ))
+    → IfOk came (λ ending. Encodes settings max ending input written written') → IfOk came (CutsTo settings.packets max input)
+encoded_cuts settings max (Ok ending) input written written' h = (h.payloads, h.of_input)
+encoded_cuts settings max (Err f) input written written' h = tt
+
+pub monitored_cuts : (max : ℕ) (came : Came) (input written written' : Option (List ℕ))
+    → IfOk came (λ ending. Monitors max ending input written written') → IfOk came (CutsTo 1 max input)
+monitored_cuts max (Ok ending) input written written' h = (h.packets, h.of_input)
+monitored_cuts max (Err f) input written written' h = tt
+
+pub exactly : OneCut → (packets max : ℕ) (came : Came) (input : Option (List ℕ)) → IfOk came (CutsTo packets max input)
+    → IfSome input (λ bytes. (due : Why) → IsStreamAnswer packets max bytes due → IsFault (why_of_streamed came) ⊎ (why_of_streamed came ≡ due))
+exactly one packets max came None h = tt
+exactly one packets max (Ok ending) (Some bytes) h = λ due k.
+    inr (ap why_of_stream (one packets max bytes h.0 k.0 ending k.1 h.1 k.2).1 ∙ sym k.3)
+exactly one packets max (Err f) (Some bytes) h = λ due k. inl (is_fault f)
+
+pub reads : (max : ℕ) (came : Came) (input now : Option (List ℕ)) → IfSome input (λ bytes. IsStreamReadFor max (ending_of came) bytes now) → IfSome input (λ bytes. ReadsStream max (why_of_streamed came) bytes now)
 reads max came None now h = tt
 reads max (Ok ending) (Some bytes) now h = inr (ending, refl, h)
 reads max (Err f) (Some bytes) now h = inl (is_fault f, h)
@@ -68,7 +84,7 @@ no_end fault.Write (inr e) = let a = e.1 in cc
 no_end fault.Memory (inl e) = let a = e in cc
 no_end fault.Memory (inr e) = let a = e.1 in cc
 
-pub all_read : (came : Came) (now : Option (List ℕ)) → IfOk came (λ ending. LeavesNothing ending → IsAtEnd now) → EndsStream (why_of_encoding came) → IsAtEnd now
+pub all_read : (came : Came) (now : Option (List ℕ)) → IfOk came (λ ending. LeavesNothing ending → IsAtEnd now) → EndsStream (why_of_streamed came) → IsAtEnd now
 all_read (Ok ending) now h e = h (ends ending e)
 all_read (Err f) now h e = absurd (no_end f e)
 
@@ -93,7 +109,7 @@ write_of fault.Read e = absurd (let a = e in cc)
 write_of fault.Write e = refl
 write_of fault.Memory e = absurd (let a = e in cc)
 
-pub faults : (came : Came) (sources sinks : List (ℕ × ℕ)) → Counts came sources sinks → CountsFaults (why_of_encoding came ≡ why.ReadFault) (why_of_encoding came ≡ why.WriteFault) sources sinks
+pub faults : (came : Came) (sources sinks : List (ℕ × ℕ)) → Counts came sources sinks → CountsFaults (why_of_streamed came ≡ why.ReadFault) (why_of_streamed came ≡ why.WriteFault) sources sinks
 faults (Ok ending) sources sinks h = record {
   read = λ e. absurd (no_read ending e);
   write = λ e. absurd (no_write ending e);

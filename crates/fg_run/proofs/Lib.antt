@@ -4,6 +4,7 @@ pub mod Completing
 pub mod Drilled
 pub mod Encoded
 pub mod Lines
+mod OneAnswers
 pub mod Reading
 pub mod Repaired
 pub mod Requests

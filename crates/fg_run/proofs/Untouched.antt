@@ -4,7 +4,7 @@ use Rattle.fg_io.specs.Laws.{NoneIsPart}
 use Rattle.fg_io.specs.Outlet.{Lanes}
 use Rattle.fg_io.specs.Sink.{GainsPart}
 use Rattle.fg_flows.specs.declared.Plan.{Plan}
-use Rattle.fg_cli.specs.declared.Order.TheVariants.{Repair, Encode, Drill, Inspect, Sample}
+use Rattle.fg_cli.specs.declared.Order.TheVariants.{Repair, Encode, Drill, Inspect, Sample, FromCapture, ToCapture, Monitor}
 use Rattle.fg_shape.specs.declared.encoding.Settings.{Settings}
 use Rattle.fg_trace.specs.Trace.{Record, Ending, IsTrace, trace_of}
 use Rattle.fg_encode.specs.Encoding.{encoding}
@@ -12,6 +12,9 @@ use Rattle.fg_results.specs.Flow.{FlowResult}
 use Rattle.fg_results.specs.Lanes.{PutsAll, PutsAllPart}
 use Rattle.fg_results.specs.Repair.{AreResults, lanes_of, report_text}
 use Rattle.fg_inspect.specs.Inspect.{TellsPart}
+use Rattle.fg_monitor.specs.Monitored.{MonitorsPart}
+use Rattle.fg_pcap.specs.FromCapture.{ConvertsPart}
+use Rattle.fg_pcap.specs.ToCapture.{SpellsPart, text_of}
 use Rattle.fg_run.specs.declared.request.Request.{Request}
 use Rattle.fg_run.specs.declared.request.Request.TheVariants.{Asked, Ordered, Refused}
 use Rattle.fg_encode.specs.Encode.{EncodesPart}
@@ -35,6 +38,18 @@ no_encoding : (settings : Settings) (max : ℕ) (input written : Option (List �
 no_encoding settings max None written none = tt
 no_encoding settings max (Some bytes) written none = λ payloads end cut. none written (trace_of (encoding settings payloads))
 
+no_monitoring : (max : ℕ) (input written : Option (List ℕ)) → NoneIsPart → MonitorsPart max input written written
+no_monitoring max None written none = tt
+no_monitoring max (Some bytes) written none = λ packets end text cut is. none written text
+
+no_capture : (max : ℕ) (input written : Option (List ℕ)) → NoneIsPart → ConvertsPart max input written written
+no_capture max None written none = tt
+no_capture max (Some bytes) written none = λ trace end is. none written trace
+
+no_spelling : (max : ℕ) (input written : Option (List ℕ)) → NoneIsPart → SpellsPart max input written written
+no_spelling max None written none = tt
+no_spelling max (Some bytes) written none = λ answer records is. none written (text_of answer records)
+
 -- whatever was asked for
 pub untouched : {K : Type 0} → NoneIsPart → (request : Request) (input : Option (List ℕ)) (lanes : Option Lanes) (written : K → Option (List ℕ)) (out : K)
     → AnswersPart request input lanes lanes written out out
@@ -48,4 +63,7 @@ untouched none (Ordered (Drill s plan losses max)) input lanes written out = no_
 untouched none (Ordered (Inspect table max)) input lanes written out = (refl, no_text table max input (written out) none)
 untouched none (Ordered (Sample seed datagrams loss plan)) input lanes written out =
     no_sample seed datagrams loss plan lanes (written out) (written out) (none (written out) (sample_line seed datagrams loss))
+untouched none (Ordered (FromCapture max)) input lanes written out = (refl, no_capture max input (written out) none)
+untouched none (Ordered (ToCapture max)) input lanes written out = (refl, no_spelling max input (written out) none)
+untouched none (Ordered (Monitor max)) input lanes written out = (refl, no_monitoring max input (written out) none)
 untouched none (Refused fault) input lanes written out = (refl, refl)

@@ -13,7 +13,7 @@ use Rattle.fg_cli.specs.declared.Name.TheVariants as name
 use Rattle.fg_cli.specs.declared.WordFault.{WordFault}
 use Rattle.fg_cli.specs.declared.WordFault.TheVariants as word
 use Rattle.fg_run.specs.declared.ended.Why.{Why}
-use Rattle.fg_run.specs.declared.ended.Why.TheVariants.{Done, Words, ReadFault, WriteFault, NotTrace, Cut, TooLong, Memory, NotTransport}
+use Rattle.fg_run.specs.declared.ended.Why.TheVariants.{Done, Words, ReadFault, WriteFault, NotTrace, Cut, TooLong, Memory, NotTransport, NotCapture, Unfit}
 
 -- The exit status.
 abbrev pub status_of : Why → ℕ
@@ -26,6 +26,8 @@ status_of (Cut n) = 4
 status_of (TooLong n) = 5
 status_of Memory = 6
 status_of (NotTransport fault) = 7
+status_of (NotCapture n) = 8
+status_of (Unfit k) = 8
 
 -- A fault of the outside, or want of memory.
 abbrev pub IsFault : Why → Type 0
@@ -38,6 +40,8 @@ IsFault (Cut n) = ⊥
 IsFault (TooLong n) = ⊥
 IsFault Memory = ⊤
 IsFault (NotTransport fault) = ⊥
+IsFault (NotCapture n) = ⊥
+IsFault (Unfit k) = ⊥
 
 -- A name as it is spelled in the words.
 abbrev pub name_text : Name → List ℕ
@@ -81,6 +85,8 @@ fault_line (TooLong n) = codes "too long at byte " ++ decimal n ++ codes "\n"
 fault_line Memory = codes "no memory\n"
 fault_line (NotTransport (packets.Ragged n)) = codes "not transport: length " ++ decimal n ++ codes "\n"
 fault_line (NotTransport (packets.NoSync k)) = codes "not transport: packet " ++ decimal k ++ codes "\n"
+fault_line (NotCapture n) = codes "not a capture at byte " ++ decimal n ++ codes "\n"
+fault_line (Unfit k) = codes "record " ++ decimal k ++ codes " does not fit a capture\n"
 
 -- The error sink has gained the line and counted no fault, or a prefix of it and counted one.
 abbrev pub TellsFault : Why → Option (List ℕ) → ℕ → Option (List ℕ) → ℕ → Type 0

@@ -8,6 +8,10 @@ use Rattle.fg_trace.specs.Trace.{Ending, Ended, NotTrace, Cut, TooLong}
 use Rattle.fg_encode.specs.declared.stream.StreamFault.TheVariants.{NotTransport, TooLong as PastLimit}
 use Rattle.fg_encode.specs.Stream.{StreamEnding}
 use Rattle.fg_drill.specs.Drill.{Answer as Drilled}
+use Rattle.fg_pcap.specs.declared.finish.CaptureFinish.{CaptureFinish}
+use Rattle.fg_pcap.specs.declared.finish.CaptureFinish.TheVariants as capture
+use Rattle.fg_pcap.specs.declared.writer.SpellingFinish.{SpellingFinish}
+use Rattle.fg_pcap.specs.declared.writer.SpellingFinish.TheVariants as spelling
 use Rattle.fg_run.specs.declared.ended.Why.{Why}
 use Rattle.fg_run.specs.declared.ended.Why.TheVariants as why
 
@@ -45,7 +49,28 @@ why_of_fault fault.Read = why.ReadFault
 why_of_fault fault.Write = why.WriteFault
 why_of_fault fault.Memory = why.Memory
 
--- The answer of an encoding that ends so.
-abbrev pub why_of_encoding : Result StreamEnding Fault → Why
-why_of_encoding (Ok ending) = why_of_stream ending
-why_of_encoding (Err fault) = why_of_fault fault
+-- The answer of a command that reads a stream and ends so.
+abbrev pub why_of_streamed : Result StreamEnding Fault → Why
+why_of_streamed (Ok ending) = why_of_stream ending
+why_of_streamed (Err fault) = why_of_fault fault
+
+-- The answer of a capture that is made into a trace and ends so.
+abbrev pub why_of_capture : CaptureFinish → Why
+why_of_capture capture.Done = why.Done
+why_of_capture capture.ReadFault = why.ReadFault
+why_of_capture capture.WriteFault = why.WriteFault
+why_of_capture (capture.NotCapture n) = why.NotCapture n
+why_of_capture (capture.Cut n) = why.Cut n
+why_of_capture (capture.TooLong n) = why.TooLong n
+why_of_capture capture.Memory = why.Memory
+
+-- The answer of a trace that is written as a capture and ends so.
+abbrev pub why_of_spelling : SpellingFinish → Why
+why_of_spelling spelling.Done = why.Done
+why_of_spelling spelling.ReadFault = why.ReadFault
+why_of_spelling spelling.WriteFault = why.WriteFault
+why_of_spelling (spelling.NotTrace n) = why.NotTrace n
+why_of_spelling (spelling.Unfit k) = why.Unfit k
+why_of_spelling (spelling.Cut n) = why.Cut n
+why_of_spelling (spelling.TooLong n) = why.TooLong n
+why_of_spelling spelling.Memory = why.Memory

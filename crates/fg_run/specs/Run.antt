@@ -6,9 +6,15 @@ use Rattle.fg_trace.specs.declared.step.Finish.{Finish}
 use Rattle.fg_trace.specs.Trace.{Record, Ending, NotTrace, IsTrace}
 use Rattle.fg_encode.specs.Stream.{StreamEnding, IsCut}
 use Rattle.fg_cli.specs.Help.{answer_text}
-use Rattle.fg_cli.specs.declared.Order.TheVariants.{Repair, Encode, Drill, Inspect, Sample}
+use Rattle.fg_cli.specs.declared.Order.TheVariants.{Repair, Encode, Drill, Inspect, Sample, FromCapture, ToCapture, Monitor}
 use Rattle.fg_results.specs.Repair.{Outputs, OutputsPart}
 use Rattle.fg_inspect.specs.Inspect.{Tells, TellsPart}
+use Rattle.fg_monitor.specs.Monitored.{Monitors, MonitorsPart}
+use Rattle.fg_pcap.specs.declared.finish.CaptureFinish.{CaptureFinish}
+use Rattle.fg_pcap.specs.declared.writer.SpellingFinish.{SpellingFinish}
+use Rattle.fg_pcap.specs.Capture.{CaptureEnding, IsRefused}
+use Rattle.fg_pcap.specs.FromCapture.{ComesTo, Converts, ConvertsPart, finish_of}
+use Rattle.fg_pcap.specs.ToCapture.{IsSpelled, Spells, SpellsPart}
 use Rattle.fg_encode.specs.Encode.{EncodesPart}
 use Rattle.fg_drill.specs.Drill.{Answer as Drilled, Drills, DrillsPart, StreamComesBack, records_sent}
 use Rattle.fg_drill.specs.Repairs.{EncodingsComeBack}
@@ -20,8 +26,8 @@ use Rattle.fg_run.specs.declared.ended.Why.{Why}
 use Rattle.fg_run.specs.declared.ended.Why.TheVariants as why
 use Rattle.fg_run.specs.Encode.{EncodesFor, EndsStream, IsStreamAnswer}
 use Rattle.fg_run.specs.Ended.{IsFault}
-use Rattle.fg_run.specs.Endings.{why_of_drill, why_of_ending, why_of_finish}
-use Rattle.fg_run.specs.Reading.{ReadsStream, ReadsTrace}
+use Rattle.fg_run.specs.Endings.{why_of_capture, why_of_drill, why_of_ending, why_of_finish, why_of_spelling, why_of_stream}
+use Rattle.fg_run.specs.Reading.{ReadsCapture, ReadsStream, ReadsToSpell, ReadsTrace}
 use Rattle.fg_run.specs.Stopping.{StopsLanes}
 use Rattle.fg_run.specs.declared.request.Request.{Request}
 use Rattle.fg_run.specs.declared.request.Request.TheVariants.{Asked, Ordered, Refused}
@@ -43,6 +49,36 @@ EndsTrace answer = (answer ≡ why.Done) ⊎ ((n : ℕ) × (answer ≡ why.Cut n
 abbrev pub Inspects : List ℕ → ℕ → Why → Option (List ℕ) → Option (List ℕ) → Option (List ℕ) → Type 0
 Inspects flows max answer input written written' =
     (finish : Finish) × (answer ≡ why_of_finish finish) × Tells flows max finish input written written'
+
+-- The answer is that to the capture in these bytes, under this limit on their number, where nothing fails and memory is there.
+abbrev pub IsCaptureAnswer : ℕ → List ℕ → Why → Type 0
+IsCaptureAnswer max bytes answer =
+    (trace : List ℕ) × (end : CaptureEnding) × ComesTo bytes max trace end × (answer ≡ why_of_capture (finish_of end))
+
+-- The bytes don't begin with the file header of a capture that is read.
+abbrev pub IsNoCapture : ℕ → List ℕ → Type 0
+IsNoCapture max bytes = (end : CaptureEnding) × IsRefused bytes max end
+
+-- The datagrams of the input's capture are written as a trace, and the answer is that of its ending.
+abbrev pub ConvertsFor : ℕ → Why → Option (List ℕ) → Option (List ℕ) → Option (List ℕ) → Type 0
+ConvertsFor max answer input written written' =
+    (finish : CaptureFinish) × (answer ≡ why_of_capture finish) × Converts max finish input written written'
+
+-- The answer is that to the trace in these bytes, where it is written as a capture.
+abbrev pub IsSpellingAnswer : ℕ → List ℕ → Why → Type 0
+IsSpellingAnswer max bytes answer =
+    (finish : SpellingFinish) × (records : List Record) × IsSpelled finish bytes max records × (answer ≡ why_of_spelling finish)
+
+-- The records of the input's trace are written as a capture, to its ending or to the first that doesn't fit, and that is the
+-- answer.
+abbrev pub SpellsFor : ℕ → Why → Option (List ℕ) → Option (List ℕ) → Option (List ℕ) → Type 0
+SpellsFor max answer input written written' =
+    (finish : SpellingFinish) × (answer ≡ why_of_spelling finish) × Spells max finish input written written'
+
+-- The faults of the stream are told, and the answer is that of its ending.
+abbrev pub MonitorsFor : ℕ → Why → Option (List ℕ) → Option (List ℕ) → Option (List ℕ) → Type 0
+MonitorsFor max answer input written written' =
+    (end : StreamEnding) × (answer ≡ why_of_stream end) × Monitors max end input written written'
 
 -- What is sent of the stream is repaired, and the answer is that of the drill.
 abbrev pub DrillsFor :
@@ -76,6 +112,12 @@ Answers (Ordered (Inspect table max)) answer input lanes lanes' written written'
     (lanes' ≡ lanes) × Inspects table max answer input written written'
 Answers (Ordered (Sample seed datagrams loss plan)) answer input lanes lanes' written written' =
     (answer ≡ why.Done) × Samples seed datagrams loss plan lanes lanes' written written'
+Answers (Ordered (FromCapture max)) answer input lanes lanes' written written' =
+    (lanes' ≡ lanes) × ConvertsFor max answer input written written'
+Answers (Ordered (ToCapture max)) answer input lanes lanes' written written' =
+    (lanes' ≡ lanes) × SpellsFor max answer input written written'
+Answers (Ordered (Monitor max)) answer input lanes lanes' written written' =
+    (lanes' ≡ lanes) × MonitorsFor max answer input written written'
 
 -- The answer that the request has over these bytes, where nothing fails and memory is there.
 abbrev pub IsAnswer : Request → List ℕ → Why → Type 0
@@ -86,6 +128,9 @@ IsAnswer (Ordered (Encode settings max)) bytes answer = IsStreamAnswer settings.
 IsAnswer (Ordered (Drill settings plan losses max)) bytes answer = IsStreamAnswer settings.packets max bytes answer
 IsAnswer (Ordered (Inspect table max)) bytes answer = IsTraceAnswer max bytes answer
 IsAnswer (Ordered (Sample seed datagrams loss plan)) bytes answer = answer ≡ why.Done
+IsAnswer (Ordered (FromCapture max)) bytes answer = IsCaptureAnswer max bytes answer
+IsAnswer (Ordered (ToCapture max)) bytes answer = IsSpellingAnswer max bytes answer
+IsAnswer (Ordered (Monitor max)) bytes answer = IsStreamAnswer 1 max bytes answer
 
 -- What a fault, or want of memory, leaves of what the request would have gained.
 abbrev pub AnswersPart :
@@ -102,6 +147,12 @@ AnswersPart (Ordered (Inspect table max)) input lanes lanes' written out out' =
     (lanes' ≡ lanes) × TellsPart table max input (written out) (written out')
 AnswersPart (Ordered (Sample seed datagrams loss plan)) input lanes lanes' written out out' =
     SamplesPart seed datagrams loss plan lanes lanes' (written out) (written out')
+AnswersPart (Ordered (FromCapture max)) input lanes lanes' written out out' =
+    (lanes' ≡ lanes) × ConvertsPart max input (written out) (written out')
+AnswersPart (Ordered (ToCapture max)) input lanes lanes' written out out' =
+    (lanes' ≡ lanes) × SpellsPart max input (written out) (written out')
+AnswersPart (Ordered (Monitor max)) input lanes lanes' written out out' =
+    (lanes' ≡ lanes) × MonitorsPart max input (written out) (written out')
 AnswersPart (Refused fault) input lanes lanes' written out out' = (lanes' ≡ lanes) × (out' ≡ out)
 
 -- What the request leaves alone, whatever its answer: the input, the sink, the lanes.
@@ -113,6 +164,9 @@ ReadsNothing (Ordered (Encode settings max)) = ⊥
 ReadsNothing (Ordered (Drill settings plan losses max)) = ⊥
 ReadsNothing (Ordered (Inspect table max)) = ⊥
 ReadsNothing (Ordered (Sample seed datagrams loss plan)) = ⊤
+ReadsNothing (Ordered (FromCapture max)) = ⊥
+ReadsNothing (Ordered (ToCapture max)) = ⊥
+ReadsNothing (Ordered (Monitor max)) = ⊥
 
 abbrev pub WritesNothing : Request → Type 0
 WritesNothing (Asked question) = ⊥
@@ -122,6 +176,9 @@ WritesNothing (Ordered (Encode settings max)) = ⊥
 WritesNothing (Ordered (Drill settings plan losses max)) = ⊥
 WritesNothing (Ordered (Inspect table max)) = ⊥
 WritesNothing (Ordered (Sample seed datagrams loss plan)) = ⊥
+WritesNothing (Ordered (FromCapture max)) = ⊥
+WritesNothing (Ordered (ToCapture max)) = ⊥
+WritesNothing (Ordered (Monitor max)) = ⊥
 
 abbrev pub MakesNoLane : Request → Type 0
 MakesNoLane (Asked question) = ⊤
@@ -131,6 +188,9 @@ MakesNoLane (Ordered (Encode settings max)) = ⊤
 MakesNoLane (Ordered (Drill settings plan losses max)) = ⊥
 MakesNoLane (Ordered (Inspect table max)) = ⊤
 MakesNoLane (Ordered (Sample seed datagrams loss plan)) = ⊥
+MakesNoLane (Ordered (FromCapture max)) = ⊤
+MakesNoLane (Ordered (ToCapture max)) = ⊤
+MakesNoLane (Ordered (Monitor max)) = ⊤
 
 -- The request writes only once all of its input was read: where reading fails, nothing was written. What reads no input
 -- has no such fault.
@@ -142,6 +202,9 @@ WritesLast (Ordered (Encode settings max)) = ⊥
 WritesLast (Ordered (Drill settings plan losses max)) = ⊥
 WritesLast (Ordered (Inspect table max)) = ⊥
 WritesLast (Ordered (Sample seed datagrams loss plan)) = ⊥
+WritesLast (Ordered (FromCapture max)) = ⊥
+WritesLast (Ordered (ToCapture max)) = ⊥
+WritesLast (Ordered (Monitor max)) = ⊥
 
 -- The input isn't what the request reads: it is no trace.
 abbrev pub IsNoInput : Request → List ℕ → Type 0
@@ -152,6 +215,9 @@ IsNoInput (Ordered (Encode settings max)) bytes = ⊥
 IsNoInput (Ordered (Drill settings plan losses max)) bytes = ⊥
 IsNoInput (Ordered (Inspect table max)) bytes = IsNoTrace max bytes
 IsNoInput (Ordered (Sample seed datagrams loss plan)) bytes = ⊥
+IsNoInput (Ordered (FromCapture max)) bytes = IsNoCapture max bytes
+IsNoInput (Ordered (ToCapture max)) bytes = IsNoTrace max bytes
+IsNoInput (Ordered (Monitor max)) bytes = ⊥
 
 -- After this answer to the request nothing of the input is left.
 abbrev pub ReadsAll : Request → Why → Type 0
@@ -162,6 +228,9 @@ ReadsAll (Ordered (Encode settings max)) answer = EndsStream answer
 ReadsAll (Ordered (Drill settings plan losses max)) answer = EndsStream answer
 ReadsAll (Ordered (Inspect table max)) answer = EndsTrace answer
 ReadsAll (Ordered (Sample seed datagrams loss plan)) answer = ⊥
+ReadsAll (Ordered (FromCapture max)) answer = EndsTrace answer
+ReadsAll (Ordered (ToCapture max)) answer = EndsTrace answer
+ReadsAll (Ordered (Monitor max)) answer = EndsStream answer
 
 -- How far the request has read an input of these bytes with this answer, of which this is left.
 abbrev pub Reads : Request → Why → List ℕ → Option (List ℕ) → Type 0
@@ -172,6 +241,9 @@ Reads (Ordered (Encode settings max)) answer bytes now = ReadsStream max answer 
 Reads (Ordered (Drill settings plan losses max)) answer bytes now = ReadsStream max answer bytes now
 Reads (Ordered (Inspect table max)) answer bytes now = ReadsTrace max answer bytes now
 Reads (Ordered (Sample seed datagrams loss plan)) answer bytes now = now ≡ Some bytes
+Reads (Ordered (FromCapture max)) answer bytes now = ReadsCapture max answer bytes now
+Reads (Ordered (ToCapture max)) answer bytes now = ReadsToSpell max answer bytes now
+Reads (Ordered (Monitor max)) answer bytes now = ReadsStream max answer bytes now
 
 -- Where a fault, or want of memory, stops what the request does to the lanes: a repair over the records of the input's trace,
 -- a drill over what is sent of its stream, a sample over what is sent of the made one.
@@ -188,6 +260,9 @@ StopsAt (Ordered (Drill settings plan losses max)) answer input lanes lanes' =
 StopsAt (Ordered (Inspect table max)) answer input lanes lanes' = lanes' ≡ lanes
 StopsAt (Ordered (Sample seed datagrams loss plan)) answer input lanes lanes' =
     StopsLanes plan answer (sample_sent seed datagrams loss) lanes lanes'
+StopsAt (Ordered (FromCapture max)) answer input lanes lanes' = lanes' ≡ lanes
+StopsAt (Ordered (ToCapture max)) answer input lanes lanes' = lanes' ≡ lanes
+StopsAt (Ordered (Monitor max)) answer input lanes lanes' = lanes' ≡ lanes
 
 -- What comes back of a thinned encoding that the request repairs, where the answer is no fault: of one that the input
 -- exactly is, and of a stream in the input, where its bytes are told; and of the made stream.
@@ -202,3 +277,6 @@ ComesBack (Ordered (Drill settings plan losses max)) answer input lanes lanes' =
 ComesBack (Ordered (Inspect table max)) answer input lanes lanes' = ⊤
 ComesBack (Ordered (Sample seed datagrams loss plan)) answer input lanes lanes' =
     IsFault answer ⊎ SampleComesBack seed datagrams loss plan lanes lanes'
+ComesBack (Ordered (FromCapture max)) answer input lanes lanes' = ⊤
+ComesBack (Ordered (ToCapture max)) answer input lanes lanes' = ⊤
+ComesBack (Ordered (Monitor max)) answer input lanes lanes' = ⊤

@@ -10,10 +10,12 @@ ghost use Rattle.fg_run.specs.Answered.{RequestAnswered};
 ghost use Rattle.fg_run.specs.Ended.{IsFault};
 ghost use Rattle.fg_run.specs.Request.{RequestFits};
 
+use crate::capturing::{run_fromcap, run_tocap};
 use crate::drilling::run_drill;
 use crate::encoding::run_encode;
 use crate::ended::Why;
 use crate::inspection::run_inspect;
+use crate::monitoring::run_monitor;
 use crate::repairing::repair;
 use crate::request::Request;
 use fg_cli::{Order, Question};
@@ -64,6 +66,9 @@ pub fn answer<S: Source + Send, K: Sink + Send, O: Outlet + Send>(
                 plan,
             },
         ) => sample(&Alone, alloc, seed, datagrams, loss, &plan, out, lanes).into(),
+        Request::Ordered(Order::FromCapture { max }) => run_fromcap(alloc, max, input, out).why,
+        Request::Ordered(Order::ToCapture { max }) => run_tocap(alloc, max, input, out).why,
+        Request::Ordered(Order::Monitor { max }) => run_monitor(alloc, max, input, out).why,
         Request::Refused(fault) => Why::Words(fault),
     }
 }

@@ -7,13 +7,12 @@ ghost use Rattle.fg_encode.specs.Encode.{EncodesPart};
 ghost use Rattle.fg_run.specs.declared.ended.Why.{Why as AnyWhy};
 ghost use Rattle.fg_run.specs.Encode.{EncodesFor, EndsStream, IsStreamAnswer};
 ghost use Rattle.fg_run.specs.Ended.{IsFault, status_of};
-ghost use Rattle.fg_run.specs.Endings.{why_of_encoding};
 ghost use Rattle.fg_run.specs.Reading.{ReadsStream};
 
-use crate::ended::{Ended, Why};
+use crate::ended::{Ended, Why, why_of_streamed};
 use fg_encode::encode;
-use fg_encode::stream::{StreamFault, one_cut};
-use fg_io::{Fault, Sink, Source};
+use fg_encode::stream::one_cut;
+use fg_io::{Sink, Source};
 use fg_shape::Settings;
 use std::alloc::Global;
 
@@ -54,15 +53,5 @@ pub fn run_encode<S: Source, K: Sink>(
         ((S.faults input.old, S.faults input.new) ∷ []) ((K.faults out.old, K.faults out.new) ∷ []) }
 {
     one_cut();
-    Ended::of(why_of(encode(alloc, settings, max, input, out)))
-}
-
-/// The answer of an encoding that ends so.
-fn why_of(answer: Result<Option<StreamFault>, Fault>) -> Why
-    ensures { result ≡ why_of_encoding answer }
-{
-    match answer {
-        Ok(ending) => ending.into(),
-        Err(fault) => fault.into(),
-    }
+    Ended::of(why_of_streamed(encode(alloc, settings, max, input, out)))
 }

@@ -1,11 +1,12 @@
 //! How a call of the program ends.
 ghost use Rattle.std.specs.Prelude.{◌≡◌};
 ghost use Rattle.fg_run.specs.Ended.{status_of};
-ghost use Rattle.fg_run.specs.Endings.{why_of_fault, why_of_finish, why_of_stream};
+ghost use Rattle.fg_run.specs.Endings.{why_of_capture, why_of_fault, why_of_finish, why_of_spelling, why_of_stream, why_of_streamed as why_told};
 
 use fg_cli::WordFault;
 use fg_encode::stream::StreamFault;
 use fg_io::Fault;
+use fg_pcap::{CaptureFinish, SpellingFinish};
 use fg_trace::Finish;
 use fg_ts::TsFault;
 
@@ -34,6 +35,13 @@ pub enum Why {
     /// The input is no stream of whole transport packets. `Ragged` has its length, and `NoSync` the number of the first packet
     /// without the sync byte, counted from 0. The output is that of the datagrams before.
     NotTransport(TsFault),
+    /// The input is no capture that is read here, and this is the place of the first byte that shows it: of the magic, of the
+    /// version, of the link type, or of the header of a record that keeps too many bytes; or the input's length, where it ends
+    /// within the file header. The output is that of the records before.
+    NotCapture(u64),
+    /// The record of this number, counted from 0, has a time or a size that no capture can tell. The output is that of the
+    /// records before.
+    Unfit(u64),
 }
 
 /// How a call of the program ended.
@@ -59,7 +67,7 @@ impl Ended {
 }
 
 impl Why {
-    /// The exit status: 0, 1, 2, 3, 4, 4, 5, 6 and 7 in the order of the variants.
+    /// The exit status: 0, 1, 2, 3, 4, 4, 5, 6, 7, 8 and 8 in the order of the variants.
     pub fn status(&self) -> u8
         ensures { result ≡ status_of self.now }
     {
@@ -72,6 +80,7 @@ impl Why {
             Why::TooLong(_) => 5,
             Why::Memory => 6,
             Why::NotTransport(_) => 7,
+            Why::NotCapture(_) | Why::Unfit(_) => 8,
         }
     }
 }
@@ -115,6 +124,51 @@ impl From<Fault> for Why {
             Fault::Read => Why::ReadFault,
             Fault::Write => Why::WriteFault,
             Fault::Memory => Why::Memory,
+        }
+    }
+}
+
+/// The answer of a command that reads a stream and ends so.
+pub(crate) fn why_of_streamed(answer: Result<Option<StreamFault>, Fault>) -> Why
+    ensures { result ≡ why_told answer }
+{
+    match answer {
+        Ok(ending) => ending.into(),
+        Err(fault) => fault.into(),
+    }
+}
+
+/// A capture that is made into a trace ends so.
+impl From<CaptureFinish> for Why {
+    ghost from_gives = { λ finish why. why ≡ why_of_capture finish };
+
+    fn from(finish: CaptureFinish) -> Why {
+        match finish {
+            CaptureFinish::Done => Why::Done,
+            CaptureFinish::ReadFault => Why::ReadFault,
+            CaptureFinish::WriteFault => Why::WriteFault,
+            CaptureFinish::NotCapture(byte) => Why::NotCapture(byte),
+            CaptureFinish::Cut(byte) => Why::Cut(byte),
+            CaptureFinish::TooLong(byte) => Why::TooLong(byte),
+            CaptureFinish::Memory => Why::Memory,
+        }
+    }
+}
+
+/// A trace that is written as a capture ends so.
+impl From<SpellingFinish> for Why {
+    ghost from_gives = { λ finish why. why ≡ why_of_spelling finish };
+
+    fn from(finish: SpellingFinish) -> Why {
+        match finish {
+            SpellingFinish::Done => Why::Done,
+            SpellingFinish::ReadFault => Why::ReadFault,
+            SpellingFinish::WriteFault => Why::WriteFault,
+            SpellingFinish::NotTrace(byte) => Why::NotTrace(byte),
+            SpellingFinish::Unfit(number) => Why::Unfit(number),
+            SpellingFinish::Cut(byte) => Why::Cut(byte),
+            SpellingFinish::TooLong(byte) => Why::TooLong(byte),
+            SpellingFinish::Memory => Why::Memory,
         }
     }
 }

@@ -37,6 +37,13 @@ pub fn write_fault_line<E: Sink>(err: &mut E, why: Why) -> Result<(), Fault>
         Why::NotTransport(TsFault::NoSync(number)) => {
             write_number(err, b"not transport: packet ", number)
         }
+        Why::NotCapture(place) => write_number(err, b"not a capture at byte ", place),
+        Why::Unfit(number) => write_parts(
+            err,
+            b"record ",
+            Buffer::new().format(number),
+            b" does not fit a capture\n",
+        ),
     }
 }
 
@@ -119,5 +126,17 @@ fn write_line<E: Sink>(err: &mut E, text: &[u8], more: &str) -> Result<(), Fault
     ensures fault { IfErr result (λ fault. fault ≡ Fault.Write) }
     ensures faults { Counts result [] ((E.faults err.old, E.faults err.new) ∷ []) }
 {
-    write_pieces(err, &[text, more.as_bytes(), b"\n"])
+    write_parts(err, text, more, b"\n")
+}
+
+/// Writes three texts.
+fn write_parts<E: Sink>(err: &mut E, text: &[u8], more: &str, end: &[u8]) -> Result<(), Fault>
+    ensures whole { OnOk result (Gains (E.written err.old)
+        (text.now ++ more.now ++ end.now) (E.written err.new)) }
+    ensures part { OnErr result (GainsPart (E.written err.old)
+        (text.now ++ more.now ++ end.now) (E.written err.new)) }
+    ensures fault { IfErr result (λ fault. fault ≡ Fault.Write) }
+    ensures faults { Counts result [] ((E.faults err.old, E.faults err.new) ∷ []) }
+{
+    write_pieces(err, &[text, more.as_bytes(), end])
 }

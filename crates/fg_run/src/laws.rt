@@ -3,6 +3,7 @@ ghost use Rattle.fg_run.specs.Laws.{OneAnswer, OneRequest, WholeStreamsAreDone};
 
 use fg_cli::laws::{one_question, one_reading};
 use fg_encode::stream::one_cut;
+use fg_pcap::laws::{one_capture, one_spelling};
 use fg_trace::laws::one_trace;
 
 /// Words ask for at most one request.
@@ -19,6 +20,8 @@ pub fn one_answer()
 {
     one_trace();
     one_cut();
+    one_capture();
+    one_spelling();
 }
 
 /// A stream of whole packets within the limit is encoded to its end.

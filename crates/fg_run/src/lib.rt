@@ -9,24 +9,27 @@ ghost use Rattle.fg_run.specs.Answered.{WordsAnswered};
 ghost use Rattle.fg_run.specs.Ended.{TellsFault, status_of};
 
 mod answer;
+mod capturing;
 mod drilling;
 mod encoding;
 mod ended;
 mod fault_line;
-mod gate;
 mod inspection;
 pub mod laws;
+mod monitoring;
 mod repairing;
 mod request;
 #[cfg(test)]
 mod tests;
 
+pub use capturing::{run_fromcap, run_tocap};
 pub use encoding::run_encode;
 pub use ended::{Ended, Why};
+use fg_crew::Gate;
 use fg_io::laws::parts_of_writes;
 use fg_io::{Outlet, Sink, Source};
-pub use gate::{Gate, NoGate};
 pub use inspection::run_inspect;
+pub use monitoring::run_monitor;
 use request::Request;
 use std::alloc::{AllocError, Global};
 use std::sync::Wait;
@@ -38,7 +41,8 @@ use std::thread::Threads;
 /// input: each flow's lane gains its repaired stream, and `out` the report. So far every number of workers goes through
 /// one thread, the caller's. `encode` writes the trace of the stream's encoding to `out`, and `inspect` a line for each record
 /// of the trace. `drill` encodes the stream, leaves records out, and repairs the rest; `sample` does so with a stream that it
-/// makes, and reads nothing. Words that break a rule are refused: then nothing is read, written or made. The line that says
+/// makes, and reads nothing. `fromcap` writes the trace of a capture's datagrams to `out`, `tocap` a capture of a trace's
+/// records, and `monitor` a line for each break of a stream's continuity. Words that break a rule are refused: then nothing is read, written or made. The line that says
 /// why goes to `err`; a fault of `err` changes no answer.
 pub fn run<
     W: Threads + Wait + Sync,

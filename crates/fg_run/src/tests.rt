@@ -1,6 +1,7 @@
 //! The worked examples, over sources, sinks and lanes in memory.
 use super::*;
 use fg_cli::{Name, WordFault};
+use fg_crew::NoGate;
 use fg_flows::FlowFault;
 use fg_io::{MemOutlet, MemSink, MemSource};
 use fg_shape::LayoutFault;
@@ -8,6 +9,7 @@ use fg_ts::TsFault;
 use std::process::Abort;
 use std::test::Fail;
 
+mod captures;
 mod drills;
 mod examples;
 mod failing;

@@ -10,10 +10,11 @@ ghost use Rattle.fg_io.specs.Faults.{CountsFaults};
 ghost use Rattle.fg_run.specs.Answered.{WordsAnswered};
 ghost use Rattle.fg_run.specs.Ended.{TellsFault, status_of};
 
+use fg_crew::NoGate;
 use fg_io::{
     FolderOutlet, Outlet, Sink, Source, StderrSink, StdinSource, StdoutSink, hold_standard_streams,
 };
-use fg_run::{Ended, NoGate, Why};
+use fg_run::{Ended, Why};
 use std::alloc::{AllocError, Global};
 use std::env::FillError;
 use std::io::ErrorKind;

@@ -1,4 +1,4 @@
-use Rattle.fg_run.proofs.Commands.{encoding_answered, inspection_answered, question_answered, refusal_answered, sample_answered}
+use Rattle.fg_run.proofs.Commands.{capture_answered, encoding_answered, inspection_answered, monitoring_answered, question_answered, refusal_answered, sample_answered, spelling_answered}
 use Rattle.fg_run.proofs.answer.answer.Goals as goal
 
 pub returns-in-Asked-clause-answered : goal.returns-in-Asked-clause-answered
@@ -27,6 +27,21 @@ returns-in-Ordered-Sample-clause-answered g c =
     let e = c.sample.ensures in
     rw (c.in-Ordered-Sample.is, c.in-Ordered-Sample.field-0-is, c.into.ensures)
     (sample_answered _ _ _ _ c.sample.result e.whole e.part e.stops e.comes_back e.no_read e.faults)
+
+pub returns-in-Ordered-FromCapture-clause-answered : goal.returns-in-Ordered-FromCapture-clause-answered
+returns-in-Ordered-FromCapture-clause-answered g c =
+    let e = c.run_fromcap.ensures in
+    rw (c.in-Ordered-FromCapture.is, c.in-Ordered-FromCapture.field-0-is) (capture_answered _ _ e.whole e.exactly e.all_read e.reads e.refused e.part e.faults)
+
+pub returns-in-Ordered-ToCapture-clause-answered : goal.returns-in-Ordered-ToCapture-clause-answered
+returns-in-Ordered-ToCapture-clause-answered g c =
+    let e = c.run_tocap.ensures in
+    rw (c.in-Ordered-ToCapture.is, c.in-Ordered-ToCapture.field-0-is) (spelling_answered _ _ e.whole e.exactly e.all_read e.reads e.refused e.part e.faults)
+
+pub returns-in-Ordered-Monitor-clause-answered : goal.returns-in-Ordered-Monitor-clause-answered
+returns-in-Ordered-Monitor-clause-answered g c =
+    let e = c.run_monitor.ensures in
+    rw (c.in-Ordered-Monitor.is, c.in-Ordered-Monitor.field-0-is) (monitoring_answered _ _ e.whole e.exactly e.all_read e.reads e.part e.faults)
 
 pub returns-in-Refused-clause-answered : goal.returns-in-Refused-clause-answered
 returns-in-Refused-clause-answered g c = rw c.in-Refused.is (refusal_answered _)
