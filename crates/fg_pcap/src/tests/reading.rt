@@ -3,7 +3,7 @@ ghost use Rattle.std.specs.Prelude.{◌≤◌, ◌<◌};
 
 use crate::frame::datagram_of;
 use crate::{CaptureFinish, from_capture};
-use fg_io::{MemSink, SafeSource};
+use fg_io::{MemSink, MemSource, SafeSource};
 use std::alloc::{AllocError, Global};
 use std::process::Abort;
 use std::test::Fail;
@@ -69,6 +69,9 @@ fn other_kinds_give_none(rt: HostRuntime) {
     assert!(rt; !gives(23, 6));
     assert!(rt; !gives(20, 0x60));
     assert!(rt; !gives(21, 1));
+    let mut frame = changed(12, 0x86);
+    frame[13] = 0xdd;
+    assert!(rt; datagram_of(&frame).is_none());
 }
 
 #[test]
@@ -238,6 +241,49 @@ fn each_ending(rt: HostRuntime) -> Result<(), Fail> {
         CaptureFinish::Done,
         &[],
     )?;
+    Ok(())
+}
+
+#[test]
+fn a_limit_at_each_place(rt: HostRuntime) -> Result<(), Fail> {
+    let alloc = rt.alloc();
+    let capture = one_frame(alloc, HIGHEST, [0, 0, 0, 5], true)?;
+    for max in 8..88u64 {
+        let place = if max < 24 { 0 } else { 24 };
+        let finish = CaptureFinish::TooLong(place);
+        is_taken(&rt, alloc, &capture, max, finish, &[])?;
+    }
+    Ok(())
+}
+
+#[test]
+fn an_end_at_each_place(rt: HostRuntime) -> Result<(), Fail> {
+    let alloc = rt.alloc();
+    let capture = one_frame(alloc, HIGHEST, [0, 0, 0, 5], true)?;
+    for count in 25..88usize {
+        let finish = CaptureFinish::Cut(24);
+        is_taken(&rt, alloc, front(&capture, count), MOST, finish, &[])?;
+    }
+    Ok(())
+}
+
+// The second of three reads fails, and the only write.
+#[test]
+fn reading_and_writing_fail(rt: HostRuntime) -> Result<(), Fail> {
+    let alloc = rt.alloc();
+    let capture = one_frame(alloc, HIGHEST, [0, 0, 0, 5], true)?;
+    let mut input = MemSource::new(alloc, &capture, 40, &[1])?;
+    let mut out = MemSink::new(alloc, 100, &[])?;
+    assert_eq!(rt;
+        from_capture(alloc, MOST, &mut input, &mut out),
+        CaptureFinish::ReadFault
+    );
+    let mut input = MemSource::new(alloc, &capture, 40, &[])?;
+    let mut out = MemSink::new(alloc, 100, &[0])?;
+    assert_eq!(rt;
+        from_capture(alloc, MOST, &mut input, &mut out),
+        CaptureFinish::WriteFault
+    );
     Ok(())
 }
 
