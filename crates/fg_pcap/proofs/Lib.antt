@@ -1,6 +1,7 @@
 -- Lemmas on captures, which proofs of other crates may cite.
 pub mod Captures
 pub mod Checksums
+pub mod ComingBack
 pub mod Datagrams
 pub mod Frames
 pub mod Fronts

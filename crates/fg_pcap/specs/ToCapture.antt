@@ -4,9 +4,11 @@ use Rattle.std.specs.List.{AllByRecursion}
 use Rattle.fg_io.specs.Sink.{Gains, GainsPart}
 use Rattle.fg_trace.specs.Reading.{most_held}
 use Rattle.fg_trace.specs.Trace as trace
-use Rattle.fg_trace.specs.Trace.{Record, Begins, IsTrace}
+use Rattle.fg_trace.specs.Trace.{Record, Begins, IsTrace, trace_of}
 use Rattle.fg_pcap.specs.declared.writer.SpellingFinish.{SpellingFinish}
 use Rattle.fg_pcap.specs.declared.writer.SpellingFinish.TheVariants.{Done, ReadFault, WriteFault, NotTrace, Unfit, Cut, TooLong, Memory}
+use Rattle.fg_pcap.specs.Capture.{Ended}
+use Rattle.fg_pcap.specs.FromCapture.{ComesTo}
 use Rattle.fg_pcap.specs.Spelling.{FitsCapture, capture_of}
 
 -- A trace begins with these records, and then with one that doesn't fit a capture, whose number, from 0, is `k`.
@@ -68,6 +70,29 @@ abbrev pub SpellsPart : ℕ → Option (List ℕ) → Option (List ℕ) → Opti
 SpellsPart max input before after =
     IfSome input (λ bytes. (answer : SpellingFinish) (records : List Record)
     → IsSpelled answer bytes max records → GainsPart before (text_of answer records) after)
+
+-- The answers with which a capture is written.
+abbrev pub WritesCapture : SpellingFinish → Type 0
+WritesCapture Done = ⊤
+WritesCapture (Unfit k) = ⊤
+WritesCapture (Cut n) = ⊤
+WritesCapture (TooLong n) = ⊤
+WritesCapture (NotTrace n) = ⊥
+WritesCapture ReadFault = ⊥
+WritesCapture WriteFault = ⊥
+WritesCapture Memory = ⊥
+
+-- The capture is read as this trace, under every limit that it is within.
+abbrev pub IsReadAs : List ℕ → List ℕ → Type 0
+IsReadAs capture trace = (max : ℕ) → length capture ≤ max → ComesTo capture max trace Ended
+
+-- The sink has gained a capture that is read as the trace of the records that were written of these bytes: as the bytes
+-- themselves, where they are a trace whose records all fit a capture.
+pub record ComesBack (max : ℕ) (answer : SpellingFinish) (bytes : List ℕ) (before after : Option (List ℕ)) : Type 0 where
+  pub capture : List ℕ
+  pub gained : Gains before capture after
+  pub read_back : (records : List Record) → IsSpelled answer bytes max records → IsReadAs capture (trace_of records)
+  pub whole : answer ≡ Done → IsReadAs capture bytes
 
 -- The answers after which nothing of the input is left.
 abbrev pub ReadsAll : SpellingFinish → Type 0

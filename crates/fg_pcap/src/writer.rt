@@ -9,9 +9,9 @@ ghost use Rattle.fg_trace.specs.Trace.{Record, NotTrace as NoMagic, IsTrace};
 ghost use Rattle.fg_pcap.specs.Spelling as spelled;
 ghost use Rattle.fg_pcap.specs.Spelling.{seconds_end, most_datagram};
 ghost use Rattle.fg_pcap.specs.Steps.{Breaks, HasSpelled, IsReadTo, IsUnderway, answer_to};
-ghost use Rattle.fg_pcap.specs.ToCapture.{IsFault, IsReadFor, IsSpelled, ReadsAll, Spells, SpellsPart};
+ghost use Rattle.fg_pcap.specs.ToCapture.{ComesBack, IsFault, IsReadFor, IsSpelled, ReadsAll, Spells, SpellsPart, WritesCapture};
 
-use crate::laws::one_spelling;
+use crate::laws::{one_spelling, written_is_read_back};
 use crate::spelling::{FILE_HEADER_BYTES, fit, headers};
 use fg_io::{Fault, OutputBuffer, Sink, Source};
 use fg_trace::laws::read_as_far_as_needed;
@@ -71,6 +71,10 @@ pub fn to_capture<S: Source, K: Sink>(
         → IsSpelled answer bytes max records → IsFault result ⊎ (result ≡ answer)) }
     ensures all_read { ReadsAll result → IsAtEnd (S.left input.new) }
 
+    // What is written is a capture from which `from_capture` makes the trace of the records that were written.
+    ensures comes_back { IfSome (S.left input.old) (λ bytes. WritesCapture result
+        → ComesBack max result bytes (K.written out.old) (K.written out.new)) }
+
     // The input is read as far as the answer needs, and at most a byte past the limit.
     ensures reads { IfSome (S.left input.old) (λ bytes. IsReadFor max result bytes (S.left input.new)) }
 
@@ -88,6 +92,7 @@ pub fn to_capture<S: Source, K: Sink>(
         ((S.faults input.old, S.faults input.new) ∷ []) ((K.faults out.old, K.faults out.new) ∷ []) }
 {
     one_spelling();
+    written_is_read_back();
     match spell_trace(alloc, max, input, out) {
         Ok(finish) => finish,
         Err(Fault::Read) => SpellingFinish::ReadFault,

@@ -23,7 +23,7 @@ use Rattle.fg_run.specs.Ended.{IsFault}
 use Rattle.fg_run.specs.Laws.{OneRequest}
 use Rattle.fg_run.specs.Reading.{ReadsCapture, ReadsToSpell, ReadsTrace}
 use Rattle.fg_run.specs.Request.{Asks}
-use Rattle.fg_run.specs.Run.{ComesBack, EndsTrace, Reads, ReadsAll, StopsAt}
+use Rattle.fg_run.specs.Run.{CaptureComesBack, ComesBack, EndsTrace, Reads, ReadsAll, StopsAt}
 use Rattle.fg_run.specs.Stopping.{StopsLanes}
 use Rattle.fg_run.proofs.Completing.{told}
 use Rattle.fg_run.proofs.Stopping.{drill_stops_first, stops_first}
@@ -34,17 +34,21 @@ no_memory : (input : Option (List ℕ)) (P : List ℕ → Type 0) → IfSome inp
 no_memory None P = tt
 no_memory (Some bytes) P = inl tt
 
-comes_back_not : (request : Request) (input : Option (List ℕ)) (lanes : Option Lanes) → ComesBack request Memory input lanes lanes
-comes_back_not (Asked question) input lanes = tt
-comes_back_not (Refused fault) input lanes = tt
-comes_back_not (Ordered (Repair plan)) input lanes = no_memory input _
-comes_back_not (Ordered (Encode settings max)) input lanes = tt
-comes_back_not (Ordered (Drill settings plan losses max)) input lanes = no_memory input _
-comes_back_not (Ordered (Inspect table max)) input lanes = tt
-comes_back_not (Ordered (Sample seed datagrams loss plan)) input lanes = inl tt
-comes_back_not (Ordered (FromCapture max)) input lanes = tt
-comes_back_not (Ordered (ToCapture max)) input lanes = tt
-comes_back_not (Ordered (Monitor max)) input lanes = tt
+no_capture : (max : ℕ) (input written : Option (List ℕ)) → IfSome input (λ bytes. CaptureComesBack max Memory bytes written written)
+no_capture max None written = tt
+no_capture max (Some bytes) written = (spelling.Memory, refl, λ no. absurd no)
+
+comes_back_not : (request : Request) (input : Option (List ℕ)) (lanes : Option Lanes) (written : Option (List ℕ)) → ComesBack request Memory input lanes lanes written written
+comes_back_not (Asked question) input lanes written = tt
+comes_back_not (Refused fault) input lanes written = tt
+comes_back_not (Ordered (Repair plan)) input lanes written = no_memory input _
+comes_back_not (Ordered (Encode settings max)) input lanes written = tt
+comes_back_not (Ordered (Drill settings plan losses max)) input lanes written = no_memory input _
+comes_back_not (Ordered (Inspect table max)) input lanes written = tt
+comes_back_not (Ordered (Sample seed datagrams loss plan)) input lanes written = inl tt
+comes_back_not (Ordered (FromCapture max)) input lanes written = tt
+comes_back_not (Ordered (ToCapture max)) input lanes written = no_capture max input written
+comes_back_not (Ordered (Monitor max)) input lanes written = tt
 
 -- and nothing was made or read
 first_of_trace : (plan : Plan) (input : Option (List ℕ)) (lanes : Option Lanes)
@@ -116,7 +120,7 @@ not_begun : {S O K : Type 0} → NoneIsPart → (request : Request)
     → RequestAnswered request Memory left input_faults input input lanes_of lane_faults lanes lanes written out_faults out out
 not_begun none request left input_faults input lanes_of lane_faults lanes written out_faults out = record {
   answers = inl tt;
-  comes_back = comes_back_not request (left input) (lanes_of lanes);
+  comes_back = comes_back_not request (left input) (lanes_of lanes) (written out);
   exactly = told (left input) _ (λ bytes due h. inl tt);
   complete = told (left input) _ (λ bytes due h a b c. inr refl);
   part = λ fault. untouched none request (left input) (lanes_of lanes) written out;

@@ -28,7 +28,7 @@ use Rattle.fg_run.specs.Encode.{EncodesFor, EndsStream, IsStreamAnswer}
 use Rattle.fg_run.specs.Ended.{IsFault}
 use Rattle.fg_run.specs.Endings.{why_of_finish}
 use Rattle.fg_run.specs.Reading.{ReadsCapture, ReadsStream, ReadsToSpell, ReadsTrace}
-use Rattle.fg_run.specs.Run.{EndsTrace, Inspects, IsCaptureAnswer, IsNoCapture, IsNoTrace, IsSpellingAnswer, IsTraceAnswer, MonitorsFor, SpellsFor, ConvertsFor}
+use Rattle.fg_run.specs.Run.{CaptureComesBack, EndsTrace, Inspects, IsCaptureAnswer, IsNoCapture, IsNoTrace, IsSpellingAnswer, IsTraceAnswer, MonitorsFor, SpellsFor, ConvertsFor}
 use Rattle.fg_run.proofs.Completing.{complete_told, none_wrong}
 use Rattle.fg_run.proofs.Drilled.{why_stops}
 use Rattle.fg_run.proofs.Reading.{also, stays}
@@ -158,12 +158,13 @@ pub spelling_answered : {S O K : Type 0} {left : S → Option (List ℕ)} {input
     → (EndsTrace answer → IsAtEnd (left input'))
     → IfSome (left input) (λ bytes. ReadsToSpell max answer bytes (left input'))
     → IfSome (left input) (λ bytes. IsNoTrace max bytes → out' ≡ out)
+    → IfSome (left input) (λ bytes. CaptureComesBack max answer bytes (written out) (written out'))
     → (IsFault answer → SpellsPart max (left input) (written out) (written out'))
     → CountsFaults (answer ≡ why.ReadFault) (answer ≡ why.WriteFault) ((input_faults input, input_faults input') ∷ []) ((out_faults out, out_faults out') ∷ [])
     → RequestAnswered (Ordered (ToCapture max)) answer left input_faults input input' lanes_of lane_faults lanes lanes written out_faults out out'
-spelling_answered max answer whole is ends reads refused part counts = record {
+spelling_answered max answer whole is ends reads refused back part counts = record {
   answers = elim whole [ inl fault ↦ inl fault | inr h ↦ inr (refl, h) ];
-  comes_back = tt;
+  comes_back = back;
   exactly = is;
   complete = complete_told _ _ _ answer _ (IsSpellingAnswer max) is counts.read (sink_counts answer counts.write);
   part = λ fault. (refl, part fault);

@@ -12,7 +12,7 @@ use Rattle.fg_run.specs.declared.ended.Why.{Why}
 use Rattle.fg_run.specs.Ended.{IsFault}
 use Rattle.fg_run.specs.Endings.{why_of_capture, why_of_finish, why_of_spelling}
 use Rattle.fg_run.specs.Reading.{ReadsCapture, ReadsToSpell, ReadsTrace}
-use Rattle.fg_run.specs.Run.{IsCaptureAnswer}
+use Rattle.fg_run.specs.Run.{CaptureComesBack, IsCaptureAnswer}
 
 -- A trace
 
@@ -41,6 +41,12 @@ pub reads_to_spell : (max : ℕ) (answer : SpellingFinish) (first now : Option (
     → IfSome first (λ bytes. ReadsToSpell max (why_of_spelling answer) bytes now)
 reads_to_spell max answer None now h = tt
 reads_to_spell max answer (Some bytes) now h = (answer, refl, h)
+
+pub spelling_comes_back : (max : ℕ) (answer : SpellingFinish) (first before after : Option (List ℕ))
+    → IfSome first (λ bytes. spelled.WritesCapture answer → spelled.ComesBack max answer bytes before after)
+    → IfSome first (λ bytes. CaptureComesBack max (why_of_spelling answer) bytes before after)
+spelling_comes_back max answer None before after h = tt
+spelling_comes_back max answer (Some bytes) before after h = (answer, refl, h)
 
 capture_fault : (answer : CaptureFinish) → capture.IsFault answer → IsFault (why_of_capture answer)
 capture_fault finish.Done h = absurd h

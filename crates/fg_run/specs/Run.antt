@@ -14,7 +14,7 @@ use Rattle.fg_pcap.specs.declared.finish.CaptureFinish.{CaptureFinish}
 use Rattle.fg_pcap.specs.declared.writer.SpellingFinish.{SpellingFinish}
 use Rattle.fg_pcap.specs.Capture.{CaptureEnding, IsRefused}
 use Rattle.fg_pcap.specs.FromCapture.{ComesTo, Converts, ConvertsPart, finish_of}
-use Rattle.fg_pcap.specs.ToCapture.{IsSpelled, Spells, SpellsPart}
+use Rattle.fg_pcap.specs.ToCapture.{ComesBack as CaptureReadBack, IsSpelled, Spells, SpellsPart, WritesCapture}
 use Rattle.fg_encode.specs.Encode.{EncodesPart}
 use Rattle.fg_drill.specs.Drill.{Answer as Drilled, Drills, DrillsPart, StreamComesBack, records_sent}
 use Rattle.fg_drill.specs.Repairs.{EncodingsComeBack}
@@ -74,6 +74,12 @@ IsSpellingAnswer max bytes answer =
 abbrev pub SpellsFor : ℕ → Why → Option (List ℕ) → Option (List ℕ) → Option (List ℕ) → Type 0
 SpellsFor max answer input written written' =
     (finish : SpellingFinish) × (answer ≡ why_of_spelling finish) × Spells max finish input written written'
+
+-- What was written of the trace in these bytes, where it is a capture, is read back.
+abbrev pub CaptureComesBack : ℕ → Why → List ℕ → Option (List ℕ) → Option (List ℕ) → Type 0
+CaptureComesBack max answer bytes written written' =
+    (finish : SpellingFinish) × (answer ≡ why_of_spelling finish)
+    × (WritesCapture finish → CaptureReadBack max finish bytes written written')
 
 -- The faults of the stream are told, and the answer is that of its ending.
 abbrev pub MonitorsFor : ℕ → Why → Option (List ℕ) → Option (List ℕ) → Option (List ℕ) → Type 0
@@ -265,18 +271,21 @@ StopsAt (Ordered (ToCapture max)) answer input lanes lanes' = lanes' ≡ lanes
 StopsAt (Ordered (Monitor max)) answer input lanes lanes' = lanes' ≡ lanes
 
 -- What comes back of a thinned encoding that the request repairs, where the answer is no fault: of one that the input
--- exactly is, and of a stream in the input, where its bytes are told; and of the made stream.
-abbrev pub ComesBack : Request → Why → Option (List ℕ) → Option Lanes → Option Lanes → Type 0
-ComesBack (Asked question) answer input lanes lanes' = ⊤
-ComesBack (Refused fault) answer input lanes lanes' = ⊤
-ComesBack (Ordered (Repair plan)) answer input lanes lanes' =
+-- exactly is, and of a stream in the input, where its bytes are told; and of the made stream. And a capture that the request
+-- writes, where the input's bytes are told.
+abbrev pub ComesBack :
+    Request → Why → Option (List ℕ) → Option Lanes → Option Lanes → Option (List ℕ) → Option (List ℕ) → Type 0
+ComesBack (Asked question) answer input lanes lanes' written written' = ⊤
+ComesBack (Refused fault) answer input lanes lanes' written written' = ⊤
+ComesBack (Ordered (Repair plan)) answer input lanes lanes' written written' =
     IfSome input (λ bytes. IsFault answer ⊎ EncodingsComeBack plan bytes lanes lanes')
-ComesBack (Ordered (Encode settings max)) answer input lanes lanes' = ⊤
-ComesBack (Ordered (Drill settings plan losses max)) answer input lanes lanes' =
+ComesBack (Ordered (Encode settings max)) answer input lanes lanes' written written' = ⊤
+ComesBack (Ordered (Drill settings plan losses max)) answer input lanes lanes' written written' =
     IfSome input (λ bytes. IsFault answer ⊎ DrillComesBack settings plan losses max answer bytes lanes lanes')
-ComesBack (Ordered (Inspect table max)) answer input lanes lanes' = ⊤
-ComesBack (Ordered (Sample seed datagrams loss plan)) answer input lanes lanes' =
+ComesBack (Ordered (Inspect table max)) answer input lanes lanes' written written' = ⊤
+ComesBack (Ordered (Sample seed datagrams loss plan)) answer input lanes lanes' written written' =
     IsFault answer ⊎ SampleComesBack seed datagrams loss plan lanes lanes'
-ComesBack (Ordered (FromCapture max)) answer input lanes lanes' = ⊤
-ComesBack (Ordered (ToCapture max)) answer input lanes lanes' = ⊤
-ComesBack (Ordered (Monitor max)) answer input lanes lanes' = ⊤
+ComesBack (Ordered (FromCapture max)) answer input lanes lanes' written written' = ⊤
+ComesBack (Ordered (ToCapture max)) answer input lanes lanes' written written' =
+    IfSome input (λ bytes. CaptureComesBack max answer bytes written written')
+ComesBack (Ordered (Monitor max)) answer input lanes lanes' written written' = ⊤

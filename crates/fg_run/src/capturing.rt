@@ -7,7 +7,7 @@ ghost use Rattle.fg_pcap.specs.ToCapture.{SpellsPart};
 ghost use Rattle.fg_run.specs.declared.ended.Why.{Why as AnyWhy};
 ghost use Rattle.fg_run.specs.Ended.{IsFault, status_of};
 ghost use Rattle.fg_run.specs.Reading.{ReadsCapture, ReadsToSpell};
-ghost use Rattle.fg_run.specs.Run.{EndsTrace, IsCaptureAnswer, IsNoCapture, IsNoTrace, IsSpellingAnswer, SpellsFor, ConvertsFor};
+ghost use Rattle.fg_run.specs.Run.{CaptureComesBack, EndsTrace, IsCaptureAnswer, IsNoCapture, IsNoTrace, IsSpellingAnswer, SpellsFor, ConvertsFor};
 
 use crate::ended::{Ended, Why};
 use fg_io::{Sink, Source};
@@ -64,6 +64,11 @@ pub fn run_tocap<S: Source, K: Sink>(alloc: Global, max: u64, input: &mut S, out
     ensures exactly { IfSome (S.left input.old) (λ bytes. (why : AnyWhy)
         → IsSpellingAnswer max bytes why → IsFault result.why ⊎ (result.why ≡ why)) }
     ensures all_read { EndsTrace result.why → IsAtEnd (S.left input.new) }
+
+    // What is written is a capture from which `run_fromcap` makes the trace of the records that were written: the input itself,
+    // with `Done`.
+    ensures comes_back { IfSome (S.left input.old) (λ bytes. CaptureComesBack max result.why bytes
+        (K.written out.old) (K.written out.new)) }
 
     // The input is read as far as the answer needs, and at most a byte past the limit.
     ensures reads { IfSome (S.left input.old) (λ bytes. ReadsToSpell max result.why bytes (S.left input.new)) }

@@ -19,6 +19,7 @@ mod order;
 mod streams;
 mod traces;
 mod words;
+mod workers;
 
 use traces::{BLOCK, Sent, lane_of, media, push_record, push_sent, trace};
 
@@ -106,6 +107,18 @@ fn run_line<W: Threads + Wait + Sync>(
     line: &str,
     bytes: &[u8],
 ) -> Result<(Ended, Outside), AllocError> {
+    run_gated(rt, alloc, setting, line, bytes, &NoGate)
+}
+
+/// Runs them with a gate.
+fn run_gated<W: Threads + Wait + Sync, G: Gate>(
+    rt: &W,
+    alloc: Global,
+    setting: &Setting<'_>,
+    line: &str,
+    bytes: &[u8],
+    gate: &G,
+) -> Result<(Ended, Outside), AllocError> {
     let words = words_of(alloc, line)?;
     let mut outside = Outside::new(alloc, setting, bytes)?;
     let ended = run(
@@ -116,7 +129,7 @@ fn run_line<W: Threads + Wait + Sync>(
         &mut outside.out,
         &mut outside.err,
         &mut outside.lanes,
-        &NoGate,
+        gate,
     );
     Ok((ended, outside))
 }

@@ -4,7 +4,7 @@ use itoa::Buffer;
 
 /// A drill of the payloads of so many media datagrams, from 0 on, which is to be done.
 #[derive(Clone, Copy)]
-struct Drill<'a> {
+pub struct Drill<'a> {
     line: &'a str,
     datagrams: u16,
     /// How many bytes the stream has, where its last payload is cut short.
@@ -35,16 +35,17 @@ const WIDE: Setting<'static> = Setting {
 
 impl Drill<'_> {
     /// Runs the drill, and checks the report and the lane.
-    fn check<W: Abort + Threads + Wait + Sync>(
+    pub fn check<W: Abort + Threads + Wait + Sync, G: Gate>(
         &self,
         rt: &W,
         alloc: Global,
+        gate: &G,
     ) -> Result<(), AllocError> {
         let mut stream = stream_without(alloc, self.datagrams, &[])?;
         stream.truncate(self.bytes);
         let mut lane = stream_without(alloc, self.datagrams, self.missing)?;
         lane.truncate(self.bytes);
-        let (ended, outside) = run_line(rt, alloc, &WIDE, self.line, &stream)?;
+        let (ended, outside) = run_gated(rt, alloc, &WIDE, self.line, &stream, gate)?;
         assert_eq!(rt; ended.status, 0);
         assert_eq!(rt; outside.out.bytes(), self.report.as_bytes());
         assert!(rt; outside.lane() == lane.as_slice());
@@ -134,7 +135,7 @@ const BY_FOUR: Drill<'static> = Drill {
     ..EACH_37TH_RECORD
 };
 
-const BY_SIXTEEN: Drill<'static> = Drill {
+pub const BY_SIXTEEN: Drill<'static> = Drill {
     line: "drill columns=10 rows=10 window=100 depth=400 workers=16 every=37",
     ..EACH_37TH_RECORD
 };
@@ -153,7 +154,7 @@ const DRILLS: [Drill<'static>; 8] = [
 #[test]
 fn drills(rt: HostRuntime) -> Result<(), Fail> {
     for drill in &DRILLS {
-        drill.check(&rt, rt.alloc())?;
+        drill.check(&rt, rt.alloc(), &NoGate)?;
     }
     Ok(())
 }

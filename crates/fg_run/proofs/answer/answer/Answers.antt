@@ -36,7 +36,7 @@ returns-in-Ordered-FromCapture-clause-answered g c =
 pub returns-in-Ordered-ToCapture-clause-answered : goal.returns-in-Ordered-ToCapture-clause-answered
 returns-in-Ordered-ToCapture-clause-answered g c =
     let e = c.run_tocap.ensures in
-    rw (c.in-Ordered-ToCapture.is, c.in-Ordered-ToCapture.field-0-is) (spelling_answered _ _ e.whole e.exactly e.all_read e.reads e.refused e.part e.faults)
+    rw (c.in-Ordered-ToCapture.is, c.in-Ordered-ToCapture.field-0-is) (spelling_answered _ _ e.whole e.exactly e.all_read e.reads e.refused e.comes_back e.part e.faults)
 
 pub returns-in-Ordered-Monitor-clause-answered : goal.returns-in-Ordered-Monitor-clause-answered
 returns-in-Ordered-Monitor-clause-answered g c =

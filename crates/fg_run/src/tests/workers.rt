@@ -1,0 +1,173 @@
+//! Workers beside a run, whom a gate holds.
+use super::*;
+use std::sync::atomic::{AtomicU64, Ordering};
+use std::time::Duration;
+
+/// How many naps a thread is held at most.
+const NAPS: u32 = 10_000;
+
+/// Points of the gate: a worker has a job; a word that it published was taken; the caller is about to play.
+const HAS_JOB: u32 = 1;
+const PUBLISHED: u32 = 3;
+const PLAYS: u32 = 5;
+
+/// Counts of what passed a gate, and naps.
+struct Counts<'a, W: Wait> {
+    wait: &'a W,
+    /// It stays 0, so that a nap on it ends by time.
+    clock: AtomicU64,
+    /// The first worker that had a job, or 0.
+    first: AtomicU64,
+    /// How many words others than that one published, and how many all did.
+    others: AtomicU64,
+    all: AtomicU64,
+    /// How often the caller was about to play.
+    plays: AtomicU64,
+    /// How many holds came to their end in vain.
+    failed: AtomicU64,
+}
+
+impl<'a, W: Wait> Counts<'a, W> {
+    /// Nothing has passed.
+    fn new(wait: &'a W) -> Counts<'a, W> {
+        Counts {
+            wait,
+            clock: AtomicU64::new(0),
+            first: AtomicU64::new(0),
+            others: AtomicU64::new(0),
+            all: AtomicU64::new(0),
+            plays: AtomicU64::new(0),
+            failed: AtomicU64::new(0),
+        }
+    }
+
+    /// Whether this is the first worker that has a job.
+    fn is_first(&self, worker: u32) -> bool {
+        self.first
+            .compare_exchange(0, u64::from(worker), Ordering::SeqCst, Ordering::SeqCst)
+            .is_ok()
+    }
+
+    /// Counts a word that the worker published.
+    fn count_word(&self, worker: u32) {
+        self.all.fetch_add(1, Ordering::SeqCst);
+        if self.first.load(Ordering::SeqCst) != u64::from(worker) {
+            self.others.fetch_add(1, Ordering::SeqCst);
+        }
+    }
+
+    /// Holds the thread until the count is this or more.
+    fn hold(&self, count: &AtomicU64, least: u64) {
+        for _ in 0..NAPS {
+            if count.load(Ordering::SeqCst) >= least {
+                return;
+            }
+            self.nap(1_000);
+        }
+        self.failed.fetch_add(1, Ordering::SeqCst);
+    }
+
+    /// Naps for so many microseconds.
+    fn nap(&self, micros: u64) {
+        self.clock
+            .park_timeout(self.wait, 0, Duration::from_micros(micros));
+    }
+}
+
+/// Holds the first worker that has a job until another one has published a word, and the caller before it plays until some
+/// worker has.
+struct Publishing<'a, W: Wait>(Counts<'a, W>);
+
+impl<W: Wait + Sync> Gate for Publishing<'_, W> {
+    fn at(&self, worker: u32, point: u32) {
+        match point {
+            HAS_JOB => {
+                if self.0.is_first(worker) {
+                    self.0.hold(&self.0.others, 1);
+                }
+            }
+            PUBLISHED => self.0.count_word(worker),
+            PLAYS => self.0.hold(&self.0.all, 1),
+            _ => {}
+        }
+    }
+}
+
+/// Holds the caller before it plays until a worker has a job, and that worker until the caller has played all.
+struct Outlasting<'a, W: Wait>(Counts<'a, W>);
+
+impl<W: Wait + Sync> Gate for Outlasting<'_, W> {
+    fn at(&self, worker: u32, point: u32) {
+        match point {
+            HAS_JOB => {
+                if self.0.is_first(worker) {
+                    self.0.hold(&self.0.plays, 2);
+                }
+            }
+            PLAYS => {
+                self.0.hold(&self.0.first, 1);
+                self.0.plays.fetch_add(1, Ordering::SeqCst);
+            }
+            _ => {}
+        }
+    }
+}
+
+/// Lets threads nap at points that look like drawn ones.
+struct Napping<'a, W: Wait>(Counts<'a, W>);
+
+impl<W: Wait + Sync> Gate for Napping<'_, W> {
+    fn at(&self, _worker: u32, _point: u32) {
+        let passed = self.0.all.fetch_add(1, Ordering::SeqCst);
+        if passed.wrapping_mul(0x9e37_79b9_7f4a_7c15) >> 61 == 0 {
+            self.0.nap(100);
+        }
+    }
+}
+
+/// The block without its datagrams 1 and 6, which its parity gives.
+fn holed_block(alloc: Global) -> Result<Vec<u8>, AllocError> {
+    trace(alloc, &BLOCK, &[1, 7])
+}
+
+/// Checks that a run of the holed block beside two workers, whom the gate holds, gives what a run without workers does.
+fn check_held<W: Abort + Threads + Wait + Sync, G: Gate>(
+    rt: &W,
+    alloc: Global,
+    gate: &G,
+) -> Result<(), AllocError> {
+    let bytes = holed_block(alloc)?;
+    let line = "repair flow=5000 workers=0";
+    let (_, alone) = run_line(rt, alloc, &PLAIN, line, &bytes)?;
+    let line = "repair flow=5000 workers=2";
+    let (ended, beside) = run_gated(rt, alloc, &PLAIN, line, &bytes, gate)?;
+    assert_eq!(rt; ended.status, 0);
+    assert_eq!(rt; beside.out.bytes(), alone.out.bytes());
+    beside.check_lane(rt, alloc, 5000, Some(&ALL))
+}
+
+#[test]
+fn workers_publish_before_a_play(rt: HostRuntime) -> Result<(), Fail> {
+    let gate = Publishing(Counts::new(&rt));
+    check_held(&rt, rt.alloc(), &gate)?;
+    assert_eq!(rt; gate.0.failed.load(Ordering::SeqCst), 0);
+    Ok(())
+}
+
+#[test]
+fn a_worker_has_a_job_while_its_flow_ends(rt: HostRuntime) -> Result<(), Fail> {
+    let gate = Outlasting(Counts::new(&rt));
+    check_held(&rt, rt.alloc(), &gate)?;
+    assert_eq!(rt; gate.0.failed.load(Ordering::SeqCst), 0);
+    Ok(())
+}
+
+/// Drills a stream beside 16 workers that nap here and there, and checks that all comes back.
+#[test]
+fn naps_change_nothing(rt: HostRuntime) -> Result<(), Fail> {
+    let gate = Napping(Counts::new(&rt));
+    for _ in 0..2 {
+        drills::BY_SIXTEEN.check(&rt, rt.alloc(), &gate)?;
+    }
+    Ok(())
+}
