@@ -106,7 +106,7 @@ abbrev pub about : Key → List ℕ
 about key.Flow = codes "media port P, with P+2 and P+4, up to 64 times"
 about key.Window = codes "positions that are played at once"
 about key.Depth = codes "a datagram so far ahead plays them"
-about key.Workers = codes "read, and so far without effect"
+about key.Workers = codes "further threads that recover words"
 about key.Max = codes "most bytes of the input"
 about key.Columns = codes "columns of a matrix, with fec=both at least 4"
 about key.Rows = codes "rows of a matrix, of at most 100 datagrams"

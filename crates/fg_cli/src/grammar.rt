@@ -260,7 +260,7 @@ impl Key {
             Key::Flow => "media port P, with P+2 and P+4, up to 64 times",
             Key::Window => "positions that are played at once",
             Key::Depth => "a datagram so far ahead plays them",
-            Key::Workers => "read, and so far without effect",
+            Key::Workers => "further threads that recover words",
             Key::Max => "most bytes of the input",
             Key::Columns => "columns of a matrix, with fec=both at least 4",
             Key::Rows => "rows of a matrix, of at most 100 datagrams",

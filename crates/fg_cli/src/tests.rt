@@ -348,7 +348,7 @@ fgate repair: writes each flow of a trace, repaired, to PORT.ts
   flow=1..65531           media port P, with P+2 and P+4, up to 64 times; needed
   window=1..100           positions that are played at once; default 100
   depth=1..1000           a datagram so far ahead plays them; default 400
-  workers=0..16           read, and so far without effect; default 4
+  workers=0..16           further threads that recover words; default 4
   max=8..1099511627776    most bytes of the input; default 1099511627776
 
 fgate encode: encodes a transport stream with parity

@@ -1,5 +1,5 @@
 //! How long a worker rests between two looks for hints.
-ghost use Rattle.std.specs.Prelude.{◌≡◌, ◌≢◌, ◌≤◌, ◌*◌, min};
+ghost use Rattle.std.specs.Prelude.{◌≡◌, ◌≢◌, ◌≤◌, ◌*◌, ◌/◌, min};
 
 use std::time::Duration;
 
@@ -20,12 +20,21 @@ pub(crate) struct Pace {
 }
 
 impl Pace {
-    /// That of a worker that begins.
-    pub(crate) fn new() -> Pace {
+    /// That of a worker that begins: its first rest is the shortest.
+    pub(crate) fn new() -> Pace
+        ensures { result.micros ≡ SHORTEST / 2 }
+    {
         Pace {
-            micros: SHORTEST,
+            micros: SHORTEST / 2,
             found: 0,
         }
+    }
+
+    /// That of a worker which is not needed now, up to its next word: its rests are the longest.
+    pub(crate) fn slow(&mut self)
+        ensures { self.new.micros ≡ LONGEST }
+    {
+        self.micros = LONGEST;
     }
 
     /// How long to rest now, where so many words are found.

@@ -1,5 +1,5 @@
 //! Running a body beside workers.
-ghost use Rattle.std.specs.Prelude.{◌≡◌, ◌+◌, ◌-◌, ◌<◌, ◌^◌, All, IfOk, OnErr};
+ghost use Rattle.std.specs.Prelude.{◌≡◌, ◌+◌, ◌-◌, ◌<◌, ◌≤◌, ◌^◌, All, IfOk, OnErr};
 
 use crate::chore::{Body, Chore};
 use crate::gate::Gate;
@@ -7,15 +7,18 @@ use crate::hints::Hints;
 use crate::pace::Pace;
 use std::alloc::{AllocError, Global};
 use std::sync::Wait;
-use std::thread::{Threads, for_each_mut, join_mut};
+use std::thread::{Threads, available_parallelism, for_each_mut, join_mut};
 
 /// The gate point that a worker passes as it starts.
 const STARTED: u32 = 0;
 
+/// How many hints wait where all workers are needed.
+const BACKLOG: usize = 8;
+
 /// Runs the body once beside one worker for each of `owns`, has the workers stop, and answers what the body answered.
 ///
 /// Workers have the numbers from 1 on. Each passes point 0 of the gate as it starts, takes hints and does the chore for each.
-/// Where no thread can be made for the workers, the body runs first, and they then find that they are to stop. The only error
+/// Those that are more than the processors can run beside the body help only while hints pile up. Where no thread can be made for the workers, the body runs first, and they then find that they are to stop. The only error
 /// is want of memory, before anything is run.
 pub fn crew<W: Threads + Wait + Sync, C: Chore, G: Gate, B: Body>(
     rt: &W,
@@ -68,6 +71,7 @@ fn help_all<W: Threads + Wait + Sync, C: Chore, G: Gate>(
     ensures { All (C.fits chore.now) owns.new }
 {
     let threads = owns.len().max(1);
+    let needed = most_needed(rt);
     for_each_mut(
         rt,
         owns,
@@ -75,8 +79,19 @@ fn help_all<W: Threads + Wait + Sync, C: Chore, G: Gate>(
         &|i: usize, own: &mut C::Own|
             requires { C.fits chore.now own.now }
             ensures { C.fits chore.entry.now own.exit.now }
-        { help(rt, own, chore, gate, worker_number(i), hints) },
+        { help(rt, own, chore, gate, worker_number(i), needed, hints) },
     );
+}
+
+/// How many workers are needed at most, where no hints pile up: one for each processor but the body's, and two where that
+/// can't be told.
+fn most_needed(rt: &impl Threads) -> u32
+    ensures { 2 ≤ result }
+{
+    match available_parallelism(rt) {
+        Ok(processors) => processors.get().clamp(3, u32::MAX as usize) as u32 - 1,
+        Err(_) => 2,
+    }
 }
 
 /// The number of the worker of this index, from 1 on.
@@ -93,6 +108,7 @@ fn help<W: Wait, C: Chore, G: Gate>(
     chore: &C,
     gate: &G,
     worker: u32,
+    needed: u32,
     hints: &Hints,
 )
     requires { C.fits chore.now own.old }
@@ -104,7 +120,11 @@ fn help<W: Wait, C: Chore, G: Gate>(
         if hints.is_stopped() {
             return;
         }
-        do_round(wait, own, chore, worker, hints);
+        if worker <= needed || hints.count(wait) >= BACKLOG {
+            do_round(wait, own, chore, worker, hints);
+        } else {
+            pace.slow();
+        }
         hints.rest(wait, &mut pace);
     }
     unreachable!()

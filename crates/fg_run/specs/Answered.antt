@@ -21,7 +21,7 @@ pub record RequestAnswered {S O K : Type 0}
     (left : S → Option (List ℕ)) (input_faults : S → ℕ) (input input' : S)
     (lanes_of : O → Option Lanes) (lane_faults : O → ℕ) (lanes lanes' : O)
     (written : K → Option (List ℕ)) (out_faults : K → ℕ) (out out' : K) : Type 0 where
-  -- The headline, on one thread. With every answer but a fault's or want of memory's the lanes and the sink have gained exactly
+  -- The headline. With every answer but a fault's or want of memory's the lanes and the sink have gained exactly
   -- what is defined for the request over the input's bytes.
   pub answers : IsFault answer ⊎ Answers request answer (left input) (lanes_of lanes) (lanes_of lanes') (written out) (written out')
   -- And its last sentence. Where the answer is no fault, what comes back of a thinned encoding: of a trace that is one, on a

@@ -22,11 +22,12 @@ use fg_cli::{Order, Question};
 use fg_drill::sample;
 use fg_io::laws::parts_of_writes;
 use fg_io::{Outlet, Sink, Source, write_all};
-use fg_repair::Alone;
+use fg_results::Repair as Repairs;
 use std::alloc::Global;
 
-/// Does what the request asks for, and tells why it ended.
-pub fn answer<S: Source + Send, K: Sink + Send, O: Outlet + Send>(
+/// Does what the request asks for, and tells why it ended. What is to be repaired the repairer repairs.
+pub fn answer<R: Repairs, S: Source + Send, K: Sink + Send, O: Outlet + Send>(
+    repairer: &R,
     alloc: Global,
     request: Request,
     input: &mut S,
@@ -43,7 +44,7 @@ pub fn answer<S: Source + Send, K: Sink + Send, O: Outlet + Send>(
 {
     match request {
         Request::Asked(question) => answer_question(alloc, question, out),
-        Request::Ordered(Order::Repair(plan)) => repair(alloc, &plan, input, out, lanes),
+        Request::Ordered(Order::Repair(plan)) => repair(repairer, alloc, &plan, input, out, lanes),
         Request::Ordered(Order::Encode { settings, max }) => {
             run_encode(alloc, &settings, max, input, out).why
         }
@@ -54,7 +55,9 @@ pub fn answer<S: Source + Send, K: Sink + Send, O: Outlet + Send>(
                 losses,
                 max,
             },
-        ) => run_drill(alloc, settings, &plan, losses, max, input, out, lanes),
+        ) => run_drill(
+            repairer, alloc, settings, &plan, losses, max, input, out, lanes,
+        ),
         Request::Ordered(Order::Inspect { table, max }) => {
             run_inspect(alloc, &table, max, input, out).why
         }
@@ -65,7 +68,7 @@ pub fn answer<S: Source + Send, K: Sink + Send, O: Outlet + Send>(
                 loss,
                 plan,
             },
-        ) => sample(&Alone, alloc, seed, datagrams, loss, &plan, out, lanes).into(),
+        ) => sample(repairer, alloc, seed, datagrams, loss, &plan, out, lanes).into(),
         Request::Ordered(Order::FromCapture { max }) => run_fromcap(alloc, max, input, out).why,
         Request::Ordered(Order::ToCapture { max }) => run_tocap(alloc, max, input, out).why,
         Request::Ordered(Order::Monitor { max }) => run_monitor(alloc, max, input, out).why,

@@ -13,13 +13,14 @@ use crate::ended::Why;
 use fg_drill::{StreamFault, drill};
 use fg_flows::Plan;
 use fg_io::{Outlet, Sink, Source};
-use fg_repair::Alone;
+use fg_results::Repair;
 use fg_shape::{Losses, Settings};
 use fg_trace::Finish;
 use std::alloc::Global;
 
-/// Drills the stream in the input, as [`drill`] does on the caller's thread, and tells why that ended.
-pub(crate) fn run_drill<S: Source + Send, K: Sink + Send, O: Outlet + Send>(
+/// Drills the stream in the input, as [`drill`] does, and tells why that ended.
+pub(crate) fn run_drill<R: Repair, S: Source + Send, K: Sink + Send, O: Outlet + Send>(
+    repairer: &R,
     alloc: Global,
     settings: Settings,
     plan: &Plan,
@@ -42,7 +43,7 @@ pub(crate) fn run_drill<S: Source + Send, K: Sink + Send, O: Outlet + Send>(
         ((K.faults out.old, K.faults out.new) ∷ (O.faults lanes.old, O.faults lanes.new) ∷ []) }
 {
     let answer = drill(
-        &Alone, alloc, settings, plan, losses, max, input, out, lanes,
+        repairer, alloc, settings, plan, losses, max, input, out, lanes,
     );
     why_of(answer)
 }

@@ -1,6 +1,4 @@
 //! The top call of the program: [`run`] reads its words, does what they ask for, and tells how that ended.
-//!
-//! All goes through one thread, the caller's.
 #![tactic(auto)]
 
 ghost use Rattle.std.specs.Prelude.{◌≡◌, ◌≤◌, ◌∷◌, [], map, string_bytes};
@@ -28,6 +26,7 @@ pub use ended::{Ended, Why};
 use fg_crew::Gate;
 use fg_io::laws::parts_of_writes;
 use fg_io::{Outlet, Sink, Source};
+use fg_repair::Crewed;
 pub use inspection::run_inspect;
 pub use monitoring::run_monitor;
 use request::Request;
@@ -38,8 +37,9 @@ use std::thread::Threads;
 /// Runs the program that the words name over the input, the sinks and the lanes.
 ///
 /// `--help` and `--version`, each as the only word, write their text to `out`. `repair` repairs the flows of the trace in the
-/// input: each flow's lane gains its repaired stream, and `out` the report. So far every number of workers goes through
-/// one thread, the caller's. `encode` writes the trace of the stream's encoding to `out`, and `inspect` a line for each record
+/// input: each flow's lane gains its repaired stream, and `out` the report. Workers, where the words ask for some, are threads
+/// that recover words beside the caller's, for a drill and a sample too; the gate hears of their steps, and nothing that is
+/// promised depends on them. `encode` writes the trace of the stream's encoding to `out`, and `inspect` a line for each record
 /// of the trace. `drill` encodes the stream, leaves records out, and repairs the rest; `sample` does so with a stream that it
 /// makes, and reads nothing. `fromcap` writes the trace of a capture's datagrams to `out`, `tocap` a capture of a trace's
 /// records, and `monitor` a line for each break of a stream's continuity. Words that break a rule are refused: then nothing is read, written or made. The line that says
@@ -52,18 +52,18 @@ pub fn run<
     O: Outlet + Send,
     G: Gate,
 >(
-    _rt: &W,
+    rt: &W,
     alloc: Global,
     words: &[String],
     input: &mut S,
     out: &mut K,
     err: &mut E,
     lanes: &mut O,
-    _gate: &G,
+    gate: &G,
 ) -> Ended
     ensures status { result.status ≡ status_of result.why }
 
-    // The headline, on one thread, and what a run keeps beside it: whatever the words ask for is what is done.
+    // The headline, for every number of workers, and what a run keeps beside it: whatever the words ask for is what is done.
     ensures answered { WordsAnswered (map string_bytes words.now) result.why S.left S.faults input.old input.new
         O.lanes O.faults lanes.old lanes.new K.written K.faults out.old out.new }
 
@@ -82,7 +82,10 @@ pub fn run<
     laws::one_request();
     parts_of_writes();
     let why = match request::read_request(alloc, words) {
-        Ok(request) => answer::answer(alloc, request, input, out, lanes),
+        Ok(request) => {
+            let repairer = Crewed { rt, gate };
+            answer::answer(&repairer, alloc, request, input, out, lanes)
+        }
         Err(AllocError) => Why::Memory,
     };
     tell_end(err, why)

@@ -10,11 +10,12 @@ use crate::ended::Why;
 use fg_drill::laws::drills::repairs_come_back;
 use fg_flows::Plan;
 use fg_io::{Outlet, Sink, Source};
-use fg_repair::repair_alone;
+use fg_results::Repair as Repairs;
 use std::alloc::Global;
 
-/// Repairs the flows of the trace in the input, as [`repair_alone`] does, and tells why that ended.
-pub(crate) fn repair<S: Source, K: Sink, O: Outlet>(
+/// Repairs the flows of the trace in the input, and tells why that ended.
+pub(crate) fn repair<R: Repairs, S: Source + Send, K: Sink + Send, O: Outlet + Send>(
+    repairer: &R,
     alloc: Global,
     plan: &Plan,
     input: &mut S,
@@ -29,5 +30,5 @@ pub(crate) fn repair<S: Source, K: Sink, O: Outlet>(
         ((K.faults out.old, K.faults out.new) ∷ (O.faults lanes.old, O.faults lanes.new) ∷ []) }
 {
     repairs_come_back();
-    repair_alone(alloc, plan, input, out, lanes).into()
+    repairer.repair(alloc, plan, input, out, lanes).into()
 }

@@ -8,7 +8,9 @@ const NAPS: u32 = 10_000;
 
 /// Points of the gate: a worker has a job; a word that it published was taken; the caller is about to play.
 const HAS_JOB: u32 = 1;
+
 const PUBLISHED: u32 = 3;
+
 const PLAYS: u32 = 5;
 
 /// Counts of what passed a gate, and naps.
