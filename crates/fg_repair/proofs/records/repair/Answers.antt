@@ -8,7 +8,7 @@ use Rattle.fg_results.proofs.RepairLemmas.{whole_repair}
 use Rattle.fg_repair.specs.Engine.{answer_of}
 use Rattle.fg_repair.proofs.Reaching.{fault_is, none_read, fault_read, none_made}
 use Rattle.fg_repair.proofs.Finishing.{not_trace, stopped_first}
-use Rattle.fg_repair.proofs.alone.repair.Goals as goal
+use Rattle.fg_repair.proofs.records.repair.Goals as goal
 
 pub returns-in_err-reader-clause-repairs : goal.returns-in_err-reader-clause-repairs
 returns-in_err-reader-clause-repairs g c =
