@@ -1,0 +1,17 @@
+-- What a desk shows of the play that it made last.
+use Rattle.std.proofs.Common.{◌≡◌, ◌+◌, ◌<◌, ℕ, length, sym, subst}
+use Rattle.std.specs.List.{slice_index_or}
+use Rattle.std.proofs.lemmas.List.FromFn.{get_or-map-range_with_len, length-map-range_with_len}
+use Rattle.fg_desk.specs.Contents.{Contents, kept_shown, kept_from}
+use Rattle.fg_playout.specs.Play.{nothing_shown}
+use Rattle.fg_playout.specs.State.{known}
+
+pub kept_count : (desk : Contents) (first count : ℕ) → count ≡ length (kept_from desk first count)
+kept_count desk first count = sym (length-map-range_with_len (kept_shown (known desk.state) desk.repaired) first count)
+
+pub kept_at :
+    (desk : Contents) (first count i position : ℕ) → i < length (kept_from desk first count) → first + i ≡ position
+    → slice_index_or (kept_from desk first count) i nothing_shown ≡ kept_shown (known desk.state) desk.repaired position
+kept_at desk first count i position below at =
+    get_or-map-range_with_len (kept_shown (known desk.state) desk.repaired) first count i position nothing_shown
+    (subst (λ n. i < n) (sym (kept_count desk first count)) below) at
