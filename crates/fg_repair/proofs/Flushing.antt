@@ -17,7 +17,8 @@ use Rattle.fg_repair.specs.Engine.{GrowAll, AreThere, FlowStands, FlowEnds, HasC
 use Rattle.fg_results.specs.Flow.{FlowResult, IsFlowResult}
 use Rattle.fg_results.specs.Lanes.{PutsAll}
 use Rattle.fg_results.specs.Repair.{lanes_of}
-use Rattle.fg_repair.specs.Steps.{FlowView, HasTaken, IsUnderway, BeginsLane, EndsFlow, BreaksAtEnd}
+use Rattle.fg_repair.specs.View.{FlowView}
+use Rattle.fg_repair.specs.Steps.{HasTaken, IsUnderway, BeginsLane, EndsFlow, BreaksAtEnd}
 use Rattle.fg_results.specs.Stops.{Flushing, HasGained, HasGainedPart}
 use Rattle.fg_repair.proofs.Breaking.{shown_of}
 use Rattle.fg_repair.proofs.Firsts.{first_has, first_at}

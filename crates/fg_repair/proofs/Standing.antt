@@ -28,7 +28,8 @@ use Rattle.fg_repair.specs.declared.engine.Engine.{Engine}
 use Rattle.fg_repair.specs.Engine.{FlowStands, EngineStands, HasCome, BreaksAfter}
 use Rattle.fg_results.specs.Flow.{Arrives, records_of, is_of}
 use Rattle.fg_results.specs.Repair.{others_of}
-use Rattle.fg_repair.specs.Steps.{FlowView, HasTaken, TakesRecord, BreaksAtRecord}
+use Rattle.fg_repair.specs.View.{FlowView}
+use Rattle.fg_repair.specs.Steps.{HasTaken, TakesRecord, BreaksAtRecord}
 use Rattle.fg_results.specs.Stops.{HasShown, LiesBetween}
 use Rattle.fg_repair.proofs.Breaking.{shown_of}
 use Rattle.fg_results.proofs.ArrivalLemmas.{is_of_its_flow}

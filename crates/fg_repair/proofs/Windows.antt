@@ -1,13 +1,18 @@
 -- What a desk shows of the play that it made last.
-use Rattle.std.proofs.Common.{◌≡◌, ◌+◌, ◌<◌, ℕ, length, sym, subst}
+use Rattle.std.proofs.Common.{◌≡◌, ◌+◌, ◌<◌, ℕ, Option, Some, None, IfSome, length, sym, subst}
 use Rattle.std.specs.List.{slice_index_or}
 use Rattle.std.proofs.lemmas.List.FromFn.{get_or-map-range_with_len, length-map-range_with_len}
+use Rattle.fg_desk.specs.declared.desk.Played.{Played}
 use Rattle.fg_desk.specs.Contents.{Contents, kept_shown, kept_from}
 use Rattle.fg_playout.specs.Play.{nothing_shown}
 use Rattle.fg_playout.specs.State.{known}
 
 pub kept_count : (desk : Contents) (first count : ℕ) → count ≡ length (kept_from desk first count)
 kept_count desk first count = sym (length-map-range_with_len (kept_shown (known desk.state) desk.repaired) first count)
+
+pub counts_kept : (desk : Contents) (result : Option Played) → IfSome result (λ played. played.count ≡ length (kept_from desk played.first played.count))
+counts_kept desk None = tt
+counts_kept desk (Some played) = kept_count desk played.first played.count
 
 pub kept_at :
     (desk : Contents) (first count i position : ℕ) → i < length (kept_from desk first count) → first + i ≡ position

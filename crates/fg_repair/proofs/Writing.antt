@@ -15,7 +15,7 @@ use Rattle.fg_repair.proofs.Flushing.{flushing_none}
 use Rattle.fg_repair.proofs.Lanes.{grow_none}
 use Rattle.fg_results.specs.Stops.{Stops, StopsIn, Flushing}
 use Rattle.fg_repair.proofs.Stopping.{making_stops, stops_at}
-use Rattle.fg_repair.specs.Steps.{FlowView}
+use Rattle.fg_repair.specs.View.{FlowView}
 use Rattle.fg_repair.proofs.Walking.{others_told}
 
 -- Before any record

@@ -17,7 +17,8 @@ use Rattle.fg_io.specs.declared.fault.Fault.{Fault}
 use Rattle.fg_results.specs.Flow.{FlowResult, IsFlowResult}
 use Rattle.fg_results.specs.Lanes.{OthersStay, PutsAll}
 use Rattle.fg_results.specs.Repair.{AreResults, lanes_of, others_of, tail_of}
-use Rattle.fg_repair.specs.Steps.{FlowView, HasTaken}
+use Rattle.fg_repair.specs.View.{FlowView}
+use Rattle.fg_repair.specs.Steps.{HasTaken}
 use Rattle.fg_results.specs.Stops.{HasShown, LiesBetween, Flushing, HasGained, HasGainedPart, StopsIn}
 
 -- The lanes

@@ -20,11 +20,6 @@ use Rattle.fg_report.specs.Gaps.{gaps_end}
 use Rattle.fg_results.specs.Flow.{FlowResult, IsFlowResult, IsReadAs, Arrives, records_of, all_shown, shows_word, is_inconsistent, lane_of, gaps_from, sum_of}
 use Rattle.fg_results.specs.Stops.{HasShown}
 
--- A flow: the state of its desk, and what is counted of it.
-pub record FlowView : Type 0 where
-  pub state : State
-  pub sum : FlowSum
-
 -- The port's lane has gained the piece, and is still there if it was. All others are as they were.
 pub record LaneGrows (before : Lanes) (port : ℕ) (piece : List ℕ) (after : Lanes) : Type 0 where
   pub bytes : lane_bytes after port ≡ lane_bytes before port ++ piece

@@ -43,9 +43,11 @@ pub(crate) struct Flow<D: WindowState> {
 }
 
 impl<D: WindowState> Model for Flow<D> {
-    ghost use Rattle.fg_repair.specs.Steps.{FlowView};
+    ghost use Rattle.fg_repair.specs.View.{FlowView, view_code};
 
     ghost Value = { FlowView };
+
+    ghost coded = { view_code };
 
     ghost view = { λ a. record { state = D.state a.window; sum = a.sum } };
 }

@@ -7,7 +7,7 @@ use Rattle.fg_trace.specs.Trace.{Record}
 use Rattle.fg_repair.specs.Engine.{IsFlushing, BreaksAtFlush}
 use Rattle.fg_repair.proofs.Flushing.{flushing_more, flushing_stops, flushing_all, next_stands, underway}
 use Rattle.fg_io.proofs.FaultLemmas.{on_err}
-use Rattle.fg_repair.specs.Steps.{FlowView}
+use Rattle.fg_repair.specs.View.{FlowView}
 use Rattle.fg_repair.proofs.engine.flush.Goals as goal
 
 pub flush-requires : goal.flush-requires

@@ -21,10 +21,10 @@ loop-i-preserved g c =
     ap (λ (n : ℕ). c.args.played.first + n) c.from.ensures in
     record {
       counts = counts_one_more shown c.args.sum.now c.loop-i.sum c.show.new.sum c.args.played.first c.loop-i.i _
-          (option_copied c.word.result) c.repaired.result below place c.word.ensures c.repaired.ensures
+          (option_copied c.word-word.result) c.repaired.result below place c.word-word.ensures c.repaired.ensures
           c.loop-i.invariant.counts c.in_ok-show.ensures.counts;
       lane = lane_one_more shown c.loop-i.piece.items c.show.new.lane.items c.loop-i.i
-          (option_copied c.word.result) c.repaired.result below c.word.ensures c.repaired.ensures
+          (option_copied c.word-word.result) c.repaired.result below c.word-word.ensures c.repaired.ensures
           c.loop-i.invariant.lane c.in_ok-show.ensures.lane;
     }
 

@@ -3,17 +3,19 @@ use Rattle.std.proofs.lemmas.Result.{IfOk-at_ok, IfErr-at_err}
 use Rattle.fg_words.specs.declared.Word.{Word}
 use Rattle.fg_rtp.specs.declared.media.MediaFault.{MediaFault}
 use Rattle.fg_rtp.specs.MediaDatagram.{IsMediaDatagram}
+use Rattle.fg_shape.specs.declared.kind.Kind.TheVariants.{Media}
 use Rattle.fg_playout.specs.Room.{HasRoom}
 use Rattle.fg_playout.specs.Laws.{HavePlayed}
 use Rattle.fg_playout.specs.Run.{ArePlaysDue}
-use Rattle.fg_repair.specs.Steps.{FlowView, AdmitsDatagram, BreakOff, HaveShown}
+use Rattle.fg_repair.specs.View.{FlowView}
+use Rattle.fg_repair.specs.Steps.{AdmitsDatagram, BreakOff, HaveShown}
 use Rattle.fg_repair.proofs.Admitting.{plays_nothing, parity_without_memory, media_is_refused, media_is_admitted, media_without_memory, media_breaks_off}
 use Rattle.fg_io.proofs.FaultLemmas.{on_err}
 use Rattle.fg_repair.proofs.flow.Flow.admit.Goals as goal
 
 pub admit_parity-requires : goal.admit_parity-requires
 admit_parity-requires g c =
-    record { room = subst HasRoom (sym (ap (λ (flow : FlowView). flow.state) c.self.view_is)) (c.requires.within 0 [] c.args.self.now.state refl).1 }
+    record { room = subst HasRoom (sym (ap (λ (flow : FlowView). flow.state) c.self-in_default.view_is)) (c.requires.within 0 [] c.args.self.now.state refl).1 }
 
 pub returns-in_err-admit_parity-in_default-clause-breaks : goal.returns-in_err-admit_parity-in_default-clause-breaks
 returns-in_err-admit_parity-in_default-clause-breaks g c =
@@ -26,15 +28,15 @@ returns-in_ok-admit_parity-in_default-clause-admits g c =
     let reply = c.in_ok-admit_parity-in_default.field-0 in
     let state = g.D.WindowState.state c.admit_parity.new.window in
     let admits = c.in_ok-admit_parity-in_default.ensures.admits c.args.kind c.in_default.not-Media in
-    subst (λ (flow : FlowView). AdmitsDatagram c.args.kind c.args.datagram.now flow.state flow.sum lanes reply state c.self.inside.sum lanes) c.self.view_is
-    (plays_nothing c.args.kind c.args.datagram.now (g.D.WindowState.state c.self.inside.window) c.self.inside.sum lanes reply state admits.0 admits.1 admits.2)
+    subst (λ (flow : FlowView). AdmitsDatagram c.args.kind c.args.datagram.now flow.state flow.sum lanes reply state c.self-in_default.inside.sum lanes) c.self-in_default.view_is
+    (plays_nothing c.args.kind c.args.datagram.now (g.D.WindowState.state c.self-in_default.inside.window) c.self-in_default.inside.sum lanes reply state admits.0 admits.1 admits.2)
 
 pub returns-in_default-2-clause-admits : goal.returns-in_default-2-clause-admits
 returns-in_default-2-clause-admits g c =
     let lanes = g.O.Outlet.lanes c.args.lanes.now in
     let old = c.args.self.now in
     let same : record { state = g.D.WindowState.state c.spare-spare.new.self; sum = c.self.inside.sum } ≡ old = (λ i. record { state = c.spare-spare.ensures i; sum = c.self.inside.sum }) ∙ c.self.view_is in
-    rw c.in-Media.is (subst (λ (flow : FlowView). AdmitsDatagram c.args.kind c.args.datagram.now old.state old.sum lanes None flow.state flow.sum lanes) (sym same)
+    rw c.in-Media.is (subst (λ (flow : FlowView). AdmitsDatagram Media c.args.datagram.now old.state old.sum lanes None flow.state flow.sum lanes) (sym same)
     (media_is_refused c.args.datagram.now old.state old.sum lanes
     (IfErr-at_err (λ (fault : MediaFault). (seq ssrc : ℕ) (word : Word) → ¬ IsMediaDatagram c.args.datagram.now seq ssrc word)
     c.in_default-2.is c.in_ok-seq-in-Media.ensures.refused)))
@@ -62,12 +64,12 @@ returns-in_ok-play_due-in-Media-clause-admits g c =
     let same : record { state = g.D.WindowState.state c.spare-spare.new.self; sum = c.self.inside.sum } ≡ old = (λ i. record { state = c.spare-spare.ensures i; sum = c.self.inside.sum }) ∙ c.self.view_is in
     let before = g.O.Outlet.lanes c.args.lanes.now in
     let after = g.O.Outlet.lanes c.play_due.new.lanes in
-    let due = g.D.WindowState.state c.self-2.inside.window in
+    let due = g.D.WindowState.state c.self-in-Media.inside.window in
     let read = IfOk-at_ok (λ (t : ℕ × ℕ × Word). IsMediaDatagram c.args.datagram.now t.0 t.1 t.2) c.in-Ok.is c.in_ok-seq-in-Media.ensures.ok in
     let shown : HaveShown (ArePlaysDue old.state c.in-Ok.seq) old.state old.sum before c.play_due.new.self.state c.play_due.new.self.sum after =
     subst (λ (flow : FlowView). HaveShown (ArePlaysDue flow.state c.in-Ok.seq) flow.state flow.sum before c.play_due.new.self.state c.play_due.new.self.sum after) same c.in_ok-play_due-in-Media.ensures.plays in
     rw c.in-Media.is (media_is_admitted c.args.datagram.now old.state due (g.D.WindowState.state c.admit_media.new.self)
-    old.sum c.self-2.inside.sum before after
+    old.sum c.self-in-Media.inside.sum before after
     c.in-Ok.seq c.in-Ok.field-0-1 c.in-Ok.share c.admit_media.result read
-    (subst (λ (flow : FlowView). HaveShown (ArePlaysDue old.state c.in-Ok.seq) old.state old.sum before flow.state flow.sum after) (sym c.self-2.view_is) shown)
+    (subst (λ (flow : FlowView). HaveShown (ArePlaysDue old.state c.in-Ok.seq) old.state old.sum before flow.state flow.sum after) (sym c.self-in-Media.view_is) shown)
     c.admit_media.ensures)

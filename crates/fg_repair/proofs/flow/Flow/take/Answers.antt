@@ -1,5 +1,6 @@
 use Rattle.std.proofs.Common.{ap, sym, subst, ◌∙◌}
-use Rattle.fg_repair.specs.Steps.{FlowView, AdmitsDatagram, RepliesHaveRoom}
+use Rattle.fg_repair.specs.View.{FlowView}
+use Rattle.fg_repair.specs.Steps.{AdmitsDatagram, RepliesHaveRoom}
 use Rattle.fg_repair.proofs.Underway.{stays_within, counts_within, replies_have_room}
 use Rattle.fg_repair.proofs.Taking.{record_taken, record_breaks}
 use Rattle.fg_io.proofs.FaultLemmas.{on_err}
