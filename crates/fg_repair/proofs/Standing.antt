@@ -4,7 +4,7 @@ use Rattle.std.specs.List.{AllZip, Contains, list_any, slice_index_or}
 use Rattle.std.specs.Vec.{with_item}
 use Rattle.std.proofs.lemmas.Bool.{cases_eq}
 use Rattle.std.proofs.lemmas.Bool.Decides.{nat_tests}
-use Rattle.std.proofs.lemmas.List.{get_or-set_same, get_or-set_other, get_or_default, get_or_push, get_or_append_left, length-set}
+use Rattle.std.proofs.lemmas.List.{get_or-set_same, get_or-set_other, get_or_default, get_or_push, get_or_append_left, length-set, length_push}
 use Rattle.std.proofs.lemmas.List.Elements.{filter-append, All-from_get_or}
 use Rattle.std.proofs.lemmas.List.Folds.{list_any_at, list_any_none}
 use Rattle.std.proofs.lemmas.List.Sums.{sum_by-append}
@@ -61,9 +61,14 @@ new_at plan items i new long h each k d below (inl e) =
 new_at plan items i new long h each k d below (inr ne) =
     subst (λ (f : FlowView). FlowStands plan [] (slice_index plan.table k) f []) (sym (get_or_append_left items (new ∷ []) d k (omega arith))) (each k d (omega arith))
 
-pub new_more : (plan : Plan) (items : List FlowView) (i port : ℕ) (new : FlowView) → length items ≡ i → port ≡ slice_index plan.table i → HasTaken (playout_of plan) port [] new.state new.sum [] → AreNew plan i items → AreNew plan (i + 1) (items ++ new ∷ [])
-new_more plan items i port new long at h each = λ k d below.
-    new_at plan items i new long (new_stands plan (slice_index plan.table i) new (subst (λ p. HasTaken (playout_of plan) p [] new.state new.sum []) at h)) each k d below (cases_eq k i)
+pub new_more :
+    (plan : Plan) (items all : List FlowView) (i port : ℕ) (new : FlowView) → all ≡ items ++ new ∷ [] → i ≡ length items → port ≡ slice_index plan.table i
+    → HasTaken (playout_of plan) port [] new.state new.sum [] → AreNew plan (length items) items → AreNew plan (length all) all
+new_more plan items all i port new pushed long at h each =
+    let here : port ≡ slice_index plan.table (length items) = at ∙ ap (λ k. slice_index plan.table k) long in
+    let stands : FlowStands plan [] (slice_index plan.table (length items)) new [] = new_stands plan (slice_index plan.table (length items)) new (subst (λ p. HasTaken (playout_of plan) p [] new.state new.sum []) here h) in
+    subst (λ (flows : List FlowView). AreNew plan (length flows) flows) (sym pushed)
+    (subst (λ n. AreNew plan n (items ++ new ∷ [])) (sym (length_push items new)) (λ k d below. new_at plan items (length items) new refl stands each k d below (cases_eq k (length items))))
 
 -- Which flow a record is of
 

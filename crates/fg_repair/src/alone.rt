@@ -126,4 +126,3 @@ fn open_desks(alloc: Global, plan: &Plan) -> Result<Vec<Desk>, AllocError>
     }
     Ok(desks)
 }
-
