@@ -38,13 +38,13 @@ told_is (TooLong n) told h = h
 
 -- the text that is written is the report of the trace
 text_is :
-    (plan : Plan) (first : Option (List ℕ)) (engine : Engine) (told : Tail) (before after : Option Lanes) (h : LanesWhole plan first engine told before after)
+    {D : Type 0} → (plan : Plan) (first : Option (List ℕ)) (engine : Engine D) (told : Tail) (before after : Option Lanes) (h : LanesWhole plan first engine told before after)
     → report_of (sums_of engine.flows.items) engine.other told ≡ report_text plan h.records h.ended.results h.end
 text_is plan first engine told before after h = λ i. report_of (sym h.ended.sums i) (h.other i) (told_is h.end told h.tells i)
 
 -- a part of it was written
 part_of_report :
-    (plan : Plan) (first : Option (List ℕ)) (engine : Engine) (told : Tail) (before after : Option Lanes) (written written' : Option (List ℕ))
+    {D : Type 0} → (plan : Plan) (first : Option (List ℕ)) (engine : Engine D) (told : Tail) (before after : Option Lanes) (written written' : Option (List ℕ))
     → LanesWhole plan first engine told before after → GainsPart written (report_of (sums_of engine.flows.items) engine.other told) written'
     → PutsPartOfReport plan first before after written written'
 part_of_report plan first engine told before after written written' h part = record {
@@ -77,7 +77,7 @@ gain_is plan records results (TooLong n) told lanes lanes' written written' h pu
 
 -- Lanes and report are whole.
 pub finished :
-    (plan : Plan) (first : Option (List ℕ)) (engine : Engine) (told : Tail) (answer : Finish) (lanes lanes' : Option Lanes) (written written' : Option (List ℕ))
+    {D : Type 0} → (plan : Plan) (first : Option (List ℕ)) (engine : Engine D) (told : Tail) (answer : Finish) (lanes lanes' : Option Lanes) (written written' : Option (List ℕ))
     → LanesWhole plan first engine told lanes lanes' → answer ≡ told_finish told
     → Gains written (report_of (sums_of engine.flows.items) engine.other told) written' → Finishes plan answer first lanes lanes' written written'
 finished plan first engine told answer lanes lanes' written written' h is gains = (
@@ -140,11 +140,11 @@ stopped_first law plan fits (Err fault) is first left told lanes written out rea
 
 -- While the report was written.
 pub stopped_in_report :
-    {O K : Type 0} → OneTrace → OneFlowResult → (plan : Plan) (result : Result Finish Fault) → IsErr result → (result ≡ Err Read → ⊥)
+    {O K D : Type 0} → OneTrace → OneFlowResult → (plan : Plan) (result : Result Finish Fault) → IsErr result → (result ≡ Err Read → ⊥)
     → (first left : Option (List ℕ)) (told : O → Option Lanes) (lanes lanes' : O) (written : K → Option (List ℕ)) (out out' : K)
     → IfSome first (λ bytes. IsReadFor plan.max (answer_of result) bytes left)
     → IfSome first (λ bytes. (place : ℕ) → IsTrace bytes plan.max [] (NotTrace place) → (lanes' ≡ lanes) × (out' ≡ out))
-    → (engine : Engine) (tail : Tail) → LanesWhole plan first engine tail (told lanes) (told lanes')
+    → (engine : Engine D) (tail : Tail) → LanesWhole plan first engine tail (told lanes) (told lanes')
     → GainsPart (written out) (report_of (sums_of engine.flows.items) engine.other tail) (written out')
     → IsRepair plan (answer_of result) first left told lanes lanes' written out out'
 stopped_in_report law one plan (Ok x) is unread first left told lanes lanes' written out out' reads refused engine tail h part = absurd cc

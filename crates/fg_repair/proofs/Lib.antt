@@ -17,4 +17,5 @@ pub mod Stopping
 pub mod Taking
 pub mod Underway
 pub mod Walking
+pub mod Windows
 pub mod Writing

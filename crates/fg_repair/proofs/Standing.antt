@@ -4,7 +4,7 @@ use Rattle.std.specs.List.{AllZip, Contains, list_any, slice_index_or}
 use Rattle.std.specs.Vec.{with_item}
 use Rattle.std.proofs.lemmas.Bool.{cases_eq}
 use Rattle.std.proofs.lemmas.Bool.Decides.{nat_tests}
-use Rattle.std.proofs.lemmas.List.{get_or-set_same, get_or-set_other, get_or_default, get_or_push, get_or_append_left, length-set}
+use Rattle.std.proofs.lemmas.List.{get_or-set_same, get_or-set_other, get_or_default, get_or_push, get_or_append_left, length-set, length_push}
 use Rattle.std.proofs.lemmas.List.Elements.{filter-append, All-from_get_or}
 use Rattle.std.proofs.lemmas.List.Folds.{list_any_at, list_any_none}
 use Rattle.std.proofs.lemmas.List.Sums.{sum_by-append}
@@ -25,10 +25,10 @@ use Rattle.fg_playout.specs.Run.{Arrival, TakesAll}
 use Rattle.fg_playout.specs.State.{State, opening}
 use Rattle.fg_report.specs.declared.flow_sum.FlowSum.{FlowSum}
 use Rattle.fg_repair.specs.declared.engine.Engine.{Engine}
-use Rattle.fg_repair.specs.declared.flow.Flow.{Flow}
 use Rattle.fg_repair.specs.Engine.{FlowStands, EngineStands, HasCome, BreaksAfter}
 use Rattle.fg_results.specs.Flow.{Arrives, records_of, is_of}
 use Rattle.fg_results.specs.Repair.{others_of}
+use Rattle.fg_repair.specs.View.{FlowView}
 use Rattle.fg_repair.specs.Steps.{HasTaken, TakesRecord, BreaksAtRecord}
 use Rattle.fg_results.specs.Stops.{HasShown, LiesBetween}
 use Rattle.fg_repair.proofs.Breaking.{shown_of}
@@ -41,9 +41,9 @@ opened_by : (playout : Playout) (flow : ℕ) (arrivals : List Arrival) (plays : 
 opened_by playout flow [] plays replies state h k = k.2
 opened_by playout flow (a ∷ arrivals) plays replies state h k = absurd h
 
-pub new_stands : (plan : Plan) (port : ℕ) (flow : Flow) → HasTaken (playout_of plan) port [] flow.desk.state flow.sum [] → FlowStands plan [] port flow []
+pub new_stands : (plan : Plan) (port : ℕ) (flow : FlowView) → HasTaken (playout_of plan) port [] flow.state flow.sum [] → FlowStands plan [] port flow []
 new_stands plan port flow h =
-    let opened : flow.desk.state ≡ opening (playout_of plan) = opened_by (playout_of plan) port h.arrivals h.plays h.replies flow.desk.state h.arrive h.takes in
+    let opened : flow.state ≡ opening (playout_of plan) = opened_by (playout_of plan) port h.arrivals h.plays h.replies flow.state h.arrive h.takes in
     record {
       port_is = ap (λ (s : FlowSum). s.port) h.sum_is;
       playout_is = ap (λ (s : State). s.playout) opened;
@@ -51,19 +51,24 @@ new_stands plan port flow h =
     }
 
 -- the first flows stand so
-abbrev pub AreNew : Plan → ℕ → List Flow → Type 0
-AreNew plan count items = (k : ℕ) (d : Flow) → k < count → FlowStands plan [] (slice_index plan.table k) (slice_index_or items k d) []
+abbrev pub AreNew : Plan → ℕ → List FlowView → Type 0
+AreNew plan count items = (k : ℕ) (d : FlowView) → k < count → FlowStands plan [] (slice_index plan.table k) (slice_index_or items k d) []
 
-new_at : (plan : Plan) (items : List Flow) (i : ℕ) (new : Flow) → length items ≡ i → FlowStands plan [] (slice_index plan.table i) new [] → AreNew plan i items → (k : ℕ) (d : Flow) → k < i + 1 → (k ≡ i) ⊎ (k ≡ i → ⊥) → FlowStands plan [] (slice_index plan.table k) (slice_index_or (items ++ new ∷ []) k d) []
+new_at : (plan : Plan) (items : List FlowView) (i : ℕ) (new : FlowView) → length items ≡ i → FlowStands plan [] (slice_index plan.table i) new [] → AreNew plan i items → (k : ℕ) (d : FlowView) → k < i + 1 → (k ≡ i) ⊎ (k ≡ i → ⊥) → FlowStands plan [] (slice_index plan.table k) (slice_index_or (items ++ new ∷ []) k d) []
 new_at plan items i new long h each k d below (inl e) =
     subst (λ j. FlowStands plan [] (slice_index plan.table j) (slice_index_or (items ++ new ∷ []) j d) []) (sym e)
-    (subst (λ (f : Flow). FlowStands plan [] (slice_index plan.table i) f []) (sym (get_or_push items new d i long)) h)
+    (subst (λ (f : FlowView). FlowStands plan [] (slice_index plan.table i) f []) (sym (get_or_push items new d i long)) h)
 new_at plan items i new long h each k d below (inr ne) =
-    subst (λ (f : Flow). FlowStands plan [] (slice_index plan.table k) f []) (sym (get_or_append_left items (new ∷ []) d k (omega arith))) (each k d (omega arith))
+    subst (λ (f : FlowView). FlowStands plan [] (slice_index plan.table k) f []) (sym (get_or_append_left items (new ∷ []) d k (omega arith))) (each k d (omega arith))
 
-pub new_more : (plan : Plan) (items : List Flow) (i port : ℕ) (new : Flow) → length items ≡ i → port ≡ slice_index plan.table i → HasTaken (playout_of plan) port [] new.desk.state new.sum [] → AreNew plan i items → AreNew plan (i + 1) (items ++ new ∷ [])
-new_more plan items i port new long at h each = λ k d below.
-    new_at plan items i new long (new_stands plan (slice_index plan.table i) new (subst (λ p. HasTaken (playout_of plan) p [] new.desk.state new.sum []) at h)) each k d below (cases_eq k i)
+pub new_more :
+    (plan : Plan) (items all : List FlowView) (i port : ℕ) (new : FlowView) → all ≡ items ++ new ∷ [] → i ≡ length items → port ≡ slice_index plan.table i
+    → HasTaken (playout_of plan) port [] new.state new.sum [] → AreNew plan (length items) items → AreNew plan (length all) all
+new_more plan items all i port new pushed long at h each =
+    let here : port ≡ slice_index plan.table (length items) = at ∙ ap (λ k. slice_index plan.table k) long in
+    let stands : FlowStands plan [] (slice_index plan.table (length items)) new [] = new_stands plan (slice_index plan.table (length items)) new (subst (λ p. HasTaken (playout_of plan) p [] new.state new.sum []) here h) in
+    subst (λ (flows : List FlowView). AreNew plan (length flows) flows) (sym pushed)
+    (subst (λ n. AreNew plan n (items ++ new ∷ [])) (sym (length_push items new)) (λ k d below. new_at plan items (length items) new refl stands each k d below (cases_eq k (length items))))
 
 -- Which flow a record is of
 
@@ -80,7 +85,7 @@ not_of port records r e =
     ∙ ap (λ b. records_of port records ++ cond b (r ∷ []) []) e
     ∙ append-nil (records_of port records)
 
-pub stands_still : (plan : Plan) (records : List Record) (r : Record) (port : ℕ) (flow : Flow) (lane : List ℕ) → is_of port r ≡ false → FlowStands plan records port flow lane → FlowStands plan (records ++ r ∷ []) port flow lane
+pub stands_still : (plan : Plan) (records : List Record) (r : Record) (port : ℕ) (flow : FlowView) (lane : List ℕ) → is_of port r ≡ false → FlowStands plan records port flow lane → FlowStands plan (records ++ r ∷ []) port flow lane
 stands_still plan records r port flow lane e h = record {
   port_is = h.port_is;
   playout_is = h.playout_is;
@@ -119,7 +124,7 @@ pub others_of_none : (table : List ℕ) (records : List Record) (r : Record) →
 others_of_none table records r none =
     others_more table records r false (list_any_none (λ flow. is_of flow r) table (All-from_get_or (λ flow. is_of flow r ≡ false) table 0 (λ k below. none_at table r none k below)))
 
-pub come_none : (plan : Plan) (engine : Engine) (port : ℕ) → IsOfNone plan.table port → (before now : Option Lanes) (records : List Record) (r : Record) → HasCome plan records engine before now → r.port ≡ port → HasCome plan (records ++ r ∷ []) (record { flows = engine.flows; piece = engine.piece; other = engine.other + 1 }) before now
+pub come_none : {D : Type 0} → (plan : Plan) (engine : Engine D) (port : ℕ) → IsOfNone plan.table port → (before now : Option Lanes) (records : List Record) (r : Record) → HasCome plan records engine before now → r.port ≡ port → HasCome {D = D} plan (records ++ r ∷ []) (record { flows = engine.flows; piece = engine.piece; other = engine.other + 1 }) before now
 come_none plan engine port none before now records r h e =
     let of_none : IsOfNone plan.table r.port = subst (IsOfNone plan.table) (sym e) none in
     record {
@@ -139,47 +144,47 @@ come_none plan engine port none before now records r h e =
 pub moved : (P : Playout → ℕ → Type 0) (w w' : Playout) (p p' : ℕ) → w ≡ w' → p ≡ p' → P w p → P w' p'
 moved P w w' p p' ew ep h = subst (λ (x : Playout). P x p') ew (subst (λ x. P w x) ep h)
 
-pub flow_taken : (plan : Plan) (records : List Record) (port : ℕ) (flow : Flow) (lane : List ℕ) → FlowStands plan records port flow lane → HasTaken flow.desk.state.playout flow.sum.port records flow.desk.state flow.sum lane
+pub flow_taken : (plan : Plan) (records : List Record) (port : ℕ) (flow : FlowView) (lane : List ℕ) → FlowStands plan records port flow lane → HasTaken flow.state.playout flow.sum.port records flow.state flow.sum lane
 flow_taken plan records port flow lane h =
-    moved (λ w p. HasTaken w p records flow.desk.state flow.sum lane) (playout_of plan) flow.desk.state.playout port flow.sum.port
+    moved (λ w p. HasTaken w p records flow.state flow.sum lane) (playout_of plan) flow.state.playout port flow.sum.port
     (sym h.playout_is) (sym h.port_is) h.taken
 
 -- what a flow keeps when it takes a record
-pub record KeepsSettings (old new : Flow) : Type 0 where
+pub record KeepsSettings (old new : FlowView) : Type 0 where
   pub port : new.sum.port ≡ old.sum.port
-  pub playout : new.desk.state.playout ≡ old.desk.state.playout
+  pub playout : new.state.playout ≡ old.state.playout
 
 -- what a flow does with a record that it takes whole, or that a fault stops
-abbrev pub Takes : Flow → Flow → Kind → List ℕ → Option Lanes → Option Lanes → Type 0
+abbrev pub Takes : FlowView → FlowView → Kind → List ℕ → Option Lanes → Option Lanes → Type 0
 Takes old new kind datagram now after =
     (records : List Record) (r : Record) (lane : List ℕ)
-    → HasTaken old.desk.state.playout old.sum.port records old.desk.state old.sum lane
+    → HasTaken old.state.playout old.sum.port records old.state old.sum lane
     → r.datagram ≡ datagram → port_of old.sum.port kind ≡ r.port
-    → TakesRecord old.desk.state.playout old.sum.port records r lane new.desk.state new.sum now after
+    → TakesRecord old.state.playout old.sum.port records r lane new.state new.sum now after
 
-abbrev pub Breaks : Flow → Kind → List ℕ → Option Lanes → Option Lanes → Type 0
+abbrev pub Breaks : FlowView → Kind → List ℕ → Option Lanes → Option Lanes → Type 0
 Breaks old kind datagram now after =
     (records : List Record) (r : Record) (lane : List ℕ)
-    → HasTaken old.desk.state.playout old.sum.port records old.desk.state old.sum lane
+    → HasTaken old.state.playout old.sum.port records old.state old.sum lane
     → r.datagram ≡ datagram → port_of old.sum.port kind ≡ r.port
-    → BreaksAtRecord old.desk.state.playout old.sum.port records r lane now after
+    → BreaksAtRecord old.state.playout old.sum.port records r lane now after
 
-flow_step : (plan : Plan) (records : List Record) (r : Record) (port : ℕ) (old new : Flow) (lane : List ℕ) (kind : Kind) (datagram : List ℕ) (now after : Option Lanes) → KeepsSettings old new → Takes old new kind datagram now after → FlowStands plan records port old lane → r.datagram ≡ datagram → port_of port kind ≡ r.port → TakesRecord (playout_of plan) port records r lane new.desk.state new.sum now after
+flow_step : (plan : Plan) (records : List Record) (r : Record) (port : ℕ) (old new : FlowView) (lane : List ℕ) (kind : Kind) (datagram : List ℕ) (now after : Option Lanes) → KeepsSettings old new → Takes old new kind datagram now after → FlowStands plan records port old lane → r.datagram ≡ datagram → port_of port kind ≡ r.port → TakesRecord (playout_of plan) port records r lane new.state new.sum now after
 flow_step plan records r port old new lane kind datagram now after keeps takes h same of =
-    moved (λ w p. TakesRecord w p records r lane new.desk.state new.sum now after) old.desk.state.playout (playout_of plan) old.sum.port port
+    moved (λ w p. TakesRecord w p records r lane new.state new.sum now after) old.state.playout (playout_of plan) old.sum.port port
     h.playout_is h.port_is
     (takes records r lane (flow_taken plan records port old lane h) same (subst (λ p. port_of p kind ≡ r.port) (sym h.port_is) of))
 
-flow_break : (plan : Plan) (records : List Record) (r : Record) (port : ℕ) (old : Flow) (lane : List ℕ) (kind : Kind) (datagram : List ℕ) (now after : Option Lanes) → Breaks old kind datagram now after → FlowStands plan records port old lane → r.datagram ≡ datagram → port_of port kind ≡ r.port → BreaksAtRecord (playout_of plan) port records r lane now after
+flow_break : (plan : Plan) (records : List Record) (r : Record) (port : ℕ) (old : FlowView) (lane : List ℕ) (kind : Kind) (datagram : List ℕ) (now after : Option Lanes) → Breaks old kind datagram now after → FlowStands plan records port old lane → r.datagram ≡ datagram → port_of port kind ≡ r.port → BreaksAtRecord (playout_of plan) port records r lane now after
 flow_break plan records r port old lane kind datagram now after breaks h same of =
-    moved (λ w p. BreaksAtRecord w p records r lane now after) old.desk.state.playout (playout_of plan) old.sum.port port
+    moved (λ w p. BreaksAtRecord w p records r lane now after) old.state.playout (playout_of plan) old.sum.port port
     h.playout_is h.port_is
     (breaks records r lane (flow_taken plan records port old lane h) same (subst (λ p. port_of p kind ≡ r.port) (sym h.port_is) of))
 
 -- the flow that took it
-at_flow : (plan : Plan) (records : List Record) (items : List Flow) (gained : ℕ → List ℕ) (i : ℕ) (new : Flow) (piece : List ℕ) (d : Flow) → i < length items → FlowStands plan records (slice_index plan.table i) new (gained (slice_index plan.table i) ++ piece) → FlowStands plan records (slice_index plan.table i) (slice_index_or (set items i new) i d) (more gained (slice_index plan.table i) piece (slice_index plan.table i))
+at_flow : (plan : Plan) (records : List Record) (items : List FlowView) (gained : ℕ → List ℕ) (i : ℕ) (new : FlowView) (piece : List ℕ) (d : FlowView) → i < length items → FlowStands plan records (slice_index plan.table i) new (gained (slice_index plan.table i) ++ piece) → FlowStands plan records (slice_index plan.table i) (slice_index_or (set items i new) i d) (more gained (slice_index plan.table i) piece (slice_index plan.table i))
 at_flow plan records items gained i new piece d below h =
-    subst (λ (f : Flow). FlowStands plan records (slice_index plan.table i) f (more gained (slice_index plan.table i) piece (slice_index plan.table i))) (sym (get_or-set_same items i new d below))
+    subst (λ (f : FlowView). FlowStands plan records (slice_index plan.table i) f (more gained (slice_index plan.table i) piece (slice_index plan.table i))) (sym (get_or-set_same items i new d below))
     (subst (λ (lane : List ℕ). FlowStands plan records (slice_index plan.table i) new lane) (sym (more_same gained (slice_index plan.table i) piece)) h)
 
 -- two flows of a table have different ports
@@ -187,15 +192,15 @@ pub ports_differ : OneFlowHasAPort → (table : List ℕ) → IsTable table → 
 ports_differ law table good i k bi bk ne e = ne (law table (slice_index table i) k i kind.Media kind.Media good (bk, e) (bi, refl)).0
 
 -- another flow
-at_other : OneFlowHasAPort → (plan : Plan) → IsTable plan.table → (records : List Record) (r : Record) (items : List Flow) (gained : ℕ → List ℕ) (i : ℕ) (kind : Kind) → IsPortOf plan.table r.port i kind → (new : Flow) (piece : List ℕ) (k : ℕ) (d : Flow) → k < length plan.table → (k ≡ i → ⊥) → FlowStands plan records (slice_index plan.table k) (slice_index_or items k d) (gained (slice_index plan.table k)) → FlowStands plan (records ++ r ∷ []) (slice_index plan.table k) (slice_index_or (set items i new) k d) (more gained (slice_index plan.table i) piece (slice_index plan.table k))
+at_other : OneFlowHasAPort → (plan : Plan) → IsTable plan.table → (records : List Record) (r : Record) (items : List FlowView) (gained : ℕ → List ℕ) (i : ℕ) (kind : Kind) → IsPortOf plan.table r.port i kind → (new : FlowView) (piece : List ℕ) (k : ℕ) (d : FlowView) → k < length plan.table → (k ≡ i → ⊥) → FlowStands plan records (slice_index plan.table k) (slice_index_or items k d) (gained (slice_index plan.table k)) → FlowStands plan (records ++ r ∷ []) (slice_index plan.table k) (slice_index_or (set items i new) k d) (more gained (slice_index plan.table i) piece (slice_index plan.table k))
 at_other law plan good records r items gained i kind of new piece k d below ne h =
     let apart : is_of (slice_index plan.table k) r ≡ false = is_of_no (slice_index plan.table k) r (λ other e. ne (law plan.table r.port k i other kind good (below, e) of).0) in
-    subst (λ (f : Flow). FlowStands plan (records ++ r ∷ []) (slice_index plan.table k) f (more gained (slice_index plan.table i) piece (slice_index plan.table k))) (sym (get_or-set_other items i k new d ne))
+    subst (λ (f : FlowView). FlowStands plan (records ++ r ∷ []) (slice_index plan.table k) f (more gained (slice_index plan.table i) piece (slice_index plan.table k))) (sym (get_or-set_other items i k new d ne))
     (subst (λ (lane : List ℕ). FlowStands plan (records ++ r ∷ []) (slice_index plan.table k) (slice_index_or items k d) lane)
     (sym (more_other gained (slice_index plan.table i) piece (slice_index plan.table k) (ports_differ law plan.table good i k of.0 below ne)))
     (stands_still plan records r (slice_index plan.table k) (slice_index_or items k d) (gained (slice_index plan.table k)) apart h))
 
-at_each : OneFlowHasAPort → (plan : Plan) → IsTable plan.table → (records : List Record) (r : Record) (items : List Flow) (gained : ℕ → List ℕ) (i : ℕ) (kind : Kind) → IsPortOf plan.table r.port i kind → (new : Flow) (piece : List ℕ) → i < length items → FlowStands plan (records ++ r ∷ []) (slice_index plan.table i) new (gained (slice_index plan.table i) ++ piece) → (k : ℕ) (d : Flow) → k < length plan.table → FlowStands plan records (slice_index plan.table k) (slice_index_or items k d) (gained (slice_index plan.table k)) → (k ≡ i) ⊎ (k ≡ i → ⊥) → FlowStands plan (records ++ r ∷ []) (slice_index plan.table k) (slice_index_or (set items i new) k d) (more gained (slice_index plan.table i) piece (slice_index plan.table k))
+at_each : OneFlowHasAPort → (plan : Plan) → IsTable plan.table → (records : List Record) (r : Record) (items : List FlowView) (gained : ℕ → List ℕ) (i : ℕ) (kind : Kind) → IsPortOf plan.table r.port i kind → (new : FlowView) (piece : List ℕ) → i < length items → FlowStands plan (records ++ r ∷ []) (slice_index plan.table i) new (gained (slice_index plan.table i) ++ piece) → (k : ℕ) (d : FlowView) → k < length plan.table → FlowStands plan records (slice_index plan.table k) (slice_index_or items k d) (gained (slice_index plan.table k)) → (k ≡ i) ⊎ (k ≡ i → ⊥) → FlowStands plan (records ++ r ∷ []) (slice_index plan.table k) (slice_index_or (set items i new) k d) (more gained (slice_index plan.table i) piece (slice_index plan.table k))
 at_each law plan good records r items gained i kind of new piece short stands k d below h (inl e) =
     subst (λ j. FlowStands plan (records ++ r ∷ []) (slice_index plan.table j) (slice_index_or (set items i new) j d) (more gained (slice_index plan.table i) piece (slice_index plan.table j))) (sym e)
     (at_flow plan (records ++ r ∷ []) items gained i new piece d short stands)
@@ -203,17 +208,17 @@ at_each law plan good records r items gained i kind of new piece short stands k 
     at_other law plan good records r items gained i kind of new piece k d below ne h
 
 pub come_some :
-    OneFlowHasAPort → (plan : Plan) → IsTable plan.table → (engine : Engine) (port i : ℕ) (kind : Kind) → IsPortOf plan.table port i kind
-    → (old new : Flow) (shared : Engine) → old ≡ slice_index_or engine.flows.items i old
+    {D : Type 0} → OneFlowHasAPort → (plan : Plan) → IsTable plan.table → (engine : Engine D) (port i : ℕ) (kind : Kind) → IsPortOf plan.table port i kind
+    → (old new : FlowView) (shared : Engine D) → old ≡ slice_index_or engine.flows.items i old
     → KeepsSettings old new
     → (datagram : List ℕ) (now after : Option Lanes) → Takes old new kind datagram now after
     → (before : Option Lanes) (records : List Record) (r : Record) → HasCome plan records engine before now → r.port ≡ port → r.datagram ≡ datagram
-    → HasCome plan (records ++ r ∷ []) (record { flows = with_item engine.flows i new; piece = shared.piece; other = engine.other }) before after
+    → HasCome {D = D} plan (records ++ r ∷ []) (record { flows = with_item engine.flows i new; piece = shared.piece; other = engine.other }) before after
 come_some law plan good engine port i kind of old new shared at keeps datagram now after takes before records r h e same =
     let here : IsPortOf plan.table r.port i kind = subst (λ p. IsPortOf plan.table p i kind) (sym e) of in
     let flow = slice_index plan.table i in
-    let stood : FlowStands plan records flow old (h.gained flow) = subst (λ (f : Flow). FlowStands plan records flow f (h.gained flow)) (sym at) (h.stands.flows i old of.0) in
-    let step : TakesRecord (playout_of plan) flow records r (h.gained flow) new.desk.state new.sum now after = flow_step plan records r flow old new (h.gained flow) kind datagram now after keeps takes stood same here.1 in
+    let stood : FlowStands plan records flow old (h.gained flow) = subst (λ (f : FlowView). FlowStands plan records flow f (h.gained flow)) (sym at) (h.stands.flows i old of.0) in
+    let step : TakesRecord (playout_of plan) flow records r (h.gained flow) new.state new.sum now after = flow_step plan records r flow old new (h.gained flow) kind datagram now after keeps takes stood same here.1 in
     let stands : FlowStands plan (records ++ r ∷ []) flow new (h.gained flow ++ step.piece) = record {
       port_is = keeps.port ∙ stood.port_is;
       playout_is = keeps.playout ∙ stood.playout_is;
@@ -232,12 +237,12 @@ come_some law plan good engine port i kind of old new shared at keeps datagram n
 
 -- A fault
 
-some_flow : (items : List Flow) → 0 < length items → Flow
+some_flow : (items : List FlowView) → 0 < length items → FlowView
 some_flow [] h = absurd (omega arith)
 some_flow (f ∷ items) h = f
 
 -- what a flow of the table has shown
-pub shown_at : (plan : Plan) (records : List Record) (engine : Engine) (gained : ℕ → List ℕ) → EngineStands plan records engine gained → (port : ℕ) → Contains plan.table port → HasShown (playout_of plan) port records (gained port)
+pub shown_at : {D : Type 0} → (plan : Plan) (records : List Record) (engine : Engine D) (gained : ℕ → List ℕ) → EngineStands plan records engine gained → (port : ℕ) → Contains plan.table port → HasShown (playout_of plan) port records (gained port)
 shown_at plan records engine gained h port c =
     let any = some_flow engine.flows.items (omega (arith, h.count, c.1)) in
     let same : slice_index plan.table c.0 ≡ port = get_or_default plan.table c.0 0 port c.1 ∙ c.2 in
@@ -254,7 +259,7 @@ between plan records r gained flow part shown next = record {
   next = λ (bytes : List ℕ) (h : HasShown (playout_of plan) flow (records ++ r ∷ []) bytes). subst (λ (lane : List ℕ). IsPrefix lane bytes) (sym (more_same gained flow part)) (next bytes h);
 }
 
-exact_at : (plan : Plan) (records : List Record) (r : Record) (engine : Engine) (gained : ℕ → List ℕ) → EngineStands plan records engine gained → (flow : ℕ) (part : List ℕ) → Contains plan.table flow → ((next : List ℕ) → HasShown (playout_of plan) flow (records ++ r ∷ []) next → IsPrefix (gained flow ++ part) next) → (port : ℕ) → Contains plan.table port → (port ≡ flow) ⊎ (port ≡ flow → ⊥) → HasShown (playout_of plan) port records (more gained flow part port) ⊎ ((Some flow ≡ Some port) × LiesBetween (HasShown (playout_of plan) port records) (HasShown (playout_of plan) port (records ++ r ∷ [])) (more gained flow part port))
+exact_at : {D : Type 0} → (plan : Plan) (records : List Record) (r : Record) (engine : Engine D) (gained : ℕ → List ℕ) → EngineStands plan records engine gained → (flow : ℕ) (part : List ℕ) → Contains plan.table flow → ((next : List ℕ) → HasShown (playout_of plan) flow (records ++ r ∷ []) next → IsPrefix (gained flow ++ part) next) → (port : ℕ) → Contains plan.table port → (port ≡ flow) ⊎ (port ≡ flow → ⊥) → HasShown (playout_of plan) port records (more gained flow part port) ⊎ ((Some flow ≡ Some port) × LiesBetween (HasShown (playout_of plan) port records) (HasShown (playout_of plan) port (records ++ r ∷ [])) (more gained flow part port))
 exact_at plan records r engine gained h flow part here next port c (inl e) =
     subst (λ p. HasShown (playout_of plan) p records (more gained flow part p) ⊎ ((Some flow ≡ Some p) × LiesBetween (HasShown (playout_of plan) p records) (HasShown (playout_of plan) p (records ++ r ∷ [])) (more gained flow part p))) (sym e)
     (inr (refl, between plan records r gained flow part (shown_at plan records engine gained h flow here) next))
@@ -262,15 +267,15 @@ exact_at plan records r engine gained h flow part here next port c (inr ne) =
     inl (subst (λ (lane : List ℕ). HasShown (playout_of plan) port records lane) (sym (more_other gained flow part port ne)) (shown_at plan records engine gained h port c))
 
 pub breaks_some :
-    (plan : Plan) (engine : Engine) (port i : ℕ) (kind : Kind) → IsPortOf plan.table port i kind
-    → (old : Flow) → old ≡ slice_index_or engine.flows.items i old
+    {D : Type 0} → (plan : Plan) (engine : Engine D) (port i : ℕ) (kind : Kind) → IsPortOf plan.table port i kind
+    → (old : FlowView) → old ≡ slice_index_or engine.flows.items i old
     → (datagram : List ℕ) (now after : Option Lanes) → Breaks old kind datagram now after
     → (before : Option Lanes) (records : List Record) (r : Record) → HasCome plan records engine before now → r.port ≡ port → r.datagram ≡ datagram
     → (broken : Option ℕ) × BreaksAfter plan records (records ++ r ∷ []) broken before after
 breaks_some plan engine port i kind of old at datagram now after breaks before records r h e same =
     let here : IsPortOf plan.table r.port i kind = subst (λ p. IsPortOf plan.table p i kind) (sym e) of in
     let flow = slice_index plan.table i in
-    let stood : FlowStands plan records flow old (h.gained flow) = subst (λ (f : Flow). FlowStands plan records flow f (h.gained flow)) (sym at) (h.stands.flows i old of.0) in
+    let stood : FlowStands plan records flow old (h.gained flow) = subst (λ (f : FlowView). FlowStands plan records flow f (h.gained flow)) (sym at) (h.stands.flows i old of.0) in
     let step : BreaksAtRecord (playout_of plan) flow records r (h.gained flow) now after = flow_break plan records r flow old (h.gained flow) kind datagram now after breaks stood same here.1 in (
       Some flow,
       record {

@@ -28,7 +28,7 @@ few_records plan fits first now reader records max h =
     let within : length (trace_of records) ≤ plan.max = subst (λ n. length (trace_of records) ≤ n) max (subst (λ n. n ≤ reader.max) h.place h.within) in
     omega (arith, few_spelled records)
 
-pub running : (plan : Plan) → PlanFits plan → (first now : Option (List ℕ)) (reader : ReaderState) (engine : Engine) (before after : Option Lanes) → reader.max ≡ plan.max → HasWalked plan first now reader engine before after → IsRunning plan engine
+pub running : {D : Type 0} → (plan : Plan) → PlanFits plan → (first now : Option (List ℕ)) (reader : ReaderState) (engine : Engine D) (before after : Option Lanes) → reader.max ≡ plan.max → HasWalked plan first now reader engine before after → IsRunning plan engine
 running plan fits first now reader engine before after max h = record {
   records = h.records;
   gained = h.come.gained;
@@ -56,7 +56,7 @@ broken_stop law plan answer first now reader taken records broken before after m
 -- A record
 
 pub stop_at_record :
-    WalksTheFront → (plan : Plan) (fault : Finish) → (fault ≡ finish.ReadFault → ⊥) → (first left now : Option (List ℕ)) (reader next : ReaderState) (engine : Engine) (before at after : Option Lanes) (answer : Answer) (time port size : ℕ) (datagram : List ℕ)
+    {D : Type 0} → WalksTheFront → (plan : Plan) (fault : Finish) → (fault ≡ finish.ReadFault → ⊥) → (first left now : Option (List ℕ)) (reader next : ReaderState) (engine : Engine D) (before at after : Option Lanes) (answer : Answer) (time port size : ℕ) (datagram : List ℕ)
     → next.max ≡ plan.max → answer ≡ Ok (Datagram time port size) → datagram ≡ next.payload
     → ((records : List Record) → StandsAfter reader first left records → Walks answer next first now records)
     → ((records : List Record) (r : Record) → HasCome plan records engine before at → r.port ≡ port → r.datagram ≡ datagram → (broken : Option ℕ) × BreaksAfter plan records (records ++ r ∷ []) broken before after)
@@ -69,7 +69,7 @@ stop_at_record law plan fault loud first left now reader next engine before at a
 
 -- A read fault
 
-come_breaks : (plan : Plan) (records : List Record) (engine : Engine) (before after : Option Lanes) → HasCome plan records engine before after → BreaksAfter plan records records None before after
+come_breaks : {D : Type 0} → (plan : Plan) (records : List Record) (engine : Engine D) (before after : Option Lanes) → HasCome plan records engine before after → BreaksAfter plan records records None before after
 come_breaks plan records engine before after h = record {
   gained = h.gained;
   grow = h.grow;
@@ -78,7 +78,7 @@ come_breaks plan records engine before after h = record {
 }
 
 pub stop_at_fault :
-    WalksTheFront → (plan : Plan) (answer : Finish) (first left now : Option (List ℕ)) (reader next : ReaderState) (engine : Engine) (before at : Option Lanes) (why : TraceFault)
+    {D : Type 0} → WalksTheFront → (plan : Plan) (answer : Finish) (first left now : Option (List ℕ)) (reader next : ReaderState) (engine : Engine D) (before at : Option Lanes) (why : TraceFault)
     → next.max ≡ plan.max → ((records : List Record) → StandsAfter reader first left records → Walks (Err why) next first now records)
     → HasWalked plan first left reader engine before at → LanesStop plan answer first before at
 stop_at_fault law plan answer first left now reader next engine before at why max walks h =
@@ -90,7 +90,7 @@ ended : (plan : Plan) (first : Option (List ℕ)) (reader : ReaderState) (record
 ended plan first reader records end max h = subst (λ n. IfSome first (λ bytes. IsTrace bytes n records end)) max h
 
 pub took_all :
-    (plan : Plan) → PlanFits plan → (first left now : Option (List ℕ)) (reader next : ReaderState) (engine : Engine) (before at : Option Lanes) (end : Ending) (told : Tail)
+    {D : Type 0} → (plan : Plan) → PlanFits plan → (first left now : Option (List ℕ)) (reader next : ReaderState) (engine : Engine D) (before at : Option Lanes) (end : Ending) (told : Tail)
     → next.max ≡ plan.max → TellsTail end told
     → ((records : List Record) → StandsAfter reader first left records → StandsAfter next first now records × IfSome first (λ bytes. IsTrace bytes next.max records end))
     → HasWalked plan first left reader engine before at → TookAll plan first engine told before at

@@ -10,12 +10,12 @@ use Rattle.fg_trace.specs.Laws.{OneTrace}
 use Rattle.fg_trace.specs.Reader.{ReaderState, StandsAfter}
 use Rattle.fg_trace.specs.Trace.{Record, Ending, IsTrace}
 use Rattle.fg_repair.specs.declared.engine.Engine.{Engine}
-use Rattle.fg_repair.specs.declared.flow.Flow.{Flow}
 use Rattle.fg_repair.specs.Engine.{GrowAll, AreThere, MakesFirst, EngineStands, LanesStop, HasWalked, TookAll, AreReady, IsFlushing, BreaksAtFlush, HasEnded, LanesWhole}
 use Rattle.fg_repair.proofs.Flushing.{flushing_none}
 use Rattle.fg_repair.proofs.Lanes.{grow_none}
 use Rattle.fg_results.specs.Stops.{Stops, StopsIn, Flushing}
 use Rattle.fg_repair.proofs.Stopping.{making_stops, stops_at}
+use Rattle.fg_repair.specs.View.{FlowView}
 use Rattle.fg_repair.proofs.Walking.{others_told}
 
 -- Before any record
@@ -39,7 +39,7 @@ pub none_stops : (plan : Plan) (answer : Finish) (first : Option (List ℕ)) (la
 none_stops plan answer first lanes =
     making_lanes_stops plan answer first lanes lanes (grow_none lanes plan.table) (record { count = 0; grow = grow_none lanes []; there = none_there lanes })
 
-pub begun : (plan : Plan) (first left : Option (List ℕ)) (reader : ReaderState) (engine : Engine) (before now : Option Lanes) → EngineStands plan [] engine (λ _. []) → GrowAll before plan.table (λ _. []) now → AreThere plan.table now → StandsAfter reader first left [] → HasWalked plan first left reader engine before now
+pub begun : {D : Type 0} → (plan : Plan) (first left : Option (List ℕ)) (reader : ReaderState) (engine : Engine D) (before now : Option Lanes) → EngineStands plan [] engine (λ _. []) → GrowAll before plan.table (λ _. []) now → AreThere plan.table now → StandsAfter reader first left [] → HasWalked plan first left reader engine before now
 begun plan first left reader engine before now new grow there stands = record {
   records = [];
   stands = stands;
@@ -48,10 +48,10 @@ begun plan first left reader engine before now new grow there stands = record {
 
 -- After all records
 
-pub took_flushing : (plan : Plan) (first : Option (List ℕ)) (engine : Engine) (tail : Tail) (before now : Option Lanes) (flows : List Flow) → flows ≡ engine.flows.items → (t : TookAll plan first engine tail before now) → IsFlushing plan t.records 0 flows before now
-took_flushing plan first engine tail before now flows e t = subst (λ (fs : List Flow). IsFlushing plan t.records 0 fs before now) (sym e) (flushing_none plan t.records engine before now t.come)
+pub took_flushing : {D : Type 0} → (plan : Plan) (first : Option (List ℕ)) (engine : Engine D) (tail : Tail) (before now : Option Lanes) (flows : List FlowView) → flows ≡ engine.flows.items → (t : TookAll plan first engine tail before now) → IsFlushing plan t.records 0 flows before now
+took_flushing plan first engine tail before now flows e t = subst (λ (fs : List FlowView). IsFlushing plan t.records 0 fs before now) (sym e) (flushing_none plan t.records engine before now t.come)
 
-pub ready : (plan : Plan) → PlanFits plan → (first : Option (List ℕ)) (engine : Engine) (tail : Tail) (before now : Option Lanes) (flows : List Flow) → flows ≡ engine.flows.items → TookAll plan first engine tail before now → AreReady flows now
+pub ready : {D : Type 0} → (plan : Plan) → PlanFits plan → (first : Option (List ℕ)) (engine : Engine D) (tail : Tail) (before now : Option Lanes) (flows : List FlowView) → flows ≡ engine.flows.items → TookAll plan first engine tail before now → AreReady flows now
 ready plan fits first engine tail before now flows e h = record {
   plan = plan;
   records = h.records;
@@ -67,18 +67,18 @@ flush_stop law plan answer loud (Some bytes) records end before after trace h = 
     subst (λ (rs : List Record). Stops plan answer rs before after) (sym (law bytes plan.max all records other end k trace).0)
     (stops_at plan answer records (Flushing h.count) h.broken h.gained before after (λ quiet. absurd (loud quiet)) h.exact h.grow h.there)
 
-pub flush_stops : OneTrace → (plan : Plan) (answer : Finish) → (answer ≡ finish.ReadFault → ⊥) → (first : Option (List ℕ)) (engine : Engine) (tail : Tail) (before now after : Option Lanes) (t : TookAll plan first engine tail before now) → BreaksAtFlush plan t.records before after → LanesStop plan answer first before after
+pub flush_stops : {D : Type 0} → OneTrace → (plan : Plan) (answer : Finish) → (answer ≡ finish.ReadFault → ⊥) → (first : Option (List ℕ)) (engine : Engine D) (tail : Tail) (before now after : Option Lanes) (t : TookAll plan first engine tail before now) → BreaksAtFlush plan t.records before after → LanesStop plan answer first before after
 flush_stops law plan answer loud first engine tail before now after t h = record {
   others = others_told plan.table h.gained before after h.grow;
   stops = flush_stop law plan answer loud first t.records t.end before after t.of_input h;
 }
 
-pub all_whole : (plan : Plan) (first : Option (List ℕ)) (engine ended : Engine) (tail : Tail) (before now after : Option Lanes) (flows : List Flow) (t : TookAll plan first engine tail before now) → ended.flows.items ≡ flows → ended.other ≡ engine.other → HasEnded plan t.records flows before after → LanesWhole plan first ended tail before after
+pub all_whole : {D : Type 0} → (plan : Plan) (first : Option (List ℕ)) (engine ended : Engine D) (tail : Tail) (before now after : Option Lanes) (flows : List FlowView) (t : TookAll plan first engine tail before now) → ended.flows.items ≡ flows → ended.other ≡ engine.other → HasEnded plan t.records flows before after → LanesWhole plan first ended tail before after
 all_whole plan first engine ended tail before now after flows t items other h = record {
   records = t.records;
   end = t.end;
   of_input = t.of_input;
   tells = t.tells;
-  ended = subst (λ (fs : List Flow). HasEnded plan t.records fs before after) (sym items) h;
+  ended = subst (λ (fs : List FlowView). HasEnded plan t.records fs before after) (sym items) h;
   other = other ∙ t.come.stands.other;
 }

@@ -14,10 +14,10 @@ use Rattle.fg_report.specs.declared.tail.Tail.{Tail}
 use Rattle.fg_report.specs.declared.tail.Tail.TheVariants as tail
 use Rattle.fg_repair.specs.declared.engine.Engine.{Engine}
 use Rattle.fg_io.specs.declared.fault.Fault.{Fault}
-use Rattle.fg_repair.specs.declared.flow.Flow.{Flow}
 use Rattle.fg_results.specs.Flow.{FlowResult, IsFlowResult}
 use Rattle.fg_results.specs.Lanes.{OthersStay, PutsAll}
 use Rattle.fg_results.specs.Repair.{AreResults, lanes_of, others_of, tail_of}
+use Rattle.fg_repair.specs.View.{FlowView}
 use Rattle.fg_repair.specs.Steps.{HasTaken}
 use Rattle.fg_results.specs.Stops.{HasShown, LiesBetween, Flushing, HasGained, HasGainedPart, StopsIn}
 
@@ -43,27 +43,27 @@ AreThere ports lanes = IfSome lanes (λ told. (port : ℕ) → Contains ports po
 -- While records are taken
 
 -- One flow has taken its part of these records and has shown these bytes.
-pub record FlowStands (plan : Plan) (records : List Record) (port : ℕ) (flow : Flow) (lane : List ℕ) : Type 0 where
+pub record FlowStands (plan : Plan) (records : List Record) (port : ℕ) (flow : FlowView) (lane : List ℕ) : Type 0 where
   pub port_is : flow.sum.port ≡ port
-  pub playout_is : flow.desk.state.playout ≡ playout_of plan
-  pub taken : HasTaken (playout_of plan) port records flow.desk.state flow.sum lane
+  pub playout_is : flow.state.playout ≡ playout_of plan
+  pub taken : HasTaken (playout_of plan) port records flow.state flow.sum lane
 
 -- So has each flow of the plan, and the records of no flow are counted.
-pub record EngineStands (plan : Plan) (records : List Record) (engine : Engine) (gained : ℕ → List ℕ) : Type 0 where
+pub record EngineStands {D : Type 0} (plan : Plan) (records : List Record) (engine : Engine D) (gained : ℕ → List ℕ) : Type 0 where
   pub count : length engine.flows.items ≡ length plan.table
-  pub flows : (k : ℕ) (d : Flow) → k < length plan.table
+  pub flows : (k : ℕ) (d : FlowView) → k < length plan.table
       → FlowStands plan records (slice_index plan.table k) (slice_index_or engine.flows.items k d) (gained (slice_index plan.table k))
   pub other : engine.other ≡ others_of plan.table records
 
 -- It stands so after few records.
-pub record IsRunning (plan : Plan) (engine : Engine) : Type 0 where
+pub record IsRunning {D : Type 0} (plan : Plan) (engine : Engine D) : Type 0 where
   pub records : List Record
   pub gained : ℕ → List ℕ
   pub stands : EngineStands plan records engine gained
   pub few : length records < 2 ^ 43
 
 -- It stands so, and each flow's lane is there and has gained what the flow has shown.
-pub record HasCome (plan : Plan) (records : List Record) (engine : Engine) (before after : Option Lanes) : Type 0 where
+pub record HasCome {D : Type 0} (plan : Plan) (records : List Record) (engine : Engine D) (before after : Option Lanes) : Type 0 where
   pub gained : ℕ → List ℕ
   pub stands : EngineStands plan records engine gained
   pub grow : GrowAll before plan.table gained after
@@ -93,8 +93,8 @@ pub record LanesStop (plan : Plan) (answer : Finish) (first : Option (List ℕ))
   pub stops : StopsIn plan answer first before after
 
 -- The reader stands after the records that the engine has taken.
-pub record HasWalked
-    (plan : Plan) (first now : Option (List ℕ)) (reader : ReaderState) (engine : Engine) (before after : Option Lanes) : Type 0 where
+pub record HasWalked {D : Type 0}
+    (plan : Plan) (first now : Option (List ℕ)) (reader : ReaderState) (engine : Engine D) (before after : Option Lanes) : Type 0 where
   pub records : List Record
   pub stands : StandsAfter reader first now records
   pub come : HasCome plan records engine before after
@@ -112,8 +112,8 @@ TellsTail (NotTrace n) told = ⊥
 TellsTail end told = told ≡ tail_of end
 
 -- All records of the trace were taken, and it ends so.
-pub record TookAll
-    (plan : Plan) (first : Option (List ℕ)) (engine : Engine) (tail : Tail) (before after : Option Lanes) : Type 0 where
+pub record TookAll {D : Type 0}
+    (plan : Plan) (first : Option (List ℕ)) (engine : Engine D) (tail : Tail) (before after : Option Lanes) : Type 0 where
   pub records : List Record
   pub end : Ending
   pub of_input : IfSome first (λ bytes. IsTrace bytes plan.max records end)
@@ -124,23 +124,23 @@ pub record TookAll
 -- At the end
 
 -- One flow is flushed or not.
-abbrev pub FlowEnds : Bool → Plan → List Record → ℕ → Flow → List ℕ → Type 0
+abbrev pub FlowEnds : Bool → Plan → List Record → ℕ → FlowView → List ℕ → Type 0
 FlowEnds true plan records port flow lane =
     IsFlowResult (playout_of plan) records port (record { lane = lane; sum = flow.sum })
 FlowEnds false plan records port flow lane = FlowStands plan records port flow lane
 
 -- The first flows are flushed.
 pub record IsFlushing
-    (plan : Plan) (records : List Record) (count : ℕ) (flows : List Flow) (before after : Option Lanes) : Type 0 where
+    (plan : Plan) (records : List Record) (count : ℕ) (flows : List FlowView) (before after : Option Lanes) : Type 0 where
   pub gained : ℕ → List ℕ
   pub long : length flows ≡ length plan.table
-  pub ends : (k : ℕ) (d : Flow) → k < length plan.table
+  pub ends : (k : ℕ) (d : FlowView) → k < length plan.table
       → FlowEnds (nat_lt k count) plan records (slice_index plan.table k) (slice_index_or flows k d) (gained (slice_index plan.table k))
   pub grow : GrowAll before plan.table gained after
   pub there : AreThere plan.table after
 
 -- The flows have taken some records, as a plan has it, and none is flushed.
-pub record AreReady (flows : List Flow) (lanes : Option Lanes) : Type 0 where
+pub record AreReady (flows : List FlowView) (lanes : Option Lanes) : Type 0 where
   pub plan : Plan
   pub records : List Record
   pub before : Option Lanes
@@ -161,20 +161,20 @@ pub record BreaksAtFlush (plan : Plan) (records : List Record) (before after : O
       ⊎ ((broken ≡ Some flow) × HasGainedPart plan records (Flushing count) flow (gained flow))
 
 -- The flows' counts.
-abbrev pub sums_of : List Flow → List FlowSum
+abbrev pub sums_of : List FlowView → List FlowSum
 sums_of flows = map (λ flow. flow.sum) flows
 
 -- All flows are flushed: these are the results.
 pub record HasEnded
-    (plan : Plan) (records : List Record) (flows : List Flow) (before after : Option Lanes) : Type 0 where
+    (plan : Plan) (records : List Record) (flows : List FlowView) (before after : Option Lanes) : Type 0 where
   pub results : List FlowResult
   pub are_results : AreResults plan records results
   pub sums : map (λ result. result.sum) results ≡ sums_of flows
   pub puts : PutsAll before plan.table (lanes_of results) after
 
 -- The lanes are those of the input's trace.
-pub record LanesWhole
-    (plan : Plan) (first : Option (List ℕ)) (engine : Engine) (tail : Tail) (before after : Option Lanes) : Type 0 where
+pub record LanesWhole {D : Type 0}
+    (plan : Plan) (first : Option (List ℕ)) (engine : Engine D) (tail : Tail) (before after : Option Lanes) : Type 0 where
   pub records : List Record
   pub end : Ending
   pub of_input : IfSome first (λ bytes. IsTrace bytes plan.max records end)

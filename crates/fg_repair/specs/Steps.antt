@@ -10,7 +10,6 @@ use Rattle.fg_shape.specs.Playout.{Playout, PlayoutFits}
 use Rattle.fg_desk.specs.declared.desk.Played.{Played}
 use Rattle.fg_playout.specs.declared.reply.Reply.{Reply}
 use Rattle.fg_playout.specs.declared.reply.Reply.TheVariants.{Admitted, Duplicate, Conflict, Late, NotStarted, BeforeStart, Ahead, Crowded}
-use Rattle.fg_desk.specs.Contents.{Contents, kept_from}
 use Rattle.fg_playout.specs.State.{State, opening}
 use Rattle.fg_playout.specs.Play.{Play, Shown}
 use Rattle.fg_playout.specs.Run.{Arrival, carries, protects, refused, Takes, TakesAll}
@@ -144,13 +143,9 @@ pub record CountsWithin (sum : FlowSum) (mark : ℕ) : Type 0 where
   pub inconsistent : sum.inconsistent ≤ mark
   pub gaps : gaps_end sum.gaps ≤ mark
 
--- The play that was just made on a desk, which keeps what it showed.
-abbrev pub play_on : Played → Contents → Play
-play_on played desk = record {
-  first = played.first;
-  shown = kept_from desk played.first played.count;
-  outcome = played.verdict;
-}
+-- A play, as its answer and what it shows tell it.
+abbrev pub played_as : Played → List Shown → Play
+played_as played shown = record { first = played.first; shown = shown; outcome = played.verdict }
 
 -- The port's lane has gained a front of the piece.
 abbrev pub GrowsPart : Option Lanes → ℕ → List ℕ → Option Lanes → Type 0

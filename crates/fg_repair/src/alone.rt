@@ -1,25 +1,69 @@
-//! The repair on one thread.
-ghost use Rattle.std.specs.Prelude.{◌≡◌, ◌+◌, ◌≤◌, ◌++◌, ℕ, Option, None, List, [], ◌∷◌, length, IfOk, OnOk, OnErr};
-ghost use Rattle.fg_io.specs.Faults.{Counts, CountsFaults};
-ghost use Rattle.fg_io.specs.Sink.{Gains, GainsPart};
-ghost use Rattle.fg_trace.specs.Reader.{StandsAfter};
-ghost use Rattle.fg_trace.specs.Finish.{IsFault};
-ghost use Rattle.fg_flows.specs.Plan.{PlanFits};
-ghost use Rattle.fg_report.specs.Text.{report_of};
+//! The repair on one thread, over a desk for each flow.
+ghost use Rattle.std.specs.Prelude.{◌≡◌, [], ◌∷◌, length, All, IfOk};
+ghost use Rattle.fg_io.specs.Faults.{CountsFaults};
+ghost use Rattle.fg_flows.specs.Plan.{PlanFits, playout_of};
+ghost use Rattle.fg_playout.specs.State.{opening};
 ghost use Rattle.fg_results.specs.Contract.{IsRepair};
-ghost use Rattle.fg_repair.specs.Engine.{sums_of, told_finish, answer_of};
 
-use crate::engine::Engine;
-use crate::flow::Flow;
+use crate::records::{give_up, repair_windows};
+use crate::window::WindowState;
+use fg_desk::{Desk, Played, Reply};
 use fg_flows::Plan;
-use fg_io::laws::parts_of_writes;
-use fg_io::{Fault, Outlet, Sink, Source};
-use fg_report::{FlowSum, ReportFault, Tail, write_report};
+use fg_io::{Outlet, Sink, Source};
 use fg_results::Repair;
-use fg_results::laws::{one_flow_result, results_exist, stops_leave_parts};
-use fg_trace::laws::{one_trace, read_as_far_as_needed};
-use fg_trace::{Finish, Reader, TraceFault};
+use fg_shape::Shape;
+use fg_trace::Finish;
+use fg_words::{Shared, Word};
 use std::alloc::{AllocError, Global};
+
+/// A desk keeps the words of its last plays, so they are read where they stand.
+impl WindowState for Desk {
+    ghost use Rattle.fg_desk.specs.Contents.{kept_from};
+
+    ghost state = { λ desk. desk.state };
+
+    ghost shows = { λ desk played. kept_from desk played.first played.count };
+
+    #[inline]
+    fn due(&self, seq: u16) -> bool {
+        self.due(seq)
+    }
+
+    #[inline]
+    fn spare(&mut self) -> Option<Shared> {
+        self.spare()
+    }
+
+    #[inline]
+    fn admit_media(&mut self, seq: u16, share: Shared) -> Reply {
+        self.admit_media(seq, share)
+    }
+
+    #[inline]
+    fn admit_parity(&mut self, base: u16, shape: Shape, share: Shared) -> Reply {
+        self.admit_parity(base, shape, share)
+    }
+
+    #[inline]
+    fn play(&mut self) -> Played {
+        self.play_in_place()
+    }
+
+    #[inline]
+    fn flush_step(&mut self) -> Option<Played> {
+        self.flush_step_in_place()
+    }
+
+    #[inline]
+    fn word(&self, played: Played, i: u32) -> Option<&Word> {
+        self.own_word(played.first + u64::from(i))
+    }
+
+    #[inline]
+    fn repaired(&self, played: Played, i: u32) -> bool {
+        self.repaired(played.first + u64::from(i))
+    }
+}
 
 /// The repair on the caller's thread alone, by [`repair_alone`].
 pub struct Alone;
@@ -63,120 +107,22 @@ pub fn repair_alone<S: Source, K: Sink, O: Outlet>(
         ((K.faults out.old, K.faults out.new) ∷ (O.faults lanes.old, O.faults lanes.new) ∷ []) }
     ensures fixed { S.fixed input.new ≡ S.fixed input.old }
 {
-    match repair(alloc, plan, input, out, lanes) {
-        Ok(finish) => finish,
-        Err(fault) => fault.into(),
+    match open_desks(alloc, plan) {
+        Ok(desks) => repair_windows(alloc, plan, desks, input, out, lanes),
+        Err(AllocError) => give_up(plan, input, out, lanes),
     }
 }
 
-/// Repairs the flows of a trace. The first fault ends it.
-fn repair<S: Source, K: Sink, O: Outlet>(
-    alloc: Global,
-    plan: &Plan,
-    input: &mut S,
-    out: &mut K,
-    lanes: &mut O,
-) -> Result<Finish, Fault>
+/// An empty desk for each of the plan's flows, in their order. All their memory is taken here.
+fn open_desks(alloc: Global, plan: &Plan) -> Result<Vec<Desk>, AllocError>
     requires { PlanFits plan.now }
-    ensures repairs { IsRepair plan.now (answer_of result) (S.left input.old) (S.left input.new) O.lanes lanes.old lanes.new
-        K.written out.old out.new }
-    ensures ending { IfOk result (λ finish. ¬ IsFault finish) }
-    ensures faults { Counts result ((S.faults input.old, S.faults input.new) ∷ [])
-        ((K.faults out.old, K.faults out.new) ∷ (O.faults lanes.old, O.faults lanes.new) ∷ []) }
-    ensures fixed { S.fixed input.new ≡ S.fixed input.old }
+    ensures { IfOk result (λ desks. (length desks.items ≡ length plan.now.table)
+        × All (λ desk. desk.state ≡ opening (playout_of plan.now)) desks.items) }
 {
-    // What is no trace has a result for each flow too. Where lanes stop, they have gained parts of the results. And what a
-    // reader has read is as far as each answer needs.
-    results_exist();
-    stops_leave_parts();
-    one_trace();
-    read_as_far_as_needed();
-    let mut reader = Reader::new(alloc, plan.max)?;
-    match reader.start(input) {
-        Ok(()) => repair_records(alloc, plan, &mut reader, input, out, lanes),
-        Err(TraceFault::NotTrace(place)) => Ok(Finish::NotTrace(place)),
-        Err(TraceFault::ReadFault) => Err(Fault::Read),
-        Err(TraceFault::Cut(_)) => unreachable!(),
-        Err(TraceFault::TooLong(_)) => unreachable!(),
+    let count = plan.table.count();
+    let mut desks = Vec::with_capacity(alloc, count)?;
+    for _ in 0..count {
+        desks.push(Desk::new(alloc, plan.window, plan.depth)?)?;
     }
-}
-
-/// Repairs the flows of a trace whose magic the reader has found.
-fn repair_records<S: Source, K: Sink, O: Outlet>(
-    alloc: Global,
-    plan: &Plan,
-    reader: &mut Reader,
-    input: &mut S,
-    out: &mut K,
-    lanes: &mut O,
-) -> Result<Finish, Fault>
-    requires fits { PlanFits plan.now }
-    requires begun { (first : Option (List ℕ)) × StandsAfter reader.old first (S.left input.old) [] }
-    requires open { reader.old.kept ≡ None }
-    requires max { reader.old.max ≡ plan.now.max }
-    requires bounded { reader.old.place + length reader.old.held ≤ reader.old.max + 1 }
-    ensures repairs { (first : Option (List ℕ)) → StandsAfter reader.old first (S.left input.old) []
-        → IsRepair plan.now (answer_of result) first (S.left input.new) O.lanes lanes.old lanes.new
-        K.written out.old out.new }
-    ensures ending { IfOk result (λ finish. ¬ IsFault finish) }
-    ensures faults { Counts result ((S.faults input.old, S.faults input.new) ∷ [])
-        ((K.faults out.old, K.faults out.new) ∷ (O.faults lanes.old, O.faults lanes.new) ∷ []) }
-    ensures fixed { S.fixed input.new ≡ S.fixed input.old }
-{
-    // The lanes are those of the one trace, and their results the ones that the report tells. Where they stop, they have
-    // gained parts of those.
-    one_trace();
-    one_flow_result();
-    stops_leave_parts();
-    read_as_far_as_needed();
-    let mut engine = Engine::new(alloc, plan)?;
-    let sums = Vec::with_capacity(alloc, engine.flows.len())?;
-    let tail = engine.write_lanes(alloc, plan, reader, input, lanes)?;
-    report(alloc, engine, sums, tail, out)?;
-    Ok(finish_at(tail))
-}
-
-/// Writes the report of the flows. `sums` is empty, and has room for their counts.
-fn report<K: Sink>(
-    alloc: Global,
-    engine: Engine,
-    sums: Vec<FlowSum>,
-    tail: Tail,
-    out: &mut K,
-) -> Result<(), Fault>
-    requires { sums.items ≡ [] }
-    ensures whole { OnOk result (Gains (K.written out.old)
-        (report_of (sums_of engine.flows.items) engine.other tail) (K.written out.new)) }
-    ensures part { OnErr result (GainsPart (K.written out.old)
-        (report_of (sums_of engine.flows.items) engine.other tail) (K.written out.new)) }
-    ensures faults { Counts result [] ((K.faults out.old, K.faults out.new) ∷ []) }
-{
-    parts_of_writes();
-    let sums = add_sums(sums, engine.flows)?;
-    match write_report(alloc, &sums, engine.other, tail, out) {
-        Ok(()) => Ok(()),
-        Err(ReportFault::WriteFault) => Err(Fault::Write),
-        Err(ReportFault::Memory) => Err(Fault::Memory),
-    }
-}
-
-/// Adds the flows' counts to `sums`.
-fn add_sums(mut sums: Vec<FlowSum>, flows: Vec<Flow>) -> Result<Vec<FlowSum>, AllocError>
-    ensures { IfOk result (λ all. all.items ≡ sums.items ++ sums_of flows.items) }
-{
-    for flow in flows {
-        sums.push(flow.sum)?;
-    }
-    Ok(sums)
-}
-
-/// The answer to a trace with this tail.
-fn finish_at(tail: Tail) -> Finish
-    ensures { result ≡ told_finish tail }
-{
-    match tail {
-        Tail::Ended => Finish::Done,
-        Tail::Cut(place) => Finish::Cut(place),
-        Tail::TooLong(place) => Finish::TooLong(place),
-    }
+    Ok(desks)
 }

@@ -1,5 +1,5 @@
 //! All flows of a repair, from the first record to the end of the lanes.
-ghost use Rattle.std.specs.Prelude.{◌≡◌, ◌≤◌, ◌<◌, ◌++◌, ℕ, Option, List, [], ◌∷◌, None, IfOk, IfErr, IfSome, IfNone, OnOk, OnErr};
+ghost use Rattle.std.specs.Prelude.{◌≡◌, ◌≤◌, ◌<◌, ◌++◌, ℕ, Option, List, [], ◌∷◌, length, All, None, IfOk, IfErr, IfSome, IfNone, OnOk, OnErr};
 ghost use Rattle.fg_io.specs.Faults.{Counts};
 ghost use Rattle.fg_io.specs.Outlet.{Lanes};
 ghost use Rattle.fg_trace.specs.Finish.{finish_after};
@@ -7,10 +7,12 @@ ghost use Rattle.fg_trace.specs.Reader.{StandsAfter};
 ghost use Rattle.fg_trace.specs.Reading.{HasReached};
 ghost use Rattle.fg_trace.specs.Trace.{Record};
 ghost use Rattle.fg_flows.specs.declared.Plan.{Plan};
-ghost use Rattle.fg_flows.specs.Plan.{PlanFits};
+ghost use Rattle.fg_flows.specs.Plan.{PlanFits, playout_of};
+ghost use Rattle.fg_playout.specs.State.{opening};
 ghost use Rattle.fg_repair.specs.Engine.{EngineStands, IsRunning, HasCome, BreaksAfter, LanesStop, HasWalked, HasRead, TookAll, told_finish, IsFlushing, AreReady, HasEnded, BreaksAtFlush, LanesWhole, GrowAll, AreThere, MakesFirst};
 
 use crate::flow::Flow;
+use crate::window::WindowState;
 use fg_flows::laws::one_flow_has_a_port;
 use fg_flows::{Plan, Table};
 use fg_io::{Fault, Outlet, Source, put};
@@ -22,24 +24,27 @@ use std::alloc::{AllocError, Global};
 
 /// The flows in the order of the plan, and what they share.
 #[derive(Drop)]
-pub(crate) struct Engine {
-    pub(crate) flows: Vec<Flow>,
+pub(crate) struct Engine<D: WindowState> {
+    pub(crate) flows: Vec<Flow<D>>,
     /// The bytes that a play adds to a lane. It is filled again and again.
     pub(crate) piece: Vec<u8>,
     /// Records on a port of no flow.
     pub(crate) other: u64,
 }
 
-impl Engine {
-    /// The flows of the plan, before the first record. All their memory is taken here.
-    pub(crate) fn new(alloc: Global, plan: &Plan) -> Result<Engine, AllocError>
-        requires { PlanFits plan.now }
+impl<D: WindowState> Engine<D> {
+    /// The flows of the plan over these windows, which are in their order, before the first record. All further memory is
+    /// taken here.
+    pub(crate) fn new(alloc: Global, plan: &Plan, windows: Vec<D>) -> Result<Engine<D>, AllocError>
+        requires fits { PlanFits plan.now }
+        requires count { length windows.items ≡ length plan.now.table }
+        requires empty { All (λ window. D.state window ≡ opening (playout_of plan.now)) windows.items }
         ensures { IfOk result (λ engine. EngineStands plan.now [] engine (λ _. [])) }
     {
-        let count = plan.table.count();
-        let mut flows = Vec::with_capacity(alloc, count)?;
-        for i in 0..count {
-            flows.push(Flow::new(alloc, plan.table.port(i), plan.window, plan.depth)?)?;
+        let mut flows = Vec::with_capacity(alloc, windows.len())?;
+        for window in windows {
+            let port = plan.table.port(flows.len());
+            flows.push(Flow::new(alloc, port, window))?;
         }
         let piece = Vec::with_capacity(alloc, plan.window as usize * PAYLOAD_LIMIT)?;
         Ok(Engine {
@@ -214,7 +219,11 @@ fn make_lanes<O: Outlet>(table: &Table, lanes: &mut O) -> Result<(), Fault>
 }
 
 /// Flushes the flows, in their order.
-fn flush<O: Outlet>(flows: &mut [Flow], piece: &mut Vec<u8>, lanes: &mut O) -> Result<(), Fault>
+fn flush<D: WindowState, O: Outlet>(
+    flows: &mut [Flow<D>],
+    piece: &mut Vec<u8>,
+    lanes: &mut O,
+) -> Result<(), Fault>
     requires { AreReady flows.old (O.lanes lanes.old) }
     ensures ends { OnOk result ((plan : Plan) (records : List Record) (before : Option Lanes) → PlanFits plan
         → IsFlushing plan records 0 flows.old before (O.lanes lanes.old)

@@ -1,13 +1,13 @@
 //! One flow of a repair.
-ghost use Rattle.std.specs.Prelude.{◌≡◌, ◌≢◌, ◌<◌, ℕ, List, [], ◌∷◌, IfOk, OnOk, OnErr};
+ghost use Rattle.std.specs.Prelude.{◌≡◌, ◌≢◌, ◌<◌, ℕ, List, [], ◌∷◌, length, IfOk, OnOk, OnErr};
 ghost use Rattle.fg_io.specs.Faults.{Counts};
 ghost use Rattle.fg_trace.specs.Trace.{Record};
 ghost use Rattle.fg_fechead.specs.declared.Parity.{Parity as ParityRead};
 ghost use Rattle.fg_fechead.specs.ParityDatagram.{IsParityDatagram};
 ghost use Rattle.fg_shape.specs.declared.kind.Kind.{Kind as KindOf};
 ghost use Rattle.fg_shape.specs.Kind.{port_of};
-ghost use Rattle.fg_shape.specs.Playout.{PlayoutFits};
-ghost use Rattle.fg_playout.specs.State.{State};
+ghost use Rattle.fg_shape.specs.Playout.{Playout};
+ghost use Rattle.fg_playout.specs.State.{State, opening};
 ghost use Rattle.fg_playout.specs.Admission.{IsDue};
 ghost use Rattle.fg_playout.specs.Room.{HasRoom, farthest_limit};
 ghost use Rattle.fg_playout.specs.Run.{Arrival, ArePlaysDue, Takes, IsFlush};
@@ -15,11 +15,12 @@ ghost use Rattle.fg_playout.specs.Laws.{HavePlayed, AreFlushSteps};
 ghost use Rattle.fg_desk.specs.Arrivals.{StaysWithin, FlushesWithin};
 ghost use Rattle.fg_results.specs.Flow.{IsReadAs, lane_of};
 ghost use Rattle.fg_repair.specs.Steps.{HasTaken, IsUnderway, TakesRecord, BreaksAtRecord, EndsFlow, BreaksAtEnd};
-ghost use Rattle.fg_repair.specs.Steps.{CountsWithin, Grows, GrowsPart, HaveShown, BreakOff, AdmitsDatagram, BreaksAtDatagram, with_plays, play_on};
+ghost use Rattle.fg_repair.specs.Steps.{CountsWithin, Grows, GrowsPart, HaveShown, BreakOff, AdmitsDatagram, BreaksAtDatagram, with_plays, played_as};
 
 use crate::counts::count_answer;
 use crate::play::fill;
-use fg_desk::{Desk, Played, Reply};
+use crate::window::WindowState;
+use fg_desk::{Played, Reply};
 use fg_fechead::laws::parity_datagrams_read_one_way;
 use fg_fechead::parity_share;
 use fg_flows::Kind;
@@ -32,22 +33,33 @@ use fg_report::{FlowSum, Gaps, Marks};
 use fg_rtp::laws::media_datagrams_read_one_way;
 use fg_rtp::media_share;
 use std::alloc::{AllocError, Global};
+use std::marker::Model;
 
-/// A flow: its desk, and what is counted of it.
+/// A flow: its windows, and what is counted of it.
 #[derive(Drop)]
-pub(crate) struct Flow {
-    pub(crate) desk: Desk,
+pub(crate) struct Flow<D: WindowState> {
+    pub(crate) window: D,
     pub(crate) sum: FlowSum,
 }
 
-impl Flow {
-    /// The flow on this port, before its first record.
-    pub(crate) fn new(alloc: Global, port: u16, window: u32, depth: u32) -> Result<Flow, AllocError>
-        requires { PlayoutFits (record { window = window; depth = depth }) }
-        ensures { IfOk result (λ flow. HasTaken (record { window = window; depth = depth }) port [] flow.desk.state flow.sum []) }
+impl<D: WindowState> Model for Flow<D> {
+    ghost use Rattle.fg_repair.specs.View.{FlowView, view_code};
+
+    ghost Value = { FlowView };
+
+    ghost coded = { view_code };
+
+    ghost view = { λ a. record { state = D.state a.window; sum = a.sum } };
+}
+
+impl<D: WindowState> Flow<D> {
+    /// The flow on this port over these windows, before its first record.
+    pub(crate) fn new(alloc: Global, port: u16, window: D) -> Flow<D>
+        ensures { (playout : Playout) → D.state window ≡ opening playout
+            → HasTaken playout port [] result.state result.sum [] }
     {
-        Ok(Flow {
-            desk: Desk::new(alloc, window, depth)?,
+        Flow {
+            window,
             sum: FlowSum {
                 port,
                 shown: 0,
@@ -60,7 +72,7 @@ impl Flow {
                 row: Marks::default(),
                 gaps: Gaps::new(alloc),
             },
-        })
+        }
     }
 
     /// Takes a datagram that came on the flow's port of this kind: plays what is due before it, and admits it or counts why
@@ -73,22 +85,22 @@ impl Flow {
         datagram: &[u8],
         lanes: &mut O,
     ) -> Result<(), Fault>
-        requires underway { IsUnderway self.old.desk.state.playout self.old.sum.port
-            self.old.desk.state self.old.sum }
+        requires underway { IsUnderway self.old.state.playout self.old.sum.port
+            self.old.state self.old.sum }
         ensures takes { OnOk result ((records : List Record) (r : Record) (lane : List ℕ)
-            → HasTaken self.old.desk.state.playout self.old.sum.port records
-            self.old.desk.state self.old.sum lane
+            → HasTaken self.old.state.playout self.old.sum.port records
+            self.old.state self.old.sum lane
             → r.datagram ≡ datagram.now → port_of self.old.sum.port kind ≡ r.port
-            → TakesRecord self.old.desk.state.playout self.old.sum.port records r lane
-            self.new.desk.state self.new.sum (O.lanes lanes.old) (O.lanes lanes.new)) }
+            → TakesRecord self.old.state.playout self.old.sum.port records r lane
+            self.new.state self.new.sum (O.lanes lanes.old) (O.lanes lanes.new)) }
         ensures breaks { OnErr result ((records : List Record) (r : Record) (lane : List ℕ)
-            → HasTaken self.old.desk.state.playout self.old.sum.port records
-            self.old.desk.state self.old.sum lane
+            → HasTaken self.old.state.playout self.old.sum.port records
+            self.old.state self.old.sum lane
             → r.datagram ≡ datagram.now → port_of self.old.sum.port kind ≡ r.port
-            → BreaksAtRecord self.old.desk.state.playout self.old.sum.port records r lane
+            → BreaksAtRecord self.old.state.playout self.old.sum.port records r lane
             (O.lanes lanes.old) (O.lanes lanes.new)) }
         ensures port { self.new.sum.port ≡ self.old.sum.port }
-        ensures playout { self.new.desk.state.playout ≡ self.old.desk.state.playout }
+        ensures playout { self.new.state.playout ≡ self.old.state.playout }
         ensures faults { Counts result [] ((O.faults lanes.old, O.faults lanes.new) ∷ []) }
     {
         // What a flow has come to is said of its run: how runs join, stay within the limits and are counted, that what is taken
@@ -115,17 +127,17 @@ impl Flow {
         piece: &mut Vec<u8>,
         lanes: &mut O,
     ) -> Result<(), Fault>
-        requires underway { IsUnderway self.old.desk.state.playout self.old.sum.port
-            self.old.desk.state self.old.sum }
+        requires underway { IsUnderway self.old.state.playout self.old.sum.port
+            self.old.state self.old.sum }
         ensures ends { OnOk result ((records : List Record) (lane : List ℕ)
-            → HasTaken self.old.desk.state.playout self.old.sum.port records
-            self.old.desk.state self.old.sum lane
-            → EndsFlow self.old.desk.state.playout self.old.sum.port records lane
+            → HasTaken self.old.state.playout self.old.sum.port records
+            self.old.state self.old.sum lane
+            → EndsFlow self.old.state.playout self.old.sum.port records lane
             self.new.sum (O.lanes lanes.old) (O.lanes lanes.new)) }
         ensures breaks { OnErr result ((records : List Record) (lane : List ℕ)
-            → HasTaken self.old.desk.state.playout self.old.sum.port records
-            self.old.desk.state self.old.sum lane
-            → BreaksAtEnd self.old.desk.state.playout self.old.sum.port records lane
+            → HasTaken self.old.state.playout self.old.sum.port records
+            self.old.state self.old.sum lane
+            → BreaksAtEnd self.old.state.playout self.old.sum.port records lane
             (O.lanes lanes.old) (O.lanes lanes.new)) }
         ensures port { self.new.sum.port ≡ self.old.sum.port }
         ensures faults { Counts result [] ((O.faults lanes.old, O.faults lanes.new) ∷ []) }
@@ -150,26 +162,26 @@ impl Flow {
         datagram: &[u8],
         lanes: &mut O,
     ) -> Result<Option<Reply>, Fault>
-        requires within { StaysWithin self.old.desk.state }
-        requires counts { CountsWithin self.old.sum self.old.desk.state.mark }
-        ensures admits { IfOk result (λ reply. AdmitsDatagram kind datagram.now self.old.desk.state self.old.sum
-            (O.lanes lanes.old) reply self.new.desk.state self.new.sum (O.lanes lanes.new)) }
-        ensures breaks { OnErr result (BreaksAtDatagram kind datagram.now self.old.desk.state self.old.sum.port
+        requires within { StaysWithin self.old.state }
+        requires counts { CountsWithin self.old.sum self.old.state.mark }
+        ensures admits { IfOk result (λ reply. AdmitsDatagram kind datagram.now self.old.state self.old.sum
+            (O.lanes lanes.old) reply self.new.state self.new.sum (O.lanes lanes.new)) }
+        ensures breaks { OnErr result (BreaksAtDatagram kind datagram.now self.old.state self.old.sum.port
             (O.lanes lanes.old) (O.lanes lanes.new)) }
         ensures port { self.new.sum.port ≡ self.old.sum.port }
-        ensures playout { self.new.desk.state.playout ≡ self.old.desk.state.playout }
+        ensures playout { self.new.state.playout ≡ self.old.state.playout }
         ensures faults { Counts result [] ((O.faults lanes.old, O.faults lanes.new) ∷ []) }
     {
         match kind {
             Kind::Media => {
-                let spare = self.desk.spare();
+                let spare = self.window.spare();
                 let Ok((seq, _, share)) = media_share(alloc, spare, datagram)? else {
                     return Ok(None);
                 };
                 self.play_due(piece, seq, lanes)?;
-                Ok(Some(self.desk.admit_media(seq, share)))
+                Ok(Some(self.window.admit_media(seq, share)))
             }
-            _ => Ok(admit_parity(alloc, &mut self.desk, datagram)?),
+            _ => Ok(admit_parity(alloc, &mut self.window, datagram)?),
         }
     }
 
@@ -180,83 +192,85 @@ impl Flow {
         seq: u16,
         lanes: &mut O,
     ) -> Result<(), Fault>
-        requires within { StaysWithin self.old.desk.state }
-        requires counts { CountsWithin self.old.sum self.old.desk.state.mark }
-        ensures plays { OnOk result (HaveShown (ArePlaysDue self.old.desk.state seq) self.old.desk.state self.old.sum
-            (O.lanes lanes.old) self.new.desk.state self.new.sum (O.lanes lanes.new)) }
-        ensures none_due { OnOk result (¬ IsDue self.new.desk.state seq) }
-        ensures room { OnOk result (HasRoom self.new.desk.state) }
-        ensures breaks { OnErr result (BreakOff (HavePlayed self.old.desk.state seq) self.old.sum.port
+        requires within { StaysWithin self.old.state }
+        requires counts { CountsWithin self.old.sum self.old.state.mark }
+        ensures plays { OnOk result (HaveShown (ArePlaysDue self.old.state seq) self.old.state self.old.sum
+            (O.lanes lanes.old) self.new.state self.new.sum (O.lanes lanes.new)) }
+        ensures none_due { OnOk result (¬ IsDue self.new.state seq) }
+        ensures room { OnOk result (HasRoom self.new.state) }
+        ensures breaks { OnErr result (BreakOff (HavePlayed self.old.state seq) self.old.sum.port
             (O.lanes lanes.old) (O.lanes lanes.new)) }
         ensures port { self.new.sum.port ≡ self.old.sum.port }
-        ensures playout { self.new.desk.state.playout ≡ self.old.desk.state.playout }
+        ensures playout { self.new.state.playout ≡ self.old.state.playout }
         ensures faults { Counts result [] ((O.faults lanes.old, O.faults lanes.new) ∷ []) }
     {
         runs_join();
-        while self.desk.due(seq) {
-            let played = self.desk.play_in_place();
-            put_play(&mut self.sum, piece, &self.desk, played, lanes)?;
+        while self.window.due(seq) {
+            let played = self.window.play();
+            put_play(&mut self.sum, piece, &self.window, played, lanes)?;
         }
         Ok(())
     }
 
     /// Plays while something is left to be played.
     fn play_rest<O: Outlet>(&mut self, piece: &mut Vec<u8>, lanes: &mut O) -> Result<(), Fault>
-        requires within { FlushesWithin self.old.desk.state }
-        requires counts { CountsWithin self.old.sum self.old.desk.state.mark }
-        ensures plays { OnOk result ((empty : State) × HaveShown (IsFlush self.old.desk.state) self.old.desk.state
+        requires within { FlushesWithin self.old.state }
+        requires counts { CountsWithin self.old.sum self.old.state.mark }
+        ensures plays { OnOk result ((empty : State) × HaveShown (IsFlush self.old.state) self.old.state
             self.old.sum (O.lanes lanes.old) empty self.new.sum (O.lanes lanes.new)) }
-        ensures breaks { OnErr result (BreakOff (AreFlushSteps self.old.desk.state) self.old.sum.port
+        ensures breaks { OnErr result (BreakOff (AreFlushSteps self.old.state) self.old.sum.port
             (O.lanes lanes.old) (O.lanes lanes.new)) }
         ensures port { self.new.sum.port ≡ self.old.sum.port }
         ensures faults { Counts result [] ((O.faults lanes.old, O.faults lanes.new) ∷ []) }
     {
         flushes_end();
-        while let Some(played) = self.desk.flush_step_in_place() {
-            put_play(&mut self.sum, piece, &self.desk, played, lanes)?;
+        while let Some(played) = self.window.flush_step() {
+            put_play(&mut self.sum, piece, &self.window, played, lanes)?;
         }
         Ok(())
     }
 }
 
 /// Admits a parity datagram, or says why not. There is no reply where its reader refused it.
-fn admit_parity(
+fn admit_parity<D: WindowState>(
     alloc: Global,
-    desk: &mut Desk,
+    window: &mut D,
     datagram: &[u8],
 ) -> Result<Option<Reply>, AllocError>
-    requires room { HasRoom desk.old.state }
+    requires room { HasRoom (D.state window.old) }
     ensures admits { IfOk result (λ reply. (kind : KindOf) → kind ≢ Kind.Media → (arrival : Arrival)
-        × IsReadAs kind datagram.now arrival × Takes desk.old.state arrival [] reply desk.new.state) }
+        × IsReadAs kind datagram.now arrival × Takes (D.state window.old) arrival [] reply (D.state window.new)) }
     ensures read { OnErr result ((parity : ParityRead) × IsParityDatagram datagram.now parity) }
-    ensures unchanged { OnErr result (desk.new ≡ desk.old) }
-    ensures playout { desk.new.state.playout ≡ desk.old.state.playout }
+    ensures unchanged { OnErr result (D.state window.new ≡ D.state window.old) }
+    ensures playout { (D.state window.new).playout ≡ (D.state window.old).playout }
 {
-    let spare = desk.spare();
+    let spare = window.spare();
     let Ok((parity, share)) = parity_share(alloc, spare, datagram)? else {
         return Ok(None);
     };
-    Ok(Some(desk.admit_parity(parity.base, parity.shape, share)))
+    Ok(Some(window.admit_parity(parity.base, parity.shape, share)))
 }
 
-/// Counts the play that was just made on the desk, and puts its words' payloads to the flow's lane.
-fn put_play<O: Outlet>(
+/// Counts the play that was just made, and puts its words' payloads to the flow's lane.
+fn put_play<D: WindowState, O: Outlet>(
     sum: &mut FlowSum,
     piece: &mut Vec<u8>,
-    desk: &Desk,
+    window: &D,
     played: Played,
     lanes: &mut O,
 ) -> Result<(), Fault>
     requires within { CountsWithin sum.old played.first }
     requires limit { played.first < farthest_limit }
-    ensures counts { OnOk result (sum.new ≡ with_plays sum.old played.first (play_on played desk.now ∷ [])) }
-    ensures puts { OnOk result (Grows (O.lanes lanes.old) sum.old.port (lane_of (play_on played desk.now ∷ []))
-        (O.lanes lanes.new)) }
+    requires count { played.count ≡ length (D.shows window.now played) }
+    ensures counts { OnOk result (sum.new
+        ≡ with_plays sum.old played.first (played_as played (D.shows window.now played) ∷ [])) }
+    ensures puts { OnOk result (Grows (O.lanes lanes.old) sum.old.port
+        (lane_of (played_as played (D.shows window.now played) ∷ [])) (O.lanes lanes.new)) }
     ensures part { OnErr result (GrowsPart (O.lanes lanes.old) sum.old.port
-        (lane_of (play_on played desk.now ∷ [])) (O.lanes lanes.new)) }
+        (lane_of (played_as played (D.shows window.now played) ∷ [])) (O.lanes lanes.new)) }
     ensures port { sum.new.port ≡ sum.old.port }
     ensures faults { Counts result [] ((O.faults lanes.old, O.faults lanes.new) ∷ []) }
 {
-    fill(piece, sum, desk, played)?;
+    fill(piece, sum, window, played)?;
     put(lanes, sum.port, piece.as_slice())
 }

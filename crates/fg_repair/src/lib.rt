@@ -6,5 +6,7 @@ mod counts;
 mod engine;
 mod flow;
 mod play;
+mod records;
+mod window;
 
 pub use alone::{Alone, repair_alone};

@@ -4,17 +4,17 @@ use Rattle.fg_flows.specs.declared.Plan.{Plan}
 use Rattle.fg_flows.specs.Plan.{PlanFits}
 use Rattle.fg_io.specs.Outlet.{Lanes}
 use Rattle.fg_trace.specs.Trace.{Record}
-use Rattle.fg_repair.specs.declared.flow.Flow.{Flow}
 use Rattle.fg_repair.specs.Engine.{IsFlushing, BreaksAtFlush}
 use Rattle.fg_repair.proofs.Flushing.{flushing_more, flushing_stops, flushing_all, next_stands, underway}
 use Rattle.fg_io.proofs.FaultLemmas.{on_err}
+use Rattle.fg_repair.specs.View.{FlowView}
 use Rattle.fg_repair.proofs.engine.flush.Goals as goal
 
 pub flush-requires : goal.flush-requires
 flush-requires g c =
     let i = c.loop-flow.flow-index in
     let r = c.requires in
-    let old : Flow = slice_index_or c.loop-flow.flows i c.flow-item.result in
+    let old : FlowView = slice_index_or c.loop-flow.flows i c.flow-item.result in
     let short : i < length c.loop-flow.flows = omega arith in
     let h = c.loop-flow.invariant.flushing r.plan r.records r.before r.fits r.flushing in
     record {
@@ -25,7 +25,7 @@ flush-requires g c =
 pub returns-in_err-flush-clause-breaks : goal.returns-in_err-flush-clause-breaks
 returns-in_err-flush-clause-breaks g c =
     let i = c.loop-flow.flow-index in
-    let old : Flow = slice_index_or c.loop-flow.flows i c.flow-item.result in
+    let old : FlowView = slice_index_or c.loop-flow.flows i c.flow-item.result in
     let short : i < length c.loop-flow.flows = omega arith in
     let stops : (plan : Plan) (records : List Record) (before : Option Lanes) → PlanFits plan → IsFlushing plan records 0 c.args.flows.now before (g.O.Outlet.lanes c.args.lanes.now) → BreaksAtFlush plan records before (g.O.Outlet.lanes c.flush.new.lanes) = λ plan records before fits h.
     flushing_stops c.one_flow_has_a_port.ensures plan fits.table records i c.loop-flow.flows before _ _ old short (get_or_default c.loop-flow.flows i c.flow-item.result old short) c.in_err-flush.ensures.breaks
@@ -35,7 +35,7 @@ returns-in_err-flush-clause-breaks g c =
 pub loop-flow-preserved : goal.loop-flow-preserved
 loop-flow-preserved g c =
     let i = c.loop-flow.flow-index in
-    let old : Flow = slice_index_or c.loop-flow.flows i c.flow-item.result in
+    let old : FlowView = slice_index_or c.loop-flow.flows i c.flow-item.result in
     let short : i < length c.loop-flow.flows = omega arith in
     record {
       flushing = λ plan records before fits h.

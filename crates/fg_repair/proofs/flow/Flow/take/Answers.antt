@@ -1,5 +1,6 @@
-use Rattle.std.proofs.Common.{sym, subst}
-use Rattle.fg_repair.specs.Steps.{RepliesHaveRoom}
+use Rattle.std.proofs.Common.{ap, sym, subst, ◌∙◌}
+use Rattle.fg_repair.specs.View.{FlowView}
+use Rattle.fg_repair.specs.Steps.{AdmitsDatagram, RepliesHaveRoom}
 use Rattle.fg_repair.proofs.Underway.{stays_within, counts_within, replies_have_room}
 use Rattle.fg_repair.proofs.Taking.{record_taken, record_breaks}
 use Rattle.fg_io.proofs.FaultLemmas.{on_err}
@@ -13,8 +14,8 @@ admit-requires-clause-counts g c = counts_within c.plays_reach_the_mark.ensures.
 
 pub count_answer-requires : goal.count_answer-requires
 count_answer-requires g c =
-    let state = c.args.self.now.desk.state in
-    subst RepliesHaveRoom (sym c.in_ok-reply.ensures.admits.counts)
+    let state = c.args.self.now.state in
+    subst RepliesHaveRoom (sym (ap (λ (flow : FlowView). flow.sum) c.self.view_is ∙ c.in_ok-reply.ensures.admits.counts))
     (replies_have_room c.counts_stay_within.ensures state.playout c.args.self.now.sum.port state c.args.self.now.sum c.requires.underway)
 
 pub returns-in_err-reply-clause-breaks : goal.returns-in_err-reply-clause-breaks
@@ -22,15 +23,18 @@ returns-in_err-reply-clause-breaks g c =
     let old = c.args.self.now in
     on_err _ _ (record_breaks c.media_datagrams_read_one_way.ensures.one_way c.parity_datagrams_read_one_way.ensures
     c.runs_only_add.ensures.later c.one_taking.ensures c.one_outcome.ensures.play
-    old.desk.state.playout old.sum.port c.args.kind c.args.datagram.now old.desk.state old.sum
+    old.state.playout old.sum.port c.args.kind c.args.datagram.now old.state old.sum
     (g.O.Outlet.lanes c.args.lanes.now) (g.O.Outlet.lanes c.admit.new.lanes)
-    (stays_within c.runs_stay_within.ensures.taking old.desk.state.playout old.sum.port old.desk.state old.sum c.requires.underway) c.in_err-reply.ensures.breaks)
+    (stays_within c.runs_stay_within.ensures.taking old.state.playout old.sum.port old.state old.sum c.requires.underway) c.in_err-reply.ensures.breaks)
 
 pub returns-clause-takes : goal.returns-clause-takes
 returns-clause-takes g c =
     let old = c.args.self.now in
+    let before = g.O.Outlet.lanes c.args.lanes.now in
+    let after = g.O.Outlet.lanes c.admit.new.lanes in
     record_taken c.plays_reach_the_mark.ensures.taken c.runs_join.ensures.takings c.counts_add.ensures c.each_gets_a_reply.ensures
-    old.desk.state.playout c.args.kind c.args.datagram.now old.desk.state c.admit.new.self.desk.state
-    old.sum c.admit.new.self.sum c.count_answer.new.sum c.in_ok-reply.reply
-    (g.O.Outlet.lanes c.args.lanes.now) (g.O.Outlet.lanes c.admit.new.lanes) c.requires.underway.fits.window.0
-    c.in_ok-reply.ensures.admits c.count_answer.ensures
+    old.state.playout c.args.kind c.args.datagram.now old.state (g.D.WindowState.state c.self.inside.window)
+    old.sum c.self.inside.sum c.count_answer.new.sum c.in_ok-reply.reply
+    before after c.requires.underway.fits.window.0
+    (subst (λ (flow : FlowView). AdmitsDatagram c.args.kind c.args.datagram.now old.state old.sum before c.in_ok-reply.reply flow.state flow.sum after) (sym c.self.view_is) c.in_ok-reply.ensures.admits)
+    c.count_answer.ensures

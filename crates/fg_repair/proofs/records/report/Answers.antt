@@ -3,7 +3,7 @@ use Rattle.fg_io.specs.Sink.{GainsPart}
 use Rattle.fg_report.specs.declared.flow_sum.FlowSum.{FlowSum}
 use Rattle.fg_report.specs.Text.{report_of}
 use Rattle.fg_repair.specs.Engine.{sums_of}
-use Rattle.fg_repair.proofs.alone.report.Goals as goal
+use Rattle.fg_repair.proofs.records.report.Goals as goal
 
 pub returns-in-Err-WriteFault-clause-part : goal.returns-in-Err-WriteFault-clause-part
 returns-in-Err-WriteFault-clause-part g c =

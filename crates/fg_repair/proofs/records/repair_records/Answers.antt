@@ -9,7 +9,7 @@ use Rattle.fg_repair.specs.Engine.{HasRead, LanesStop, answer_of}
 use Rattle.fg_repair.proofs.Results.{same_cause, passed_on}
 use Rattle.fg_repair.proofs.Reaching.{told_ends, read_for, fault_reached, reached_end}
 use Rattle.fg_repair.proofs.Finishing.{stopped, stopped_first, stopped_in_report, finished}
-use Rattle.fg_repair.proofs.alone.repair_records.Goals as goal
+use Rattle.fg_repair.proofs.records.repair_records.Goals as goal
 
 pub returns-in_err-engine-clause-repairs : goal.returns-in_err-engine-clause-repairs
 returns-in_err-engine-clause-repairs g c = λ first h.

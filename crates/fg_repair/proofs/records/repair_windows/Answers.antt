@@ -2,7 +2,7 @@ use Rattle.std.proofs.Common.{sym, subst}
 use Rattle.fg_trace.specs.declared.step.Finish.{Finish}
 use Rattle.fg_trace.specs.Finish.{IsFault}
 use Rattle.fg_results.specs.Contract.{IsRepair}
-use Rattle.fg_repair.proofs.alone.repair_alone.Goals as goal
+use Rattle.fg_repair.proofs.records.repair_windows.Goals as goal
 
 pub returns-in-Ok-clause-faults : goal.returns-in-Ok-clause-faults
 returns-in-Ok-clause-faults g c = record {
