@@ -83,8 +83,7 @@ pub fn run<
     parts_of_writes();
     let why = match request::read_request(alloc, words) {
         Ok(request) => {
-            let repairer = Crewed { rt, gate };
-            answer::answer(&repairer, alloc, request, input, out, lanes)
+            answer::answer(&Crewed { rt, gate }, alloc, request, input, out, lanes)
         }
         Err(AllocError) => Why::Memory,
     };
