@@ -130,10 +130,6 @@ live_entries front slots = take (length slots - slack) (drop front slots)
 abbrev pub IsEmptyPast : ℕ → List Slot → Type 0
 IsEmptyPast front slots = (k : ℕ) → front + (length slots - slack) ≤ k → slice_index_or slots k Empty ≡ Empty
 
-abbrev pub StaysPast : ℕ → List Slot → List Slot → Type 0
-StaysPast front old new =
-    (k : ℕ) → front + (length old - slack) ≤ k → slice_index_or new k Empty ≡ slice_index_or old k Empty
-
 -- What is true of the slots.
 pub record AreStored (front : ℕ) (slots : List Slot) : Type 0 where
   pub near : front ≤ slack
