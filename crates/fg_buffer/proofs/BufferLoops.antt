@@ -1,7 +1,7 @@
 -- Steps of the loops over a buffer's entries.
-use Rattle.std.proofs.Common.{◌≡◌, ◌≢◌, ◌+◌, ◌-◌, ◌<◌, ◌≤◌, ℕ, IsSome, List, ◌++◌, length, get_or, set, Option, None, Contains, refl, sym, ap, ◌∙◌, ⊎_elim, subst, arith}
-use Rattle.std.proofs.lemmas.Bool.{cases_lt, cases_eq}
-use Rattle.std.proofs.lemmas.List.{get_or_default, get_or_past, get_or_append_left, get_or-append_right, get_or-set_same, get_or-set_other, length-append, length-set}
+use Rattle.std.proofs.Common.{◌≡◌, ◌+◌, ◌-◌, ◌<◌, ◌≤◌, ℕ, IsSome, List, length, get_or, Option, None, Contains, ap, ◌∙◌, ⊎_elim, subst, arith}
+use Rattle.std.proofs.lemmas.Bool.{cases_eq}
+use Rattle.std.proofs.lemmas.List.{get_or_default, get_or_past}
 use Rattle.fg_words.specs.declared.Word.{Word}
 use Rattle.fg_peel.specs.declared.Slot.{Slot}
 use Rattle.fg_peel.specs.declared.Slot.TheVariants.{Empty}
@@ -43,44 +43,3 @@ pub one_more_has :
     → ((k : ℕ) → k < j → IsSome (words (get_or xs k 0))) → (k : ℕ) → k < j + 1 → IsSome (words (get_or xs k 0))
 one_more_has words xs j has below k less =
     ⊎_elim (λ same. rw same has) (λ other. below k (omega (arith, other))) (cases_eq k j)
-
--- One step of the move: the first part takes what the second begins with.
-module _
-    (old front back : List Slot) (i count : ℕ) (x y : Slot) (cut : old ≡ front ++ back)
-    (size : length front ≡ i + count) (some : 1 ≤ count) (within : i + count < length old)
-  where
-    pub moved_here : get_or (set front i x ++ set back 0 y) i Empty ≡ x
-    moved_here =
-        let inside : i < length front = omega arith in
-        let inside' : i < length (set front i x) = omega (arith, length-set front i x) in
-        get_or_append_left (set front i x) (set back 0 y) Empty i inside' ∙ get_or-set_same front i x Empty inside
-
-    pub moved_others :
-        (k : ℕ) → k ≢ i → k ≢ i + count → get_or (set front i x ++ set back 0 y) k Empty ≡ get_or old k Empty
-    moved_others k other later =
-        ⊎_elim
-        (λ less.
-        let less' : k < length (set front i x) = omega (arith, length-set front i x) in
-        get_or_append_left (set front i x) (set back 0 y) Empty k less' ∙ get_or-set_other front i k x Empty other
-        ∙ sym (get_or_append_left front back Empty k less) ∙ ap (λ (xs : List Slot). get_or xs k Empty) (sym cut))
-        (λ above.
-        let size' : length (set front i x) ≡ length front = length-set front i x in
-        let n : k - length front ≢ 0 = omega (arith, size, later, above) in
-        get_or-append_right (set front i x) (set back 0 y) (length front) k Empty size' above
-        ∙ get_or-set_other back 0 (k - length front) y Empty n
-        ∙ sym (get_or-append_right front back (length front) k Empty refl above)
-        ∙ ap (λ (xs : List Slot). get_or xs k Empty) (sym cut))
-        (cases_lt k (length front))
-
-    pub taken_from : (d : Slot) → get_or back 0 d ≡ get_or old (i + count) Empty
-    taken_from d =
-        let whole : length old ≡ length front + length back = ap length cut ∙ length-append front back in
-        let none : i + count - (i + count) ≡ 0 = omega arith in
-        let has : 0 < length back = omega arith in
-        let up : i + count ≤ i + count = omega arith in
-        get_or_default back 0 d Empty has ∙ ap (λ k. get_or back k Empty) (sym none)
-        ∙ sym (get_or-append_right front back (i + count) (i + count) Empty size up)
-        ∙ ap (λ (xs : List Slot). get_or xs (i + count) Empty) (sym cut)
-
-    pub taken_is : (d : Slot) → x ≡ get_or back 0 d → x ≡ get_or old (i + count) Empty
-    taken_is d is = is ∙ taken_from d

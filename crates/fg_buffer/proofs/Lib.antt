@@ -1,3 +1,5 @@
+pub mod PeeledBuffer
+pub mod HeldWords
 pub mod Choices
 pub mod LiveBounds
 pub mod LiveCalls

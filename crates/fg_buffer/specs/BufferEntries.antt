@@ -1,5 +1,5 @@
 -- A buffer of entries, the first of which stands for 100 positions before the mark, and what it is seen as.
-use Rattle.std.specs.Prelude.{◌≡◌, ◌↔◌, ◌+◌, ◌-◌, ◌<◌, ◌≤◌, ◌^◌, ℕ, zero, suc, Bool, true, false, List, take, drop, length, nat_lt, slice_index_or, Option, Some, None, IsSome, IsTrue, refl, if◌then◌else◌}
+use Rattle.std.specs.Prelude.{◌≡◌, ◌↔◌, ◌+◌, ◌-◌, ◌<◌, ◌≤◌, ℕ, zero, suc, Bool, true, false, List, take, drop, length, nat_lt, slice_index_or, Option, Some, None, IsSome, IsTrue, refl, if◌then◌else◌}
 use Rattle.std.specs.Ordering.{nat_cmp}
 use Rattle.std.specs.Coded.{Coded, code_by, coded×, coded_ℕ, coded_list}
 use Rattle.std.specs.FinMap as map
@@ -130,15 +130,11 @@ live_entries front slots = take (length slots - slack) (drop front slots)
 abbrev pub IsEmptyPast : ℕ → List Slot → Type 0
 IsEmptyPast front slots = (k : ℕ) → front + (length slots - slack) ≤ k → slice_index_or slots k Empty ≡ Empty
 
-abbrev pub StaysPast : ℕ → List Slot → List Slot → Type 0
-StaysPast front old new =
-    (k : ℕ) → front + (length old - slack) ≤ k → slice_index_or new k Empty ≡ slice_index_or old k Empty
-
 -- What is true of the slots.
-pub record AreStored (mark front : ℕ) (slots : List Slot) : Type 0 where
+pub record AreStored (front : ℕ) (slots : List Slot) : Type 0 where
   pub near : front ≤ slack
   pub some : slack ≤ length slots
-  pub entries : AreEntries mark (live_entries front slots)
+  pub few : length slots ≤ position_limit
   pub past : IsEmptyPast front slots
 
 -- The words of the entries by position.

@@ -2,4 +2,4 @@ pub mod LiveEquations
 pub mod LiveInside
 pub mod PlayoutBuffer
 pub mod BufferEntries
-pub mod SmallSlot
+pub mod SmallSlots

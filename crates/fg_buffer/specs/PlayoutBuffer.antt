@@ -1,5 +1,5 @@
 -- The buffer of a desk: the words at the 100 positions before the mark, and at those from the mark on.
-use Rattle.std.specs.Prelude.{◌≡◌, ◌+◌, ◌<◌, ◌≤◌, ◌^◌, ℕ, true, ◌&&◌, not, is_some, nat_lt, nat_le, Option, None, IsSome, if◌then◌else◌}
+use Rattle.std.specs.Prelude.{◌≡◌, ◌+◌, ◌<◌, ◌≤◌, ℕ, true, ◌&&◌, not, is_some, nat_lt, nat_le, Option, None, IsSome, if◌then◌else◌}
 use Rattle.std.specs.List.{Contains}
 use Rattle.std.specs.Option.{option_or}
 use Rattle.std.specs.Ordering.{nat_cmp}

@@ -1,9 +1,10 @@
 //! The storage of a flow's window: the words around the mark, and the live equations.
 #![tactic(auto)]
 
+mod entry_list;
 mod live_equations;
 mod playout_buffer;
-mod small_slot;
+mod small_slots;
 mod spares;
 mod watches;
 

@@ -15,6 +15,7 @@ ghost use Rattle.fg_buffer.specs.LiveEquations.{no_equations, AreLive, AreOpen, 
 ghost use Rattle.fg_buffer.specs.LiveInside.{Holds, Stands, IsOneEach, IsTaken, IsKeyed, AreKeyed, AreWithin, Moves, IsCompleteAs, IsBased, Drops};
 
 use crate::playout_buffer::PlayoutBuffer;
+use crate::spares::Spares;
 use crate::watches::Watches;
 use fg_peel::Line;
 use fg_shape::{Shape, last, slot};
@@ -39,6 +40,8 @@ pub struct LiveEquations {
     /// end here.
     earliest: u64,
     latest: u64,
+    /// The parities of lines that were retired, for the next payloads. Contracts don't see them.
+    spares: Spares,
 }
 
 impl Model for LiveEquations {
@@ -130,6 +133,7 @@ impl LiveEquations {
             keys: vec![in alloc; 0; LIVE_LIMIT]?,
             earliest: u64::MAX,
             latest: 0,
+            spares: Spares::new(alloc)?,
         })
     }
 
@@ -280,9 +284,18 @@ impl LiveEquations {
         requires { SettledAreBased buffer.now.mark buffer.now.kept self.old }
         ensures { Retires buffer.now.mark buffer.now.kept self.old self.new }
     {
-        drop_lines(&mut self.open, &mut self.places, buffer, false);
-        drop_settled(&mut self.settled, &mut self.places, buffer, self.earliest);
+        let places = &mut self.places;
+        let spares = &mut self.spares;
+        drop_lines(&mut self.open, places, spares, buffer, false);
+        drop_settled(&mut self.settled, places, spares, buffer, self.earliest);
         self.earliest = earliest_after(&self.open, &self.settled, self.earliest, buffer.mark());
+    }
+
+    /// The share of a retired line's parity, where there is one, for the next payload.
+    pub fn spare(&mut self) -> Option<Shared>
+        ensures { self.new ≡ self.old }
+    {
+        self.spares.take()
     }
 
     /// Drops all.
@@ -443,9 +456,15 @@ fn goes(lines: &Slab<Line>, key: usize, buffer: &PlayoutBuffer, complete: bool) 
     }
 }
 
-/// Drops those lines that do not survive a play up to the buffer's mark, and frees their places. `based`
-/// tells that the words below the mark are kept at the slots of all.
-fn drop_lines(lines: &mut Slab<Line>, places: &mut Places, buffer: &PlayoutBuffer, based: bool)
+/// Drops those lines that do not survive a play up to the buffer's mark, and frees their places. Their
+/// parities become spares. `based` tells that the words below the mark are kept at the slots of all.
+fn drop_lines(
+    lines: &mut Slab<Line>,
+    places: &mut Places,
+    spares: &mut Spares,
+    buffer: &PlayoutBuffer,
+    based: bool,
+)
     requires within { AreWithin lines.old }
     requires places { length places.old ≡ 512 }
     requires based { IsTrue based → (line : LiveLine) → Holds lines.old line
@@ -455,7 +474,7 @@ fn drop_lines(lines: &mut Slab<Line>, places: &mut Places, buffer: &PlayoutBuffe
 {
     for key in 0..end_of(lines) {
         if let Some(place) = retired_place(lines, key, buffer, based) {
-            lines.remove(key);
+            spares.keep(lines.remove(key).parity);
             places.release(place as usize);
         }
     }
@@ -463,7 +482,13 @@ fn drop_lines(lines: &mut Slab<Line>, places: &mut Places, buffer: &PlayoutBuffe
 
 /// Drops those settled lines that do not survive a play up to the buffer's mark, and frees their places.
 /// No last slot lies before `earliest`, and where the mark doesn't either, all survive.
-fn drop_settled(lines: &mut Slab<Line>, places: &mut Places, buffer: &PlayoutBuffer, earliest: u64)
+fn drop_settled(
+    lines: &mut Slab<Line>,
+    places: &mut Places,
+    spares: &mut Spares,
+    buffer: &PlayoutBuffer,
+    earliest: u64,
+)
     requires within { AreWithin lines.old }
     requires places { length places.old ≡ 512 }
     requires based { (line : LiveLine) → Holds lines.old line
@@ -476,7 +501,7 @@ fn drop_settled(lines: &mut Slab<Line>, places: &mut Places, buffer: &PlayoutBuf
     if buffer.mark() <= earliest {
         return;
     }
-    drop_lines(lines, places, buffer, true);
+    drop_lines(lines, places, spares, buffer, true);
 }
 
 /// A position before which no line's last slot lies. It is sought anew where the mark has passed the

@@ -1,6 +1,6 @@
 //! The buffer of entries around the mark.
 
-ghost use Rattle.std.specs.Prelude.{◌≡◌, ◌+◌, ◌-◌, ◌<◌, ◌≤◌, ◌^◌, ◌↔◌, ◌++◌, ◌∷◌, [], ℕ, pos, ◌-ℤ◌, length, slice_index_or, unwrap_or, Option, None, IsSome, IsTrue, IfOk, IfSome, IfNone};
+ghost use Rattle.std.specs.Prelude.{◌≡◌, ◌+◌, ◌-◌, ◌<◌, ◌≤◌, ◌^◌, ◌↔◌, ◌++◌, ◌∷◌, [], ℕ, pos, ◌-ℤ◌, length, take, drop, slice_index_or, Option, None, IsSome, IsTrue, IfOk, IfSome, IfNone};
 ghost use Rattle.std.specs.Option.{option_copied};
 ghost use Rattle.std.specs.FinMap.{empty, get};
 ghost use Rattle.std.specs.FinSet as set;
@@ -10,30 +10,28 @@ ghost use Rattle.fg_peel.specs.declared.Slot.{Slot};
 ghost use Rattle.fg_peel.specs.Solution.{IsSolution};
 ghost use Rattle.fg_peel.specs.Equation.{AreMedia, IsComplete};
 ghost use Rattle.fg_peel.specs.Peeling.{EndsPeeling};
-ghost use Rattle.fg_peel.specs.Slots.{word_in, equation_of, equations_of};
+ghost use Rattle.fg_peel.specs.Slots.{words_from, equation_of, equations_of, AllFitFrom};
+ghost use Rattle.fg_peel.specs.Peels.{IsPeel};
 ghost use Rattle.fg_buffer.specs.PlayoutBuffer.{opened_buffer, buffer_received, buffer_words, buffer_known, buffer_shared, IsBuffer, receives, publishes, AllLieIn, IsHighestWord, Advances};
-ghost use Rattle.fg_buffer.specs.BufferEntries.{entry_at, words_of, buffer_of, live_entries, IsEmptyPast, StaysPast, received_in, solved_in, shared_in, is_found, AreEntries, Recovers, IsLastWord, HasNoWordFrom, Forgets, forgets};
+ghost use Rattle.fg_buffer.specs.BufferEntries.{entry_at, words_of, buffer_of, received_in, solved_in, AreEntries, Recovers, forgets};
+ghost use Rattle.fg_buffer.specs.SmallSlots.{slot_of};
 
-use crate::small_slot::SmallSlot;
+use crate::entry_list::{EntryList, Placed};
+use crate::small_slots::Content;
 use crate::spares::Spares;
 use fg_peel::laws::{confluence, maximal_peelings_are_tested};
-use fg_peel::{Entry, Line, Verdict, peel_entries};
+use fg_peel::{Line, Verdict, peel_entries};
 use fg_shape::slot;
 use fg_words::{Shared, Word};
 use slab::Slab;
 use std::alloc::{AllocError, Global};
 use std::marker::Model;
-use std::mem;
 
 /// How many positions before the mark have entries.
 pub const KEPT: usize = 100;
 
-/// How many positions the mark may pass before the entries are moved. Until then they stand further on
-/// in the memory.
-const SLACK: usize = 64;
-
 /// The entries of the 100 positions before the mark and of those from the mark on. An entry is
-/// 24 bytes, and has a place of 1.3 kB elsewhere, which after `new` is touched only for a found word.
+/// 16 bytes. A word of 1.3 kB stands elsewhere, and memory for found words is touched only as they come.
 ///
 /// Before the mark an entry has the share of a kept word, which was received or solved, or a kept word
 /// that stands alone. From the mark on it has the share of a received or a solved word, or a word that
@@ -44,10 +42,7 @@ const SLACK: usize = 64;
 #[derive(Drop)]
 pub struct PlayoutBuffer {
     mark: u64,
-    /// Where the first entry stands.
-    front: usize,
-    /// The entries, and before and after them empty ones.
-    slots: Vec<SmallSlot>,
+    entries: EntryList,
     /// Whether all solved words at the mark and past it are known to be media words.
     solved_media: bool,
     spares: Spares,
@@ -56,16 +51,15 @@ pub struct PlayoutBuffer {
 impl Model for PlayoutBuffer {
     ghost use Rattle.fg_buffer.specs.PlayoutBuffer.{BufferState};
     ghost use Rattle.std.specs.Prelude.{IsTrue};
-    ghost use Rattle.fg_buffer.specs.BufferEntries.{buffer_code, buffer_of, live_entries, AreStored, SolvedAreMedia};
+    ghost use Rattle.fg_buffer.specs.BufferEntries.{buffer_code, buffer_of, AreEntries, SolvedAreMedia};
 
     ghost Value = { BufferState };
 
     ghost coded = { buffer_code };
 
-    ghost view = { λ a. buffer_of a.mark (live_entries a.front a.slots.items) };
+    ghost view = { λ a. buffer_of a.mark a.entries };
 
-    ghost invariant = { λ a. AreStored a.mark a.front a.slots.items
-        × (IsTrue a.solved_media → SolvedAreMedia (live_entries a.front a.slots.items)) };
+    ghost invariant = { λ a. AreEntries a.mark a.entries × (IsTrue a.solved_media → SolvedAreMedia a.entries) };
 }
 
 impl PlayoutBuffer {
@@ -74,15 +68,9 @@ impl PlayoutBuffer {
         requires { depth ≤ 1000 }
         ensures { IfOk result (λ buffer. buffer ≡ opened_buffer (depth + 100)) }
     {
-        let count = KEPT + depth as usize + 100 + SLACK;
-        let mut slots = Vec::with_capacity(alloc, count)?;
-        for _ in 0..count {
-            slots.push(SmallSlot::new(alloc)?)?;
-        }
         Ok(PlayoutBuffer {
             mark: 0,
-            front: 0,
-            slots,
+            entries: EntryList::new(alloc, KEPT + depth as usize + 100)?,
             solved_media: true,
             spares: Spares::new(alloc)?,
         })
@@ -100,7 +88,7 @@ impl PlayoutBuffer {
     pub fn received(&self, position: u64) -> Option<&Word>
         ensures { option_copied result ≡ get self.now.media position }
     {
-        match self.ahead(position)?.received() {
+        match self.ahead(position).received() {
             Some(share) => Some(share.word()),
             None => None,
         }
@@ -123,7 +111,7 @@ impl PlayoutBuffer {
     pub fn share(&self, position: u64) -> Option<&Shared>
         ensures { option_copied result ≡ buffer_shared self.now position }
     {
-        share_at(self.mark, live(&self.slots, self.front), position)
+        entry(self.mark, &self.entries, position).share()
     }
 
     /// Whether the word kept at a position was not received. Then there is a word.
@@ -131,14 +119,14 @@ impl PlayoutBuffer {
         ensures value { result ≡ set.contains self.now.repaired position }
         ensures word { IsTrue result → IsSome (buffer_known self.now position) }
     {
-        position < self.mark && is_found_at(self.mark, live(&self.slots, self.front), position)
+        position < self.mark && entry(self.mark, &self.entries, position).is_found()
     }
 
     /// The word at a position, also where it was found ahead of its play.
     pub fn any_word(&self, position: u64) -> Option<&Word>
         ensures { option_copied result ≡ buffer_words self.now position }
     {
-        word_at(self.mark, live(&self.slots, self.front), position)
+        entry(self.mark, &self.entries, position).word()
     }
 
     /// Whether all slots of a line have words.
@@ -161,7 +149,7 @@ impl PlayoutBuffer {
         ensures none { IfNone result ((position : ℕ) → self.now.mark ≤ position
             → buffer_words self.now position ≡ None) }
     {
-        match last_word(live(&self.slots, self.front)) {
+        match self.entries.last_word() {
             Some(last) => Some(self.mark + (last - KEPT) as u64),
             None => None,
         }
@@ -171,18 +159,18 @@ impl PlayoutBuffer {
     pub fn solved(&self, position: u64) -> Option<&Shared>
         ensures { option_copied result ≡ get self.now.solved position }
     {
-        self.ahead(position)?.solved()
+        self.ahead(position).solved()
     }
 
-    /// The entry of a position that isn't played yet, where there is one.
-    fn ahead(&self, position: u64) -> Option<&SmallSlot>
-        ensures { (received_in (unwrap_or (option_copied result) Slot.Empty) ≡ get self.now.media position)
-            × (solved_in (unwrap_or (option_copied result) Slot.Empty) ≡ get self.now.solved position) }
+    /// What the entry of a position has, if it isn't played yet.
+    fn ahead(&self, position: u64) -> Content<'_>
+        ensures { (received_in (slot_of result) ≡ get self.now.media position)
+            × (solved_in (slot_of result) ≡ get self.now.solved position) }
     {
         if self.mark <= position {
-            entry(self.mark, live(&self.slots, self.front), position)
+            entry(self.mark, &self.entries, position)
         } else {
-            None
+            Content::Nothing
         }
     }
 
@@ -199,8 +187,8 @@ impl PlayoutBuffer {
         requires near { position < self.old.mark + self.old.reach }
         ensures { self.new ≡ receives self.old position share }
     {
-        let index = place_of(self.mark, self.front, position);
-        self.slots[index].put_media(share);
+        let place = place_of(self.mark, &self.entries, position);
+        self.entries.put_media(place, share);
     }
 
     /// Puts a solved word at a position. A word that was found there goes.
@@ -210,9 +198,9 @@ impl PlayoutBuffer {
         requires none { get self.old.media position ≡ None }
         ensures { self.new ≡ publishes self.old position share }
     {
-        let index = place_of(self.mark, self.front, position);
+        let place = place_of(self.mark, &self.entries, position);
         self.solved_media = stay_media(self.solved_media, &share);
-        self.slots[index].put_solved(share);
+        self.entries.put_solved(place, share);
     }
 
     /// Forgets each word that was found ahead of its play, and each that was solved.
@@ -234,7 +222,7 @@ impl PlayoutBuffer {
     fn forget(&mut self, solved: bool)
         ensures { self.new ≡ forgets solved self.old }
     {
-        forget_live(&mut self.slots, self.front, solved);
+        self.entries.forget(solved);
         self.solved_media |= solved;
     }
 
@@ -255,13 +243,7 @@ impl PlayoutBuffer {
     {
         maximal_peelings_are_tested();
         confluence();
-        recover_live(
-            self.mark,
-            &mut self.slots,
-            self.front,
-            lines,
-            self.solved_media,
-        )
+        recover_words(self.mark, &mut self.entries, lines, self.solved_media)
     }
 
     /// Moves the mark on. What is played stays as long as it is kept.
@@ -271,12 +253,7 @@ impl PlayoutBuffer {
         requires limit { self.old.mark + count + self.old.reach + 100 ≤ position_limit }
         ensures { Advances count self.old self.new }
     {
-        self.front = move_on(
-            &mut self.slots,
-            self.front,
-            count as usize,
-            &mut self.spares,
-        );
+        self.entries.advance(count as usize, &mut self.spares);
         self.mark += u64::from(count);
     }
 
@@ -295,59 +272,26 @@ impl PlayoutBuffer {
     }
 }
 
-/// The buffer's entries among the slots.
-fn live(slots: &[SmallSlot], front: usize) -> &[SmallSlot]
-    requires front { front ≤ SLACK }
-    requires some { SLACK ≤ length slots.now }
-    ensures { result.now ≡ live_entries front slots.now }
+/// Where the entry of a position stands, or a place past all of them.
+fn place_of(mark: u64, entries: &EntryList, position: u64) -> usize
+    requires { mark + length entries.now ≤ position_limit }
+    ensures within { result ≤ length entries.now }
+    ensures ahead { mark ≤ position → position + KEPT < mark + length entries.now → result ≡ position - mark + KEPT }
+    ensures entry { slice_index_or entries.now result Slot.Empty ≡ entry_at mark entries.now position }
 {
-    &slots[front..front + (slots.len() - SLACK)]
-}
-
-/// The entry of a position, where the buffer has one.
-fn entry(mark: u64, slots: &[SmallSlot], position: u64) -> Option<&SmallSlot>
-    requires { mark + length slots.now ≤ position_limit }
-    ensures { unwrap_or (option_copied result) Slot.Empty ≡ entry_at mark slots.now position }
-{
-    let index = position.checked_add(KEPT as u64)?.checked_sub(mark)?;
-    slots.get(index as usize)
-}
-
-/// Where the entry of a position from the mark on stands among the slots.
-fn place_of(mark: u64, front: usize, position: u64) -> usize
-    requires ahead { mark ≤ position }
-    requires front { front ≤ SLACK }
-    requires limit { position ≤ position_limit }
-    ensures { result ≡ front + KEPT + (position - mark) }
-{
-    front + KEPT + (position - mark) as usize
-}
-
-/// The word at a position.
-fn word_at(mark: u64, slots: &[SmallSlot], position: u64) -> Option<&Word>
-    requires { mark + length slots.now ≤ position_limit }
-    ensures { option_copied result ≡ word_in (entry_at mark slots.now position) }
-{
-    entry(mark, slots, position)?.word()
-}
-
-/// The share at a position.
-fn share_at(mark: u64, slots: &[SmallSlot], position: u64) -> Option<&Shared>
-    requires { mark + length slots.now ≤ position_limit }
-    ensures { option_copied result ≡ shared_in (entry_at mark slots.now position) }
-{
-    entry(mark, slots, position)?.share()
-}
-
-/// Whether there is a word at a position that was not received.
-fn is_found_at(mark: u64, slots: &[SmallSlot], position: u64) -> bool
-    requires { mark + length slots.now ≤ position_limit }
-    ensures { result ≡ is_found (entry_at mark slots.now position) }
-{
-    match entry(mark, slots, position) {
-        Some(slot) => slot.is_found(),
-        None => false,
+    let count = entries.count();
+    match position.saturating_add(KEPT as u64).checked_sub(mark) {
+        Some(index) => count.min(index as usize),
+        None => count,
     }
+}
+
+/// What the entry of a position has.
+fn entry(mark: u64, entries: &EntryList, position: u64) -> Content<'_>
+    requires { mark + length entries.now ≤ position_limit }
+    ensures { slot_of result ≡ entry_at mark entries.now position }
+{
+    entries.at(place_of(mark, entries, position))
 }
 
 /// Whether the solved words are still media words where this one comes.
@@ -357,140 +301,36 @@ fn stay_media(so_far: bool, share: &Shared) -> bool
     so_far && share.word().is_media()
 }
 
-/// The position of the first entry.
-fn low_of(mark: u64) -> i64
-    requires { mark ≤ position_limit }
-    ensures { result ≡ (pos mark -ℤ pos 100) }
-{
-    mark as i64 - KEPT as i64
-}
-
 /// Peels the buffer's entries, and tells whether the words that were not received are media words and
 /// each complete equation comes out.
-fn recover_words(mark: u64, slots: &mut [SmallSlot], lines: &Slab<Line>, all_media: bool) -> bool
-    requires entries { AreEntries mark slots.old }
-    requires within { AllLieIn (buffer_of mark slots.old) lines.now }
-    requires media { IsTrue all_media → AreMedia (words_of mark slots.old) }
-    ensures { Recovers mark lines.now slots.old slots.new result }
+fn recover_words(mark: u64, entries: &mut EntryList, lines: &Slab<Line>, all_media: bool) -> bool
+    requires entries { AreEntries mark entries.old }
+    requires within { AllLieIn (buffer_of mark entries.old) lines.now }
+    requires media { IsTrue all_media → AreMedia (words_of mark entries.old) }
+    ensures { Recovers mark lines.now entries.old entries.new result }
 {
-    match peel_entries(low_of(mark), slots, lines, all_media) {
+    let start = mark.saturating_sub(KEPT as u64);
+    let below = (KEPT as u64).saturating_sub(mark) as usize;
+    match peel_placed(start, below, entries, lines, all_media) {
         Verdict::Sound => true,
         _ => false,
     }
 }
 
-/// The same of the buffer's entries among the slots.
-fn recover_live(
-    mark: u64,
-    slots: &mut [SmallSlot],
-    front: usize,
+/// Peels all but the first `below` entries, the first of which stands for the position `start`.
+fn peel_placed(
+    start: u64,
+    below: usize,
+    entries: &mut EntryList,
     lines: &Slab<Line>,
     all_media: bool,
-) -> bool
-    requires front { front ≤ SLACK }
-    requires some { SLACK ≤ length slots.old }
-    requires entries { AreEntries mark (live_entries front slots.old) }
-    requires within { AllLieIn (buffer_of mark (live_entries front slots.old)) lines.now }
-    requires media { IsTrue all_media → AreMedia (words_of mark (live_entries front slots.old)) }
-    ensures recovers { Recovers mark lines.now (live_entries front slots.old)
-        (live_entries front slots.new) result }
-    ensures past { StaysPast front slots.old slots.new }
+) -> Verdict
+    requires within { below ≤ length entries.old }
+    requires lines { AllFitFrom start (drop below entries.old) lines.now }
+    requires limit { start + length (drop below entries.old) ≤ position_limit }
+    requires media { IsTrue all_media → AreMedia (words_from start (drop below entries.old)) }
+    ensures peel { IsPeel start lines.now (drop below entries.old) (drop below entries.new) result }
+    ensures before { take below entries.new ≡ take below entries.old }
 {
-    let end = front + (slots.len() - SLACK);
-    recover_words(mark, &mut slots[front..end], lines, all_media)
-}
-
-/// Empties each of the buffer's entries from the mark on whose word stands alone or, where `solved` says
-/// so, was solved.
-fn forget_live(slots: &mut [SmallSlot], front: usize, solved: bool)
-    requires front { front ≤ SLACK }
-    requires some { SLACK ≤ length slots.old }
-    ensures forgets { Forgets solved (live_entries front slots.old) (live_entries front slots.new) }
-    ensures past { StaysPast front slots.old slots.new }
-{
-    let end = front + (slots.len() - SLACK);
-    forget_words(&mut slots[front..end], solved);
-}
-
-/// The last entry with a word, from the mark on.
-fn last_word(slots: &[SmallSlot]) -> Option<usize>
-    ensures some { IfSome result (IsLastWord slots.now) }
-    ensures none { IfNone result (HasNoWordFrom slots.now KEPT) }
-{
-    for i in (KEPT..slots.len()).rev() {
-        if slots[i].word().is_some() {
-            return Some(i);
-        }
-    }
-    None
-}
-
-/// Empties each entry from the mark on whose word stands alone or, where `solved` says so, was solved.
-fn forget_words(slots: &mut [SmallSlot], solved: bool)
-    ensures { Forgets solved slots.old slots.new }
-{
-    for i in KEPT..slots.len() {
-        slots[i].forget(solved);
-    }
-}
-
-/// Passes the first `count` of the buffer's entries, whose shares become spares, and answers where the
-/// first one then stands. The entries are moved only where no room is left after them.
-fn move_on(slots: &mut [SmallSlot], front: usize, count: usize, spares: &mut Spares) -> usize
-    requires some { 1 ≤ count }
-    requires within { count + SLACK ≤ length slots.old }
-    requires front { front ≤ SLACK }
-    requires past { IsEmptyPast front slots.old }
-    ensures front { result ≤ SLACK }
-    ensures moved { (k : ℕ) → slice_index_or slots.new (result + k) Slot.Empty
-        ≡ slice_index_or slots.old (front + count + k) Slot.Empty }
-{
-    if front + count <= SLACK {
-        empty_entries(slots, front, front + count, spares);
-        return front + count;
-    }
-    shift_down(slots, front + count, spares);
-    0
-}
-
-/// Moves each entry to the place `count` before it. The first `count` entries go, and the last ones
-/// are then empty.
-fn shift_down(slots: &mut [SmallSlot], count: usize, spares: &mut Spares)
-    requires some { 1 ≤ count }
-    requires within { count ≤ length slots.old }
-    ensures { (k : ℕ) → slice_index_or slots.new k Slot.Empty
-        ≡ slice_index_or slots.old (k + count) Slot.Empty }
-{
-    let rest = slots.len() - count;
-    take_later(slots, count, rest);
-    empty_entries(slots, rest, slots.len(), spares);
-}
-
-/// Moves what the entries `count` places later have to each of the first `rest` entries.
-fn take_later(slots: &mut [SmallSlot], count: usize, rest: usize)
-    requires some { 1 ≤ count }
-    requires within { rest + count ≤ length slots.old }
-    ensures { (k : ℕ) → k < rest
-        → slice_index_or slots.new k Slot.Empty ≡ slice_index_or slots.old (k + count) Slot.Empty }
-{
-    for i in 0..rest {
-        let (front, back) = slots.split_at_mut(i + count);
-        mem::swap(&mut front[i], &mut back[0]);
-    }
-}
-
-/// Empties the entries from one on up to another. Their shares become spares.
-fn empty_entries(slots: &mut [SmallSlot], first: usize, end: usize, spares: &mut Spares)
-    requires order { first ≤ end }
-    requires within { end ≤ length slots.old }
-    ensures below { (k : ℕ) → k < first
-        → slice_index_or slots.new k Slot.Empty ≡ slice_index_or slots.old k Slot.Empty }
-    ensures emptied { (k : ℕ) → first ≤ k → k < end
-        → slice_index_or slots.new k Slot.Empty ≡ Slot.Empty }
-    ensures above { (k : ℕ) → end ≤ k
-        → slice_index_or slots.new k Slot.Empty ≡ slice_index_or slots.old k Slot.Empty }
-{
-    for i in first..end {
-        slots[i].pass(spares);
-    }
+    peel_entries(start, &mut Placed { below, entries }, lines, all_media)
 }

@@ -232,11 +232,14 @@ impl Desk {
     }
 
     /// A share that the desk let go, where it has one, for the payload of the next datagram. It keeps
-    /// 128 at most. Somebody else may have a share of the same word.
+    /// 128 at most of payloads and 128 of parities. Somebody else may have a share of the same word.
     pub fn spare(&mut self) -> Option<Shared>
         ensures { self.new ≡ self.old }
     {
-        self.buffer.spare()
+        match self.lines.spare() {
+            Some(share) => Some(share),
+            None => self.buffer.spare(),
+        }
     }
 
     /// Admits a media datagram, or says why not.

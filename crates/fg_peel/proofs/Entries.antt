@@ -1,13 +1,13 @@
 -- Rows of entries: reads, writes and what they stand for.
-use Rattle.std.proofs.Common.{◌≡◌, ℕ, ◌+◌, ◌-◌, ◌^◌, ◌<◌, ◌≤◌, List, ◌++◌, length, get_or, set, Option, None, sym, ap, ◌∙◌, arith}
+use Rattle.std.proofs.Common.{◌≡◌, ℕ, ◌+◌, ◌-◌, ◌^◌, ◌<◌, ◌≤◌, List, ◌++◌, length, get_or, set, Option, None, refl, sym, ap, ◌∙◌, arith}
 use Rattle.std.proofs.lemmas.List.{get_or_default, get_or_append_left, get_or-append_right, set-append_left, set-append_right, length-append}
 use Rattle.std.proofs.lemmas.Bool.{le-ltb, lt-ltb}
 use Rattle.fg_words.specs.declared.Word.{Word}
 use Rattle.fg_peel.specs.declared.Slot.{Slot}
-use Rattle.fg_peel.specs.declared.Slot.TheVariants.{Empty}
+use Rattle.fg_peel.specs.declared.Slot.TheVariants.{Empty, Media, Solved, Filled}
 use Rattle.fg_peel.specs.declared.Line.{Line}
 use Rattle.fg_peel.specs.Equation.{slots}
-use Rattle.fg_peel.specs.Slots.{with_word, word_in, told_from, equation_of, FitsFrom}
+use Rattle.fg_peel.specs.Slots.{with_word, word_in, told_from, words_from, equation_of, FitsFrom}
 use Rattle.fg_shape.proofs.ShapeLemmas.{length-slots_of, get_or-slots_of}
 use Rattle.std.proofs.lemmas.List.Elements.{Contains-get_or}
 
@@ -85,3 +85,16 @@ pub fits_base : (start count : ℕ) (line : Line) → FitsFrom start count line 
 fits_base start count line fits limit =
     let first = fits_slot start count line 0 fits fits.shape.some_slot in
     omega (arith, first.1, get_or-slots_of line.base line.shape.offset line.shape.na 0 0 fits.shape.some_slot)
+
+-- an entry without a word is empty
+no_word_empty : (entry : Slot) → word_in entry ≡ None → entry ≡ Empty
+no_word_empty Empty none = refl
+no_word_empty (Media word) none = absurd (cc)
+no_word_empty (Solved word) none = absurd (cc)
+no_word_empty (Filled word) none = absurd (cc)
+
+pub missing_is_empty :
+    (start : ℕ) (entries : List Slot) (position : ℕ) → start ≤ position → words_from start entries position ≡ None
+    → get_or entries (position - start) Empty ≡ Empty
+missing_is_empty start entries position from none =
+    no_word_empty (get_or entries (position - start) Empty) (sym (told_from-entry word_in start entries position from) ∙ none)

@@ -7,7 +7,6 @@ use Rattle.fg_peel.specs.declared.Slot.{Slot}
 use Rattle.fg_peel.specs.declared.Slot.TheVariants.{Empty, Filled}
 use Rattle.fg_peel.specs.Equation.{others, sum_at}
 use Rattle.fg_peel.specs.Slots.{with_word, word_in, words_from}
-use Rattle.fg_peel.specs.Recovery.{AddsWord}
 use Rattle.fg_peel.proofs.Lists.{others-kept, others-head_dropped}
 use Rattle.fg_peel.proofs.Entries.{told_from-entry}
 use Rattle.fg_peel.proofs.Adding.{IsShort, xor_zero_short, short_xor, short_room, sum_more}
@@ -36,7 +35,8 @@ module _ (start : ℕ) (old : List Slot) (position : ℕ) (xs : List ℕ) (parit
   pub filling_adds :
       (j : ℕ) (now new : List Slot) (word : Word) → j < length xs → position - start < length old → start ≤ position
       → start ≤ get_or xs j 0 → get_or xs j 0 ≢ position → words_from start old (get_or xs j 0) ≡ Some word
-      → AddsWord now new (position - start) (get_or xs j 0 - start) → IsFilling j now → IsFilling (j + 1) new
+      → new ≡ set now (position - start) (with_word (get_or now (position - start) Empty) (word_in (get_or now (get_or xs j 0 - start) Empty)))
+      → IsFilling j now → IsFilling (j + 1) new
   filling_adds j now new word within inside from from_other differs known adds f =
       let other = get_or xs j 0 in
       let target = position - start in

@@ -13,8 +13,8 @@ use Rattle.fg_peel.specs.declared.Slot.TheVariants.{Empty, Filled}
 use Rattle.fg_peel.specs.declared.Verdict.{Verdict}
 use Rattle.fg_peel.specs.Equation.{Equation, AreAdmissible, AreMedia}
 use Rattle.fg_peel.specs.Slots.{first_position, from_first, before_first, words_from, words_at, known_at, recovered_at, equation_of, equations_of, AllFit, AllFitFrom, OnlyFills}
-use Rattle.fg_peel.specs.Peels.{Peels}
-use Rattle.fg_peel.specs.Recovery.{IsPeel, IsPeelAfter}
+use Rattle.fg_peel.specs.Peels.{Peels, IsPeel}
+use Rattle.fg_peel.specs.Recovery.{IsPeelAfter}
 use Rattle.fg_peel.proofs.Lines.{line_of_equation}
 use Rattle.fg_peel.proofs.Whole.{ends_at_closure, ends_from_known, recovered_told, recovered_since, tells_solution}
 

@@ -7,7 +7,7 @@ use Rattle.fg_peel.specs.declared.Verdict.{Verdict}
 use Rattle.fg_peel.specs.Closure.{InClosure}
 use Rattle.fg_peel.specs.Equation.{AreMedia}
 use Rattle.fg_peel.specs.Peeling.{ArePeeled, EndsPeeling}
-use Rattle.fg_peel.specs.Slots.{before_first, words_at, known_at, recovered_at, equations_of, OnlyFills}
+use Rattle.fg_peel.specs.Slots.{before_first, words_from, recovered_from, words_at, known_at, recovered_at, equations_of, OnlyFills}
 use Rattle.fg_peel.specs.Verdict.{IsVerdict, TellsSolution}
 
 -- The entries before and after it, where the first one stands for the position `low`, and its verdict.
@@ -25,3 +25,10 @@ pub record Peels (low : ℤ) (lines : Slab Line) (old new : List Slot) (answer :
   pub solution :
       AreMedia (known_at low old) → ArePeeled (equations_of lines) (known_at low old) (words_at low old)
       → TellsSolution (equations_of lines) (known_at low old) (words_at low new) answer
+
+-- What peeling leaves of a span of entries, and its verdict: only empty entries have changed, the words are the end of a
+-- maximal peeling, and the verdict is theirs.
+pub record IsPeel (start : ℕ) (lines : Slab Line) (old new : List Slot) (answer : Verdict) : Type 0 where
+  pub fills : OnlyFills old new
+  pub peeling : EndsPeeling (equations_of lines) (words_from start old) (words_from start new)
+  pub verdict : IsVerdict (recovered_from start new) (words_from start new) lines answer

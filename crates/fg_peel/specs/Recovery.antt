@@ -1,6 +1,6 @@
 -- What the private functions do: one pass over the lines makes some steps of a peeling, and a look over the entries
 -- makes the verdict. No public contract cites this file.
-use Rattle.std.specs.Prelude.{slice_set, ◌≡◌, ◌+◌, ◌-◌, ◌++◌, take, drop, ℕ, List, length, count_by, Bool, true, false, Option, Some, None, slice_index_or}
+use Rattle.std.specs.Prelude.{slice_set, ◌≡◌, ◌+◌, ◌-◌, ◌++◌, take, drop, ℕ, List, length, count_by, Bool, true, false, Option, Some, None}
 use Rattle.std.specs.List.{Contains}
 use Rattle.fg_words.specs.declared.Word.{Word}
 use Rattle.fg_words.specs.Word.{word_xor, IsMedia}
@@ -11,9 +11,9 @@ use Rattle.fg_peel.specs.declared.Slot.TheVariants.{Empty, Media, Solved, Filled
 use Rattle.fg_peel.specs.declared.span.Missing.TheVariants.{One}
 use Rattle.fg_peel.specs.declared.Verdict.{Verdict}
 use Rattle.fg_peel.specs.Equation.{Equation, slots, sum_at}
-use Rattle.fg_peel.specs.Peeling.{Step, IsPeeling, EndsPeeling, end_of, given_word}
-use Rattle.fg_peel.specs.Slots.{OnlyFills, IsMissing, words_from, recovered_from, word_in, recovered_in, with_word, equation_of, equations_of, lines_of}
-use Rattle.fg_peel.specs.Verdict.{IsVerdict}
+use Rattle.fg_peel.specs.Peeling.{Step, IsPeeling, end_of, given_word}
+use Rattle.fg_peel.specs.Slots.{OnlyFills, IsMissing, words_from, recovered_in, equation_of, lines_of}
+use Rattle.fg_peel.specs.Peels.{IsPeel}
 
 -- The equation doesn't miss just one word: nothing follows from it alone.
 abbrev pub NothingFollows : (ℕ → Option Word) → Equation → Type 0
@@ -61,11 +61,6 @@ abbrev pub Fills : ℕ → Equation → ℕ → List Slot → List Slot → Type
 Fills start equation position old new =
     new ≡ slice_set old (position - start) (Filled (given_word (words_from start old) (record { equation = equation; position = position })))
 
--- One entry has gained the word of another.
-abbrev pub AddsWord : List Slot → List Slot → ℕ → ℕ → Type 0
-AddsWord old new target other =
-    new ≡ slice_set old target (with_word (slice_index_or old target Empty) (word_in (slice_index_or old other Empty)))
-
 -- A sum after a word was added, where there is one.
 abbrev pub with_added : Word → Option Word → Word
 with_added sum (Some word) = word_xor sum word
@@ -79,14 +74,7 @@ AddsWords words equation old new = new ≡ word_xor old (sum_at words (slots equ
 abbrev pub RecoversMedia : Slot → Type 0
 RecoversMedia entry = (word : Word) → recovered_in entry ≡ Some word → IsMedia word
 
--- What peeling leaves of a span of entries, and its verdict: only empty entries have changed, the words are the end of a
--- maximal peeling, and the verdict is theirs.
-pub record IsPeel (start : ℕ) (lines : Slab Line) (old new : List Slot) (answer : Verdict) : Type 0 where
-  pub fills : OnlyFills old new
-  pub peeling : EndsPeeling (equations_of lines) (words_from start old) (words_from start new)
-  pub verdict : IsVerdict (recovered_from start new) (words_from start new) lines answer
-
--- The same past entries that stand for no position.
+-- Peeling past entries that stand for no position.
 abbrev pub IsPeelAfter : ℕ → Slab Line → List Slot → List Slot → Verdict → Type 0
 IsPeelAfter below lines old new answer =
     (rest : List Slot) × (new ≡ take below old ++ rest) × IsPeel 0 lines (drop below old) rest answer

@@ -2,30 +2,33 @@
 //! datagram recovers one lost datagram).
 #![tactic(auto)]
 
-ghost use Rattle.std.specs.Prelude.{◌≡◌, ◌+◌, ◌^◌, ◌<◌, ◌≤◌, ◌≤ℤ◌, ◌+ℤ◌, ℕ, pos, negsuc, length, map, drop, IfSome, IsTrue, Option};
+ghost use Rattle.std.specs.Prelude.{◌≡◌, ◌+◌, ◌^◌, ◌<◌, ◌≤◌, ◌≤ℤ◌, ◌+ℤ◌, ℕ, pos, negsuc, length, drop, IsTrue};
 ghost use Rattle.std.specs.Option.{option_copied};
 ghost use Rattle.fg_shape.specs.Shape.{position_limit};
 ghost use Rattle.fg_peel.specs.Equation.{AreMedia};
-ghost use Rattle.fg_peel.specs.Peels.{Peels};
-ghost use Rattle.fg_peel.specs.Slots.{word_in, words_from, words_at, AllFit, AllFitFrom};
-ghost use Rattle.fg_peel.specs.Recovery.{IsPeel, IsPeelAfter};
+ghost use Rattle.fg_peel.specs.Peels.{Peels, IsPeel};
+ghost use Rattle.fg_peel.specs.Slots.{word_in, recovered_in, words_from, words_at, AllFit, AllFitFrom};
+ghost use Rattle.fg_peel.specs.Recovery.{IsPeelAfter};
 
 use checks::verdict_on;
 use fg_shape::Shape;
 use fg_words::{Shared, Word};
 use recovery::fill_all;
 use slab::Slab;
+use slot_row::SlotRow;
+use span::Span;
 
 mod checks;
-mod entry;
+mod entry_row;
 pub mod laws;
 mod recovery;
+mod slot_row;
 mod span;
 #[cfg(test)]
 mod tests;
 
-pub use entry::Entry;
-pub use span::{Missing, Span};
+pub use entry_row::EntryRow;
+pub use span::Missing;
 
 /// What is known of the datagram at one position.
 #[derive(Drop)]
@@ -48,6 +51,17 @@ impl Slot {
         match self {
             Slot::Empty => None,
             Slot::Media(shared) | Slot::Solved(shared) => Some(shared.word()),
+            Slot::Filled(word) => Some(word),
+        }
+    }
+
+    /// The word, if equations gave one.
+    fn recovered(&self) -> Option<&Word>
+        ensures { option_copied result ≡ recovered_in self.now }
+    {
+        match self {
+            Slot::Empty | Slot::Media(_) => None,
+            Slot::Solved(shared) => Some(shared.word()),
             Slot::Filled(word) => Some(word),
         }
     }
@@ -102,7 +116,7 @@ pub fn peel(low: i64, slots: &mut [Slot], lines: &Slab<Line>) -> Verdict
     requires lines { AllFit low slots.old lines.now }
     ensures { Peels low lines.now slots.old slots.new result }
 {
-    peel_entries(low, slots, lines, false)
+    peel_slots(low, slots, lines, false)
 }
 
 /// `peel` where all words that are there are media words. Then the entries are not looked over where
@@ -114,55 +128,61 @@ pub fn peel_media(low: i64, slots: &mut [Slot], lines: &Slab<Line>) -> Verdict
     requires media { AreMedia (words_at low slots.old) }
     ensures { Peels low lines.now slots.old slots.new result }
 {
-    peel_entries(low, slots, lines, true)
+    peel_slots(low, slots, lines, true)
 }
 
-/// Either of the two, over entries of any kind. `all_media` tells that all words that are there are
-/// media words.
-pub fn peel_entries<E: Entry>(
-    low: i64,
-    slots: &mut [E],
-    lines: &Slab<Line>,
-    all_media: bool,
-) -> Verdict
+/// Either of the two. `all_media` tells that all words that are there are media words.
+fn peel_slots(low: i64, slots: &mut [Slot], lines: &Slab<Line>, all_media: bool) -> Verdict
     requires first { negsuc 99 ≤ℤ low }
     requires last { (low +ℤ pos (length slots.old)) ≤ℤ pos position_limit }
-    requires lines { AllFit low (map E.slot slots.old) lines.now }
-    requires media { IsTrue all_media → AreMedia (words_at low (map E.slot slots.old)) }
-    ensures { Peels low lines.now (map E.slot slots.old) (map E.slot slots.new) result }
+    requires lines { AllFit low slots.old lines.now }
+    requires media { IsTrue all_media → AreMedia (words_at low slots.old) }
+    ensures { Peels low lines.now slots.old slots.new result }
 {
     if low < 0 {
         let below = slots.len().min(low.unsigned_abs() as usize);
         peel_after(below, slots, lines, all_media)
     } else {
-        peel_from(low as u64, slots, lines, all_media)
+        peel_row(low as u64, slots, lines, all_media)
     }
 }
 
-/// `peel` past so many entries that stand for no position.
-fn peel_after<E: Entry>(
-    below: usize,
-    slots: &mut [E],
+/// `peel` past so many slots that stand for no position.
+fn peel_after(below: usize, slots: &mut [Slot], lines: &Slab<Line>, all_media: bool) -> Verdict
+    requires within { below ≤ length slots.old }
+    requires lines { AllFitFrom 0 (drop below slots.old) lines.now }
+    requires limit { length slots.old ≤ position_limit + below }
+    requires media { IsTrue all_media → AreMedia (words_from 0 (drop below slots.old)) }
+    ensures { IsPeelAfter below lines.now slots.old slots.new result }
+{
+    let (_, rest) = slots.split_at_mut(below);
+    peel_row(0, rest, lines, all_media)
+}
+
+/// `peel` where the first slot stands for the position `start`.
+fn peel_row(start: u64, slots: &mut [Slot], lines: &Slab<Line>, all_media: bool) -> Verdict
+    requires lines { AllFitFrom start slots.old lines.now }
+    requires limit { start + length slots.old ≤ position_limit }
+    requires media { IsTrue all_media → AreMedia (words_from start slots.old) }
+    ensures { IsPeel start lines.now slots.old slots.new result }
+{
+    peel_entries(start, &mut SlotRow { slots }, lines, all_media)
+}
+
+/// `peel` over entries of any kind, the first of which stands for the position `start`. `all_media`
+/// tells that all words that are there are media words.
+pub fn peel_entries<E: EntryRow>(
+    start: u64,
+    entries: &mut E,
     lines: &Slab<Line>,
     all_media: bool,
 ) -> Verdict
-    requires within { below ≤ length slots.old }
-    requires lines { AllFitFrom 0 (drop below (map E.slot slots.old)) lines.now }
-    requires limit { length slots.old ≤ position_limit + below }
-    requires media { IsTrue all_media → AreMedia (words_from 0 (drop below (map E.slot slots.old))) }
-    ensures { IsPeelAfter below lines.now (map E.slot slots.old) (map E.slot slots.new) result }
+    requires lines { AllFitFrom start (E.slots entries.old) lines.now }
+    requires limit { start + length (E.slots entries.old) ≤ position_limit }
+    requires media { IsTrue all_media → AreMedia (words_from start (E.slots entries.old)) }
+    ensures peel { IsPeel start lines.now (E.slots entries.old) (E.slots entries.new) result }
+    ensures rest { E.rest entries.new ≡ E.rest entries.old }
 {
-    let (_, rest) = slots.split_at_mut(below);
-    peel_from(0, rest, lines, all_media)
-}
-
-/// `peel` where the first entry stands for the position `start`.
-fn peel_from<E: Entry>(start: u64, slots: &mut [E], lines: &Slab<Line>, all_media: bool) -> Verdict
-    requires lines { AllFitFrom start (map E.slot slots.old) lines.now }
-    requires limit { start + length slots.old ≤ position_limit }
-    requires media { IsTrue all_media → AreMedia (words_from start (map E.slot slots.old)) }
-    ensures { IsPeel start lines.now (map E.slot slots.old) (map E.slot slots.new) result }
-{
-    let filled = fill_all(start, slots, lines);
-    verdict_on(&Span { start, slots }, lines, all_media, filled)
+    let filled = fill_all(start, entries, lines);
+    verdict_on(&Span { start, entries }, lines, all_media, filled)
 }

@@ -1,11 +1,10 @@
 //! A span of entries, and what it tells of a line.
 
-ghost use Rattle.std.specs.Prelude.{◌≡◌, ◌+◌, ◌^◌, ◌<◌, ◌≤◌, ◌≤ℤ◌, ◌+ℤ◌, ◌↔◌, pos, length, map, slice_index_or, None, IsTrue};
+ghost use Rattle.std.specs.Prelude.{◌≡◌, ◌+◌, ◌<◌, ◌≤◌, ◌↔◌, length, slice_index_or, None, IsTrue};
 ghost use Rattle.std.specs.Option.{option_copied};
-ghost use Rattle.fg_shape.specs.Shape.{position_limit};
 ghost use Rattle.fg_peel.specs.Recovery.{with_added};
 
-use crate::{Entry, Line};
+use crate::{EntryRow, Line};
 use fg_shape::slot;
 use fg_words::Word;
 
@@ -22,54 +21,34 @@ pub enum Missing {
 
 /// Entries for successive positions.
 #[derive(Drop)]
-pub struct Span<'a, E> {
+pub(crate) struct Span<'a, E> {
     /// The position of the first entry.
-    pub start: u64,
+    pub(crate) start: u64,
     /// The entries.
-    pub slots: &'a [E],
-    pub ghost limit: { start + length slots.now ≤ position_limit },
+    pub(crate) entries: &'a E,
 }
 
-impl<'a, E: Entry> Span<'a, E> {
+impl<'a, E: EntryRow> Span<'a, E> {
     ghost use Rattle.fg_words.specs.Word.{HasRoom};
-    ghost use Rattle.fg_peel.specs.Slots.{first_position, from_first, equation_of, IsMissing};
+    ghost use Rattle.fg_peel.specs.Slots.{equation_of, IsMissing};
     ghost use Rattle.fg_peel.specs.Span.{words_in, HasSlots};
     ghost use Rattle.fg_peel.specs.Equation.{slots, ComesOut};
     ghost use Rattle.fg_peel.specs.Recovery.{AddsWords};
 
-    /// The span of the positions from 0 on, where the first entry stands for position `low`. Entries
-    /// for positions below 0 are left out.
-    pub fn new(low: i64, slots: &'a [E]) -> Span<'a, E>
-        requires { (low +ℤ pos (length slots.now)) ≤ℤ pos position_limit }
-        ensures start { result.start ≡ first_position low }
-        ensures slots { map E.slot result.slots.now ≡ from_first low (map E.slot slots.now) }
-    {
-        if low < 0 {
-            let below = slots.len().min(low.unsigned_abs() as usize);
-            let (_, slots) = slots.split_at(below);
-            Span { start: 0, slots }
-        } else {
-            Span {
-                start: low as u64,
-                slots,
-            }
-        }
-    }
-
     /// The word at a position.
-    pub fn word(&self, position: u64) -> Option<&'a Word>
+    pub(crate) fn word(&self, position: u64) -> Option<&'a Word>
         requires first { self.now.start ≤ position }
-        requires last { position < self.now.start + length self.now.slots.now }
-        ensures { option_copied result ≡ words_in E.slot self.now position }
+        requires last { position < self.now.start + length (E.slots self.now.entries.now) }
+        ensures { option_copied result ≡ words_in E.slots self.now position }
     {
-        let slots = self.slots;
-        slots[(position - self.start) as usize].word()
+        let entries = self.entries;
+        entries.word((position - self.start) as usize)
     }
 
     /// Which slots of a line have no word. It reads no payload.
-    pub fn missing(&self, line: &Line) -> Missing
-        requires { HasSlots E.slot self.now line.now }
-        ensures { IsMissing (words_in E.slot self.now) (equation_of line.now) result }
+    pub(crate) fn missing(&self, line: &Line) -> Missing
+        requires { HasSlots E.slots self.now line.now }
+        ensures { IsMissing (words_in E.slots self.now) (equation_of line.now) result }
     {
         let mut found = None;
         for j in 0..line.shape.na {
@@ -89,9 +68,9 @@ impl<'a, E: Entry> Span<'a, E> {
 
     /// Whether the words at a line's slots sum to its parity word. A slot without a word adds
     /// nothing. Each payload is read once.
-    pub fn comes_out(&self, line: &Line) -> bool
-        requires { HasSlots E.slot self.now line.now }
-        ensures { IsTrue result ↔ ComesOut (words_in E.slot self.now) (equation_of line.now) }
+    pub(crate) fn comes_out(&self, line: &Line) -> bool
+        requires { HasSlots E.slots self.now line.now }
+        ensures { IsTrue result ↔ ComesOut (words_in E.slots self.now) (equation_of line.now) }
     {
         let mut sum = *line.parity.word();
         self.add_words(&mut sum, line);
@@ -100,9 +79,9 @@ impl<'a, E: Entry> Span<'a, E> {
 
     /// Adds the words at a line's slots to a word, four at a time.
     fn add_words(&self, sum: &mut Word, line: &Line)
-        requires line { HasSlots E.slot self.now line.now }
+        requires line { HasSlots E.slots self.now line.now }
         requires room { HasRoom sum.old }
-        ensures { AddsWords (words_in E.slot self.now) (equation_of line.now) sum.old sum.new }
+        ensures { AddsWords (words_in E.slots self.now) (equation_of line.now) sum.old sum.new }
     {
         for group in 0..line.shape.na.div_ceil(4) {
             let at = 4 * group;
@@ -116,9 +95,9 @@ impl<'a, E: Entry> Span<'a, E> {
 
     /// The word at a line's slot of this number. There is none past its slots.
     fn word_at(&self, line: &Line, j: u8) -> Option<&'a Word>
-        requires { HasSlots E.slot self.now line.now }
+        requires { HasSlots E.slots self.now line.now }
         ensures within { j < line.now.shape.na → option_copied result
-            ≡ words_in E.slot self.now (slice_index_or (slots (equation_of line.now)) j 0) }
+            ≡ words_in E.slots self.now (slice_index_or (slots (equation_of line.now)) j 0) }
         ensures past { line.now.shape.na ≤ j → option_copied result ≡ None }
     {
         if j < line.shape.na {

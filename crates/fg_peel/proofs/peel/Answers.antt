@@ -1,19 +1,9 @@
-use Rattle.std.proofs.Common.{List, map, subst, sym, w64}
+use Rattle.std.proofs.Common.{w64}
 use Rattle.std.proofs.lemmas.Int.{to_z-of_z}
-use Rattle.std.proofs.lemmas.List.{map-id}
-use Rattle.fg_peel.specs.declared.Slot.{Slot}
-use Rattle.fg_peel.specs.Slots.{AllFit}
-use Rattle.fg_peel.specs.Peels.{Peels}
 use Rattle.fg_peel.proofs.peel.Goals as goal
 
-pub peel_entries-requires-clause-lines : goal.peel_entries-requires-clause-lines
-peel_entries-requires-clause-lines c =
-    rw (to_z-of_z w64 c.args.low c.ranges.low)
-    (subst (λ (s : List Slot). AllFit c.args.low s c.args.lines.now) (sym (map-id c.args.slots.now)) c.requires.lines)
+pub peel_slots-requires-clause-lines : goal.peel_slots-requires-clause-lines
+peel_slots-requires-clause-lines c = rw (to_z-of_z w64 c.args.low c.ranges.low) c.requires.lines
 
 pub returns : goal.returns
-returns c =
-    let peels = rw (to_z-of_z w64 c.args.low c.ranges.low) at c.peel_entries.ensures in
-    subst (λ (s : List Slot). Peels c.args.low c.args.lines.now s c.peel_entries.new.slots c.peel_entries.result) (map-id c.args.slots.now)
-    (subst (λ (s : List Slot). Peels c.args.low c.args.lines.now (map (λ x. x) c.args.slots.now) s c.peel_entries.result)
-    (map-id c.peel_entries.new.slots) peels)
+returns c = rw (to_z-of_z w64 c.args.low c.ranges.low) at c.peel_slots.ensures

@@ -1,9 +1,8 @@
-use Rattle.std.proofs.Common.{◌≡◌, ℕ, get_or, Some, sym, ap, subst, ◌∙◌}
+use Rattle.std.proofs.Common.{◌≡◌, Some, sym, ap, ◌∙◌}
 use Rattle.std.proofs.lemmas.Option.{none-some}
 use Rattle.std.specs.Option.{option_copied}
 use Rattle.slab.specs.Slab.{get}
 use Rattle.fg_peel.specs.declared.Line.{Line}
-use Rattle.fg_buffer.specs.LiveInside.{Holds}
 use Rattle.fg_buffer.proofs.LiveViews.{one_value}
 use Rattle.fg_buffer.proofs.LiveKeys.{found_there}
 use Rattle.fg_buffer.proofs.live_equations.key_at.Goals as goal

@@ -1,4 +1,4 @@
-use Rattle.std.proofs.Common.{◌+◌, ◌<◌, ℕ, List, length, set, not, ap, subst, sym, ◌∙◌, arith}
+use Rattle.std.proofs.Common.{◌+◌, ℕ, List, not, subst, sym, arith}
 use Rattle.slab.specs.Slab.{Slab, get}
 use Rattle.fg_peel.specs.declared.Line.{Line}
 use Rattle.fg_buffer.specs.PlayoutBuffer.{buffer_words}

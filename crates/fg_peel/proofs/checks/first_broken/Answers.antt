@@ -1,4 +1,4 @@
-use Rattle.std.proofs.Common.{map, ℕ, refl}
+use Rattle.std.proofs.Common.{ℕ, refl}
 use Rattle.std.specs.List.{Contains}
 use Rattle.fg_peel.specs.declared.Line.{Line}
 use Rattle.fg_peel.specs.Slots.{lines_of, words_from}
@@ -14,12 +14,12 @@ rest : (g : _) (c : In-Some g) → AreLive c.args.lines.now c.next.new.self
 rest g c = live_rest c.args.lines.now c.loop-line.line-iterator (c.in-Some.field-0-0, c.in-Some.line.now) c.next.new.self c.in-Some.ensures.steps c.loop-line.invariant.2
 
 pub is_broken-requires : goal.is_broken-requires
-is_broken-requires g c = c.requires c.in-Some.line.now (live g (goal.at.is_broken-requires g c).In-Some)
+is_broken-requires g c = (c.requires.0 c.in-Some.line.now (live g (goal.at.is_broken-requires g c).In-Some), c.requires.1)
 
 pub loop-line-preserved-then-is_broken : goal.loop-line-preserved-then-is_broken
 loop-line-preserved-then-is_broken g c =
     let i = (goal.at.loop-line-preserved-then-is_broken g c).In-Some in
-    let words = words_from c.args.span.now.start (map g.E.Entry.slot c.args.span.now.slots.now) in
+    let words = words_from c.args.span.now.start (g.E.EntryRow.slots c.args.span.now.entries.now) in
     let entry : ℕ × Line = (c.in-Some.field-0-0, c.in-Some.line.now) in (
       tt,
       tt,
@@ -32,7 +32,7 @@ loop-line-preserved-then-is_broken g c =
 pub loop-line-preserved : goal.loop-line-preserved
 loop-line-preserved g c =
     let i = (goal.at.loop-line-preserved g c).In-Some in
-    let words = words_from c.args.span.now.start (map g.E.Entry.slot c.args.span.now.slots.now) in
+    let words = words_from c.args.span.now.start (g.E.EntryRow.slots c.args.span.now.entries.now) in
     let entry : ℕ × Line = (c.in-Some.field-0-0, c.in-Some.line.now) in
     let but : BrokenBut words c.args.lines.now c.loop-line.least c.next.new.self =
     elim c.else-is_new_least.branch [
@@ -47,4 +47,4 @@ loop-line-preserved g c =
 
 pub returns-clause-none : goal.returns-clause-none
 returns-clause-none g c =
-    broken_done (words_from c.args.span.now.start (map g.E.Entry.slot c.args.span.now.slots.now)) c.args.lines.now c.loop-line.least c.loop-line.line-iterator c.in-None.ensures.steps.0 c.loop-line.invariant.4
+    broken_done (words_from c.args.span.now.start (g.E.EntryRow.slots c.args.span.now.entries.now)) c.args.lines.now c.loop-line.least c.loop-line.line-iterator c.in-None.ensures.steps.0 c.loop-line.invariant.4

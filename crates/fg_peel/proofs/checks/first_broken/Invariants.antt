@@ -1,4 +1,4 @@
-use Rattle.std.proofs.Common.{map, IfSome}
+use Rattle.std.proofs.Common.{IfSome}
 use Rattle.fg_peel.specs.Slots.{words_from}
 use Rattle.fg_peel.specs.Verdict.{BreaksAt}
 use Rattle.fg_peel.proofs.Lines.{AreLive}
@@ -11,5 +11,5 @@ invariant-loop-line g l =
     (goal.iterator-loop-line g).can_next l.line-iterator ×
     (goal.iterator-loop-line g).is_finite l.line-iterator ×
     AreLive l.lines l.line-iterator ×
-    IfSome l.least (BreaksAt (words_from l.span.start (map g.E.Entry.slot l.span.slots.now)) l.lines) ×
-    BrokenBut (words_from l.span.start (map g.E.Entry.slot l.span.slots.now)) l.lines l.least l.line-iterator
+    IfSome l.least (BreaksAt (words_from l.span.start (g.E.EntryRow.slots l.span.entries.now)) l.lines) ×
+    BrokenBut (words_from l.span.start (g.E.EntryRow.slots l.span.entries.now)) l.lines l.least l.line-iterator

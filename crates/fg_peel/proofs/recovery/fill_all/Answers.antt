@@ -1,4 +1,4 @@
-use Rattle.std.proofs.Common.{map, ℕ}
+use Rattle.std.proofs.Common.{ℕ, ◌∙◌, arith}
 use Rattle.fg_peel.specs.declared.Line.{Line}
 use Rattle.fg_peel.specs.Slots.{equations_of, words_from}
 use Rattle.fg_peel.proofs.Closed.{closed_more, closed_all}
@@ -9,7 +9,11 @@ use Rattle.fg_peel.proofs.recovery.fill_all.Goals as goal
 
 pub visit-requires-clause-lines : goal.visit-requires-clause-lines
 visit-requires-clause-lines g c =
-    fit_others g.E.Entry.slot c.args.start c.args.slots.now c.loop-line.slots c.args.lines.now c.loop-line.auto.slots c.requires.lines
+    fit_others c.args.start (g.E.EntryRow.slots c.args.entries.now) (g.E.EntryRow.slots c.loop-line.entries) c.args.lines.now
+    c.loop-line.invariant.3.1.fills.count c.requires.lines
+
+pub visit-requires-clause-limit : goal.visit-requires-clause-limit
+visit-requires-clause-limit g c = omega (arith, c.requires.limit, c.loop-line.invariant.3.1.fills.count)
 
 pub loop-line-preserved : goal.loop-line-preserved
 loop-line-preserved g c =
@@ -17,14 +21,15 @@ loop-line-preserved g c =
       tt,
       tt,
       live_rest c.args.lines.now c.loop-line.line-iterator entry c.next.new.self c.in-Some.ensures.steps c.loop-line.invariant.2,
-      IsPeeled-trans c.args.start (equations_of c.args.lines.now) (map g.E.Entry.slot c.args.slots.now) (map g.E.Entry.slot c.loop-line.slots) (map g.E.Entry.slot c.visit.new.slots)
+      IsPeeled-trans c.args.start (equations_of c.args.lines.now) (g.E.EntryRow.slots c.args.entries.now) (g.E.EntryRow.slots c.loop-line.entries) (g.E.EntryRow.slots c.visit.new.entries)
           c.loop-line.invariant.3 c.visit.ensures.peeled,
-      closed_more (words_from c.args.start (map g.E.Entry.slot c.loop-line.slots)) (words_from c.args.start (map g.E.Entry.slot c.visit.new.slots)) c.args.lines.now
+      closed_more (words_from c.args.start (g.E.EntryRow.slots c.loop-line.entries)) (words_from c.args.start (g.E.EntryRow.slots c.visit.new.entries)) c.args.lines.now
           c.loop-line.line-iterator entry c.next.new.self c.in-Some.ensures.steps c.visit.ensures.closed c.visit.ensures.stay
           c.loop-line.invariant.4,
+      c.visit.ensures.rest ∙ c.loop-line.invariant.5,
     )
 
 pub returns-clause-closed : goal.returns-clause-closed
 returns-clause-closed g c =
-    closed_all (words_from c.args.start (map g.E.Entry.slot c.loop-line.slots)) c.args.lines.now c.loop-line.line-iterator c.in-None.ensures.steps.0
+    closed_all (words_from c.args.start (g.E.EntryRow.slots c.loop-line.entries)) c.args.lines.now c.loop-line.line-iterator c.in-None.ensures.steps.0
     c.loop-line.invariant.4

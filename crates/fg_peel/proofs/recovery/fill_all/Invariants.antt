@@ -1,4 +1,4 @@
-use Rattle.std.proofs.Common.{map}
+use Rattle.std.proofs.Common.{◌≡◌}
 use Rattle.fg_peel.specs.Slots.{equations_of, words_from}
 use Rattle.fg_peel.specs.Recovery.{IsPeeled}
 use Rattle.fg_peel.proofs.Lines.{AreLive}
@@ -11,5 +11,6 @@ invariant-loop-line g l =
     (goal.iterator-loop-line g).can_next l.line-iterator ×
     (goal.iterator-loop-line g).is_finite l.line-iterator ×
     AreLive l.lines l.line-iterator ×
-    IsPeeled l.start (equations_of l.lines) (map g.E.Entry.slot l.fn.slots) (map g.E.Entry.slot l.slots) ×
-    ClosedBut (words_from l.start (map g.E.Entry.slot l.slots)) l.lines l.line-iterator
+    IsPeeled l.start (equations_of l.lines) (g.E.EntryRow.slots l.fn.entries) (g.E.EntryRow.slots l.entries) ×
+    ClosedBut (words_from l.start (g.E.EntryRow.slots l.entries)) l.lines l.line-iterator ×
+    (g.E.EntryRow.rest l.entries ≡ g.E.EntryRow.rest l.fn.entries)

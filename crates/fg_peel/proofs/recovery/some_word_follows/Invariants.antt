@@ -1,4 +1,3 @@
-use Rattle.std.proofs.Common.{map}
 use Rattle.fg_peel.specs.Slots.{words_from}
 use Rattle.fg_peel.proofs.Lines.{AreLive}
 use Rattle.fg_peel.proofs.Closed.{ClosedBut}
@@ -10,4 +9,4 @@ invariant-loop-line g l =
     (goal.iterator-loop-line g).can_next l.line-iterator ×
     (goal.iterator-loop-line g).is_finite l.line-iterator ×
     AreLive l.lines l.line-iterator ×
-    ClosedBut (words_from l.span.start (map g.E.Entry.slot l.span.slots.now)) l.lines l.line-iterator
+    ClosedBut (words_from l.span.start (g.E.EntryRow.slots l.span.entries.now)) l.lines l.line-iterator

@@ -1,7 +1,5 @@
-use Rattle.std.proofs.Common.{◌+◌, ◌-◌, ◌≤◌, List, subst, ap, sym, ◌∙◌, arith}
-use Rattle.fg_peel.specs.declared.Slot.{Slot}
+use Rattle.std.proofs.Common.{◌+◌, ◌-◌, ◌≤◌, subst, ap, sym, ◌∙◌, arith}
 use Rattle.fg_buffer.specs.PlayoutBuffer.{BufferState, buffer_words, IsHighestWord}
-use Rattle.fg_buffer.specs.BufferEntries.{IsLastWord, HasNoWordFrom, live_entries}
 use Rattle.fg_buffer.proofs.BufferChanges.{highest_buffer, no_highest_buffer}
 use Rattle.fg_buffer.proofs.playout_buffer.PlayoutBuffer.highest.Goals as goal
 
@@ -10,8 +8,8 @@ returns-in-Some-clause-some c =
     let last = c.in-Some.last in
     let mark = c.self.inside.mark in
     subst (λ (r : BufferState). IsHighestWord r (mark + (last - 100))) c.self.view_is
-    (highest_buffer mark (live_entries c.self.inside.front c.self.inside.slots.items) last
-    (subst (λ (s : List Slot). IsLastWord s last) (c.live.ensures ∙ ap (λ (s : List Slot). live_entries c.self.inside.front s) c.deref.ensures.value) c.in-Some.ensures.some))
+    (highest_buffer mark c.self.inside.entries last
+    c.in-Some.ensures.some)
 
 pub returns-in-None-clause-none : goal.returns-in-None-clause-none
 returns-in-None-clause-none c =
@@ -19,5 +17,5 @@ returns-in-None-clause-none c =
     let mark = c.self.inside.mark in
     let ahead : mark ≤ p = omega (arith, from, ap (λ (r : BufferState). r.mark) c.self.view_is) in
     ap (λ (r : BufferState). buffer_words r p) (sym c.self.view_is)
-    ∙ no_highest_buffer mark (live_entries c.self.inside.front c.self.inside.slots.items)
-    (subst (λ (s : List Slot). HasNoWordFrom s 100) (c.live.ensures ∙ ap (λ (s : List Slot). live_entries c.self.inside.front s) c.deref.ensures.value) c.in-None.ensures.none) p ahead
+    ∙ no_highest_buffer mark c.self.inside.entries
+    c.in-None.ensures.none p ahead

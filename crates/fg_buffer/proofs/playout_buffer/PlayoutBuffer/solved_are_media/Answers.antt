@@ -7,7 +7,7 @@ use Rattle.fg_words.specs.Word.{IsMedia}
 use Rattle.fg_peel.specs.declared.Slot.{Slot}
 use Rattle.fg_peel.specs.declared.Slot.TheVariants.{Empty, Media, Solved, Filled}
 use Rattle.fg_buffer.specs.PlayoutBuffer.{BufferState}
-use Rattle.fg_buffer.specs.BufferEntries.{entry_at, solved_in, buffer_of, live_entries, SolvedAreMedia}
+use Rattle.fg_buffer.specs.BufferEntries.{entry_at, solved_in, buffer_of, SolvedAreMedia}
 use Rattle.fg_buffer.proofs.Choices.{if-less, if-not_less}
 use Rattle.fg_buffer.proofs.BufferViews.{entry_at-buffer, get-solved}
 use Rattle.fg_buffer.proofs.playout_buffer.PlayoutBuffer.solved_are_media.Goals as goal
@@ -33,5 +33,5 @@ solved_media mark entries media q word is = ⊎_elim
 
 pub returns : goal.returns
 returns c = λ known q word is.
-    solved_media c.self.inside.mark (live_entries c.self.inside.front c.self.inside.slots.items) (c.self.invariant.1 known) q word
+    solved_media c.self.inside.mark c.self.inside.entries (c.self.invariant.1 known) q word
     (ap (λ (r : BufferState). get r.solved q) c.self.view_is ∙ is)

@@ -1,4 +1,4 @@
-use Rattle.std.proofs.Common.{map, ◌≡◌, ◌≤◌, ◌+◌, ◌*◌, length, drop, sym, subst, arith}
+use Rattle.std.proofs.Common.{◌≡◌, ◌≤◌, ◌+◌, ◌*◌, length, drop, sym, subst, arith}
 use Rattle.fg_peel.specs.Equation.{slots, sum_at}
 use Rattle.fg_peel.specs.Slots.{equation_of, words_from}
 use Rattle.fg_peel.specs.Recovery.{with_added}
@@ -12,7 +12,7 @@ use Rattle.fg_peel.proofs.span.Span.add_words.Goals as goal
 pub loop-group-preserved : goal.loop-group-preserved
 loop-group-preserved g c =
     let xs = slots (equation_of c.args.line.now) in
-    let words = words_from c.args.self.now.start (map g.E.Entry.slot c.args.self.now.slots.now) in
+    let words = words_from c.args.self.now.start (g.E.EntryRow.slots c.args.self.now.entries.now) in
     let total = word_xor c.args.sum.now (sum_at words xs) in
     let count = length-slots_of c.args.line.now.base c.args.line.now.shape.offset c.args.line.now.shape.na in
     let sum = c.loop-group.sum in
@@ -50,7 +50,7 @@ loop-group-preserved g c =
 pub returns : goal.returns
 returns g c =
     let xs = slots (equation_of c.args.line.now) in
-    let words = words_from c.args.self.now.start (map g.E.Entry.slot c.args.self.now.slots.now) in
+    let words = words_from c.args.self.now.start (g.E.EntryRow.slots c.args.self.now.entries.now) in
     let count = length-slots_of c.args.line.now.base c.args.line.now.shape.offset c.args.line.now.shape.na in
     let past : length xs ≤ 4 * c.loop-group.group = omega (arith, count, c.div_ceil-group-end.ensures, c.loop-group-test.false) in
     adding_done words xs (4 * c.loop-group.group) c.loop-group.sum (word_xor c.args.sum.now (sum_at words xs)) past c.loop-group.invariant.1 c.loop-group.invariant.0

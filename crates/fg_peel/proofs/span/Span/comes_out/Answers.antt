@@ -1,4 +1,4 @@
-use Rattle.std.proofs.Common.{map, ◌≡◌, sym, ◌∙◌}
+use Rattle.std.proofs.Common.{◌≡◌, sym, ◌∙◌}
 use Rattle.std.specs.List.{filter_map}
 use Rattle.fg_words.specs.Word.{word_xor, HasRoom}
 use Rattle.fg_peel.specs.Equation.{slots, sum_at}
@@ -8,7 +8,7 @@ use Rattle.fg_peel.proofs.span.Span.comes_out.Goals as goal
 
 pub returns : goal.returns
 returns g c =
-    let words = words_from c.args.self.now.start (map g.E.Entry.slot c.args.self.now.slots.now) in
+    let words = words_from c.args.self.now.start (g.E.EntryRow.slots c.args.self.now.entries.now) in
     let xs = slots (equation_of c.args.line.now) in
     let parity = c.args.line.now.parity in
     let total = sum_at words xs in

@@ -1,0 +1,258 @@
+//! The entries of a buffer.
+
+ghost use Rattle.std.specs.Prelude.{◌≡◌, ◌+◌, ◌-◌, ◌<◌, ◌≤◌, ◌^◌, ℕ, length, drop, slice_index_or, slice_set, IfOk, IfSome, IfNone};
+ghost use Rattle.std.specs.Option.{option_copied};
+ghost use Rattle.fg_shape.specs.Shape.{position_limit};
+ghost use Rattle.fg_peel.specs.declared.Slot.{Slot};
+ghost use Rattle.fg_peel.specs.Slots.{word_in, with_word};
+ghost use Rattle.fg_buffer.specs.BufferEntries.{IsLastWord, HasNoWordFrom, Forgets, left_of};
+ghost use Rattle.fg_buffer.specs.SmallSlots.{slot_of};
+
+use crate::playout_buffer::KEPT;
+use crate::small_slots::{Content, SmallSlots};
+use crate::spares::Spares;
+use fg_peel::EntryRow;
+use fg_words::{Shared, Word};
+use std::alloc::{AllocError, Global};
+use std::marker::Model;
+
+/// How many entries may be passed before the others are moved. Until then they stand further on in the
+/// memory.
+const SLACK: usize = 64;
+
+/// Entries in a row, of which the first ones are passed from time to time.
+#[derive(Drop)]
+pub(crate) struct EntryList {
+    /// Where the first entry stands.
+    front: usize,
+    /// The entries, and before and after them empty slots.
+    slots: SmallSlots,
+}
+
+impl Model for EntryList {
+    ghost use Rattle.std.specs.Prelude.{List};
+    ghost use Rattle.fg_peel.specs.declared.Slot.{Slot};
+    ghost use Rattle.fg_buffer.specs.BufferEntries.{live_entries, AreStored};
+
+    ghost Value = { List Slot };
+
+    ghost view = { λ a. live_entries a.front a.slots };
+
+    ghost invariant = { λ a. AreStored a.front a.slots };
+}
+
+impl EntryList {
+    /// So many empty entries. All memory is taken here.
+    pub(crate) fn new(alloc: Global, count: usize) -> Result<EntryList, AllocError>
+        requires { count ≤ 2000 }
+        ensures count { IfOk result (λ entries. length entries ≡ count) }
+        ensures empty { IfOk result (λ entries. (k : ℕ) → slice_index_or entries k Slot.Empty ≡ Slot.Empty) }
+    {
+        Ok(EntryList {
+            front: 0,
+            slots: SmallSlots::new(alloc, count + SLACK)?,
+        })
+    }
+
+    /// How many there are.
+    pub(crate) fn count(&self) -> usize
+        ensures count { result ≡ length self.now }
+        ensures limit { result ≤ position_limit }
+    {
+        self.slots.count() - SLACK
+    }
+
+    /// The entry so many places after another one.
+    fn after(&self, first: usize, index: usize) -> usize
+        requires { first + index < length self.now }
+        ensures { result ≡ first + index }
+    {
+        // There are few enough for the sum to fit.
+        let count = self.count();
+        prove!(index < count);
+        first + index
+    }
+
+    /// What an entry has. Past all of them there is nothing.
+    pub(crate) fn at(&self, index: usize) -> Content<'_>
+        requires { index ≤ length self.now }
+        ensures { slot_of result ≡ slice_index_or self.now index Slot.Empty }
+    {
+        self.slots.at(self.front + index)
+    }
+
+    /// Puts the share of a received word into an entry.
+    pub(crate) fn put_media(&mut self, index: usize, share: Shared)
+        requires { index < length self.old }
+        ensures { self.new ≡ slice_set self.old index (Slot.Media share) }
+    {
+        let _passed = self.slots.clear(self.front + index);
+        self.slots.put_media(self.front + index, share);
+    }
+
+    /// Puts the share of a solved word into an entry.
+    pub(crate) fn put_solved(&mut self, index: usize, share: Shared)
+        requires { index < length self.old }
+        ensures { self.new ≡ slice_set self.old index (Slot.Solved share) }
+    {
+        let _passed = self.slots.clear(self.front + index);
+        self.slots.put_solved(self.front + index, share);
+    }
+
+    /// Puts a copy of a word into an empty entry, where it stands alone.
+    fn fill(&mut self, index: usize, word: &Word)
+        requires within { index < length self.old }
+        requires empty { slice_index_or self.old index Slot.Empty ≡ Slot.Empty }
+        ensures { self.new ≡ slice_set self.old index (Slot.Filled word.now) }
+    {
+        self.slots.fill(self.front + index, word);
+    }
+
+    /// Adds the word of another entry to the one that stands alone in an entry, in place.
+    fn add(&mut self, index: usize, other: usize)
+        requires within { index < length self.old }
+        requires other { other < length self.old }
+        ensures { self.new ≡ slice_set self.old index
+            (with_word (slice_index_or self.old index Slot.Empty)
+            (word_in (slice_index_or self.old other Slot.Empty))) }
+    {
+        self.slots.add(self.front + index, self.front + other);
+    }
+
+    /// Empties an entry where its word stands alone or, where `solved` says so, was solved.
+    fn forget_one(&mut self, index: usize, solved: bool)
+        requires { index < length self.old }
+        ensures { self.new ≡ slice_set self.old index (left_of solved (slice_index_or self.old index Slot.Empty)) }
+    {
+        self.slots.forget(self.front + index, solved);
+    }
+
+    /// Empties each entry from the mark on whose word stands alone or, where `solved` says so, was
+    /// solved.
+    pub(crate) fn forget(&mut self, solved: bool)
+        ensures count { length self.new ≡ length self.old }
+        ensures forgets { Forgets solved self.old self.new }
+    {
+        for i in KEPT..self.count() {
+            self.forget_one(i, solved);
+        }
+    }
+
+    /// The last entry from the mark on that has a word.
+    pub(crate) fn last_word(&self) -> Option<usize>
+        ensures some { IfSome result (IsLastWord self.now) }
+        ensures none { IfNone result (HasNoWordFrom self.now KEPT) }
+    {
+        for i in (KEPT..self.count()).rev() {
+            if self.at(i).word().is_some() {
+                return Some(i);
+            }
+        }
+        None
+    }
+
+    /// Passes the first `count` entries, whose shares become spares: each entry takes the place of the
+    /// one so many before it, and the last ones are empty. They are moved in the memory only where no
+    /// room is left after them.
+    pub(crate) fn advance(&mut self, count: usize, spares: &mut Spares)
+        requires some { 1 ≤ count }
+        requires within { count ≤ length self.old }
+        ensures count { length self.new ≡ length self.old }
+        ensures moved { (k : ℕ) → slice_index_or self.new k Slot.Empty
+            ≡ slice_index_or self.old (k + count) Slot.Empty }
+    {
+        let end = self.front + count;
+        if end <= SLACK {
+            pass_all(&mut self.slots, self.front, end, spares);
+            self.front = end;
+        } else {
+            shift_down(&mut self.slots, end, spares);
+            self.front = 0;
+        }
+    }
+}
+
+/// Moves each slot to the place `count` before it. The first `count` slots are passed, and the last
+/// ones are then empty.
+fn shift_down(slots: &mut SmallSlots, count: usize, spares: &mut Spares)
+    requires some { 1 ≤ count }
+    requires within { count ≤ length slots.old }
+    ensures count { length slots.new ≡ length slots.old }
+    ensures moved { (k : ℕ) → slice_index_or slots.new k Slot.Empty
+        ≡ slice_index_or slots.old (k + count) Slot.Empty }
+{
+    let all = slots.count();
+    take_later(slots, count, all);
+    pass_all(slots, all - count, all, spares);
+}
+
+/// Moves what each slot from `count` on up to `end` has to the slot `count` places before it.
+fn take_later(slots: &mut SmallSlots, count: usize, end: usize)
+    requires some { 1 ≤ count }
+    requires within { end ≤ length slots.old }
+    ensures count { length slots.new ≡ length slots.old }
+    ensures taken { (k : ℕ) → k + count < end → slice_index_or slots.new k Slot.Empty
+        ≡ slice_index_or slots.old (k + count) Slot.Empty }
+{
+    for i in count..end {
+        slots.swap(i - count, i);
+    }
+}
+
+/// Passes the slots from one on up to another. Their shares become spares.
+fn pass_all(slots: &mut SmallSlots, first: usize, end: usize, spares: &mut Spares)
+    requires order { first ≤ end }
+    requires within { end ≤ length slots.old }
+    ensures count { length slots.new ≡ length slots.old }
+    ensures below { (k : ℕ) → k < first
+        → slice_index_or slots.new k Slot.Empty ≡ slice_index_or slots.old k Slot.Empty }
+    ensures passed { (k : ℕ) → first ≤ k → k < end
+        → slice_index_or slots.new k Slot.Empty ≡ Slot.Empty }
+    ensures above { (k : ℕ) → end ≤ k
+        → slice_index_or slots.new k Slot.Empty ≡ slice_index_or slots.old k Slot.Empty }
+{
+    for i in first..end {
+        slots.pass(i, spares);
+    }
+}
+
+/// The entries of positions: all but the first ones, which stand for none.
+#[derive(Drop)]
+pub(crate) struct Placed<'a> {
+    /// How many stand for no position.
+    pub(crate) below: usize,
+    pub(crate) entries: &'a mut EntryList,
+}
+
+impl EntryRow for Placed<'_> {
+    ghost use Rattle.std.specs.Prelude.{take, drop};
+
+    ghost slots = { λ placed. drop placed.below placed.entries.now };
+
+    ghost rest = { λ placed. (placed.entries.ghost_name, take placed.below placed.entries.now) };
+
+    fn count(&self) -> usize {
+        self.entries.count().saturating_sub(self.below)
+    }
+
+    fn word(&self, index: usize) -> Option<&Word> {
+        let entries = &*self.entries;
+        entries.at(entries.after(self.below, index)).word()
+    }
+
+    fn recovered(&self, index: usize) -> Option<&Word> {
+        let entries = &*self.entries;
+        entries.at(entries.after(self.below, index)).recovered()
+    }
+
+    fn fill(&mut self, index: usize, word: &Word) {
+        let place = self.entries.after(self.below, index);
+        self.entries.fill(place, word);
+    }
+
+    fn add(&mut self, index: usize, other: usize) {
+        let place = self.entries.after(self.below, index);
+        let other = self.entries.after(self.below, other);
+        self.entries.add(place, other);
+    }
+}
