@@ -61,6 +61,8 @@ pub struct Admitter {
     window: u32,
     depth: u32,
     near: Near,
+    /// A share that the desk let go, for the payload of the next datagram.
+    spare: Option<Shared>,
 }
 
 impl Model for Admitter {
@@ -78,11 +80,12 @@ impl Model for Admitter {
         a.near.top a.near.mark a.near.calls };
 }
 
-// Enters the admitter's turn. The desk there is its own.
+// Enters the admitter's turn, and takes a spare share there where the admitter has none. The desk there is its own.
 fn enter_own(
     wait: &impl Wait,
     turn: &Turn<Flow>,
     owner: &mut Owner<Flow>,
+    spare: &mut Option<Shared>,
     window: u32,
     depth: u32,
 ) -> Flow
@@ -101,7 +104,11 @@ fn enter_own(
         } }
 {
     calls_make_one_desk();
-    turn.enter_owner(wait, owner)
+    let mut flow = turn.enter_owner(wait, owner);
+    if spare.is_none() {
+        *spare = flow.spare();
+    }
+    flow
 }
 
 impl Admitter {
@@ -124,6 +131,7 @@ impl Admitter {
             window,
             depth,
             near,
+            spare: None,
         }
     }
 
@@ -137,6 +145,7 @@ impl Admitter {
             window: _,
             depth: _,
             near: _,
+            spare: _,
         } = self;
         owner
     }
@@ -180,6 +189,14 @@ impl Admitter {
         self.owner.made()
     }
 
+    /// A share that its desk let go, where it has one, for the payload of the next datagram. It takes no turn: each turn
+    /// takes one where there is none. Somebody else may have a share of the same word.
+    pub fn spare(&mut self) -> Option<Shared>
+        ensures { self.new ≡ self.old }
+    {
+        self.spare.take()
+    }
+
     /// Admits a media datagram in one turn, or says why not.
     pub fn admit_media(&mut self, wait: &impl Wait, board: &Board, seq: u16, share: Shared) -> Reply
         requires board { self.old.seat.turn ≡ board.now.name }
@@ -189,7 +206,14 @@ impl Admitter {
         ensures call { MakesCall (media seq share result) self.old self.new }
         ensures state { AdmitsMedia (desk_of self.old) seq share result (desk_of self.new) }
     {
-        let mut flow = enter_own(wait, &board.turn, &mut self.owner, self.window, self.depth);
+        let mut flow = enter_own(
+            wait,
+            &board.turn,
+            &mut self.owner,
+            &mut self.spare,
+            self.window,
+            self.depth,
+        );
         let word = Snapshot::of(&share);
         let reply = flow.admit_media(seq, share);
         self.near = self.near.after(&flow);
@@ -222,7 +246,14 @@ impl Admitter {
             result.0 (desk_of self.new) }
         ensures key { GivesKeyOf self.old result.0 result.1 self.new }
     {
-        let mut flow = enter_own(wait, &board.turn, &mut self.owner, self.window, self.depth);
+        let mut flow = enter_own(
+            wait,
+            &board.turn,
+            &mut self.owner,
+            &mut self.spare,
+            self.window,
+            self.depth,
+        );
         let word = Snapshot::of(&share);
         let (reply, key) = flow.admit_parity(base, shape, share);
         self.near = self.near.after(&flow);
@@ -246,7 +277,14 @@ impl Admitter {
         ensures count { result.count ≡ length tray.new.shown }
         ensures tray { tray.new.window ≡ tray.old.window }
     {
-        let mut flow = enter_own(wait, &board.turn, &mut self.owner, self.window, self.depth);
+        let mut flow = enter_own(
+            wait,
+            &board.turn,
+            &mut self.owner,
+            &mut self.spare,
+            self.window,
+            self.depth,
+        );
         let played = flow.play(tray);
         self.near = self.near.after(&flow);
         settle_owner(&board.turn, &mut self.owner, flow, Made::Play(played));
@@ -264,7 +302,14 @@ impl Admitter {
         ensures none { IfNone result (tray.new ≡ tray.old) }
         ensures tray { tray.new.window ≡ tray.old.window }
     {
-        let mut flow = enter_own(wait, &board.turn, &mut self.owner, self.window, self.depth);
+        let mut flow = enter_own(
+            wait,
+            &board.turn,
+            &mut self.owner,
+            &mut self.spare,
+            self.window,
+            self.depth,
+        );
         let played = flow.flush_step(tray);
         self.near = self.near.after(&flow);
         settle_owner(&board.turn, &mut self.owner, flow, Made::Flush(played));

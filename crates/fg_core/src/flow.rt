@@ -87,6 +87,14 @@ impl Flow {
         self.desk.mark()
     }
 
+    /// A share that the desk let go, where it has one, for the payload of the next datagram. Somebody else may have a share
+    /// of the same word.
+    pub fn spare(&mut self) -> Option<Shared>
+        ensures { self.new ≡ self.old }
+    {
+        self.desk.spare()
+    }
+
     /// Admits a media datagram, or says why not.
     pub fn admit_media(&mut self, seq: u16, share: Shared) -> Reply
         requires room { HasRoom self.old.desk.state }

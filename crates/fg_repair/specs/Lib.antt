@@ -1,4 +1,5 @@
 -- The definitions that the contracts of this crate cite.
+pub mod Crewed
 pub mod Engine
 pub mod Steps
 pub mod View

@@ -3,6 +3,7 @@
 
 mod alone;
 mod counts;
+mod crewed;
 mod engine;
 mod flow;
 mod play;
@@ -10,3 +11,4 @@ mod records;
 mod window;
 
 pub use alone::{Alone, repair_alone};
+pub use crewed::repair;

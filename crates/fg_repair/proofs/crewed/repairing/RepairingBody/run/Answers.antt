@@ -1,0 +1,20 @@
+use Rattle.std.proofs.Common.{sym, subst}
+use Rattle.std.specs.Global.{Vec}
+use Rattle.std.specs.List.{All}
+use Rattle.fg_flows.specs.Plan.{playout_of}
+use Rattle.fg_repair.specs.declared.crewed.post.Host.{Host}
+use Rattle.fg_repair.specs.Crewed.{IsNewHost}
+use Rattle.fg_repair.proofs.crewed.repairing.RepairingBody.run.Goals as goal
+
+pub windows_on-requires-clause-new : goal.windows_on-requires-clause-new
+windows_on-requires-clause-new g c = (
+  playout_of c.args.self.now.plan.now,
+  subst (λ (hosts : Vec Host). All (IsNewHost (playout_of c.args.self.now.plan.now)) hosts.items)
+      (sym c.replace-hosts.ensures.value) c.requires.1.new_hosts,
+)
+
+pub repair_windows-requires-clause-empty : goal.repair_windows-requires-clause-empty
+repair_windows-requires-clause-empty g c =
+    c.in-Ok.ensures.new (playout_of c.args.self.now.plan.now)
+    (subst (λ (hosts : Vec Host). All (IsNewHost (playout_of c.args.self.now.plan.now)) hosts.items)
+    (sym c.replace-hosts.ensures.value) c.requires.1.new_hosts)

@@ -1,0 +1,129 @@
+//! The repair with workers beside the caller.
+//!
+//! Each flow's desk stands on a board. The caller's thread reads the trace, admits the datagrams and plays the windows; the
+//! workers take equations from the boards, solve or check them meanwhile, and bring what they found. Whatever they do, the
+//! replies and the plays are those of desks that the caller has to itself.
+ghost use Rattle.std.specs.Prelude.{◌≡◌, [], ◌∷◌, length};
+ghost use Rattle.fg_io.specs.Faults.{CountsFaults};
+ghost use Rattle.fg_flows.specs.Plan.{PlanFits};
+ghost use Rattle.fg_results.specs.Contract.{IsRepair};
+ghost use Rattle.fg_repair.specs.Crewed.{IsCrew};
+
+mod board_window;
+mod helping;
+mod opening;
+mod points;
+mod post;
+mod repairing;
+mod signal;
+mod visit;
+
+use crate::crewed::helping::Helping;
+use crate::crewed::opening::open;
+use crate::crewed::post::Crew;
+use crate::crewed::repairing::Repairing;
+use crate::records::give_up;
+use fg_crew::{Gate, crew};
+use fg_flows::Plan;
+use fg_io::{Outlet, Sink, Source};
+use fg_trace::Finish;
+use std::alloc::{AllocError, Global};
+use std::sync::Wait;
+use std::thread::Threads;
+
+/// Repairs the flows of a trace, with workers beside the caller.
+///
+/// What it reads, writes and answers is what [`crate::repair_alone`] does, whatever the workers do. The gate hears of the
+/// points that the threads pass: 1 where a worker has taken a job, 2 where it has solved one and not yet published the word, 3
+/// where a board has taken a word, 4 where a job was given back for want of memory, and 5 before each play and each flush
+/// step, which the caller passes as worker 0.
+pub fn repair<
+    W: Threads + Wait + Sync,
+    S: Source + Send,
+    K: Sink + Send,
+    O: Outlet + Send,
+    G: Gate,
+>(rt: &W, alloc: Global, plan: &Plan, input: &mut S, out: &mut K, lanes: &mut O, gate: &G) -> Finish
+    requires { PlanFits plan.now }
+
+    ensures repairs { IsRepair plan.now result (S.left input.old) (S.left input.new) O.lanes lanes.old lanes.new
+        K.written out.old out.new }
+
+    // A fault of the outside is answered only where it was counted in this call, and with every other answer none was. No
+    // count falls.
+    ensures faults { CountsFaults (result ≡ Finish.ReadFault) (result ≡ Finish.WriteFault)
+        ((S.faults input.old, S.faults input.new) ∷ [])
+        ((K.faults out.old, K.faults out.new) ∷ (O.faults lanes.old, O.faults lanes.new) ∷ []) }
+    ensures fixed { S.fixed input.new ≡ S.fixed input.old }
+{
+    match open(alloc, plan) {
+        Ok(made) => repair_with(rt, alloc, plan, made, input, out, lanes, gate),
+        Err(AllocError) => give_up(plan, input, out, lanes),
+    }
+}
+
+/// Repairs the flows of a trace, with all who work at them.
+fn repair_with<
+    W: Threads + Wait + Sync,
+    S: Source + Send,
+    K: Sink + Send,
+    O: Outlet + Send,
+    G: Gate,
+>(
+    rt: &W,
+    alloc: Global,
+    plan: &Plan,
+    made: Crew,
+    input: &mut S,
+    out: &mut K,
+    lanes: &mut O,
+    gate: &G,
+) -> Finish
+    requires fits { PlanFits plan.now }
+    requires made { IsCrew plan.now (length plan.now.table) made }
+    ensures repairs { IsRepair plan.now result (S.left input.old) (S.left input.new) O.lanes lanes.old lanes.new
+        K.written out.old out.new }
+    ensures faults { CountsFaults (result ≡ Finish.ReadFault) (result ≡ Finish.WriteFault)
+        ((S.faults input.old, S.faults input.new) ∷ [])
+        ((K.faults out.old, K.faults out.new) ∷ (O.faults lanes.old, O.faults lanes.new) ∷ []) }
+    ensures fixed { S.fixed input.new ≡ S.fixed input.old }
+{
+    let Crew {
+        posts,
+        hosts,
+        mut owns,
+    } = made;
+    let posts = posts.as_slice();
+    let mut repairing = Repairing {
+        alloc,
+        plan,
+        gate,
+        posts,
+        hosts,
+        input,
+        out,
+        lanes,
+    };
+    let answer = crew(
+        rt,
+        alloc,
+        &mut owns,
+        &Helping { posts, gate, alloc },
+        gate,
+        &mut repairing,
+    );
+    let Repairing {
+        alloc: _,
+        plan: _,
+        gate: _,
+        posts: _,
+        hosts: _,
+        input,
+        out,
+        lanes,
+    } = repairing;
+    match answer {
+        Ok(finish) => finish,
+        Err(AllocError) => give_up(plan, input, out, lanes),
+    }
+}

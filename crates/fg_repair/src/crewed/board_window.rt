@@ -1,0 +1,90 @@
+//! A flow's windows on its board, for the thread that admits and plays.
+ghost use Rattle.std.specs.Prelude.{◌≡◌, ◌≤◌};
+
+use crate::crewed::points::{CALLER, Hears, PLAYING};
+use crate::crewed::signal::Signal;
+use crate::window::WindowState;
+use fg_board::{Admitter, Board};
+use fg_crew::Hints;
+use fg_desk::{Played, Reply, Tray};
+use fg_shape::Shape;
+use fg_words::{Shared, Word};
+use std::sync::Wait;
+
+/// A flow's windows on its board. Its workers are hinted of each datagram that is admitted, and woken after each play.
+#[derive(Drop)]
+pub(crate) struct BoardWindow<'a, W: Wait, G: Hears> {
+    pub(crate) wait: &'a W,
+    pub(crate) gate: &'a G,
+    pub(crate) hints: &'a Hints,
+    pub(crate) signal: &'a Signal,
+    pub(crate) board: &'a Board,
+    /// Its number among the flows, which a hint names.
+    pub(crate) flow: u32,
+    pub(crate) admitter: Admitter,
+    /// What the last play shows.
+    pub(crate) tray: Tray,
+    ghost of_board: { admitter.seat.turn ≡ board.now.name },
+    ghost holds_a_window: { admitter.playout.window ≤ tray.window },
+}
+
+impl<'a, W: Wait, G: Hears> BoardWindow<'a, W, G> {
+    /// Hints the workers, where a datagram was admitted.
+    fn hint_after(&self, reply: Reply) {
+        if let Reply::Admitted = reply {
+            self.signal.tell_change(self.wait, self.hints, self.flow);
+        }
+    }
+}
+
+impl<'a, W: Wait, G: Hears> WindowState for BoardWindow<'a, W, G> {
+    ghost use Rattle.fg_board.specs.Actors.{desk_of};
+
+    ghost state = { λ window. desk_of window.admitter };
+
+    ghost shows = { λ window _. window.tray.shown };
+
+    fn due(&self, seq: u16) -> bool {
+        self.admitter.due(seq)
+    }
+
+    fn spare(&mut self) -> Option<Shared> {
+        self.admitter.spare()
+    }
+
+    fn admit_media(&mut self, seq: u16, share: Shared) -> Reply {
+        let reply = self.admitter.admit_media(self.wait, self.board, seq, share);
+        self.hint_after(reply);
+        reply
+    }
+
+    fn admit_parity(&mut self, base: u16, shape: Shape, share: Shared) -> Reply {
+        let (reply, _key) = self
+            .admitter
+            .admit_parity(self.wait, self.board, base, shape, share);
+        self.hint_after(reply);
+        reply
+    }
+
+    fn play(&mut self) -> Played {
+        prove!(self.admitter.room());
+        self.gate.hear(CALLER, PLAYING);
+        let played = self.admitter.play(self.wait, self.board, &mut self.tray);
+        self.hints.wake();
+        played
+    }
+
+    fn flush_step(&mut self) -> Option<Played> {
+        self.gate.hear(CALLER, PLAYING);
+        self.admitter
+            .flush_step(self.wait, self.board, &mut self.tray)
+    }
+
+    fn word(&self, _played: Played, i: u32) -> Option<&Word> {
+        self.tray.word(i)
+    }
+
+    fn repaired(&self, _played: Played, i: u32) -> bool {
+        self.tray.repaired(i)
+    }
+}

@@ -1,0 +1,47 @@
+//! What the caller and the workers tell each other of a flow.
+
+use fg_crew::Hints;
+use std::sync::Wait;
+use std::sync::atomic::{AtomicBool, AtomicU64, Ordering};
+
+/// What is told of a flow beside its board. It only saves visits: nothing rests on it.
+#[derive(Drop)]
+pub(crate) struct Signal {
+    /// A hint for the flow waits, so a further one would tell nothing new.
+    hinted: AtomicBool,
+    /// How many datagrams were admitted and words found, modulo 2^64.
+    changes: AtomicU64,
+}
+
+impl Signal {
+    /// Of a flow of which nothing was told.
+    pub(crate) fn new() -> Signal {
+        Signal {
+            hinted: AtomicBool::new(false),
+            changes: AtomicU64::new(0),
+        }
+    }
+
+    /// Tells that a datagram was admitted or a word found, and hints the flow.
+    pub(crate) fn tell_change<W: Wait>(&self, wait: &W, hints: &Hints, flow: u32) {
+        self.changes.fetch_add(1, Ordering::SeqCst);
+        self.hint(wait, hints, flow);
+    }
+
+    /// Hints the flow, where no hint for it waits. That one does, costs one load.
+    pub(crate) fn hint<W: Wait>(&self, wait: &W, hints: &Hints, flow: u32) {
+        if !self.hinted.load(Ordering::SeqCst) && !self.hinted.swap(true, Ordering::SeqCst) {
+            hints.hint(wait, flow);
+        }
+    }
+
+    /// Tells that the hint was taken, so that a later change is hinted again.
+    pub(crate) fn hear(&self) {
+        self.hinted.store(false, Ordering::SeqCst);
+    }
+
+    /// How many changes were told, modulo 2^64.
+    pub(crate) fn count(&self) -> u64 {
+        self.changes.load(Ordering::SeqCst)
+    }
+}
