@@ -6,9 +6,11 @@ mod counts;
 mod crewed;
 mod engine;
 mod flow;
+mod planned;
 mod play;
 mod records;
 mod window;
 
 pub use alone::{Alone, repair_alone};
 pub use crewed::repair;
+pub use planned::Planned;

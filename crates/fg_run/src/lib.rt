@@ -26,7 +26,7 @@ pub use ended::{Ended, Why};
 use fg_crew::Gate;
 use fg_io::laws::parts_of_writes;
 use fg_io::{Outlet, Sink, Source};
-use fg_repair::Crewed;
+use fg_repair::Planned;
 pub use inspection::run_inspect;
 pub use monitoring::run_monitor;
 use request::Request;
@@ -83,7 +83,7 @@ pub fn run<
     parts_of_writes();
     let why = match request::read_request(alloc, words) {
         Ok(request) => {
-            answer::answer(&Crewed { rt, gate }, alloc, request, input, out, lanes)
+            answer::answer(&Planned { rt, gate }, alloc, request, input, out, lanes)
         }
         Err(AllocError) => Why::Memory,
     };

@@ -13,7 +13,7 @@ use fg_crew::Hints;
 use std::alloc::{AllocError, Global};
 use std::sync::Wait;
 
-/// How many jobs a visit does at most. Then another flow has its turn.
+/// How many jobs a visit does at most. The rest waits for the next hint.
 const JOBS_A_VISIT: u32 = 4;
 
 /// A worker at a flow's board.
@@ -31,7 +31,7 @@ pub(crate) struct Visit<'a, W: Wait, G: Hears> {
 }
 
 impl<'a, W: Wait, G: Hears> Visit<'a, W, G> {
-    /// Does a few jobs, if something has changed since none was open. Where jobs may be left, the flow is hinted again.
+    /// Does a few jobs, if something has changed since none was open.
     pub(crate) fn make(&self, visitor: &mut Visitor)
         requires { visitor.old.pass.turn ≡ self.now.post.now.board.name }
         ensures { visitor.new.pass.turn ≡ visitor.old.pass.turn }
@@ -45,7 +45,6 @@ impl<'a, W: Wait, G: Hears> Visit<'a, W, G> {
                 return;
             }
         }
-        self.post.signal.hint(self.wait, self.hints, self.flow);
     }
 
     /// Does the next job. Answers whether there was one and memory for it.
@@ -55,7 +54,11 @@ impl<'a, W: Wait, G: Hears> Visit<'a, W, G> {
     {
         let count = self.post.signal.count();
         match self.post.board.take(self.wait, &mut visitor.pass) {
-            Ok(Some(job)) => self.do_job(&mut visitor.pass, job),
+            Ok(Some(job)) => {
+                // Another worker may take the next one meanwhile.
+                self.post.signal.hint(self.wait, self.hints, self.flow);
+                self.do_job(&mut visitor.pass, job)
+            }
             Ok(None) => {
                 visitor.idle_at = Some(count);
                 false

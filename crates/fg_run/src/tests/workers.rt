@@ -14,6 +14,7 @@ const PUBLISHED: u32 = 3;
 const PLAYS: u32 = 5;
 
 /// Counts of what passed a gate, and naps.
+#[derive(Drop)]
 struct Counts<'a, W: Wait> {
     wait: &'a W,
     /// It stays 0, so that a nap on it ends by time.
@@ -78,6 +79,7 @@ impl<'a, W: Wait> Counts<'a, W> {
 
 /// Holds the first worker that has a job until another one has published a word, and the caller before it plays until some
 /// worker has.
+#[derive(Drop)]
 struct Publishing<'a, W: Wait>(Counts<'a, W>);
 
 impl<W: Wait + Sync> Gate for Publishing<'_, W> {
@@ -96,6 +98,7 @@ impl<W: Wait + Sync> Gate for Publishing<'_, W> {
 }
 
 /// Holds the caller before it plays until a worker has a job, and that worker until the caller has played all.
+#[derive(Drop)]
 struct Outlasting<'a, W: Wait>(Counts<'a, W>);
 
 impl<W: Wait + Sync> Gate for Outlasting<'_, W> {
@@ -116,6 +119,7 @@ impl<W: Wait + Sync> Gate for Outlasting<'_, W> {
 }
 
 /// Lets threads nap at points that look like drawn ones.
+#[derive(Drop)]
 struct Napping<'a, W: Wait>(Counts<'a, W>);
 
 impl<W: Wait + Sync> Gate for Napping<'_, W> {
