@@ -1,10 +1,10 @@
 -- Lists that grow together, and lists whose elements change one after another.
 use Rattle.std.proofs.Common.{◌≡◌, ℕ, ◌+◌, ◌<◌, ◌≤◌, Option, Some, None, List, [], ◌∷◌, ◌++◌, length, get_or, set, map, refl, sym, ap, subst, ◌∙◌, arith, length-set, get_or-set_same, get_or-set_other, below_more}
 use Rattle.std.specs.List.{All}
-use Rattle.std.proofs.lemmas.List.{map-append, get_or-map, length-map, length_push, get_or_at, length-append}
+use Rattle.std.proofs.lemmas.List.{map-append, get_or-map, length-map, get_or_at, length-append}
 use Rattle.std.proofs.lemmas.List.Elements.{All-append}
 use Rattle.fg_shape.specs.Playout.{Playout}
-use Rattle.fg_playout.specs.State.{State, opening}
+use Rattle.fg_playout.specs.State.{opening}
 use Rattle.fg_core.specs.Board.{BoardState, opened_board}
 use Rattle.fg_board.specs.Actors.{AdmitterState, desk_of}
 
