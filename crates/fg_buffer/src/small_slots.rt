@@ -86,8 +86,8 @@ impl<'a> Content<'a> {
         ensures { result ≡ is_found (slot_of self.entry) }
     {
         match self {
-            Content::Media(_) | Content::Nothing => false,
             Content::Solved(_) | Content::Found(_) => true,
+            Content::Nothing | Content::Media(_) => false,
         }
     }
 }
