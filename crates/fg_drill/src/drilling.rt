@@ -13,6 +13,7 @@ ghost use Rattle.fg_drill.specs.DrillSteps.{DrillsTrace, IsEndingsAnswer, StopsT
 ghost use Rattle.fg_thin.specs.ThinnedSource.{fixed_of, trace_left};
 
 use crate::laws::drills::{drills_come_back, repairs_are_drills};
+use fg_crew::Gate;
 use fg_flows::Plan;
 use fg_io::laws::parts_of_writes;
 use fg_io::{Failed, Outlet, Sink, Source};
@@ -24,6 +25,8 @@ use fg_thin::{StreamFault, Thinned, Thinning};
 use fg_trace::Finish;
 use fg_trace::laws::one_trace;
 use std::alloc::Global;
+use std::sync::Wait;
+use std::thread::Threads;
 
 /// Encodes the stream in the input, which may have at most `max` bytes, 8 to 2^40, leaves out the records that are lost, and has
 /// the rest repaired.
@@ -31,8 +34,16 @@ use std::alloc::Global;
 /// The lanes and `out` gain what a repair gives for the rest. A `StreamFault` tells how the stream ends early; what comes before is
 /// sent and repaired all the same. After a fault the lanes have gained prefixes, and the report is begun only once all lanes are
 /// whole.
-pub fn drill<R: Repair, S: Source + Send, K: Sink + Send, O: Outlet + Send>(
+pub fn drill<
+    R: Repair,
+    W: Threads + Wait + Sync,
+    S: Source + Send,
+    K: Sink + Send,
+    O: Outlet + Send,
+    G: Gate,
+>(
     by: &R,
+    rt: &W,
     alloc: Global,
     settings: Settings,
     plan: &Plan,
@@ -41,6 +52,7 @@ pub fn drill<R: Repair, S: Source + Send, K: Sink + Send, O: Outlet + Send>(
     input: &mut S,
     out: &mut K,
     lanes: &mut O,
+    gate: &G,
 ) -> Result<Finish, StreamFault>
     requires settings { CanEncode settings }
     requires plan { PlanFits plan.now }
@@ -84,20 +96,29 @@ pub fn drill<R: Repair, S: Source + Send, K: Sink + Send, O: Outlet + Send>(
         return Ok(Finish::Memory);
     };
     let mut source = thinning.of(&mut *input);
-    let answer = repair_sent(by, alloc, plan, &mut source, out, lanes);
+    let answer = repair_sent(by, rt, alloc, plan, &mut source, out, lanes, gate);
     let _input = source.into_inner();
     answer
 }
 
 /// Has what is sent of a stream repaired, and answers how the stream ends.
 #[tactic(auto, using(crate::proofs::DrillReading::other_tells, crate::proofs::Drills::other_drills, crate::proofs::Repairs::finish_stops))]
-fn repair_sent<R: Repair, S: Source + Send, K: Sink + Send, O: Outlet + Send>(
+fn repair_sent<
+    R: Repair,
+    W: Threads + Wait + Sync,
+    S: Source + Send,
+    K: Sink + Send,
+    O: Outlet + Send,
+    G: Gate,
+>(
     by: &R,
+    rt: &W,
     alloc: Global,
     plan: &Plan,
     source: &mut Thinned<S>,
     out: &mut K,
     lanes: &mut O,
+    gate: &G,
 ) -> Result<Finish, StreamFault>
     requires { PlanFits plan.now }
     ensures whole { IsFault result ⊎ DrillsTrace plan.now source.old.settings.packets source.old.max
@@ -119,7 +140,7 @@ fn repair_sent<R: Repair, S: Source + Send, K: Sink + Send, O: Outlet + Send>(
     one_result();
     one_trace();
     parts_of_writes();
-    match by.repair(alloc, plan, source, out, lanes) {
+    match by.repair(rt, alloc, plan, source, out, lanes, gate) {
         Finish::Done => ending(source),
         Finish::ReadFault => Ok(Finish::ReadFault),
         Finish::WriteFault => Ok(Finish::WriteFault),

@@ -11,6 +11,7 @@ ghost use Rattle.fg_drill.specs.Sample.{SampleComesBack, Samples, SamplesPart, s
 ghost use Rattle.fg_thin.specs.ThinnedSource.{trace_left};
 
 use crate::laws::drills::{samples_are_traces, samples_come_back};
+use fg_crew::Gate;
 use fg_flows::Plan;
 use fg_io::laws::{parts_of_writes, writes_join};
 use fg_io::{Outlet, Sink, write_all};
@@ -20,6 +21,8 @@ use fg_trace::Finish;
 use fg_trace::laws::one_trace;
 use itoa::Buffer;
 use std::alloc::{AllocError, Global};
+use std::sync::Wait;
+use std::thread::Threads;
 
 /// More bytes than a made stream has.
 const STREAM_LIMIT: u64 = 1_099_511_627_776;
@@ -29,8 +32,9 @@ const STREAM_LIMIT: u64 = 1_099_511_627_776;
 ///
 /// `out` gains a line of these numbers, and then the report. After a fault the lanes and `out` have gained prefixes: no lane is
 /// touched before the line is whole, and the report is begun only once all lanes are. No read fails.
-pub fn sample<R: Repair, K: Sink + Send, O: Outlet + Send>(
+pub fn sample<R: Repair, W: Threads + Wait + Sync, K: Sink + Send, O: Outlet + Send, G: Gate>(
     by: &R,
+    rt: &W,
     alloc: Global,
     seed: u64,
     datagrams: u32,
@@ -38,6 +42,7 @@ pub fn sample<R: Repair, K: Sink + Send, O: Outlet + Send>(
     plan: &Plan,
     out: &mut K,
     lanes: &mut O,
+    gate: &G,
 ) -> Finish
     requires datagrams { (1 ≤ datagrams) × (datagrams ≤ 20000) }
     requires loss { loss ≤ 20 }
@@ -81,19 +86,21 @@ pub fn sample<R: Repair, K: Sink + Send, O: Outlet + Send>(
         return Finish::Memory;
     };
     match write_all(out, &line) {
-        Ok(()) => repair_made(by, alloc, plan, &mut source, out, lanes),
+        Ok(()) => repair_made(by, rt, alloc, plan, &mut source, out, lanes, gate),
         Err(_) => Finish::WriteFault,
     }
 }
 
 /// Has what is sent of a made stream repaired, whose reads don't fail.
-fn repair_made<R: Repair, K: Sink + Send, O: Outlet + Send>(
+fn repair_made<R: Repair, W: Threads + Wait + Sync, K: Sink + Send, O: Outlet + Send, G: Gate>(
     by: &R,
+    rt: &W,
     alloc: Global,
     plan: &Plan,
     source: &mut Thinned<Made>,
     out: &mut K,
     lanes: &mut O,
+    gate: &G,
 ) -> Finish
     requires { PlanFits plan.now }
     ensures whole { IsFault result ⊎ Finishes plan.now result (trace_left source.old)
@@ -106,7 +113,7 @@ fn repair_made<R: Repair, K: Sink + Send, O: Outlet + Send>(
     ensures faults { CountsFaults (result ≡ Finish.ReadFault) (result ≡ Finish.WriteFault) []
         ((K.faults out.old, K.faults out.new) ∷ (O.faults lanes.old, O.faults lanes.new) ∷ []) }
 {
-    by.repair(alloc, plan, source, out, lanes)
+    by.repair(rt, alloc, plan, source, out, lanes, gate)
 }
 
 /// The line that tells these numbers.

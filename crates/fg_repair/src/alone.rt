@@ -7,6 +7,7 @@ ghost use Rattle.fg_results.specs.Contract.{IsRepair};
 
 use crate::records::{give_up, repair_windows};
 use crate::window::WindowState;
+use fg_crew::Gate;
 use fg_desk::{Desk, Played, Reply};
 use fg_flows::Plan;
 use fg_io::{Outlet, Sink, Source};
@@ -15,6 +16,8 @@ use fg_shape::Shape;
 use fg_trace::Finish;
 use fg_words::{Shared, Word};
 use std::alloc::{AllocError, Global};
+use std::sync::Wait;
+use std::thread::Threads;
 
 /// A desk keeps the words of its last plays, so they are read where they stand.
 impl WindowState for Desk {
@@ -69,13 +72,21 @@ impl WindowState for Desk {
 pub struct Alone;
 
 impl Repair for Alone {
-    fn repair<S: Source + Send, K: Sink + Send, O: Outlet + Send>(
+    fn repair<
+        W: Threads + Wait + Sync,
+        S: Source + Send,
+        K: Sink + Send,
+        O: Outlet + Send,
+        G: Gate,
+    >(
         &self,
+        _rt: &W,
         alloc: Global,
         plan: &Plan,
         input: &mut S,
         out: &mut K,
         lanes: &mut O,
+        _gate: &G,
     ) -> Finish {
         repair_alone(alloc, plan, input, out, lanes)
     }

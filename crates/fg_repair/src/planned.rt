@@ -12,27 +12,29 @@ use std::sync::Wait;
 use std::thread::Threads;
 
 /// The repair by as many workers as the plan has: by [`repair`], or by [`repair_alone`] where it has none.
-#[derive(Drop)]
-pub struct Planned<'a, W, G> {
-    /// What starts the workers' threads.
-    pub rt: &'a W,
-    /// What hears of the points that the threads pass.
-    pub gate: &'a G,
-}
+pub struct Planned;
 
-impl<'a, W: Threads + Wait + Sync, G: Gate> Repair for Planned<'a, W, G> {
-    fn repair<S: Source + Send, K: Sink + Send, O: Outlet + Send>(
+impl Repair for Planned {
+    fn repair<
+        W: Threads + Wait + Sync,
+        S: Source + Send,
+        K: Sink + Send,
+        O: Outlet + Send,
+        G: Gate,
+    >(
         &self,
+        rt: &W,
         alloc: Global,
         plan: &Plan,
         input: &mut S,
         out: &mut K,
         lanes: &mut O,
+        gate: &G,
     ) -> Finish {
         if plan.workers == 0 {
             repair_alone(alloc, plan, input, out, lanes)
         } else {
-            repair(self.rt, alloc, plan, input, out, lanes, self.gate)
+            repair(rt, alloc, plan, input, out, lanes, gate)
         }
     }
 }

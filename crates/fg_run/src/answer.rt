@@ -19,20 +19,32 @@ use crate::monitoring::run_monitor;
 use crate::repairing::repair;
 use crate::request::Request;
 use fg_cli::{Order, Question};
+use fg_crew::Gate;
 use fg_drill::sample;
 use fg_io::laws::parts_of_writes;
 use fg_io::{Outlet, Sink, Source, write_all};
 use fg_results::Repair as Repairs;
 use std::alloc::Global;
+use std::sync::Wait;
+use std::thread::Threads;
 
 /// Does what the request asks for, and tells why it ended. What is to be repaired the repairer repairs.
-pub fn answer<R: Repairs, S: Source + Send, K: Sink + Send, O: Outlet + Send>(
+pub fn answer<
+    R: Repairs,
+    W: Threads + Wait + Sync,
+    S: Source + Send,
+    K: Sink + Send,
+    O: Outlet + Send,
+    G: Gate,
+>(
     repairer: &R,
+    rt: &W,
     alloc: Global,
     request: Request,
     input: &mut S,
     out: &mut K,
     lanes: &mut O,
+    gate: &G,
 ) -> Why
     requires { RequestFits request }
     ensures answered { RequestAnswered request result S.left S.faults input.old input.new
@@ -44,7 +56,9 @@ pub fn answer<R: Repairs, S: Source + Send, K: Sink + Send, O: Outlet + Send>(
 {
     match request {
         Request::Asked(question) => answer_question(alloc, question, out),
-        Request::Ordered(Order::Repair(plan)) => repair(repairer, alloc, &plan, input, out, lanes),
+        Request::Ordered(Order::Repair(plan)) => repair(
+            repairer, rt, alloc, &plan, input, out, lanes, gate,
+        ),
         Request::Ordered(Order::Encode { settings, max }) => {
             run_encode(alloc, &settings, max, input, out).why
         }
@@ -56,7 +70,7 @@ pub fn answer<R: Repairs, S: Source + Send, K: Sink + Send, O: Outlet + Send>(
                 max,
             },
         ) => run_drill(
-            repairer, alloc, settings, &plan, losses, max, input, out, lanes,
+            repairer, rt, alloc, settings, &plan, losses, max, input, out, lanes, gate,
         ),
         Request::Ordered(Order::Inspect { table, max }) => {
             run_inspect(alloc, &table, max, input, out).why
@@ -68,7 +82,10 @@ pub fn answer<R: Repairs, S: Source + Send, K: Sink + Send, O: Outlet + Send>(
                 loss,
                 plan,
             },
-        ) => sample(repairer, alloc, seed, datagrams, loss, &plan, out, lanes).into(),
+        ) => sample(
+            repairer, rt, alloc, seed, datagrams, loss, &plan, out, lanes, gate,
+        )
+        .into(),
         Request::Ordered(Order::FromCapture { max }) => run_fromcap(alloc, max, input, out).why,
         Request::Ordered(Order::ToCapture { max }) => run_tocap(alloc, max, input, out).why,
         Request::Ordered(Order::Monitor { max }) => run_monitor(alloc, max, input, out).why,

@@ -10,6 +10,7 @@ ghost use Rattle.fg_run.specs.Answered.{RequestAnswered};
 ghost use Rattle.fg_run.specs.Endings.{why_of_drill};
 
 use crate::ended::Why;
+use fg_crew::Gate;
 use fg_drill::{StreamFault, drill};
 use fg_flows::Plan;
 use fg_io::{Outlet, Sink, Source};
@@ -17,10 +18,20 @@ use fg_results::Repair;
 use fg_shape::{Losses, Settings};
 use fg_trace::Finish;
 use std::alloc::Global;
+use std::sync::Wait;
+use std::thread::Threads;
 
 /// Drills the stream in the input, as [`drill`] does, and tells why that ended.
-pub(crate) fn run_drill<R: Repair, S: Source + Send, K: Sink + Send, O: Outlet + Send>(
+pub(crate) fn run_drill<
+    R: Repair,
+    W: Threads + Wait + Sync,
+    S: Source + Send,
+    K: Sink + Send,
+    O: Outlet + Send,
+    G: Gate,
+>(
     repairer: &R,
+    rt: &W,
     alloc: Global,
     settings: Settings,
     plan: &Plan,
@@ -29,6 +40,7 @@ pub(crate) fn run_drill<R: Repair, S: Source + Send, K: Sink + Send, O: Outlet +
     input: &mut S,
     out: &mut K,
     lanes: &mut O,
+    gate: &G,
 ) -> Why
     requires settings { CanEncode settings }
     requires plan { PlanFits plan.now }
@@ -43,7 +55,7 @@ pub(crate) fn run_drill<R: Repair, S: Source + Send, K: Sink + Send, O: Outlet +
         ((K.faults out.old, K.faults out.new) ∷ (O.faults lanes.old, O.faults lanes.new) ∷ []) }
 {
     let answer = drill(
-        repairer, alloc, settings, plan, losses, max, input, out, lanes,
+        repairer, rt, alloc, settings, plan, losses, max, input, out, lanes, gate,
     );
     why_of(answer)
 }

@@ -82,7 +82,7 @@ pub fn run<
     laws::one_request();
     parts_of_writes();
     let why = match request::read_request(alloc, words) {
-        Ok(request) => { answer::answer(&Planned { rt, gate }, alloc, request, input, out, lanes) }
+        Ok(request) => { answer::answer(&Planned, rt, alloc, request, input, out, lanes, gate) }
         Err(AllocError) => Why::Memory,
     };
     tell_end(err, why)
