@@ -7,17 +7,13 @@ ghost use Rattle.fg_results.specs.Contract.{IsRepair};
 
 use crate::records::{give_up, repair_windows};
 use crate::window::WindowState;
-use fg_crew::Gate;
 use fg_desk::{Desk, Played, Reply};
 use fg_flows::Plan;
 use fg_io::{Outlet, Sink, Source};
-use fg_results::Repair;
 use fg_shape::Shape;
 use fg_trace::Finish;
 use fg_words::{Shared, Word};
 use std::alloc::{AllocError, Global};
-use std::sync::Wait;
-use std::thread::Threads;
 
 /// A desk keeps the words of its last plays, so they are read where they stand.
 impl WindowState for Desk {
@@ -65,30 +61,6 @@ impl WindowState for Desk {
     #[inline]
     fn repaired(&self, played: Played, i: u32) -> bool {
         self.repaired(played.first + u64::from(i))
-    }
-}
-
-/// The repair on the caller's thread alone, by [`repair_alone`].
-pub struct Alone;
-
-impl Repair for Alone {
-    fn repair<
-        W: Threads + Wait + Sync,
-        S: Source + Send,
-        K: Sink + Send,
-        O: Outlet + Send,
-        G: Gate,
-    >(
-        &self,
-        _rt: &W,
-        alloc: Global,
-        plan: &Plan,
-        input: &mut S,
-        out: &mut K,
-        lanes: &mut O,
-        _gate: &G,
-    ) -> Finish {
-        repair_alone(alloc, plan, input, out, lanes)
     }
 }
 

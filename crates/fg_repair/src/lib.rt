@@ -11,6 +11,6 @@ mod play;
 mod records;
 mod window;
 
-pub use alone::{Alone, repair_alone};
+pub use alone::repair_alone;
 pub use crewed::repair;
-pub use planned::Planned;
+pub use planned::repair_as_planned;

@@ -1,40 +1,42 @@
 //! The repair that a plan asks for.
+ghost use Rattle.std.specs.Prelude.{◌≡◌, [], ◌∷◌};
+ghost use Rattle.fg_io.specs.Faults.{CountsFaults};
+ghost use Rattle.fg_flows.specs.Plan.{PlanFits};
+ghost use Rattle.fg_results.specs.Contract.{IsRepair};
 
 use crate::alone::repair_alone;
 use crate::crewed::repair;
 use fg_crew::Gate;
 use fg_flows::Plan;
 use fg_io::{Outlet, Sink, Source};
-use fg_results::Repair;
 use fg_trace::Finish;
 use std::alloc::Global;
 use std::sync::Wait;
 use std::thread::Threads;
 
-/// The repair by as many workers as the plan has: by [`repair`], or by [`repair_alone`] where it has none.
-pub struct Planned;
+/// Repairs the flows of a trace by as many workers as the plan has: by [`repair`], or by [`repair_alone`] where it has none.
+pub fn repair_as_planned<
+    W: Threads + Wait + Sync,
+    S: Source + Send,
+    K: Sink + Send,
+    O: Outlet + Send,
+    G: Gate,
+>(rt: &W, alloc: Global, plan: &Plan, input: &mut S, out: &mut K, lanes: &mut O, gate: &G) -> Finish
+    requires { PlanFits plan.now }
 
-impl Repair for Planned {
-    fn repair<
-        W: Threads + Wait + Sync,
-        S: Source + Send,
-        K: Sink + Send,
-        O: Outlet + Send,
-        G: Gate,
-    >(
-        &self,
-        rt: &W,
-        alloc: Global,
-        plan: &Plan,
-        input: &mut S,
-        out: &mut K,
-        lanes: &mut O,
-        gate: &G,
-    ) -> Finish {
-        if plan.workers == 0 {
-            repair_alone(alloc, plan, input, out, lanes)
-        } else {
-            repair(rt, alloc, plan, input, out, lanes, gate)
-        }
+    ensures repairs { IsRepair plan.now result (S.left input.old) (S.left input.new) O.lanes lanes.old lanes.new
+        K.written out.old out.new }
+
+    // A fault of the outside is answered only where it was counted in this call, and with every other answer none was. No
+    // count falls.
+    ensures faults { CountsFaults (result ≡ Finish.ReadFault) (result ≡ Finish.WriteFault)
+        ((S.faults input.old, S.faults input.new) ∷ [])
+        ((K.faults out.old, K.faults out.new) ∷ (O.faults lanes.old, O.faults lanes.new) ∷ []) }
+    ensures fixed { S.fixed input.new ≡ S.fixed input.old }
+{
+    if plan.workers == 0 {
+        repair_alone(alloc, plan, input, out, lanes)
+    } else {
+        repair(rt, alloc, plan, input, out, lanes, gate)
     }
 }

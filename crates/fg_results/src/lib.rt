@@ -3,6 +3,3 @@
 #![tactic(auto)]
 
 pub mod laws;
-mod repair;
-
-pub use repair::Repair;

@@ -18,26 +18,23 @@ use crate::inspection::run_inspect;
 use crate::monitoring::run_monitor;
 use crate::repairing::repair;
 use crate::request::Request;
+use crate::sample::sample;
 use fg_cli::{Order, Question};
 use fg_crew::Gate;
-use fg_drill::sample;
 use fg_io::laws::parts_of_writes;
 use fg_io::{Outlet, Sink, Source, write_all};
-use fg_results::Repair as Repairs;
 use std::alloc::Global;
 use std::sync::Wait;
 use std::thread::Threads;
 
-/// Does what the request asks for, and tells why it ended. What is to be repaired the repairer repairs.
+/// Does what the request asks for, and tells why it ended.
 pub fn answer<
-    R: Repairs,
     W: Threads + Wait + Sync,
     S: Source + Send,
     K: Sink + Send,
     O: Outlet + Send,
     G: Gate,
 >(
-    repairer: &R,
     rt: &W,
     alloc: Global,
     request: Request,
@@ -70,7 +67,7 @@ pub fn answer<
                 max,
             },
         ) => run_drill(
-            repairer, rt, alloc, settings, &plan, losses, max, input, out, lanes, gate,
+            rt, alloc, settings, &plan, losses, max, input, out, lanes, gate,
         ),
         Request::Ordered(Order::Inspect { table, max }) => {
             run_inspect(alloc, &table, max, input, out).why

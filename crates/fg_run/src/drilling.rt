@@ -9,12 +9,12 @@ ghost use Rattle.fg_run.specs.declared.request.Request.TheVariants.{Ordered};
 ghost use Rattle.fg_run.specs.Answered.{RequestAnswered};
 ghost use Rattle.fg_run.specs.Endings.{why_of_drill};
 
+use crate::drill::drill;
 use crate::ended::Why;
 use fg_crew::Gate;
-use fg_drill::{StreamFault, drill};
+use fg_drill::StreamFault;
 use fg_flows::Plan;
 use fg_io::{Outlet, Sink, Source};
-use fg_results::Repair;
 use fg_shape::{Losses, Settings};
 use fg_trace::Finish;
 use std::alloc::Global;
@@ -23,14 +23,12 @@ use std::thread::Threads;
 
 /// Drills the stream in the input, as [`drill`] does, and tells why that ended.
 pub(crate) fn run_drill<
-    R: Repair,
     W: Threads + Wait + Sync,
     S: Source + Send,
     K: Sink + Send,
     O: Outlet + Send,
     G: Gate,
 >(
-    repairer: &R,
     rt: &W,
     alloc: Global,
     settings: Settings,
@@ -55,7 +53,7 @@ pub(crate) fn run_drill<
         ((K.faults out.old, K.faults out.new) ∷ (O.faults lanes.old, O.faults lanes.new) ∷ []) }
 {
     let answer = drill(
-        repairer, rt, alloc, settings, plan, losses, max, input, out, lanes, gate,
+        rt, alloc, settings, plan, losses, max, input, out, lanes, gate,
     );
     why_of(answer)
 }

@@ -8,6 +8,7 @@ ghost use Rattle.fg_run.specs.Ended.{TellsFault, status_of};
 
 mod answer;
 mod capturing;
+mod drill;
 mod drilling;
 mod encoding;
 mod ended;
@@ -17,6 +18,7 @@ pub mod laws;
 mod monitoring;
 mod repairing;
 mod request;
+mod sample;
 #[cfg(test)]
 mod tests;
 
@@ -26,7 +28,6 @@ pub use ended::{Ended, Why};
 use fg_crew::Gate;
 use fg_io::laws::parts_of_writes;
 use fg_io::{Outlet, Sink, Source};
-use fg_repair::Planned;
 pub use inspection::run_inspect;
 pub use monitoring::run_monitor;
 use request::Request;
@@ -82,7 +83,7 @@ pub fn run<
     laws::one_request();
     parts_of_writes();
     let why = match request::read_request(alloc, words) {
-        Ok(request) => { answer::answer(&Planned, rt, alloc, request, input, out, lanes, gate) }
+        Ok(request) => { answer::answer(rt, alloc, request, input, out, lanes, gate) }
         Err(AllocError) => Why::Memory,
     };
     tell_end(err, why)

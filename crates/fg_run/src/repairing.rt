@@ -11,29 +11,19 @@ use fg_crew::Gate;
 use fg_drill::laws::drills::repairs_come_back;
 use fg_flows::Plan;
 use fg_io::{Outlet, Sink, Source};
-use fg_results::Repair as Repairs;
+use fg_repair::repair_as_planned;
 use std::alloc::Global;
 use std::sync::Wait;
 use std::thread::Threads;
 
 /// Repairs the flows of the trace in the input, and tells why that ended.
 pub(crate) fn repair<
-    R: Repairs,
     W: Threads + Wait + Sync,
     S: Source + Send,
     K: Sink + Send,
     O: Outlet + Send,
     G: Gate,
->(
-    repairer: &R,
-    rt: &W,
-    alloc: Global,
-    plan: &Plan,
-    input: &mut S,
-    out: &mut K,
-    lanes: &mut O,
-    gate: &G,
-) -> Why
+>(rt: &W, alloc: Global, plan: &Plan, input: &mut S, out: &mut K, lanes: &mut O, gate: &G) -> Why
     requires { PlanFits plan.now }
     ensures answered { RequestAnswered (Ordered (Repair plan.now)) result S.left S.faults input.old input.new
         O.lanes O.faults lanes.old lanes.new K.written K.faults out.old out.new }
@@ -42,6 +32,6 @@ pub(crate) fn repair<
         ((K.faults out.old, K.faults out.new) ∷ (O.faults lanes.old, O.faults lanes.new) ∷ []) }
 {
     repairs_come_back();
-    let finish = repairer.repair(rt, alloc, plan, input, out, lanes, gate);
+    let finish = repair_as_planned(rt, alloc, plan, input, out, lanes, gate);
     finish.into()
 }

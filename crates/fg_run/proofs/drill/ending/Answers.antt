@@ -2,7 +2,7 @@ use Rattle.std.proofs.Common.{◌<◌, drop, inr, length, rules, arith}
 use Rattle.std.proofs.lemmas.Grind.{common_steps}
 use Rattle.fg_thin.specs.ThinnedSource.{thinned_trace}
 use Rattle.fg_drill.proofs.DrillReading.{last_tells}
-use Rattle.fg_drill.proofs.drilling.ending.Goals as goal
+use Rattle.fg_run.proofs.drill.ending.Goals as goal
 
 pub returns-in-Ok-clause-tells : goal.returns-in-Ok-clause-tells
 returns-in-Ok-clause-tells g c =

@@ -12,7 +12,7 @@ use Rattle.fg_encode.proofs.ReadLemmas.{unread_to}
 use Rattle.fg_drill.proofs.DrillReading.{drill_reads, drill_tells, reads_of, same_max, same_stream}
 use Rattle.fg_drill.proofs.Repairs.{drill_stops, drill_stops_first, stops_as_told}
 use Rattle.fg_drill.proofs.PartLemmas.{no_drill}
-use Rattle.fg_drill.proofs.drilling.drill.Goals as goal
+use Rattle.fg_run.proofs.drill.drill.Goals as goal
 
 pub returns-in_default-clause-part : goal.returns-in_default-clause-part
 returns-in_default-clause-part g c = λ fault. no_drill c.args.settings c.args.plan.now c.args.losses c.args.max _ _ g.K.Sink.written _

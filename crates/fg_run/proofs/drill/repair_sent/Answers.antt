@@ -3,12 +3,12 @@ use Rattle.fg_thin.specs.ThinnedSource.{fixed_of, thinned_trace}
 use Rattle.fg_drill.proofs.Drills.{done_drills, done_outputs, part_of_whole, same_ending}
 use Rattle.fg_drill.proofs.DrillReading.{done_tells, same_stream}
 use Rattle.fg_drill.proofs.Repairs.{done_stops}
-use Rattle.fg_drill.proofs.drilling.repair_sent.Goals as goal
+use Rattle.fg_run.proofs.drill.repair_sent.Goals as goal
 
 pub returns-in-Done-clause-whole : goal.returns-in-Done-clause-whole
 returns-in-Done-clause-whole g c =
     done_drills c.args.plan.now _ _ _ _ c.ending.result _ _ _ _ (done_outputs c.args.plan.now _ _ _ _ _ c.in-Done.ensures.repairs.whole)
-    (same_ending (fixed_of g.S.Source.fixed c.args.source.now) (fixed_of g.S.Source.fixed c.repair.new.input) c.ending.result c.repair.ensures.fixed c.ending.ensures.answer)
+    (same_ending (fixed_of g.S.Source.fixed c.args.source.now) (fixed_of g.S.Source.fixed c.repair_as_planned.new.input) c.ending.result c.repair_as_planned.ensures.fixed c.ending.ensures.answer)
 
 pub returns-in-Done-clause-part : goal.returns-in-Done-clause-part
 returns-in-Done-clause-part g c = λ fault.
@@ -22,5 +22,5 @@ returns-in-Done-clause-stops g c = λ fault.
 pub returns-in-Done-clause-tells : goal.returns-in-Done-clause-tells
 returns-in-Done-clause-tells g c =
     let source = c.args.source.now in
-    done_tells c.args.plan.now (λ bytes. drop source.given (thinned_trace source.settings source.losses source.max bytes)) source.stream c.repair.new.input.stream c.ending.result _ _
-    (same_stream (fixed_of g.S.Source.fixed source) (fixed_of g.S.Source.fixed c.repair.new.input) c.repair.ensures.fixed) c.ending.ensures.tells
+    done_tells c.args.plan.now (λ bytes. drop source.given (thinned_trace source.settings source.losses source.max bytes)) source.stream c.repair_as_planned.new.input.stream c.ending.result _ _
+    (same_stream (fixed_of g.S.Source.fixed source) (fixed_of g.S.Source.fixed c.repair_as_planned.new.input) c.repair_as_planned.ensures.fixed) c.ending.ensures.tells

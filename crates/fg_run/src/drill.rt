@@ -1,4 +1,4 @@
-//! The drill of a stream.
+//! What is sent of a stream, repaired.
 ghost use Rattle.std.specs.Prelude.{◌≡◌, ◌⊎◌, ◌≤◌, ◌^◌, ◌∷◌, [], ℕ, Ok, List, IfSome};
 ghost use Rattle.std.specs.Io.KnownBytes.{IsAtEnd};
 ghost use Rattle.fg_io.specs.Faults.{CountsFaults};
@@ -12,12 +12,12 @@ ghost use Rattle.fg_drill.specs.Drill.{Drills, DrillsPart, IsFault, StopsLanes, 
 ghost use Rattle.fg_drill.specs.DrillSteps.{DrillsTrace, IsEndingsAnswer, StopsTrace, TellsAll, TellsEnding};
 ghost use Rattle.fg_thin.specs.ThinnedSource.{fixed_of, trace_left};
 
-use crate::laws::drills::{drills_come_back, repairs_are_drills};
 use fg_crew::Gate;
+use fg_drill::laws::drills::{drills_come_back, repairs_are_drills};
 use fg_flows::Plan;
 use fg_io::laws::parts_of_writes;
 use fg_io::{Failed, Outlet, Sink, Source};
-use fg_results::Repair;
+use fg_repair::repair_as_planned;
 use fg_results::laws::one_result;
 use fg_shape::{Losses, Settings};
 use fg_thin::laws::payloads::{payloads_are_the_cut, thinned_traces_are_traces};
@@ -34,15 +34,13 @@ use std::thread::Threads;
 /// The lanes and `out` gain what a repair gives for the rest. A `StreamFault` tells how the stream ends early; what comes before is
 /// sent and repaired all the same. After a fault the lanes have gained prefixes, and the report is begun only once all lanes are
 /// whole.
-pub fn drill<
-    R: Repair,
+pub(crate) fn drill<
     W: Threads + Wait + Sync,
     S: Source + Send,
     K: Sink + Send,
     O: Outlet + Send,
     G: Gate,
 >(
-    by: &R,
     rt: &W,
     alloc: Global,
     settings: Settings,
@@ -96,22 +94,20 @@ pub fn drill<
         return Ok(Finish::Memory);
     };
     let mut source = thinning.of(&mut *input);
-    let answer = repair_sent(by, rt, alloc, plan, &mut source, out, lanes, gate);
+    let answer = repair_sent(rt, alloc, plan, &mut source, out, lanes, gate);
     let _input = source.into_inner();
     answer
 }
 
 /// Has what is sent of a stream repaired, and answers how the stream ends.
-#[tactic(auto, using(crate::proofs::DrillReading::other_tells, crate::proofs::Drills::other_drills, crate::proofs::Repairs::finish_stops))]
+#[tactic(auto, using(fg_drill::proofs::DrillReading::other_tells, fg_drill::proofs::Drills::other_drills, fg_drill::proofs::Repairs::finish_stops))]
 fn repair_sent<
-    R: Repair,
     W: Threads + Wait + Sync,
     S: Source + Send,
     K: Sink + Send,
     O: Outlet + Send,
     G: Gate,
 >(
-    by: &R,
     rt: &W,
     alloc: Global,
     plan: &Plan,
@@ -140,7 +136,7 @@ fn repair_sent<
     one_result();
     one_trace();
     parts_of_writes();
-    match by.repair(rt, alloc, plan, source, out, lanes, gate) {
+    match repair_as_planned(rt, alloc, plan, source, out, lanes, gate) {
         Finish::Done => ending(source),
         Finish::ReadFault => Ok(Finish::ReadFault),
         Finish::WriteFault => Ok(Finish::WriteFault),

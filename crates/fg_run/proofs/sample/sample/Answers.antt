@@ -12,7 +12,7 @@ use Rattle.fg_drill.proofs.DrillsBack.{sample_back}
 use Rattle.fg_drill.proofs.Repairs.{stops_as_told, stops_first}
 use Rattle.fg_drill.proofs.Samples.{line_is, may_be_made, samples_part, whole_sample}
 use Rattle.fg_drill.proofs.PartLemmas.{no_sample}
-use Rattle.fg_drill.proofs.sampling.sample.Goals as goal
+use Rattle.fg_run.proofs.sample.sample.Goals as goal
 
 pub returns-in_default-clause-part : goal.returns-in_default-clause-part
 returns-in_default-clause-part g c = λ fault.

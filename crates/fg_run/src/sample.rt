@@ -10,12 +10,12 @@ ghost use Rattle.fg_drill.specs.DrillSteps.{StopsTrace};
 ghost use Rattle.fg_drill.specs.Sample.{SampleComesBack, Samples, SamplesPart, sample_sent};
 ghost use Rattle.fg_thin.specs.ThinnedSource.{trace_left};
 
-use crate::laws::drills::{samples_are_traces, samples_come_back};
 use fg_crew::Gate;
+use fg_drill::laws::drills::{samples_are_traces, samples_come_back};
 use fg_flows::Plan;
 use fg_io::laws::{parts_of_writes, writes_join};
 use fg_io::{Outlet, Sink, write_all};
-use fg_results::Repair;
+use fg_repair::repair_as_planned;
 use fg_thin::{Made, Thinned, drawn, sample_settings};
 use fg_trace::Finish;
 use fg_trace::laws::one_trace;
@@ -32,8 +32,7 @@ const STREAM_LIMIT: u64 = 1_099_511_627_776;
 ///
 /// `out` gains a line of these numbers, and then the report. After a fault the lanes and `out` have gained prefixes: no lane is
 /// touched before the line is whole, and the report is begun only once all lanes are. No read fails.
-pub fn sample<R: Repair, W: Threads + Wait + Sync, K: Sink + Send, O: Outlet + Send, G: Gate>(
-    by: &R,
+pub(crate) fn sample<W: Threads + Wait + Sync, K: Sink + Send, O: Outlet + Send, G: Gate>(
     rt: &W,
     alloc: Global,
     seed: u64,
@@ -86,14 +85,13 @@ pub fn sample<R: Repair, W: Threads + Wait + Sync, K: Sink + Send, O: Outlet + S
         return Finish::Memory;
     };
     match write_all(out, &line) {
-        Ok(()) => repair_made(by, rt, alloc, plan, &mut source, out, lanes, gate),
+        Ok(()) => repair_made(rt, alloc, plan, &mut source, out, lanes, gate),
         Err(_) => Finish::WriteFault,
     }
 }
 
 /// Has what is sent of a made stream repaired, whose reads don't fail.
-fn repair_made<R: Repair, W: Threads + Wait + Sync, K: Sink + Send, O: Outlet + Send, G: Gate>(
-    by: &R,
+fn repair_made<W: Threads + Wait + Sync, K: Sink + Send, O: Outlet + Send, G: Gate>(
     rt: &W,
     alloc: Global,
     plan: &Plan,
@@ -113,7 +111,7 @@ fn repair_made<R: Repair, W: Threads + Wait + Sync, K: Sink + Send, O: Outlet + 
     ensures faults { CountsFaults (result ≡ Finish.ReadFault) (result ≡ Finish.WriteFault) []
         ((K.faults out.old, K.faults out.new) ∷ (O.faults lanes.old, O.faults lanes.new) ∷ []) }
 {
-    by.repair(rt, alloc, plan, source, out, lanes, gate)
+    repair_as_planned(rt, alloc, plan, source, out, lanes, gate)
 }
 
 /// The line that tells these numbers.
