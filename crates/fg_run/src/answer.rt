@@ -53,9 +53,7 @@ pub fn answer<
 {
     match request {
         Request::Asked(question) => answer_question(alloc, question, out),
-        Request::Ordered(Order::Repair(plan)) => repair(
-            repairer, rt, alloc, &plan, input, out, lanes, gate,
-        ),
+        Request::Ordered(Order::Repair(plan)) => repair(rt, alloc, &plan, input, out, lanes, gate),
         Request::Ordered(Order::Encode { settings, max }) => {
             run_encode(alloc, &settings, max, input, out).why
         }
@@ -79,10 +77,7 @@ pub fn answer<
                 loss,
                 plan,
             },
-        ) => sample(
-            repairer, rt, alloc, seed, datagrams, loss, &plan, out, lanes, gate,
-        )
-        .into(),
+        ) => sample(rt, alloc, seed, datagrams, loss, &plan, out, lanes, gate).into(),
         Request::Ordered(Order::FromCapture { max }) => run_fromcap(alloc, max, input, out).why,
         Request::Ordered(Order::ToCapture { max }) => run_tocap(alloc, max, input, out).why,
         Request::Ordered(Order::Monitor { max }) => run_monitor(alloc, max, input, out).why,
