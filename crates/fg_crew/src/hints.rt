@@ -5,7 +5,7 @@ use crate::pace::Pace;
 use crossbeam_queue::ArrayQueue;
 use std::alloc::{AllocError, Global};
 use std::sync::Wait;
-use std::sync::atomic::{AtomicBool, AtomicU64, Ordering};
+use std::sync::atomic::{AtomicU64, Ordering};
 
 /// How many hints can wait. A hint that finds no room is lost, which changes no result.
 pub const HINTS_LIMIT: usize = 1_024;
@@ -14,14 +14,10 @@ pub const HINTS_LIMIT: usize = 1_024;
 #[derive(Drop)]
 pub struct Hints {
     queue: ArrayQueue<u32>,
-    /// The body has ended.
-    stopped: AtomicBool,
     /// How many words the workers have found.
     found: AtomicU64,
-    /// How many workers rest.
-    resting: AtomicU64,
-    /// How often the workers were woken: a rest ends where it changes.
-    bell: AtomicU64,
+    /// 0, and 1 once the workers are to stop, which ends their rests.
+    stopped: AtomicU64,
 }
 
 impl Hints {
@@ -29,23 +25,14 @@ impl Hints {
     pub(crate) fn new(alloc: Global) -> Result<Hints, AllocError> {
         Ok(Hints {
             queue: ArrayQueue::new(alloc, HINTS_LIMIT)?,
-            stopped: AtomicBool::new(false),
             found: AtomicU64::new(0),
-            resting: AtomicU64::new(0),
-            bell: AtomicU64::new(0),
+            stopped: AtomicU64::new(0),
         })
     }
 
     /// Adds a hint, or drops it where there is no room. It wakes nobody.
     pub fn hint<W: Wait>(&self, wait: &W, flow: u32) {
         let _ = self.queue.push(wait, flow);
-    }
-
-    /// Ends the rests of the workers, at the cost of a system call where some worker rests.
-    pub fn wake(&self) {
-        if self.resting.load(Ordering::SeqCst) > 0 {
-            self.ring();
-        }
     }
 
     /// Tells that a word was found: rests are short again.
@@ -68,31 +55,20 @@ impl Hints {
         self.queue.pop(wait)
     }
 
-    /// Has the workers stop.
+    /// Has the workers stop, and ends their rests.
     pub(crate) fn stop(&self) {
-        self.stopped.store(true, Ordering::SeqCst);
-        self.ring();
+        self.stopped.store(1, Ordering::SeqCst);
+        self.stopped.wake_all();
     }
 
     /// Whether the workers are to stop.
     pub(crate) fn is_stopped(&self) -> bool {
-        self.stopped.load(Ordering::SeqCst)
+        self.stopped.load(Ordering::SeqCst) > 0
     }
 
-    /// Rests for a while, or until the workers are woken or stopped.
+    /// Rests for a while, or until the workers are to stop.
     pub(crate) fn rest<W: Wait>(&self, wait: &W, pace: &mut Pace) {
-        let heard = (self.bell.load(Ordering::SeqCst) % (1 << 32)) as u32;
         let long = pace.next(self.found());
-        self.resting.fetch_add(1, Ordering::SeqCst);
-        if !self.is_stopped() {
-            self.bell.park_timeout(wait, heard, long);
-        }
-        self.resting.fetch_sub(1, Ordering::SeqCst);
-    }
-
-    /// Ends all rests.
-    fn ring(&self) {
-        self.bell.fetch_add(1, Ordering::SeqCst);
-        self.bell.wake_all();
+        self.stopped.park_timeout(wait, 0, long);
     }
 }

@@ -45,7 +45,6 @@ impl<'a> Body for Hinting<'a> {
         for hint in 1..11 {
             hints.hint(rt, hint);
         }
-        hints.wake();
         for _ in 0..LOOKS {
             if self.sum.load(Ordering::SeqCst) == 55 {
                 break;

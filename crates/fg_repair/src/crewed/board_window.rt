@@ -11,7 +11,7 @@ use fg_shape::Shape;
 use fg_words::{Shared, Word};
 use std::sync::Wait;
 
-/// A flow's windows on its board. Its workers are hinted of each datagram that is admitted, and woken after each play.
+/// A flow's windows on its board. Its workers are hinted of each datagram that is admitted.
 #[derive(Drop)]
 pub(crate) struct BoardWindow<'a, W: Wait, G: Hears> {
     pub(crate) wait: &'a W,
@@ -69,9 +69,7 @@ impl<'a, W: Wait, G: Hears> WindowState for BoardWindow<'a, W, G> {
     fn play(&mut self) -> Played {
         prove!(self.admitter.room());
         self.gate.hear(CALLER, PLAYING);
-        let played = self.admitter.play(self.wait, self.board, &mut self.tray);
-        self.hints.wake();
-        played
+        self.admitter.play(self.wait, self.board, &mut self.tray)
     }
 
     fn flush_step(&mut self) -> Option<Played> {

@@ -47,18 +47,14 @@ impl<'a, W: Wait, G: Hears> Visit<'a, W, G> {
         }
     }
 
-    /// Does the next job. Answers whether there was one and memory for it.
+    /// Does the next job. Answers whether the visit goes on.
     fn do_next(&self, visitor: &mut Visitor) -> bool
         requires { visitor.old.pass.turn ≡ self.now.post.now.board.name }
         ensures { visitor.new.pass.turn ≡ visitor.old.pass.turn }
     {
         let count = self.post.signal.count();
         match self.post.board.take(self.wait, &mut visitor.pass) {
-            Ok(Some(job)) => {
-                // Another worker may take the next one meanwhile.
-                self.post.signal.hint(self.wait, self.hints, self.flow);
-                self.do_job(&mut visitor.pass, job)
-            }
+            Ok(Some(job)) => self.do_job(&mut visitor.pass, job),
             Ok(None) => {
                 visitor.idle_at = Some(count);
                 false
@@ -67,18 +63,24 @@ impl<'a, W: Wait, G: Hears> Visit<'a, W, G> {
         }
     }
 
-    /// Solves or checks a job outside the turn, and brings what it came to. Answers whether there was memory for it.
+    /// Solves or checks a job outside the turn, and brings what it came to. Answers whether the visit goes on: not where there
+    /// was no memory, nor after a check, which saves a play little.
     fn do_job(&self, pass: &mut Pass, job: Job) -> bool
         requires board { pass.old.turn ≡ self.now.post.now.board.name }
         requires taken { IsLater job.taken pass.old }
         ensures { pass.new.turn ≡ pass.old.turn }
     {
-        self.gate.hear(self.worker, TAKEN);
         match job.missing() {
-            Some(_) => self.solve(pass, job),
+            Some(_) => {
+                // Another worker may solve the next one meanwhile.
+                self.post.signal.hint(self.wait, self.hints, self.flow);
+                self.gate.hear(self.worker, TAKEN);
+                self.solve(pass, job)
+            }
             None => {
+                self.gate.hear(self.worker, TAKEN);
                 self.check(pass, job);
-                true
+                false
             }
         }
     }
