@@ -260,13 +260,16 @@ module _ (pass : Standing BoardState) (state : FoldingState) (part : IsPartOfSum
             word_was_told (map told_from pass.told) job all other known
             (sym (beside_inserted part.inputs slot word other apart) ∙ is))
             (cases_eq other slot));
-        room = (part.room.0, λ other known is. ⊎_elim
-            (λ same.
-            let both : Some word ≡ Some known = sym (inserted part.inputs slot word other same) ∙ is in
-            let value : word ≡ known = (cc) in
-            subst HasRoom value room)
-            (λ apart. part.room.1 other known (sym (beside_inserted part.inputs slot word other apart) ∙ is))
-            (cases_eq other slot));
+        room = (
+          part.room.0,
+          λ other known is. ⊎_elim
+              (λ same.
+              let both : Some word ≡ Some known = sym (inserted part.inputs slot word other same) ∙ is in
+              let value : word ≡ known = (cc) in
+              subst HasRoom value room)
+              (λ apart. part.room.1 other known (sym (beside_inserted part.inputs slot word other apart) ∙ is))
+              (cases_eq other slot),
+        );
         remainder_is = ap (λ (w : Word). word_xor w word) part.remainder_is
             ∙ sym (sum_with_one part.inputs slot word state.equation.parity (slots state.equation)
             (slots_distinct state.equation part.shape.some_offset) c (unfolded_has_none slot isnt));
@@ -328,8 +331,7 @@ module _ (pass : Standing BoardState) (state : FoldingState) (part : IsPartOfSum
   remainder_is_checked each checked comes_out none says = (
     state.equation,
     checked (record { taken = pass; job = job_with state part.inputs }) pass comes_out part.told (each pass) part.room
-        (all_have none)
-        (
+        (all_have none) (
           λ is. sym part.remainder_is ∙ says.0 is,
           λ is. says.1 (part.remainder_is ∙ is),
         ),

@@ -44,10 +44,10 @@ impl Model for Folding {
     ghost coded = { folding_code };
 
     ghost view = { λ f. record {
-        key = f.key;
-        equation = equation_with f.base f.shape f.parity.value;
-        folded = slots_in f.folded f.base f.shape.offset f.shape.na;
-        remainder = f.remainder;
+      key = f.key;
+      equation = equation_with f.base f.shape f.parity.value;
+      folded = slots_in f.folded f.base f.shape.offset f.shape.na;
+      remainder = f.remainder;
     } };
 
     ghost invariant = { λ f. IsShape f.shape.offset f.shape.na × (f.base ≤ position_limit) × (f.folded < 2 ^ f.shape.na) };
