@@ -205,7 +205,7 @@ impl<'b> Tally<'b> {
     }
 
     /// Whenever its lock is free, its pass is one of its board's, and what it holds is a part of its equation's sum.
-    pub fn is_kept(&self)
+    pub(crate) fn is_kept(&self)
         ensures { IsTally self.now }
     {
         // What holds of the fields is known where they are read.

@@ -1,1 +1,5 @@
-//! Tallies on boards.
+//! Tallies of a board, as one thread has them.
+
+mod gone;
+mod row;
+mod scene;
