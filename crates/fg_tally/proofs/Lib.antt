@@ -1,0 +1,5 @@
+mod Bits
+mod Filtering
+mod Numbers
+mod Passes
+mod Summing

@@ -1,0 +1,4 @@
+pub mod Codings
+pub mod Counting
+pub mod Folding
+pub mod Tally
