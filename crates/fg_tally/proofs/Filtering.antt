@@ -1,6 +1,6 @@
 -- Which slots are missing, from the first on.
-use Rattle.std.proofs.Common.{◌≡◌, ◌≢◌, ◌⊎◌, ◌<◌, ◌≤◌, ◌+◌, ◌*◌, ◌++◌, ℕ, Bool, true, false, not, cond, List, [], ◌∷◌, map, length, Some, None, IsSome, IsTrue, refl, sym, ap, subst, ◌∙◌, ⊎_elim, arith, append-nil, zero-add}
-use Rattle.std.proofs.lemmas.Bool.{both_ways, cases_Bool}
+use Rattle.std.proofs.Common.{◌≡◌, ◌≢◌, ◌⊎◌, ◌<◌, ◌≤◌, ◌+◌, ◌*◌, ◌++◌, ℕ, Bool, true, false, not, cond, List, [], ◌∷◌, map, length, refl, sym, ap, subst, ◌∙◌, ⊎_elim, arith, append-nil, zero-add}
+use Rattle.std.proofs.lemmas.Bool.{both_ways}
 use Rattle.std.proofs.lemmas.List.FromFn.{filter_of_map_range_with_len_more, length-map-range_with_len}
 use Rattle.std.specs.List.{Contains, filter, range_with_len}
 use Rattle.std.specs.FinSet.{contains}

@@ -1,5 +1,5 @@
 -- What the words folded so far sum to, and what a pass was told of them.
-use Rattle.std.proofs.Common.{◌≡◌, ◌≢◌, ◌⊎◌, ◌↔◌, ◌<◌, ◌≤◌, ◌==◌, ◌++◌, ℕ, Bool, true, false, not, List, [], ◌∷◌, map, filter_map, Option, Some, None, IsSome, IsTrue, refl, sym, ap, subst, ◌∙◌, ⊎_elim, eq-eqb, ne_eqb, arith}
+use Rattle.std.proofs.Common.{◌≡◌, ◌↔◌, ◌≤◌, ◌==◌, ◌++◌, ℕ, Bool, false, not, List, [], ◌∷◌, map, filter_map, Option, Some, None, IsSome, IsTrue, refl, sym, ap, subst, ◌∙◌, ⊎_elim, eq-eqb, ne_eqb, arith}
 use Rattle.std.proofs.lemmas.Bool.{both_ways, cases_eq, cases_Bool, cond-true, cond-false, not-true, not_from_false}
 use Rattle.std.proofs.lemmas.List.{map-append}
 use Rattle.std.proofs.lemmas.List.Elements.{All-contains, All-weaker, All-contains_itself, Contains-append_left, Contains-append_right}
@@ -8,7 +8,7 @@ use Rattle.std.specs.List.{All, Contains, cons_option}
 use Rattle.std.specs.Ordering.{nat_cmp}
 use Rattle.std.specs.FinMap.{get, insert, empty, entries}
 use Rattle.std.specs.FinSet as set
-use Rattle.std.specs.FinSet.{FinSet, contains, contains-empty}
+use Rattle.std.specs.FinSet.{contains, contains-empty}
 use Rattle.fg_words.specs.declared.Word.{Word}
 use Rattle.fg_words.specs.Word.{zero_word, word_xor, word_sum, HasRoom}
 use Rattle.fg_words.proofs.WordLemmas.{word_xor_comm, word_xor_assoc, word_xor-zero}
@@ -24,7 +24,7 @@ use Rattle.fg_peel.proofs.Slots.{slots_distinct}
 use Rattle.fg_peel.proofs.Sums.{sum_at-agree, sum_at-split}
 use Rattle.fg_playout.specs.State.{Words}
 use Rattle.fg_turn.specs.Standing.{Standing}
-use Rattle.fg_core.specs.Board.{BoardState, JobState, job_sum, equation_with, TellsEquation}
+use Rattle.fg_core.specs.Board.{BoardState, JobState, equation_with, TellsEquation}
 use Rattle.fg_core.specs.Codes.{Entry, told_code, told_from, ToldIsReadBack}
 use Rattle.fg_core.specs.Core.{Event, look, offer, attest}
 use Rattle.fg_core.specs.Views.{Told, word_at, equation_is, seen_of, told_of_job, IsWorked, IsChecked}

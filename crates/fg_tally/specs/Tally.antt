@@ -1,9 +1,8 @@
 -- A tally as contracts see it, what is true of it whenever its lock is free, and what its calls do. This project's own.
-use Rattle.std.specs.Prelude.{◌≡◌, ◌+◌, ◌≤◌, ◌↔◌, ℕ, Bool, List, [], ◌∷◌, length, Option, Some, None, IfSome, IsSomeAnd, IsTrue, IsSome, Result, Ok, Err, ⊤}
+use Rattle.std.specs.Prelude.{◌≡◌, ◌+◌, ◌≤◌, ◌↔◌, ℕ, Bool, List, [], ◌∷◌, Option, Some, None, IfSome, IsSomeAnd, IsTrue, IsSome, Result, Ok, Err, ⊤}
 use Rattle.std.specs.List.{Contains}
 use Rattle.std.specs.FinMap.{get}
 use Rattle.std.specs.FinSet.{contains}
-use Rattle.fg_words.specs.declared.Word.{Word}
 use Rattle.fg_words.specs.Word.{zero_word}
 use Rattle.fg_shape.specs.Shape.{IsShape, position_limit}
 use Rattle.fg_peel.specs.Equation.{slots}
