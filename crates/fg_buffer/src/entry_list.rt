@@ -55,6 +55,7 @@ impl EntryList {
     }
 
     /// How many there are.
+    #[inline]
     pub(crate) fn count(&self) -> usize
         ensures count { result ≡ length self.now }
         ensures limit { result ≤ position_limit }
@@ -63,6 +64,7 @@ impl EntryList {
     }
 
     /// The entry so many places after another one.
+    #[inline]
     fn after(&self, first: usize, index: usize) -> usize
         requires { first + index < length self.now }
         ensures { result ≡ first + index }
@@ -74,6 +76,7 @@ impl EntryList {
     }
 
     /// What an entry has. Past all of them there is nothing.
+    #[inline]
     pub(crate) fn at(&self, index: usize) -> Content<'_>
         requires { index ≤ length self.now }
         ensures { slot_of result ≡ slice_index_or self.now index Slot.Empty }
@@ -82,6 +85,7 @@ impl EntryList {
     }
 
     /// Puts the share of a received word into an entry.
+    #[inline]
     pub(crate) fn put_media(&mut self, index: usize, share: Shared)
         requires { index < length self.old }
         ensures { self.new ≡ slice_set self.old index (Slot.Media share) }
@@ -91,6 +95,7 @@ impl EntryList {
     }
 
     /// Puts the share of a solved word into an entry.
+    #[inline]
     pub(crate) fn put_solved(&mut self, index: usize, share: Shared)
         requires { index < length self.old }
         ensures { self.new ≡ slice_set self.old index (Slot.Solved share) }
@@ -231,6 +236,7 @@ impl EntryRow for Placed<'_> {
 
     ghost rest = { λ placed. (placed.entries.ghost_name, take placed.below placed.entries.now) };
 
+    #[inline]
     fn count(&self) -> usize {
         self.entries.count().saturating_sub(self.below)
     }

@@ -77,6 +77,7 @@ impl PlayoutBuffer {
     }
 
     /// The first position that isn't played yet.
+    #[inline]
     pub fn mark(&self) -> u64
         ensures value { result ≡ self.now.mark }
         ensures facts { IsBuffer self.now }
@@ -85,6 +86,7 @@ impl PlayoutBuffer {
     }
 
     /// The word that was received at a position that isn't played yet.
+    #[inline]
     pub fn received(&self, position: u64) -> Option<&Word>
         ensures { option_copied result ≡ get self.now.media position }
     {
@@ -95,6 +97,7 @@ impl PlayoutBuffer {
     }
 
     /// The word that is kept or was received or solved at a position.
+    #[inline]
     pub fn word(&self, position: u64) -> Option<&Word>
         ensures { option_copied result ≡ buffer_known self.now position }
     {
@@ -108,6 +111,7 @@ impl PlayoutBuffer {
     }
 
     /// The share of that word, where there is one.
+    #[inline]
     pub fn share(&self, position: u64) -> Option<&Shared>
         ensures { option_copied result ≡ buffer_shared self.now position }
     {
@@ -115,6 +119,7 @@ impl PlayoutBuffer {
     }
 
     /// Whether the word kept at a position was not received. Then there is a word.
+    #[inline]
     pub fn is_repaired(&self, position: u64) -> bool
         ensures value { result ≡ set.contains self.now.repaired position }
         ensures word { IsTrue result → IsSome (buffer_known self.now position) }
@@ -123,6 +128,7 @@ impl PlayoutBuffer {
     }
 
     /// The word at a position, also where it was found ahead of its play.
+    #[inline]
     pub fn any_word(&self, position: u64) -> Option<&Word>
         ensures { option_copied result ≡ buffer_words self.now position }
     {
@@ -130,6 +136,7 @@ impl PlayoutBuffer {
     }
 
     /// Whether all slots of a line have words.
+    #[inline]
     pub fn is_complete(&self, line: &Line) -> bool
         requires shape { IsShape line.now.shape.offset line.now.shape.na }
         requires base { line.now.base ≤ position_limit }
@@ -156,6 +163,7 @@ impl PlayoutBuffer {
     }
 
     /// The share of the word that was solved at a position.
+    #[inline]
     pub fn solved(&self, position: u64) -> Option<&Shared>
         ensures { option_copied result ≡ get self.now.solved position }
     {
@@ -163,6 +171,7 @@ impl PlayoutBuffer {
     }
 
     /// What the entry of a position has, if it isn't played yet.
+    #[inline]
     fn ahead(&self, position: u64) -> Content<'_>
         ensures { (received_in (slot_of result) ≡ get self.now.media position)
             × (solved_in (slot_of result) ≡ get self.now.solved position) }
@@ -182,6 +191,7 @@ impl PlayoutBuffer {
     }
 
     /// Puts a received word at a position. A word that was solved or found there goes.
+    #[inline]
     pub fn put_media(&mut self, position: u64, share: Shared)
         requires ahead { self.old.mark ≤ position }
         requires near { position < self.old.mark + self.old.reach }
@@ -273,6 +283,7 @@ impl PlayoutBuffer {
 }
 
 /// Where the entry of a position stands, or a place past all of them.
+#[inline]
 fn place_of(mark: u64, entries: &EntryList, position: u64) -> usize
     requires { mark + length entries.now ≤ position_limit }
     ensures within { result ≤ length entries.now }
@@ -287,6 +298,7 @@ fn place_of(mark: u64, entries: &EntryList, position: u64) -> usize
 }
 
 /// What the entry of a position has.
+#[inline]
 fn entry(mark: u64, entries: &EntryList, position: u64) -> Content<'_>
     requires { mark + length entries.now ≤ position_limit }
     ensures { slot_of result ≡ entry_at mark entries.now position }

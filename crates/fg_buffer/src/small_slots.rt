@@ -30,6 +30,7 @@ pub(crate) enum Content<'a> {
 
 impl<'a> Content<'a> {
     /// The word, if there is one.
+    #[inline]
     pub(crate) fn word(self) -> Option<&'a Word>
         ensures { option_copied result ≡ word_in (slot_of self.entry) }
     {
@@ -41,6 +42,7 @@ impl<'a> Content<'a> {
     }
 
     /// The word, if it was not received.
+    #[inline]
     pub(crate) fn recovered(self) -> Option<&'a Word>
         ensures { option_copied result ≡ recovered_in (slot_of self.entry) }
     {
@@ -52,6 +54,7 @@ impl<'a> Content<'a> {
     }
 
     /// The share of a word that was received.
+    #[inline]
     pub(crate) fn received(self) -> Option<&'a Shared>
         ensures { option_copied result ≡ received_in (slot_of self.entry) }
     {
@@ -62,6 +65,7 @@ impl<'a> Content<'a> {
     }
 
     /// The share of a word that was solved.
+    #[inline]
     pub(crate) fn solved(self) -> Option<&'a Shared>
         ensures { option_copied result ≡ solved_in (slot_of self.entry) }
     {
@@ -72,6 +76,7 @@ impl<'a> Content<'a> {
     }
 
     /// The share of a word that was received or solved.
+    #[inline]
     pub(crate) fn share(self) -> Option<&'a Shared>
         ensures { option_copied result ≡ shared_in (slot_of self.entry) }
     {
@@ -82,6 +87,7 @@ impl<'a> Content<'a> {
     }
 
     /// Whether there is a word that was not received.
+    #[inline]
     pub(crate) fn is_found(self) -> bool
         ensures { result ≡ is_found (slot_of self.entry) }
     {
@@ -144,6 +150,7 @@ impl SmallSlots {
     }
 
     /// How many there are.
+    #[inline]
     pub(crate) fn count(&self) -> usize
         ensures { result ≡ length self.now }
     {
@@ -151,6 +158,7 @@ impl SmallSlots {
     }
 
     /// What a slot has. Past all slots there is nothing.
+    #[inline]
     pub(crate) fn at(&self, index: usize) -> Content<'_>
         ensures { slot_of result ≡ slice_index_or self.now index Slot.Empty }
     {
@@ -163,6 +171,7 @@ impl SmallSlots {
     }
 
     /// Empties a slot, and answers the share that it had. A found word gives its place back.
+    #[inline]
     pub(crate) fn clear(&mut self, index: usize) -> Option<Shared>
         requires { index < length self.old }
         ensures { self.new ≡ slice_set self.old index Slot.Empty }
@@ -177,6 +186,7 @@ impl SmallSlots {
     }
 
     /// Puts the share of a received word into an empty slot.
+    #[inline]
     pub(crate) fn put_media(&mut self, index: usize, share: Shared)
         requires within { index < length self.old }
         requires empty { slice_index_or self.old index Slot.Empty ≡ Slot.Empty }
@@ -186,6 +196,7 @@ impl SmallSlots {
     }
 
     /// Puts the share of a solved word into an empty slot.
+    #[inline]
     pub(crate) fn put_solved(&mut self, index: usize, share: Shared)
         requires within { index < length self.old }
         requires empty { slice_index_or self.old index Slot.Empty ≡ Slot.Empty }
@@ -239,6 +250,7 @@ impl SmallSlots {
     }
 
     /// Empties a slot, and keeps the share that it had as a spare.
+    #[inline]
     pub(crate) fn pass(&mut self, index: usize, spares: &mut Spares)
         requires { index < length self.old }
         ensures { self.new ≡ slice_set self.old index Slot.Empty }
@@ -249,6 +261,7 @@ impl SmallSlots {
     }
 
     /// Empties a slot where its word stands alone or, where `solved` says so, was solved.
+    #[inline]
     pub(crate) fn forget(&mut self, index: usize, solved: bool)
         requires { index < length self.old }
         ensures { self.new ≡ slice_set self.old index (left_of solved (slice_index_or self.old index Slot.Empty)) }
@@ -273,6 +286,7 @@ fn share_of(slot: SmallSlot) -> Option<Shared> {
 }
 
 /// The word at a place.
+#[inline]
 fn found_at(words: &Slab<Word>, place: usize) -> Content<'_>
     ensures { slot_of result ≡ found (get words.now place) }
 {

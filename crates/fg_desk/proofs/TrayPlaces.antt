@@ -8,7 +8,7 @@ use Rattle.fg_playout.specs.Shown.{nothing_shown}
 use Rattle.fg_desk.specs.TrayPlaces.{shown_of}
 
 abbrev no_place : Place
-no_place = record { has_word = false; repaired = false; word = zero_word }
+no_place = record { share = None; copied = false; repaired = false; word = zero_word }
 
 pub shown_at_place :
     (places : List Place) (count i : ℕ) (place : Place) → i < count → count ≤ length places

@@ -1,6 +1,7 @@
 -- What a place of a tray shows, and what a tray shows of a buffer. No public contract cites it.
 use Rattle.std.specs.Prelude.{ℕ, Bool, List, map, Option, Some, None, refl, if◌then◌else◌}
 use Rattle.std.specs.List.{range_with_len}
+use Rattle.std.specs.Option.{option_or}
 use Rattle.std.specs.Coded.{Coded, code_by, coded×, coded_ℕ, coded_bool, coded_list, coded_option}
 use Rattle.fg_words.specs.declared.Word.{Word}
 use Rattle.fg_buffer.specs.PlayoutBuffer.{BufferState, buffer_known}
@@ -10,7 +11,7 @@ use Rattle.fg_playout.specs.Shown.{Shown, Holding, kept_shown}
 
 abbrev pub shown_of : Place → Shown
 shown_of place = record {
-  word = (if place.has_word then Some place.word else None);
+  word = option_or place.share (if place.copied then Some place.word else None);
   repaired = place.repaired;
 }
 

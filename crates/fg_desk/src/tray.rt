@@ -1,21 +1,23 @@
 //! Trays: what a play shows.
 
-ghost use Rattle.std.specs.Prelude.{◌≡◌, ◌+◌, ◌<◌, ◌≤◌, ◌^◌, ◌++◌, ◌∷◌, [], length, slice_index_or, IfOk, IsSome, IsTrue};
+ghost use Rattle.std.specs.Prelude.{◌≡◌, ◌+◌, ◌<◌, ◌≤◌, ◌^◌, ◌++◌, ◌∷◌, [], length, slice_index_or, Some, IfOk, IfSome, IsSome, IsTrue};
 ghost use Rattle.std.specs.Option.{option_copied};
 ghost use Rattle.fg_shape.specs.Shape.{position_limit};
 ghost use Rattle.fg_playout.specs.Shown.{nothing_shown};
 ghost use Rattle.fg_desk.specs.TrayPlaces.{shown_of, buffer_kept_from};
 
 use fg_buffer::PlayoutBuffer;
-use fg_words::Word;
+use fg_words::{Shared, Word};
 use std::alloc::{AllocError, Global};
 use std::marker::Model;
 
-/// What a play shows at one position. The word is written in place, and counts where `has_word`
-/// says so.
-#[derive(Clone, Copy)]
+/// What a play shows at one position: a share of the word that the desk keeps, or a copy of a word
+/// of which there is none.
+#[derive(Drop)]
 struct Place {
-    has_word: bool,
+    share: Option<Shared>,
+    /// Whether `word` is shown, where there is no share.
+    copied: bool,
     repaired: bool,
     word: Word,
 }
@@ -25,28 +27,46 @@ impl Place {
     fn word(&self) -> Option<&Word>
         ensures { option_copied result ≡ (shown_of self.now).word }
     {
-        if self.has_word {
-            Some(&self.word)
-        } else {
-            None
+        match &self.share {
+            Some(share) => Some(share.word()),
+            None if self.copied => Some(&self.word),
+            None => None,
         }
     }
 
-    /// Shows nothing, or a copy of a word.
-    fn show(&mut self, word: Option<&Word>, repaired: bool)
+    /// Shows nothing, or a word, of which there may be a share.
+    fn show(&mut self, word: Option<&Word>, share: Option<&Shared>, repaired: bool)
+        requires { IfSome share (λ shared. option_copied word ≡ Some shared.now) }
         ensures { shown_of self.new
             ≡ record { word = option_copied word.entry; repaired = repaired } }
     {
         self.repaired = repaired;
-        self.has_word = word.is_some();
+        self.share = lent(share);
+        self.copied = self.share.is_none() && word.is_some();
         if let Some(word) = word {
-            self.word = *word;
+            if self.copied {
+                self.word = *word;
+            }
         }
     }
 }
 
+/// Another share of the word, where there is one. None can be had where there are as many as can be
+/// counted.
+fn lent(share: Option<&Shared>) -> Option<Shared>
+    ensures { IfSome result (λ lent. option_copied share ≡ Some lent) }
+{
+    let Some(share) = share else {
+        return None;
+    };
+    match share.lend() {
+        Ok(lent) => Some(lent),
+        Err(AllocError) => None,
+    }
+}
+
 /// Room for what one play shows, 1.3 kB for each position. It is filled again and again, and takes
-/// memory only where it is made.
+/// memory only where it is made. Of words that have a share it holds a further one up to the next play.
 #[derive(Drop)]
 pub struct Tray {
     places: Vec<Place>,
@@ -81,7 +101,8 @@ impl Tray {
         let mut places = Vec::with_capacity(alloc, window as usize)?;
         for _ in 0..window {
             places.push(Place {
-                has_word: false,
+                share: None,
+                copied: false,
                 repaired: false,
                 word: Word::zero(),
             })?;
@@ -121,7 +142,11 @@ impl Tray {
         self.clear();
         for i in 0..count {
             let position = first + u64::from(i);
-            self.show(buffer.word(position), buffer.is_repaired(position));
+            self.show(
+                buffer.word(position),
+                buffer.share(position),
+                buffer.is_repaired(position),
+            );
         }
     }
 
@@ -132,16 +157,17 @@ impl Tray {
         self.count = 0;
     }
 
-    /// Shows nothing, or a copy of a word, at the next position.
-    fn show(&mut self, word: Option<&Word>, repaired: bool)
+    /// Shows nothing, or a word, of which there may be a share, at the next position.
+    fn show(&mut self, word: Option<&Word>, share: Option<&Shared>, repaired: bool)
         requires room { length self.old.shown < self.old.window }
+        requires share { IfSome share (λ shared. option_copied word ≡ Some shared.now) }
         requires word { IsTrue repaired → IsSome (option_copied word) }
         ensures { self.new ≡ record self.old {
           shown = self.old.shown
               ++ record { word = option_copied word.entry; repaired = repaired } ∷ [];
         } }
     {
-        self.places[self.count].show(word, repaired);
+        self.places[self.count].show(word, share, repaired);
         self.count += 1;
     }
 }
