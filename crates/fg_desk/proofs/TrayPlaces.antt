@@ -1,5 +1,5 @@
 -- What the places of a tray show.
-use Rattle.std.proofs.Common.{◌≡◌, ◌<◌, ◌≤◌, ℕ, false, List, length, map, take, get_or, sym, ap, ◌∙◌, arith}
+use Rattle.std.proofs.Common.{◌≡◌, ◌<◌, ◌≤◌, ℕ, false, List, None, length, map, take, get_or, sym, ap, ◌∙◌, arith}
 use Rattle.std.proofs.lemmas.List.{get_or_default, get_or-take, length-map, length-take}
 use Rattle.std.proofs.Math.ListN.{get_or-map}
 use Rattle.fg_words.specs.Word.{zero_word}

@@ -54,7 +54,7 @@ impl Place {
 /// Another share of the word, where there is one. None can be had where there are as many as can be
 /// counted.
 fn lent(share: Option<&Shared>) -> Option<Shared>
-    ensures { IfSome result (λ lent. option_copied share ≡ Some lent) }
+    ensures { IfSome result (λ lent. option_copied share.entry ≡ Some lent) }
 {
     let Some(share) = share else {
         return None;
