@@ -2,4 +2,5 @@
 pub mod Fits
 pub mod Gaps
 pub mod Laws
+pub mod Shelf
 pub mod Text

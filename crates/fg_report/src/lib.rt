@@ -8,6 +8,7 @@ pub mod laws;
 mod lines;
 mod marks;
 mod report;
+mod shelf;
 mod tail;
 
 pub use fault::ReportFault;
@@ -15,6 +16,7 @@ pub use flow_sum::FlowSum;
 pub use gaps::Gaps;
 pub use marks::Marks;
 pub use report::write_report;
+pub use shelf::Shelf;
 pub use tail::Tail;
 
 #[cfg(test)]

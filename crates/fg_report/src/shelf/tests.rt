@@ -1,0 +1,33 @@
+use super::*;
+use fg_io::MemOutlet;
+use std::test::Fail;
+
+// The outlet would fail at its third call: an emptying is one call, and that of an empty shelf is none.
+#[test]
+fn payloads_go_in_order(rt: HostRuntime) -> Result<(), Fail> {
+    let mut lanes = MemOutlet::new(rt.alloc(), &[5000, 5002], 10, &[2])?;
+    let mut shelf = Shelf::new(rt.alloc());
+    assert_eq!(rt; shelf.empty_into(5000, &mut lanes), Ok(()));
+    assert_eq!(rt; lanes.lane(5000), None);
+    shelf.put(b"abc")?;
+    shelf.put(b"de")?;
+    assert_eq!(rt; shelf.empty_into(5000, &mut lanes), Ok(()));
+    assert_eq!(rt; shelf.empty_into(5000, &mut lanes), Ok(()));
+    shelf.put(b"f")?;
+    assert_eq!(rt; shelf.empty_into(5000, &mut lanes), Ok(()));
+    assert_eq!(rt; lanes.lane(5000), Some(b"abcdef".as_slice()));
+    assert_eq!(rt; lanes.lane(5002), None);
+    Ok(())
+}
+
+#[test]
+fn a_full_lane_takes_a_front(rt: HostRuntime) -> Result<(), Fail> {
+    let mut lanes = MemOutlet::new(rt.alloc(), &[5000], 4, &[])?;
+    let mut shelf = Shelf::new(rt.alloc());
+    shelf.put(b"abc")?;
+    shelf.put(b"de")?;
+    assert_eq!(rt; shelf.empty_into(5000, &mut lanes), Err(Failed));
+    assert_eq!(rt; lanes.lane(5000), Some(b"abcd".as_slice()));
+    assert_eq!(rt; shelf.empty_into(5000, &mut lanes), Ok(()));
+    Ok(())
+}
