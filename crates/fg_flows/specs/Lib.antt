@@ -1,4 +1,6 @@
+pub mod Entries
 pub mod Flows
 pub mod Index
 pub mod Laws
 pub mod Plan
+pub mod Sheaf

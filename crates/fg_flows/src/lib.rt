@@ -7,12 +7,14 @@ ghost use Rattle.fg_flows.specs.Index.{IsIndex};
 
 pub use fg_shape::Kind;
 use fg_shape::LAST_PORT;
+pub use sheaf::Sheaf;
 use std::alloc::{AllocError, AllocFailed, Global};
 use std::collections::HashMap;
 use std::marker::Model;
 use thiserror::Error;
 
 pub mod laws;
+mod sheaf;
 #[cfg(test)]
 mod tests;
 
