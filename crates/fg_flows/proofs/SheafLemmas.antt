@@ -13,7 +13,7 @@ use Rattle.std.proofs.lemmas.Simd.{splat_is_map}
 use Rattle.std.proofs.Math.Seq.{drop-append_seam}
 use Rattle.fg_shape.specs.declared.kind.Kind.{Kind}
 use Rattle.fg_flows.specs.declared.sheaf.Entry.{Entry}
-use Rattle.fg_flows.specs.Sheaf.{Item, SheafState, items_of, payload_bytes, item_count, byte_count, no_items, with_item}
+use Rattle.fg_flows.specs.Sheaf.{HasRoom, Item, SheafState, items_of, payload_bytes, item_count, byte_count, no_items, with_item}
 use Rattle.fg_flows.specs.Entries.{item_in, items_in, said_by, AreWithin, AreEmpty, HaveRoom, AreHeld}
 
 -- a batch with these records
@@ -226,3 +226,11 @@ entry_pushed bytes flows count flow old new entry done held less within old_is i
     let few = few_of_flow bytes.items flows count flow old held.counted within old_is in
     let wide = room_of flows flow old within old_is held.rooms in
     if_so done (old.items ++ entry ∷ []) old.items new.items is (succeeds (omega (arith, few, wide, less, old.ok.0)))
+
+-- a batch that has room for a record, as it is kept
+pub kept_room : (bytes : Vec ℕ) (flows : List (Vec Entry)) (sheaf : SheafState) (count : ℕ) (payload : List ℕ) → AreHeld bytes flows count → said_by bytes.items flows ≡ sheaf → HasRoom sheaf payload
+    → (count < 256) × (length bytes.items + length payload ≤ 1048576)
+kept_room bytes flows sheaf count payload held view room =
+    let records = ap item_count view in
+    let used = ap byte_count view in
+    (omega (arith, records, held.counted, room.records), omega (arith, used, held.used, room.bytes))

@@ -78,19 +78,10 @@ impl Sheaf {
             (record { kind = kind; time = time; payload = payload.now })) }
         ensures unchanged { OnFalse result (self.new ≡ self.old) }
     {
-        if self.count >= MOST_RECORDS || payload.len() > MOST_BYTES - self.bytes.len() {
+        if !self.has_room(payload) {
             return false;
         }
-        let entry = Entry {
-            time,
-            start: self.bytes.len() as u32,
-            len: payload.len() as u16,
-            kind,
-        };
-        // There is memory for both.
-        let _copied = self.bytes.extend_from_slice(payload);
-        let _kept = self.flows[flow].push(entry);
-        self.count += 1;
+        self.keep(flow, kind, time, payload);
         true
     }
 
@@ -124,6 +115,35 @@ impl Sheaf {
         clear_flows(&mut self.flows);
         self.bytes.clear();
         self.count = 0;
+    }
+
+    /// Whether there is room for one more record, with this payload.
+    #[inline]
+    fn has_room(&self, payload: &[u8]) -> bool
+        ensures { IsTrue result ↔ HasRoom self.now payload.now }
+    {
+        self.count < MOST_RECORDS && payload.len() <= MOST_BYTES - self.bytes.len()
+    }
+
+    /// Adds a record of a flow, after the others of that flow, where there is room for it.
+    #[inline]
+    fn keep(&mut self, flow: usize, kind: Kind, time: u64, payload: &[u8])
+        requires flow { flow < length self.old.items }
+        requires size { length payload.now ≤ 65535 }
+        requires room { HasRoom self.old payload.now }
+        ensures { self.new ≡ with_item self.old flow
+            (record { kind = kind; time = time; payload = payload.now }) }
+    {
+        let entry = Entry {
+            time,
+            start: self.bytes.len() as u32,
+            len: payload.len() as u16,
+            kind,
+        };
+        // There is memory for both.
+        let _copied = self.bytes.extend_from_slice(payload);
+        let _kept = self.flows[flow].push(entry);
+        self.count += 1;
     }
 }
 

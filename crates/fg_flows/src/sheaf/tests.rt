@@ -1,3 +1,5 @@
+ghost use Rattle.std.specs.Prelude.{◌≡◌, ◌<◌, ◌≤◌, length};
+
 use super::*;
 use std::test::Fail;
 
@@ -30,7 +32,7 @@ fn holds(sheaf: &Sheaf, flow: usize, records: &[(Kind, u64, &[u8])]) -> bool
     true
 }
 
-/// Adds a record to the flow at place `turn` modulo 2, with its time.
+/// Adds a record at an even time to the first of two flows, and one at an odd time to the second.
 fn add_in_turn(sheaf: &mut Sheaf, time: u64, kind: Kind, payload: &[u8]) -> bool
     requires flows { length sheaf.old.items ≡ 2 }
     requires size { length payload.now ≤ 65535 }
