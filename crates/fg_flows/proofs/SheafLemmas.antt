@@ -1,7 +1,7 @@
 -- Records that are added, and records that are let go.
-use Rattle.std.proofs.Common.{◌≡◌, ℕ, ◌+◌, ◌-◌, ◌*◌, ◌<◌, ◌≤◌, List, [], ◌∷◌, ◌++◌, Bool, true, false, cond, Some, inl, inr, length, map, get_or, set, take, drop, replicate, refl, sym, ap, subst, ◌∙◌, arith}
+use Rattle.std.proofs.Common.{◌≡◌, ℕ, ◌+◌, ◌-◌, ◌<◌, ◌≤◌, List, [], ◌∷◌, ◌++◌, Bool, true, false, cond, Some, inl, inr, length, map, get_or, set, take, drop, refl, sym, ap, subst, ◌∙◌, arith}
 use Rattle.std.specs.Global.{Vec}
-use Rattle.std.specs.List.{All, sum_by, slice_get, slice_range}
+use Rattle.std.specs.List.{All, slice_get, slice_range}
 use Rattle.std.specs.Vec.{vec_capacity, vec_len}
 use Rattle.std.proofs.lemmas.Bool.{cases_lt, false≢true}
 use Rattle.std.proofs.lemmas.Option.{slice_get-get_or}
@@ -11,7 +11,6 @@ use Rattle.std.proofs.lemmas.List.Folds.{sum_by-replicate}
 use Rattle.std.proofs.lemmas.List.Sums.{sum_by-set, sum_by_push, get_or-le-sum_by}
 use Rattle.std.proofs.lemmas.Simd.{splat_is_map}
 use Rattle.std.proofs.Math.Seq.{drop-append_seam}
-use Rattle.fg_shape.specs.declared.kind.Kind.{Kind}
 use Rattle.fg_flows.specs.declared.sheaf.Entry.{Entry}
 use Rattle.fg_flows.specs.Sheaf.{HasRoom, Item, SheafState, items_of, payload_bytes, item_count, byte_count, no_items, with_item}
 use Rattle.fg_flows.specs.Entries.{item_in, items_in, said_by, AreWithin, AreEmpty, HaveRoom, AreHeld}

@@ -1,5 +1,5 @@
 -- The records of a batch, by flow: this project's own.
-use Rattle.std.specs.Prelude.{◌≡◌, ◌+◌, ◌<◌, ◌≤◌, ℕ, List, [], ◌∷◌, ◌++◌, length, replicate, sum_by, slice_index_or, slice_set}
+use Rattle.std.specs.Prelude.{◌+◌, ◌<◌, ◌≤◌, ℕ, List, [], ◌∷◌, ◌++◌, length, replicate, sum_by, slice_index_or, slice_set}
 use Rattle.fg_shape.specs.declared.kind.Kind.{Kind}
 
 -- A record of a flow: which of the flow's streams it belongs to, its time, and the bytes of its datagram.

@@ -1,4 +1,4 @@
-use Rattle.std.proofs.Common.{◌∙◌, Some, ap, arith}
+use Rattle.std.proofs.Common.{◌∙◌, Some, ap}
 use Rattle.fg_flows.specs.Sheaf.{Item}
 use Rattle.fg_flows.proofs.SheafLemmas.{record_found, record_lent}
 use Rattle.fg_flows.proofs.sheaf.Sheaf.item.Goals as goal

@@ -1,4 +1,4 @@
-use Rattle.std.proofs.Common.{◌≡◌, ◌+◌, ◌≤◌, ℕ, List, length, set, ap, refl, ◌∙◌, arith}
+use Rattle.std.proofs.Common.{ℕ, List, length, set, ap, refl, ◌∙◌}
 use Rattle.std.specs.Result.{is_ok}
 use Rattle.fg_flows.specs.declared.sheaf.Entry.{Entry}
 use Rattle.fg_flows.specs.Sheaf.{SheafState, with_item}
