@@ -3,6 +3,19 @@ ghost use Rattle.std.specs.Prelude.{◌≡◌, ◌<◌, ◌≤◌, length};
 use super::*;
 use std::test::Fail;
 
+fn needs_send<T: Send>(_value: &T) {}
+
+fn needs_sync<T: Sync>(_value: &T) {}
+
+// A batch may be filled by one thread and read by several.
+#[test]
+fn crosses_threads(rt: HostRuntime) -> Result<(), Fail> {
+    let sheaf = Sheaf::new(rt.alloc(), 1)?;
+    needs_send(&sheaf);
+    needs_sync(&sheaf);
+    Ok(())
+}
+
 /// Whether so many records of this payload are all added to the first flow.
 fn add_all(sheaf: &mut Sheaf, count: u64, payload: &[u8]) -> bool
     requires flow { 1 ≤ length sheaf.old.items }

@@ -2,6 +2,14 @@ use super::*;
 use fg_io::MemOutlet;
 use std::test::Fail;
 
+fn needs_send<T: Send>(_value: &T) {}
+
+// A shelf may be filled by one thread and emptied by another.
+#[test]
+fn crosses_threads(rt: HostRuntime) {
+    needs_send(&Shelf::new(rt.alloc()));
+}
+
 // The outlet would fail at its third call: an emptying is one call, and that of an empty shelf is none.
 #[test]
 fn payloads_go_in_order(rt: HostRuntime) -> Result<(), Fail> {
