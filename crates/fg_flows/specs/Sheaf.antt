@@ -2,7 +2,7 @@
 use Rattle.std.specs.Prelude.{◌+◌, ◌<◌, ◌≤◌, ℕ, List, [], ◌∷◌, ◌++◌, length, replicate, sum_by, slice_index_or, slice_set}
 use Rattle.fg_shape.specs.declared.kind.Kind.{Kind}
 
--- A record of a flow: which of the flow's streams it belongs to, its time, and the bytes of its datagram.
+-- A record of a flow: which of the flow's streams it belongs to, its time in microseconds, and the bytes of its datagram.
 pub record Item : Type 0 where
   pub kind : Kind
   pub time : ℕ
