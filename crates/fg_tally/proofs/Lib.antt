@@ -1,4 +1,5 @@
 mod Bits
+pub mod Crossing
 mod Filtering
 mod Numbers
 mod Passes
