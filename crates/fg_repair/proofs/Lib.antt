@@ -3,6 +3,7 @@ pub mod Answering
 pub mod Breaking
 pub mod Counting
 pub mod Crewing
+pub mod Crossing
 pub mod Filling
 pub mod Finishing
 pub mod Firsts
@@ -13,6 +14,7 @@ pub mod Reaching
 pub mod Reading
 pub mod Results
 pub mod Showing
+pub mod Slots
 pub mod Standing
 pub mod Stopping
 pub mod Taking

@@ -1,26 +1,32 @@
 //! The repair with workers beside the caller.
 //!
-//! Each flow's desk stands on a board. The caller's thread reads the trace, admits the datagrams and plays the windows; the
-//! workers take equations from the boards, solve or check them meanwhile, and bring what they found. Whatever they do, the
-//! replies and the plays are those of desks that the caller has to itself.
+//! Each flow's desk stands on a board. The caller's thread reads the trace, admits the datagrams and plays the windows. Each
+//! equation that it admits is held by a tally; the workers fold into it meanwhile what arrived, and bring the word of the one
+//! slot that is missing. Whatever they do, the replies and the plays are those of desks that the caller has to itself.
 ghost use Rattle.std.specs.Prelude.{◌≡◌, [], ◌∷◌, length};
 ghost use Rattle.fg_io.specs.Faults.{CountsFaults};
 ghost use Rattle.fg_flows.specs.Plan.{PlanFits};
 ghost use Rattle.fg_results.specs.Contract.{IsRepair};
-ghost use Rattle.fg_repair.specs.Crewed.{IsCrew};
+ghost use Rattle.fg_repair.specs.Crewed.{CanBegin, IsCrew};
 
+mod arrivals;
+mod bits;
 mod board_window;
+mod folding;
+mod held_places;
 mod helping;
 mod opening;
+mod places;
 mod points;
 mod post;
 mod repairing;
 mod signal;
-mod visit;
+mod walk;
 
 use crate::crewed::helping::Helping;
-use crate::crewed::opening::open;
-use crate::crewed::post::Crew;
+use crate::crewed::opening::{open, open_tallies};
+use crate::crewed::places::{FlowTallies, Places};
+use crate::crewed::post::{Crew, Host, Post, Remembered};
 use crate::crewed::repairing::Repairing;
 use crate::records::give_up;
 use fg_crew::{Gate, crew};
@@ -34,9 +40,9 @@ use std::thread::Threads;
 /// Repairs the flows of a trace, with workers beside the caller.
 ///
 /// What it reads, writes and answers is what [`crate::repair_alone`] does, whatever the workers do. The gate hears of the
-/// points that the threads pass: 1 where a worker has taken a job, 2 where it has solved one and not yet published the word, 3
-/// where a board has taken a word, 4 where a job was given back for want of memory, and 5 before each play and each flush
-/// step, which the caller passes as worker 0.
+/// points that the threads pass: 1 where at most one slot of a held equation isn't folded and the worker hasn't settled it yet,
+/// with no lock, 3 where a board has taken a word, 4 where a settle found no memory, and 5 before each play and each flush step,
+/// which the caller passes as worker 0.
 pub fn repair<
     W: Threads + Wait + Sync,
     S: Source + Send,
@@ -62,7 +68,7 @@ pub fn repair<
     }
 }
 
-/// Repairs the flows of a trace, with all who work at them.
+/// Repairs the flows of a trace, with all who work at them, once their boards have tallies.
 fn repair_with<
     W: Threads + Wait + Sync,
     S: Source + Send,
@@ -90,33 +96,82 @@ fn repair_with<
 {
     let Crew {
         posts,
-        hosts,
+        mut hosts,
         mut owns,
     } = made;
     let posts = posts.as_slice();
+    match open_tallies(alloc, posts, &mut hosts) {
+        Ok(flows) => repair_beside(
+            rt,
+            alloc,
+            plan,
+            posts,
+            &FlowTallies { flows },
+            hosts,
+            &mut owns,
+            input,
+            out,
+            lanes,
+            gate,
+        ),
+        Err(AllocError) => give_up(plan, input, out, lanes),
+    }
+}
+
+/// Repairs the flows of a trace, beside workers at their tallies.
+fn repair_beside<
+    W: Threads + Wait + Sync,
+    P: Places + Sync,
+    S: Source + Send,
+    K: Sink + Send,
+    O: Outlet + Send,
+    G: Gate,
+>(
+    rt: &W,
+    alloc: Global,
+    plan: &Plan,
+    posts: &[Post],
+    places: &P,
+    hosts: Vec<Host>,
+    owns: &mut [Vec<Remembered>],
+    input: &mut S,
+    out: &mut K,
+    lanes: &mut O,
+    gate: &G,
+) -> Finish
+    requires fits { PlanFits plan.now }
+    requires begins { CanBegin plan.now posts.now hosts.items }
+    ensures repairs { IsRepair plan.now result (S.left input.old) (S.left input.new) O.lanes lanes.old lanes.new
+        K.written out.old out.new }
+    ensures faults { CountsFaults (result ≡ Finish.ReadFault) (result ≡ Finish.WriteFault)
+        ((S.faults input.old, S.faults input.new) ∷ [])
+        ((K.faults out.old, K.faults out.new) ∷ (O.faults lanes.old, O.faults lanes.new) ∷ []) }
+    ensures fixed { S.fixed input.new ≡ S.fixed input.old }
+{
     let mut repairing = Repairing {
         alloc,
         plan,
         gate,
         posts,
+        places,
         hosts,
         input,
         out,
         lanes,
     };
-    let answer = crew(
-        rt,
-        alloc,
-        &mut owns,
-        &Helping { posts, gate, alloc },
+    let helping = Helping {
+        posts,
+        places,
         gate,
-        &mut repairing,
-    );
+        alloc,
+    };
+    let answer = crew(rt, alloc, owns, &helping, gate, &mut repairing);
     let Repairing {
         alloc: _,
         plan: _,
         gate: _,
         posts: _,
+        places: _,
         hosts: _,
         input,
         out,

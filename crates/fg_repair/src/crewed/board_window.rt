@@ -1,6 +1,8 @@
 //! A flow's windows on its board, for the thread that admits and plays.
 ghost use Rattle.std.specs.Prelude.{◌≡◌, ◌≤◌};
 
+use crate::crewed::arrivals::Progress;
+use crate::crewed::places::Places;
 use crate::crewed::points::{CALLER, Hears, PLAYING};
 use crate::crewed::signal::Signal;
 use crate::window::WindowState;
@@ -11,16 +13,19 @@ use fg_shape::Shape;
 use fg_words::{Shared, Word};
 use std::sync::Wait;
 
-/// A flow's windows on its board. Its workers are hinted of each datagram that is admitted.
+/// A flow's windows on its board. Its workers are hinted of each datagram that is admitted, and each equation is held by the
+/// tally of its place.
 #[derive(Drop)]
-pub(crate) struct BoardWindow<'a, W: Wait, G: Hears> {
+pub(crate) struct BoardWindow<'a, W: Wait, G: Hears, P: Places> {
     pub(crate) wait: &'a W,
     pub(crate) gate: &'a G,
     pub(crate) hints: &'a Hints,
     pub(crate) signal: &'a Signal,
     pub(crate) board: &'a Board,
+    pub(crate) places: &'a P,
     /// Its number among the flows, which a hint names.
     pub(crate) flow: u32,
+    pub(crate) progress: Progress,
     pub(crate) admitter: Admitter,
     /// What the last play shows.
     pub(crate) tray: Tray,
@@ -28,7 +33,7 @@ pub(crate) struct BoardWindow<'a, W: Wait, G: Hears> {
     ghost holds_a_window: { admitter.playout.window ≤ tray.window },
 }
 
-impl<'a, W: Wait, G: Hears> BoardWindow<'a, W, G> {
+impl<'a, W: Wait, G: Hears, P: Places> BoardWindow<'a, W, G, P> {
     /// Hints the workers, where a datagram was admitted.
     fn hint_after(&self, reply: Reply) {
         if let Reply::Admitted = reply {
@@ -37,7 +42,7 @@ impl<'a, W: Wait, G: Hears> BoardWindow<'a, W, G> {
     }
 }
 
-impl<'a, W: Wait, G: Hears> WindowState for BoardWindow<'a, W, G> {
+impl<'a, W: Wait, G: Hears, P: Places> WindowState for BoardWindow<'a, W, G, P> {
     ghost use Rattle.fg_board.specs.Actors.{desk_of};
 
     ghost state = { λ window. desk_of window.admitter };
@@ -54,14 +59,20 @@ impl<'a, W: Wait, G: Hears> WindowState for BoardWindow<'a, W, G> {
 
     fn admit_media(&mut self, seq: u16, share: Shared) -> Reply {
         let reply = self.admitter.admit_media(self.wait, self.board, seq, share);
+        if let Reply::Admitted = reply {
+            self.progress.mark(&self.signal.arrivals, seq);
+        }
         self.hint_after(reply);
         reply
     }
 
     fn admit_parity(&mut self, base: u16, shape: Shape, share: Shared) -> Reply {
-        let (reply, _key) = self
+        let (reply, key) = self
             .admitter
             .admit_parity(self.wait, self.board, base, shape, share);
+        if let Some(key) = key {
+            self.places.start(self.wait, self.signal, self.flow, key);
+        }
         self.hint_after(reply);
         reply
     }

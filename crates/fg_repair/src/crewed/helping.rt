@@ -1,31 +1,31 @@
 //! The chore of the workers.
-ghost use Rattle.std.specs.Prelude.{◌≡◌};
 
-use crate::crewed::post::{Post, Visitor};
-use crate::crewed::visit::Visit;
+use crate::crewed::places::Places;
+use crate::crewed::post::{Post, Remembered};
+use crate::crewed::walk::Visit;
 use fg_crew::{Chore, Gate, Hints};
 use std::alloc::Global;
 use std::sync::Wait;
 
-/// Helps the flows that the hints name. A worker has a visitor to each flow, in their order.
+/// Helps the flows that the hints name. A tally knows its board and has a pass of it, so a worker needs nothing of its own but
+/// what it remembers of each flow.
 #[derive(Drop)]
-pub(crate) struct Helping<'a, G: Gate> {
+pub(crate) struct Helping<'a, G: Gate, P: Places> {
     pub(crate) posts: &'a [Post],
+    pub(crate) places: &'a P,
     pub(crate) gate: &'a G,
     pub(crate) alloc: Global,
 }
 
-impl<'a, G: Gate> Chore for Helping<'a, G> {
-    ghost use Rattle.fg_repair.specs.Crewed.{VisitsAll};
+impl<'a, G: Gate, P: Places + Sync> Chore for Helping<'a, G, P> {
+    type Own = Vec<Remembered>;
 
-    type Own = Vec<Visitor>;
-
-    ghost fits = { λ helping own. VisitsAll helping.posts.now own };
+    ghost fits = { λ _ _. Unit {0} };
 
     fn work<W: Wait>(
         &self,
         wait: &W,
-        own: &mut Vec<Visitor>,
+        own: &mut Vec<Remembered>,
         hint: u32,
         worker: u32,
         hints: &Hints,
@@ -38,7 +38,8 @@ impl<'a, G: Gate> Chore for Helping<'a, G> {
             wait,
             gate: self.gate,
             hints,
-            post: &self.posts[i],
+            signal: &self.posts[i].signal,
+            places: self.places,
             alloc: self.alloc,
             flow: hint,
             worker,

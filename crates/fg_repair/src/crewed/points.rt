@@ -1,4 +1,4 @@
-//! The points of a gate that a repair passes. Point 0 is the crew's.
+//! The points of a gate that a repair passes. Point 0 is the crew's, and point 2 isn't passed.
 
 use fg_crew::Gate;
 
@@ -17,17 +17,14 @@ impl<G: Gate> Hears for G {
 /// The number of the caller, whom a gate hears as a worker too.
 pub(crate) const CALLER: u32 = 0;
 
-/// A job is taken, and not yet solved or checked.
-pub(crate) const TAKEN: u32 = 1;
-
-/// A job is solved, and its word not yet published.
-pub(crate) const SOLVED: u32 = 2;
+/// At most one slot of a held equation isn't folded, and the worker hasn't settled it yet. It has no lock.
+pub(crate) const FOLDED: u32 = 1;
 
 /// A board has taken a word.
-pub(crate) const PUBLISHED: u32 = 3;
+pub(crate) const TAKEN: u32 = 3;
 
-/// A job was given back for want of memory.
-pub(crate) const GIVEN_BACK: u32 = 4;
+/// A settle found no memory.
+pub(crate) const NO_MEMORY: u32 = 4;
 
 /// The caller is about to play a window or to make a flush step.
 pub(crate) const PLAYING: u32 = 5;

@@ -1,25 +1,32 @@
 //! What the caller and the workers tell each other of a flow.
 
+use crate::crewed::arrivals::Arrivals;
+use crate::crewed::held_places::HeldPlaces;
 use fg_crew::Hints;
+use std::alloc::{AllocError, Global};
 use std::sync::Wait;
 use std::sync::atomic::{AtomicBool, AtomicU64, Ordering};
 
-/// What is told of a flow beside its board. It only saves visits: nothing rests on it.
+/// What is told of a flow beside its board and its tallies. It only saves visits and looks: nothing rests on it.
 #[derive(Drop)]
 pub(crate) struct Signal {
     /// A hint for the flow waits, so a further one would tell nothing new.
     hinted: AtomicBool,
     /// How many datagrams were admitted and words found, modulo 2^64.
     changes: AtomicU64,
+    pub(crate) held: HeldPlaces,
+    pub(crate) arrivals: Arrivals,
 }
 
 impl Signal {
-    /// Of a flow of which nothing was told.
-    pub(crate) fn new() -> Signal {
-        Signal {
+    /// Of a flow of which nothing was told. All memory is taken here.
+    pub(crate) fn new(alloc: Global) -> Result<Signal, AllocError> {
+        Ok(Signal {
             hinted: AtomicBool::new(false),
             changes: AtomicU64::new(0),
-        }
+            held: HeldPlaces::new(alloc)?,
+            arrivals: Arrivals::new(alloc)?,
+        })
     }
 
     /// Tells that a datagram was admitted or a word found, and hints the flow.

@@ -6,10 +6,11 @@ use std::time::Duration;
 /// How many naps a thread is held at most.
 const NAPS: u32 = 10_000;
 
-/// Points of the gate: a worker has a job; a word that it published was taken; the caller is about to play.
-const HAS_JOB: u32 = 1;
+/// Points of the gate: a worker has folded all but one slot of an equation, and not yet settled it; a board has taken a word;
+/// the caller is about to play.
+const FOLDED: u32 = 1;
 
-const PUBLISHED: u32 = 3;
+const TAKEN: u32 = 3;
 
 const PLAYS: u32 = 5;
 
@@ -19,9 +20,9 @@ struct Counts<'a, W: Wait> {
     wait: &'a W,
     /// It stays 0, so that a nap on it ends by time.
     clock: AtomicU64,
-    /// The first worker that had a job, or 0.
+    /// The first worker that had an equation to settle, or 0.
     first: AtomicU64,
-    /// How many words others than that one published, and how many all did.
+    /// How many words were taken of others than that one, and how many of all.
     others: AtomicU64,
     all: AtomicU64,
     /// How often the caller was about to play.
@@ -44,14 +45,14 @@ impl<'a, W: Wait> Counts<'a, W> {
         }
     }
 
-    /// Whether this is the first worker that has a job.
+    /// Whether this is the first worker that has an equation to settle.
     fn is_first(&self, worker: u32) -> bool {
         self.first
             .compare_exchange(0, u64::from(worker), Ordering::SeqCst, Ordering::SeqCst)
             .is_ok()
     }
 
-    /// Counts a word that the worker published.
+    /// Counts a word of the worker that was taken.
     fn count_word(&self, worker: u32) {
         self.all.fetch_add(1, Ordering::SeqCst);
         if self.first.load(Ordering::SeqCst) != u64::from(worker) {
@@ -77,34 +78,34 @@ impl<'a, W: Wait> Counts<'a, W> {
     }
 }
 
-/// Holds the first worker that has a job until another one has published a word, and the caller before it plays until some
-/// worker has.
+/// Holds the first worker that has an equation to settle until a word of another one was taken, and the caller before it plays
+/// until some worker's was.
 #[derive(Drop)]
-struct Publishing<'a, W: Wait>(Counts<'a, W>);
+struct Settling<'a, W: Wait>(Counts<'a, W>);
 
-impl<W: Wait + Sync> Gate for Publishing<'_, W> {
+impl<W: Wait + Sync> Gate for Settling<'_, W> {
     fn at(&self, worker: u32, point: u32) {
         match point {
-            HAS_JOB => {
+            FOLDED => {
                 if self.0.is_first(worker) {
                     self.0.hold(&self.0.others, 1);
                 }
             }
-            PUBLISHED => self.0.count_word(worker),
+            TAKEN => self.0.count_word(worker),
             PLAYS => self.0.hold(&self.0.all, 1),
             _ => {}
         }
     }
 }
 
-/// Holds the caller before it plays until a worker has a job, and that worker until the caller has played all.
+/// Holds the caller before it plays until a worker has an equation to settle, and that worker until the caller has played all.
 #[derive(Drop)]
 struct Outlasting<'a, W: Wait>(Counts<'a, W>);
 
 impl<W: Wait + Sync> Gate for Outlasting<'_, W> {
     fn at(&self, worker: u32, point: u32) {
         match point {
-            HAS_JOB => {
+            FOLDED => {
                 if self.0.is_first(worker) {
                     self.0.hold(&self.0.plays, 2);
                 }
@@ -153,17 +154,61 @@ fn check_held<W: Abort + Threads + Wait + Sync, G: Gate>(
 }
 
 #[test]
-fn workers_publish_before_a_play(rt: HostRuntime) -> Result<(), Fail> {
-    let gate = Publishing(Counts::new(&rt));
+fn workers_settle_before_a_play(rt: HostRuntime) -> Result<(), Fail> {
+    let gate = Settling(Counts::new(&rt));
     check_held(&rt, rt.alloc(), &gate)?;
     assert_eq!(rt; gate.0.failed.load(Ordering::SeqCst), 0);
     Ok(())
 }
 
 #[test]
-fn a_worker_has_a_job_while_its_flow_ends(rt: HostRuntime) -> Result<(), Fail> {
+fn a_worker_settles_after_its_flow_has_ended(rt: HostRuntime) -> Result<(), Fail> {
     let gate = Outlasting(Counts::new(&rt));
     check_held(&rt, rt.alloc(), &gate)?;
+    assert_eq!(rt; gate.0.failed.load(Ordering::SeqCst), 0);
+    Ok(())
+}
+
+/// A row of which one datagram is missing, among media datagrams alone.
+const ONE_ROW: [Sent; 16] = [
+    Sent::Media(0),
+    Sent::Media(1),
+    Sent::Media(2),
+    Sent::Media(3),
+    Sent::Media(4),
+    Sent::Media(6),
+    Sent::Media(7),
+    Sent::Row(1),
+    Sent::Media(8),
+    Sent::Media(9),
+    Sent::Media(10),
+    Sent::Media(11),
+    Sent::Media(12),
+    Sent::Media(13),
+    Sent::Media(14),
+    Sent::Media(15),
+];
+
+/// What that comes to.
+const ONE_REPAIRED: &str = "flow 5000 shown 16 repaired 1 missing 0 windows 1 inconsistent 0
+media 5000 admitted 15 duplicate 0 conflict 0 late 0 bad 0
+column 5000 admitted 0 duplicate 0 conflict 0 late 0 notstarted 0 beforestart 0 ahead 0 crowded 0 bad 0
+row 5000 admitted 1 duplicate 0 conflict 0 late 0 notstarted 0 beforestart 0 ahead 0 crowded 0 bad 0
+other 0
+";
+
+/// The first worker is held with no lock, so that another one settles the same equation, of which there is only one.
+#[test]
+fn one_equation_is_settled_by_another_worker(rt: HostRuntime) -> Result<(), Fail> {
+    let alloc = rt.alloc();
+    let gate = Settling(Counts::new(&rt));
+    let bytes = trace(alloc, &ONE_ROW, &[])?;
+    let line = "repair flow=5000 workers=2";
+    let (ended, outside) = run_gated(&rt, alloc, &PLAIN, line, &bytes, &gate)?;
+    assert_eq!(rt; ended.status, 0);
+    assert_eq!(rt; outside.out.bytes(), ONE_REPAIRED.as_bytes());
+    assert_eq!(rt; outside.lane().len(), 21_056);
+    outside.check_lane(&rt, alloc, 5000, Some(&ALL))?;
     assert_eq!(rt; gate.0.failed.load(Ordering::SeqCst), 0);
     Ok(())
 }

@@ -1,0 +1,80 @@
+//! Which positions of a flow have a word.
+
+use crate::crewed::bits::Bits;
+use std::alloc::{AllocError, Global};
+
+/// How many words of 64 bits a flow's arrivals take: one bit for each sequence number.
+const WORDS: usize = 1024;
+
+/// Which positions near the newest ones have a word, modulo 65,536: a media datagram was admitted, or a worker's word was
+/// taken. It only saves looks: what a board knows it tells itself.
+#[derive(Drop)]
+pub(crate) struct Arrivals {
+    bits: Bits,
+}
+
+impl Arrivals {
+    /// None.
+    pub(crate) fn new(alloc: Global) -> Result<Arrivals, AllocError> {
+        Ok(Arrivals {
+            bits: Bits::new(alloc, WORDS)?,
+        })
+    }
+
+    /// Whether a position has a word.
+    pub(crate) fn has(&self, position: u64) -> bool {
+        self.bits.has(bit_of(position))
+    }
+
+    /// Marks a position that has a word now.
+    pub(crate) fn mark(&self, position: u64) {
+        self.bits.set(bit_of(position));
+    }
+}
+
+/// Where a position stands in the map.
+fn bit_of(position: u64) -> usize {
+    (position % (64 * WORDS as u64)) as usize
+}
+
+/// How far the caller has come with a flow's media datagrams.
+#[derive(Clone, Copy)]
+pub(crate) struct Progress {
+    /// The sequence number of the first one that was admitted, whose position is 0.
+    first: Option<u16>,
+    /// The word of the map in which the last one was marked.
+    word: usize,
+}
+
+impl Progress {
+    /// None was admitted.
+    pub(crate) fn new() -> Progress {
+        Progress {
+            first: None,
+            word: 0,
+        }
+    }
+
+    /// Marks a media datagram that was admitted. Where that goes into another word of the map than the last one, the word half
+    /// the map ahead is cleared: what stands there is of an earlier lap.
+    pub(crate) fn mark(&mut self, arrivals: &Arrivals, seq: u16) {
+        let position = seq.wrapping_sub(self.first_or(seq));
+        arrivals.mark(u64::from(position));
+        let word = usize::from(position) / 64;
+        if word != self.word {
+            self.word = word;
+            arrivals.bits.clear_word((word + WORDS / 2) % WORDS);
+        }
+    }
+
+    /// The sequence number of the first media datagram, which is this one where none was before.
+    fn first_or(&mut self, seq: u16) -> u16 {
+        match self.first {
+            Some(first) => first,
+            None => {
+                self.first = Some(seq);
+                seq
+            }
+        }
+    }
+}

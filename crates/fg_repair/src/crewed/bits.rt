@@ -1,0 +1,55 @@
+//! Rows of bits that threads set and clear without a lock.
+
+use std::alloc::{AllocError, Global};
+use std::sync::atomic::{AtomicU64, Ordering};
+
+/// A row of bits. Whoever reads one may find it as it was or as it is: nothing rests on what stands here.
+#[derive(Drop)]
+pub(crate) struct Bits {
+    words: Vec<AtomicU64>,
+}
+
+impl Bits {
+    /// So many words of 64 bits, of which none is set. All memory is taken here.
+    pub(crate) fn new(alloc: Global, count: usize) -> Result<Bits, AllocError> {
+        let mut words = Vec::with_capacity(alloc, count)?;
+        for _ in 0..count {
+            words.push(AtomicU64::new(0))?;
+        }
+        Ok(Bits { words })
+    }
+
+    /// Whether a bit is set. One past the end never is.
+    pub(crate) fn has(&self, bit: usize) -> bool {
+        match self.words.as_slice().get(bit / 64) {
+            Some(word) => word.load(Ordering::SeqCst) & mask(bit) != 0,
+            None => false,
+        }
+    }
+
+    /// Sets a bit, where there is one.
+    pub(crate) fn set(&self, bit: usize) {
+        if let Some(word) = self.words.as_slice().get(bit / 64) {
+            word.fetch_or(mask(bit), Ordering::SeqCst);
+        }
+    }
+
+    /// Clears a bit, where there is one.
+    pub(crate) fn clear(&self, bit: usize) {
+        if let Some(word) = self.words.as_slice().get(bit / 64) {
+            word.fetch_and(!mask(bit), Ordering::SeqCst);
+        }
+    }
+
+    /// Clears the 64 bits of a word, where there is one.
+    pub(crate) fn clear_word(&self, word: usize) {
+        if let Some(word) = self.words.as_slice().get(word) {
+            word.store(0, Ordering::SeqCst);
+        }
+    }
+}
+
+/// A bit in its word.
+fn mask(bit: usize) -> u64 {
+    1u64 << (bit % 64)
+}
