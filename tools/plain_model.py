@@ -1,0 +1,769 @@
+"""What every command of fgate answers, computed plainly from the definitions that docs/FORMATS.md and docs/MODEL.md tell: words,
+datagrams, desks, plays, traces, encodings, captures and continuity. Nothing is read off the program's code, nothing is fast, and
+a list is gone through again where that reads like the definition.
+
+`answer(words, data)` gives status, fault line, standard output and lanes for the words of a command line (bytes each) and the
+bytes of the input. tools/fuzz and the scripts beside it compare the program with this. It isn't run on its own.
+"""
+import re
+import struct
+from functools import reduce
+from typing import NamedTuple
+
+PACKET = 188
+LARGEST = 7 * PACKET
+MAGIC = b"FECTRAC1"
+
+
+class Answer(NamedTuple):
+    """How a run ends: the status, the line on standard error (none where the status is 0), standard output, and each lane
+    that is made, by its port. The output of a help isn't told (None)."""
+    status: int
+    line: str
+    out: bytes
+    lanes: dict
+
+
+class Ends(NamedTuple):
+    """How an input ends where it doesn't end well: the status and the line."""
+    status: int
+    line: str
+
+
+DONE = Ends(0, "")
+
+
+# ---- Words ----
+
+class Word(NamedTuple):
+    """What can be recovered of a media datagram. `bytes` are the padded payload's 1,316 bytes as one number."""
+    pt: int
+    ts: int
+    len: int
+    bytes: int
+
+
+ZERO = Word(0, 0, 0, 0)
+
+
+def word_of(pt, ts, length, payload):
+    return Word(pt, ts, length, int.from_bytes(payload.ljust(LARGEST, b"\0"), "big"))
+
+
+def sum_of(words):
+    """The XOR of all, field by field."""
+    return reduce(lambda one, other: Word(*(a ^ b for a, b in zip(one, other))), words, ZERO)
+
+
+def payload_of(word):
+    return word.bytes.to_bytes(LARGEST, "big")[:word.len]
+
+
+def are_packets(payload):
+    return len(payload) % PACKET == 0 and all(payload[at] == 0x47 for at in range(0, len(payload), PACKET))
+
+
+def is_media(word):
+    """Whether a media datagram can have this word."""
+    whole = word.bytes.to_bytes(LARGEST, "big")
+    return (word.pt == 33 and word.len in range(PACKET, LARGEST + 1, PACKET) and are_packets(whole[:word.len])
+            and not any(whole[word.len:]))
+
+
+# ---- Datagrams. A reader gives the number of the first fault, or what the datagram says. ----
+
+def read_media(datagram):
+    """A fault's number, or sequence number and word."""
+    if len(datagram) < 12:
+        return 1
+    if datagram[0] >> 6 != 2:
+        return 2
+    if datagram[0] & 0x3f:
+        return 3
+    if datagram[1] & 0x7f != 33:
+        return 4
+    payload = datagram[12:]
+    if len(payload) not in range(PACKET, LARGEST + 1, PACKET):
+        return 5
+    if not are_packets(payload):
+        return 6
+    seq, ts = struct.unpack_from(">HI", datagram, 2)
+    return seq, word_of(33, ts, len(payload), payload)
+
+
+def is_shape(offset, na):
+    return 1 <= offset <= 20 and 1 <= na <= 20 and (na - 1) * offset <= 99
+
+
+def read_parity(datagram):
+    """A fault's number, or the base's sequence number, offset, number of slots and word."""
+    if len(datagram) < 28:
+        return 1
+    if datagram[0] >> 6 != 2:
+        return 2
+    base, length, types = struct.unpack_from(">HHB", datagram, 12)
+    (ts,) = struct.unpack_from(">I", datagram, 20)
+    bits, offset, na = datagram[24:27]
+    if not types & 0x80:
+        return 3
+    if bits & 0xbf:
+        return 4
+    if not is_shape(offset, na):
+        return 5
+    payload = datagram[28:]
+    if not 1 <= len(payload) <= LARGEST:
+        return 6
+    return base, offset, na, word_of(types & 0x7f, ts, length, payload)
+
+
+def media_datagram(seq, ts, ssrc, payload):
+    return struct.pack(">BBHII", 0x80, 33, seq % 65536, ts, ssrc) + payload
+
+
+def parity_datagram(seq, stamp, base, offset, na, is_row, word, size):
+    header = struct.pack(">BBHII", 0x80, 96, seq % 65536, stamp, 0)
+    fec = struct.pack(">HHBBBBIBBBB", base % 65536, word.len, 0x80 | word.pt, 0, 0, 0, word.ts, 0x40 if is_row else 0, offset, na, 0)
+    return header + fec + word.bytes.to_bytes(LARGEST, "big")[:size]
+
+
+# ---- Desks ----
+
+def position(top, top_seq, seq):
+    """The integer nearest to the top that the sequence number can stand for: from 32,768 before it to 32,767 past it."""
+    return top + (seq - top_seq + 32768) % 65536 - 32768
+
+
+class Equation(NamedTuple):
+    base: int
+    offset: int
+    na: int
+    word: Word
+
+    def slots(self):
+        return [self.base + j * self.offset for j in range(self.na)]
+
+
+class Play(NamedTuple):
+    """A closed window: its first position, what each position shows (None where nothing), whether each is repaired, and
+    whether the desk had a solution."""
+    first: int
+    shown: list
+    repaired: list
+    consistent: bool
+
+
+class Desk:
+    """What is known of one flow."""
+
+    def __init__(self, window, depth):
+        self.window, self.depth = window, depth
+        self.top = None
+        self.mark = 0
+        self.kept, self.media, self.equations = {}, {}, []
+
+    def is_due(self, seq):
+        return self.top is not None and position(*self.top, seq) >= self.mark + self.depth
+
+    def admit_media(self, seq, word):
+        if self.top is None:
+            self.top, self.mark = (0, seq), 0
+            self.media[0] = word
+            return "admitted"
+        at = position(*self.top, seq)
+        if at < 0 or at < self.mark:
+            return "late"
+        if at in self.media:
+            return "duplicate" if self.media[at] == word else "conflict"
+        self.media[at] = word
+        if at > self.top[0]:
+            self.top = at, seq
+        return "admitted"
+
+    def admit_parity(self, base_seq, offset, na, word):
+        if self.top is None:
+            return "notstarted"
+        equation = Equation(position(*self.top, base_seq), offset, na, word)
+        if equation.base < 0:
+            return "beforestart"
+        slots = equation.slots()
+        if slots[-1] < self.mark or not self.reaches_back(equation):
+            return "late"
+        if slots[-1] >= self.mark + self.depth + 100:
+            return "ahead"
+        for live in self.equations:
+            if live[:3] == equation[:3]:
+                return "duplicate" if live.word == word else "conflict"
+        if len(self.equations) == 512:
+            return "crowded"
+        self.equations.append(equation)
+        return "admitted"
+
+    def reaches_back(self, equation):
+        """Whether all slots before the mark are kept."""
+        return all(slot in self.kept for slot in equation.slots() if slot < self.mark)
+
+    def peeled(self):
+        """A word for each position of the closure: while an equation has one unknown slot, at the mark or past it, that slot
+        gets the sum of the parity word and the other slots' words."""
+        known = {**self.kept, **self.media}
+        grows = True
+        while grows:
+            grows = False
+            for equation in self.equations:
+                unknown = [slot for slot in equation.slots() if slot not in known]
+                if len(unknown) == 1 and unknown[0] >= self.mark:
+                    known[unknown[0]] = sum_of([equation.word] + [known[slot] for slot in equation.slots() if slot in known])
+                    grows = True
+        return known
+
+    def is_solution(self, words):
+        """Whether all found words are media words, and each equation comes out whose slots all have words."""
+        given = {**self.kept, **self.media}
+        return (all(is_media(word) for at, word in words.items() if at not in given)
+                and all(sum_of(words[slot] for slot in equation.slots()) == equation.word for equation in self.equations
+                        if all(slot in words for slot in equation.slots())))
+
+    def play(self, count=None):
+        count = count or self.window
+        words = self.peeled()
+        consistent = self.is_solution(words)
+        source = words if consistent else self.media
+        window = range(self.mark, self.mark + count)
+        shown = [source.get(at) for at in window]
+        repaired = [at in source and at not in self.media for at in window]
+        played = Play(self.mark, shown, repaired, consistent)
+        self.mark += count
+        self.kept.update({at: word for at, word in zip(window, shown) if word is not None})
+        self.kept = {at: word for at, word in self.kept.items() if self.mark - 100 <= at < self.mark}
+        self.media = {at: word for at, word in self.media.items() if at >= self.mark}
+        self.equations = [equation for equation in self.equations
+                          if consistent and equation.slots()[-1] >= self.mark and self.reaches_back(equation)]
+        return played
+
+    def flush(self):
+        """The plays at the end: each window ends behind the closure's highest position at the latest."""
+        while True:
+            ahead = [at for at in self.peeled() if at >= self.mark]
+            if not ahead:
+                return
+            yield self.play(min(self.window, max(ahead) + 1 - self.mark))
+
+
+# ---- A repair ----
+
+MEDIA_COUNTS = ["admitted", "duplicate", "conflict", "late", "bad"]
+PARITY_COUNTS = ["admitted", "duplicate", "conflict", "late", "notstarted", "beforestart", "ahead", "crowded", "bad"]
+KINDS = {0: "media", 2: "column", 4: "row"}
+
+
+def run_of(records, port, window, depth):
+    """A flow's run over the records (time, port, datagram): its plays, and how often each kind got each reply."""
+    desk, plays = Desk(window, depth), []
+    counts = {kind: dict.fromkeys(PARITY_COUNTS, 0) for kind in KINDS.values()}
+    for _, at, datagram in records:
+        kind = KINDS.get(at - port)
+        if kind is None:
+            continue
+        read = (read_media if kind == "media" else read_parity)(datagram)
+        if isinstance(read, int):
+            reply = "bad"
+        elif kind == "media":
+            while desk.is_due(read[0]):
+                plays.append(desk.play())
+            reply = desk.admit_media(*read)
+        else:
+            reply = desk.admit_parity(*read)
+        counts[kind][reply] += 1
+    return plays + list(desk.flush()), counts
+
+
+def gaps_of(plays):
+    """The runs of played positions that show nothing: first position and length."""
+    gaps = []
+    for play in plays:
+        for at, word in enumerate(play.shown, play.first):
+            if word is not None:
+                continue
+            if gaps and sum(gaps[-1]) == at:
+                gaps[-1] = gaps[-1][0], gaps[-1][1] + 1
+            else:
+                gaps.append((at, 1))
+    return gaps
+
+
+def counted(kind, port, counts, names):
+    return f"{kind} {port} " + " ".join(f"{name} {counts[name]}" for name in names)
+
+
+def repair(records, ports, window, depth):
+    """The lanes by port, and the report without a tail."""
+    lanes, lines, taken = {}, [], set()
+    for port in ports:
+        plays, counts = run_of(records, port, window, depth)
+        taken |= {port + kind for kind in KINDS}
+        shown = [word for play in plays for word in play.shown]
+        lanes[port] = b"".join(payload_of(word) for word in shown if word is not None)
+        missing = shown.count(None)
+        repaired = sum(sum(play.repaired) for play in plays)
+        broken = sum(not play.consistent for play in plays)
+        lines.append(f"flow {port} shown {len(shown) - missing} repaired {repaired} missing {missing} windows {len(plays)} "
+                     f"inconsistent {broken}")
+        lines.append(counted("media", port, counts["media"], MEDIA_COUNTS))
+        lines += [counted(kind, port, counts[kind], PARITY_COUNTS) for kind in ("column", "row")]
+        lines += [f"gap {port} {first} {length}" for first, length in gaps_of(plays)]
+    lines.append(f"other {sum(port not in taken for _, port, _ in records)}")
+    return lanes, "".join(line + "\n" for line in lines)
+
+
+# ---- Traces ----
+
+def spelled(records):
+    return b"".join(struct.pack(">QHH", time, port, len(datagram)) + datagram for time, port, datagram in records)
+
+
+def first_difference(data, magic):
+    return next((at for at, byte in enumerate(magic) if data[at:at + 1] != bytes([byte])), None)
+
+
+def read_trace(data, most):
+    """The records, and how the trace ends. None in place of the records where it is no trace."""
+    differs = first_difference(data, MAGIC)
+    if differs is not None:
+        return None, Ends(4, f"not a trace at byte {differs}")
+    records, at, within = [], len(MAGIC), min(len(data), most)
+    while at + 12 <= within:
+        time, port, size = struct.unpack_from(">QHH", data, at)
+        if at + 12 + size > within:
+            break
+        records.append((time, port, data[at + 12:at + 12 + size]))
+        at += 12 + size
+    if len(data) > most:
+        return records, Ends(5, f"too long at byte {at}")
+    return records, DONE if at == len(data) else Ends(4, f"cut at byte {at}")
+
+
+# ---- Encodings ----
+
+def payloads_of(stream, size, most):
+    """The payloads that are sent, and how the stream ends."""
+    payloads = []
+    for at in range(0, len(stream), size):
+        payload = stream[at:at + size]
+        if len(stream) > most and at + size > most:
+            return payloads, Ends(5, f"too long at byte {at}")
+        if len(payload) % PACKET:
+            return payloads, Ends(7, f"not transport: length {len(stream)}")
+        for packet in range(0, len(payload), PACKET):
+            if payload[packet] != 0x47:
+                return payloads, Ends(7, f"not transport: packet {(at + packet) // PACKET}")
+        payloads.append(payload)
+    return payloads, DONE
+
+
+def layout_fault(columns, rows, fec):
+    """The number of the first rule that the layout breaks, or None."""
+    broken = [not 1 <= columns <= 20, not 4 <= rows <= 20, columns * rows > 100, fec == "both" and columns < 4]
+    return broken.index(True) + 1 if True in broken else None
+
+
+def equations_of(slots, columns, rows, fec, layout):
+    """All equations of so many slots whose last slot is there: (last slot, is row, base, offset, na)."""
+    for matrix in range(slots // (columns * rows) + 1):
+        first = matrix * columns * rows
+        for column in range(columns):
+            base = first + column + (column % rows * columns if layout == "staggered" else 0)
+            yield base + (rows - 1) * columns, False, base, columns, rows
+        if fec == "both":
+            for row in range(rows):
+                base = first + row * columns
+                yield base + columns - 1, True, base, 1, columns
+
+
+def encode(payloads, asked):
+    """The records of the encoding of these payloads."""
+    size, seq, port = asked["packets"] * PACKET, asked["seq"], asked["port"]
+    stamps = [(asked["stamp"] + slot * size * 8 * 90000 // asked["rate"]) % 2 ** 32 for slot in range(len(payloads))]
+    words = [word_of(33, stamp, len(payload), payload) for stamp, payload in zip(stamps, payloads)]
+    ending = {}
+    for last, *equation in equations_of(len(payloads), asked["columns"], asked["rows"], asked["fec"], asked["layout"]):
+        ending.setdefault(last, []).append(equation)
+    records, sent = [], {False: 0, True: 0}
+    for slot, payload in enumerate(payloads):
+        time = slot * size * 8 * 1000000 // asked["rate"]
+        records.append((time, port, media_datagram(seq + slot, stamps[slot], asked["ssrc"], payload)))
+        for is_row, base, offset, na in sorted(ending.get(slot, [])):
+            covered = [words[base + j * offset] for j in range(na)]
+            datagram = parity_datagram(sent[is_row], stamps[slot], seq + base, offset, na, is_row, sum_of(covered),
+                                       max(word.len for word in covered))
+            records.append((time, port + (4 if is_row else 2), datagram))
+            sent[is_row] += 1
+    return records
+
+
+# ---- Samples ----
+
+class Draws:
+    """PCG32, by O'Neill, of a seed and a stream."""
+    MASK = 2 ** 64 - 1
+
+    def __init__(self, seed, stream):
+        self.increment = stream << 1 | 1
+        self.state = 0
+        self.draw()
+        self.state = self.state + seed & self.MASK
+        self.draw()
+
+    def draw(self):
+        old = self.state
+        self.state = old * 6364136223846793005 + self.increment & self.MASK
+        mixed = ((old >> 18 ^ old) >> 27) & 0xffffffff
+        turn = old >> 59
+        return (mixed >> turn | mixed << (-turn & 31)) & 0xffffffff
+
+
+SAMPLED = {"columns": 10, "rows": 10, "fec": "both", "layout": "block", "packets": 7, "rate": 10_000_000, "port": 5000, "seq": 0,
+           "ssrc": 0, "stamp": 0}
+
+
+def sample(seed, datagrams, loss):
+    """The records that are left, and the first line."""
+    packets, losses = Draws(seed, 54), Draws(seed, 55)
+    stream = b"".join(bytes([0x47, 1, 0, 0x10 + packet % 16]) + b"".join(packets.draw().to_bytes(4, "little") for _ in range(46))
+                      for packet in range(7 * datagrams))
+    records = encode(payloads_of(stream, LARGEST, len(stream))[0], SAMPLED)
+    left = records[:1] + [record for record in records[1:] if losses.draw() % 100 >= loss]
+    return left, f"sample seed {seed} datagrams {datagrams} records {len(records)} lost {len(records) - len(left)}\n"
+
+
+# ---- Inspections ----
+
+def inspected(number, time, port, datagram, ports):
+    kind = next((KINDS[port - flow] for flow in ports if port - flow in KINDS), None)
+    line = f"{number} {time} {port} {len(datagram)} "
+    if kind is None:
+        return line + "other\n"
+    read = (read_media if kind == "media" else read_parity)(datagram)
+    if isinstance(read, int):
+        return line + f"{kind} bad {read}\n"
+    if kind == "media":
+        return line + f"media seq {read[0]} len {read[1].len}\n"
+    return line + "{} base {} offset {} na {}\n".format(kind, *read[:3])
+
+
+# ---- Continuity ----
+
+class Packet(NamedTuple):
+    pid: int
+    has_payload: bool
+    counter: int
+    breaks: bool
+
+
+def packet_of(data):
+    adapts = data[3] & 0x20 and data[4]
+    return Packet((data[1] & 0x1f) << 8 | data[2], bool(data[3] & 0x10), data[3] & 15, bool(adapts and data[5] & 0x80))
+
+
+def monitored(packets):
+    """The lines of the faults of a whole list of packets."""
+    def before(at):
+        """The last packet of the same PID before this one."""
+        return next((other for other in range(at - 1, -1, -1) if packets[other].pid == packets[at].pid), None)
+
+    def is_repeat(at):
+        last = before(at)
+        return (last is not None and not packets[at].breaks and packets[last].has_payload
+                and packets[last].counter == packets[at].counter)
+
+    lines = []
+    for at, packet in enumerate(packets):
+        last = before(at)
+        if packet.pid == 0x1fff or last is None or packet.breaks:
+            continue
+        old = packets[last]
+        if packet.has_payload:
+            first_repeat = packet.counter == old.counter and old.has_payload and not is_repeat(last)
+            faulty = packet.counter != (old.counter + 1) % 16 and not first_repeat
+        else:
+            faulty = packet.counter != old.counter
+        if faulty:
+            lines.append(f"packet {at} pid {packet.pid} counter {packet.counter} after {old.counter}\n")
+    return lines
+
+
+def monitor(stream, most):
+    """The text, and how the stream ends."""
+    packets, ending = [], DONE
+    for at in range(0, len(stream), PACKET):
+        if len(stream) > most and at + PACKET > most:
+            ending = Ends(5, f"too long at byte {at}")
+        elif at + PACKET > len(stream):
+            ending = Ends(7, f"not transport: length {len(stream)}")
+        elif stream[at] != 0x47:
+            ending = Ends(7, f"not transport: packet {at // PACKET}")
+        if ending != DONE:
+            break
+        packets.append(packet_of(stream[at:at + PACKET]))
+    lines = monitored(packets)
+    if ending == DONE:
+        lines.append(f"packets {len(packets)} faults {len(lines)}\n")
+    return "".join(lines), ending
+
+
+# ---- Captures ----
+
+CAPTURE = struct.pack(">IHHIIII", 0xa1b2c3d4, 2, 4, 0, 0, 262144, 1)
+
+
+def check_of(header):
+    """RFC 1071's sum over a header whose own field is 0."""
+    total = sum(struct.unpack(f">{len(header) // 2}H", header))
+    while total >> 16:
+        total = (total & 0xffff) + (total >> 16)
+    return total ^ 0xffff
+
+
+def frame_of(port, datagram):
+    ip = struct.pack(">BBHHHBBH4s4s", 0x45, 0, 28 + len(datagram), 0, 0x4000, 64, 17, 0, bytes([10, 0, 0, 1]), bytes([10, 0, 0, 2]))
+    ip = ip[:10] + struct.pack(">H", check_of(ip)) + ip[12:]
+    udp = struct.pack(">HHHH", port, port, 8 + len(datagram), 0)
+    return bytes.fromhex("020000000002020000000001") + b"\x08\x00" + ip + udp + datagram
+
+
+def to_capture(records, ending):
+    """The capture of the records up to the first that doesn't fit, and how it ends."""
+    capture = CAPTURE
+    for number, (time, port, datagram) in enumerate(records):
+        if time >= 2 ** 32 * 1_000_000 or len(datagram) > 65507:
+            return capture, Ends(8, f"record {number} does not fit a capture")
+        frame = frame_of(port, datagram)
+        capture += struct.pack(">IIII", time // 1_000_000, time % 1_000_000, len(frame), len(frame)) + frame
+    return capture, ending
+
+
+def datagram_of(frame):
+    """Port and datagram of a frame, or None."""
+    if frame[12:14] == b"\x08\x00":
+        ip = frame[14:]
+    elif frame[12:14] == b"\x81\x00" and frame[16:18] == b"\x08\x00":
+        ip = frame[18:]
+    else:
+        return None
+    if len(ip) < 20 or ip[0] >> 4 != 4:
+        return None
+    header, (total, _, fragment), protocol = 4 * (ip[0] & 15), struct.unpack_from(">HHH", ip, 2), ip[9]
+    if header < 20 or fragment & 0x3fff or protocol != 17 or not header <= total <= len(ip):
+        return None
+    udp = ip[header:total]
+    if len(udp) < 8:
+        return None
+    _, port, length = struct.unpack_from(">HHH", udp)
+    return (port, udp[8:length]) if 8 <= length <= len(udp) else None
+
+
+def from_capture(data, most):
+    """The records of a capture, and how it ends. None in place of the records where its header is refused."""
+    if most < 24 and len(data) > most:
+        return None, Ends(5, "too long at byte 0")
+    if len(data) < 24:
+        return None, Ends(8, f"not a capture at byte {len(data)}")
+    orders = {bytes.fromhex(magic): (order, unit) for magic, order, unit in
+              [("a1b2c3d4", ">", 1), ("d4c3b2a1", "<", 1), ("a1b23c4d", ">", 1000), ("4d3cb2a1", "<", 1000)]}
+    if data[:4] not in orders:
+        return None, Ends(8, "not a capture at byte 0")
+    order, unit = orders[data[:4]]
+    if struct.unpack_from(order + "HH", data, 4) != (2, 4):
+        return None, Ends(8, "not a capture at byte 4")
+    if struct.unpack_from(order + "I", data, 20) != (1,):
+        return None, Ends(8, "not a capture at byte 20")
+    records, at, within = [], 24, min(len(data), most)
+    while at + 16 <= within:
+        seconds, fraction, kept, _ = struct.unpack_from(order + "IIII", data, at)
+        if kept > 262144:
+            return records, Ends(8, f"not a capture at byte {at}")
+        if at + 16 + kept > within:
+            break
+        found = datagram_of(data[at + 16:at + 16 + kept])
+        if found:
+            records.append((seconds * 1_000_000 + fraction // unit, *found))
+        at += 16 + kept
+    if len(data) > most:
+        return records, Ends(5, f"too long at byte {at}")
+    return records, DONE if at == len(data) else Ends(4, f"cut at byte {at}")
+
+
+# ---- The words of the command line ----
+
+NEEDED = object()
+REPAIRS, ENCODES = ["repair", "drill"], ["encode", "drill"]
+
+# Commands, name, least and greatest or the two words, default, how often.
+TABLE = [
+    (["repair", "inspect"], "flow", (1, 65531), NEEDED, None),
+    (REPAIRS, "window", (1, 100), 100, 1),
+    (REPAIRS, "depth", (1, 1000), 400, 1),
+    (["repair", "drill", "sample"], "workers", (0, 16), 4, 1),
+    (["repair", "encode", "drill", "inspect", "fromcap", "tocap", "monitor"], "max", (8, 1099511627776), 1099511627776, 1),
+    (ENCODES, "columns", (0, 255), NEEDED, 1),
+    (ENCODES, "rows", (0, 255), NEEDED, 1),
+    (ENCODES, "fec", ("column", "both"), "both", 1),
+    (ENCODES, "layout", ("block", "staggered"), "block", 1),
+    (ENCODES, "packets", (1, 7), 7, 1),
+    (ENCODES, "rate", (1, 10000000000), 10000000, 1),
+    (ENCODES, "port", (1, 65531), 5000, 1),
+    (ENCODES, "seq", (0, 65535), 0, 1),
+    (ENCODES, "ssrc", (0, 4294967295), 0, 1),
+    (ENCODES, "stamp", (0, 4294967295), 0, 1),
+    (["drill"], "drop", (1, 9999999999999), None, 1000),
+    (["drill"], "every", (2, 9999999999999), None, 1),
+    (["sample"], "seed", (0, 9999999999999), NEEDED, 1),
+    (["sample"], "datagrams", (1, 20000), 1000, 1),
+    (["sample"], "loss", (0, 20), 3, 1),
+]
+COMMANDS = ["repair", "encode", "drill", "inspect", "sample", "fromcap", "tocap", "monitor"]
+MANY = ("flow", "drop")
+
+
+def rows_of(command):
+    return [row for row in TABLE if command in row[0]]
+
+
+def value_of(text, values):
+    """The value that the text spells, or None."""
+    if isinstance(values[0], str):
+        return text if text in values else None
+    if not re.fullmatch("0|[1-9][0-9]{0,12}", text):
+        return None
+    return int(text) if values[0] <= int(text) <= values[1] else None
+
+
+def ports_fault(ports):
+    """The end of a line on the first rule that a table of flows breaks, or None."""
+    if not ports:
+        return "1"
+    if len(ports) > 64:
+        return "2"
+    for number, port in enumerate(ports):
+        own = {port + kind for kind in KINDS}
+        if any(own & {other + kind for kind in KINDS} for other in ports[:number]):
+            return f"4 at {number}"
+    return None
+
+
+def settings_of(command, words):
+    """The settings that the words behind a command give, with the places of those that have one, or the line of their fault."""
+    rows = {row[1]: row for row in rows_of(command)}
+    settings, places = {}, {}
+    for place, word in enumerate(words, 1):
+        try:
+            name, cut, text = word.decode().partition("=")
+        except UnicodeDecodeError:
+            return f"words: bad word {place}", None
+        if not cut or name not in rows:
+            return f"words: bad word {place}", None
+        _, _, values, _, most = rows[name]
+        value, stood = value_of(text, values), settings.setdefault(name, [])
+        if value is None or (most is not None and len(stood) == most):
+            return f"words: bad word {place}", None
+        stood.append(value)
+        places[name] = place
+    for name, (_, _, _, default, _) in rows.items():
+        if name not in settings and default is NEEDED:
+            return f"words: missing {name}", None
+    return {name: settings.get(name, []) if name in MANY else settings.get(name, [rows[name][3]])[0] for name in rows}, places
+
+
+def asked_of(words):
+    """The command and its settings; or "help"; or the line of the first fault."""
+    if not words:
+        return "words: no command", None
+    if words in ([b"--help"], [b"--version"]):
+        return "help", None
+    command = next((command for command in COMMANDS if command.encode() == words[0]), None)
+    if command is None:
+        return "words: bad word 0", None
+    if words[1:] == [b"--help"]:
+        return "help", None
+    settings, places = settings_of(command, words[1:])
+    if places is None:
+        return settings, None
+    if "depth" in settings and settings["depth"] < settings["window"]:
+        return f"words: depth below window at word {places['depth']}", None
+    if "columns" in settings:
+        fault = layout_fault(settings["columns"], settings["rows"], settings["fec"])
+        if fault:
+            return f"words: layout {fault}", None
+    if "flow" in settings:
+        fault = ports_fault(settings["flow"])
+        if fault:
+            return f"words: flows {fault}", None
+    return command, settings
+
+
+# ---- The commands: each gives output, lanes and how it ends ----
+
+def do_repair(asked, data):
+    records, ending = read_trace(data, asked["max"])
+    if records is None:
+        return b"", {}, ending
+    lanes, report = repair(records, asked["flow"], asked["window"], asked["depth"])
+    tail = ending.line + "\n" if ending != DONE else ""
+    return (report + tail).encode(), lanes, ending
+
+
+def do_encode(asked, data):
+    payloads, ending = payloads_of(data, asked["packets"] * PACKET, asked["max"])
+    return MAGIC + spelled(encode(payloads, asked)), {}, ending
+
+
+def do_drill(asked, data):
+    payloads, ending = payloads_of(data, asked["packets"] * PACKET, asked["max"])
+    drops, every = set(asked["drop"]), asked["every"]
+    left = [record for number, record in enumerate(encode(payloads, asked))
+            if number not in drops and not (every and number and number % every == 0)]
+    lanes, report = repair(left, [asked["port"]], asked["window"], asked["depth"])
+    return report.encode(), lanes, ending
+
+
+def do_sample(asked, _):
+    left, line = sample(asked["seed"], asked["datagrams"], asked["loss"])
+    lanes, report = repair(left, [5000], 100, 400)
+    return (line + report).encode(), lanes, DONE
+
+
+def do_inspect(asked, data):
+    records, ending = read_trace(data, asked["max"])
+    lines = [inspected(number, *record, asked["flow"]) for number, record in enumerate(records or [])]
+    return "".join(lines).encode(), {}, ending
+
+
+def do_fromcap(asked, data):
+    records, ending = from_capture(data, asked["max"])
+    return b"" if records is None else MAGIC + spelled(records), {}, ending
+
+
+def do_tocap(asked, data):
+    records, ending = read_trace(data, asked["max"])
+    if records is None:
+        return b"", {}, ending
+    capture, ending = to_capture(records, ending)
+    return capture, {}, ending
+
+
+def do_monitor(asked, data):
+    text, ending = monitor(data, asked["max"])
+    return text.encode(), {}, ending
+
+
+DOES = {"repair": do_repair, "encode": do_encode, "drill": do_drill, "sample": do_sample, "inspect": do_inspect,
+        "fromcap": do_fromcap, "tocap": do_tocap, "monitor": do_monitor}
+
+
+def answer(words, data):
+    command, settings = asked_of(words)
+    if command == "help":
+        return Answer(0, "", None, {})
+    if settings is None:
+        return Answer(1, command + "\n", b"", {})
+    out, lanes, ending = DOES[command](settings, data)
+    return Answer(ending.status, ending.line + "\n" if ending.line else "", out, lanes)
