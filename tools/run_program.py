@@ -3,6 +3,7 @@ tools/under_limits. It isn't run on its own."""
 import array
 import fcntl
 import os
+import random
 import shlex
 import shutil
 import signal
@@ -12,8 +13,11 @@ import termios
 import time
 from typing import NamedTuple
 
+import plain_model as model
+
 TOP = os.path.dirname(os.path.dirname(os.path.abspath(__file__)))
 PROGRAM = os.path.join(TOP, "crates/fgate/out/fgate")
+SECONDS = 60
 
 
 class Ended(NamedTuple):
@@ -112,7 +116,7 @@ def feed(child, data, pieces, seconds):
         child.stdin.close()
 
 
-def run(program, words, data, folder, seconds=60, pieces=None):
+def run(program, words, data, folder, seconds=SECONDS, pieces=None):
     """Runs the program with these words (bytes each) in the folder. The data is a file, or where `pieces` cuts it a pipe."""
     out, err, given = (f"{folder}.{name}" for name in ("out", "err", "in"))
     with open(given, "wb") as file:
@@ -132,3 +136,107 @@ def run(program, words, data, folder, seconds=60, pieces=None):
                 return Ended(child.returncode, read_file(err), read_file(out), *lanes_of(folder), None)
         status, _ = wait_for(child, seconds)
     return Ended(status, read_file(err), read_file(out), *lanes_of(folder), peak)
+
+
+# ---- The runs ----
+
+def streams():
+    """A large stream and a small one, of packets whose counters go on."""
+    draw = random.Random(2022)
+    packets = [bytes([0x47, 1, 0, 0x10 + number % 16]) + draw.randbytes(184) for number in range(7 * 400)]
+    return b"".join(packets), b"".join(packets[:15])
+
+
+def trace_of(stream, ports, packets, lost):
+    """The encodings of a stream on some ports, record by record, without those whose number is a multiple of `lost`."""
+    asked = {**model.SAMPLED, "columns": 4, "rows": 5, "packets": packets}
+    payloads, _ = model.payloads_of(stream, packets * model.PACKET, len(stream))
+    flows = [model.encode(payloads, {**asked, "port": port}) for port in ports]
+    records = [record for together in zip(*flows) for record in together]
+    return model.MAGIC + model.spelled(record for number, record in enumerate(records) if number == 0 or number % lost)
+
+
+def runs(large):
+    """For each command its words and input."""
+    stream = streams()[0 if large else 1]
+    trace = trace_of(stream, [5000, 6000], 7 if large else 1, 13)
+    capture, _ = model.to_capture(model.read_trace(trace, len(trace))[0], model.DONE)
+    broken = b"".join(stream[at:at + 188] for at in range(0, len(stream), 2 * 188))
+    return {"repair": (["repair", "flow=5000", "flow=6000", "window=20", "depth=60"], trace),
+            "drill": (["drill", "columns=4", "rows=5", "every=13", "window=20", "depth=60"], stream),
+            "sample": (["sample", "seed=3", f"datagrams={400 if large else 3}"], b""),
+            "encode": (["encode", "columns=4", "rows=5", f"packets={7 if large else 1}"], stream),
+            "inspect": (["inspect", "flow=5000"], trace),
+            "fromcap": (["fromcap"], capture),
+            "tocap": (["tocap"], trace),
+            "monitor": (["monitor"], broken)}
+
+
+def whole_of(words, data):
+    return model.answer([word.encode() for word in words], data)
+
+
+# ---- Calling and judging ----
+
+class Calls:
+    """Runs cases in a folder, and counts those that are right."""
+
+    def __init__(self, program, work):
+        self.program, self.folder = program, os.path.join(work, "folder")
+        self.work, self.passed, self.failed = work, 0, 0
+
+    def path(self, name):
+        return os.path.join(self.work, name)
+
+    def begin(self):
+        empty(self.folder)
+
+    def start(self, words, **streams_and_more):
+        """The program on its way, with /dev/null and files for the standard streams that aren't told."""
+        given = {"stdin": subprocess.DEVNULL, "cwd": self.folder, "bufsize": 0, **streams_and_more}
+        opened = []
+        for name in ("stdout", "stderr"):
+            open(self.path(name), "wb").close()
+            if name not in given:
+                opened.append(open(self.path(name), "wb"))
+                given[name] = opened[-1]
+        child = subprocess.Popen([self.program, *words], **given)
+        for file in opened:
+            file.close()
+        return child
+
+    def end(self, child, out=None):
+        """What the run left; `out` is standard output where it was no file."""
+        status, _ = wait_for(child, SECONDS)
+        told = read_file(self.path("stdout")) if out is None else out
+        lanes, others = lanes_of(self.folder) if os.path.isdir(self.folder) else ({}, [])
+        return Ended(status, read_file(self.path("stderr")), told, lanes, others, None)
+
+    def call(self, words, data=b"", **more):
+        with open(self.path("input"), "wb") as file:
+            file.write(data)
+        with open(self.path("input"), "rb") as source:
+            return self.end(self.start(words, stdin=source, **more))
+
+    def judge(self, name, ended, whole, allowed, lanes_whole=False, out=True, err=True, lanes=True):
+        """Counts a case. `allowed` are the statuses with their lines, and None stands for those of the whole run. Without `out`,
+        `err` or `lanes` these can't be seen."""
+        allowed = [(whole.status, whole.line) if one is None else one for one in allowed]
+        wrong = []
+        if not any(ended.status == status and (not err or ended.err == line.encode()) for status, line in allowed):
+            wrong.append(f"status {ended.status} with {ended.err!r}")
+        done = ended.status == whole.status
+        if out and not (ended.out == whole.out if done else whole.out.startswith(ended.out)):
+            wrong.append("standard output")
+        if lanes and (done or lanes_whole) and ended.lanes != whole.lanes:
+            wrong.append("a lane that isn't whole")
+        if any(not whole.lanes.get(port, b"").startswith(lane) or port not in whole.lanes for port, lane in ended.lanes.items()):
+            wrong.append("a lane that is no beginning")
+        begun = ended.out[whole.out.find(b"flow "):] if whole.lanes else b""
+        if out and lanes and begun and len(ended.out) > whole.out.find(b"flow ") and ended.lanes != whole.lanes:
+            wrong.append("a report before the lanes are whole")
+        if wrong:
+            self.failed += 1
+            print(f"{name}: WRONG, {', '.join(wrong)}", flush=True)
+        else:
+            self.passed += 1
