@@ -532,13 +532,13 @@ def frame_of(port, datagram):
 
 def to_capture(records, ending):
     """The capture of the records up to the first that doesn't fit, and how it ends."""
-    capture = CAPTURE
+    parts = [CAPTURE]
     for number, (time, port, datagram) in enumerate(records):
         if time >= 2 ** 32 * 1_000_000 or len(datagram) > 65507:
-            return capture, Ends(8, f"record {number} does not fit a capture")
+            return b"".join(parts), Ends(8, f"record {number} does not fit a capture")
         frame = frame_of(port, datagram)
-        capture += struct.pack(">IIII", time // 1_000_000, time % 1_000_000, len(frame), len(frame)) + frame
-    return capture, ending
+        parts += [struct.pack(">IIII", time // 1_000_000, time % 1_000_000, len(frame), len(frame)), frame]
+    return b"".join(parts), ending
 
 
 def datagram_of(frame):
