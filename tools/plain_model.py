@@ -122,7 +122,8 @@ def media_datagram(seq, ts, ssrc, payload):
 
 def parity_datagram(seq, stamp, base, offset, na, is_row, word, size):
     header = struct.pack(">BBHII", 0x80, 96, seq % 65536, stamp, 0)
-    fec = struct.pack(">HHBBBBIBBBB", base % 65536, word.len, 0x80 | word.pt, 0, 0, 0, word.ts, 0x40 if is_row else 0, offset, na, 0)
+    fec = struct.pack(">HHBBBBIBBBB", base % 65536, word.len, 0x80 | word.pt, 0, 0, 0, word.ts, 0x40 if is_row else 0, offset, na,
+                      0)
     return header + fec + word.bytes.to_bytes(LARGEST, "big")[:size]
 
 
@@ -524,7 +525,8 @@ def check_of(header):
 
 
 def frame_of(port, datagram):
-    ip = struct.pack(">BBHHHBBH4s4s", 0x45, 0, 28 + len(datagram), 0, 0x4000, 64, 17, 0, bytes([10, 0, 0, 1]), bytes([10, 0, 0, 2]))
+    addresses = bytes([10, 0, 0, 1, 10, 0, 0, 2])
+    ip = struct.pack(">BBHHHBBH8s", 0x45, 0, 28 + len(datagram), 0, 0x4000, 64, 17, 0, addresses)
     ip = ip[:10] + struct.pack(">H", check_of(ip)) + ip[12:]
     udp = struct.pack(">HHHH", port, port, 8 + len(datagram), 0)
     return bytes.fromhex("020000000002020000000001") + b"\x08\x00" + ip + udp + datagram

@@ -122,8 +122,8 @@ def run(program, words, data, folder, seconds=SECONDS, pieces=None):
     with open(given, "wb") as file:
         file.write(data)
     with open(given, "rb") as source, open(out, "wb") as told, open(err, "wb") as line:
-        child = subprocess.Popen([program.encode(), *words], stdin=subprocess.PIPE if pieces else source, stdout=told, stderr=line,
-                                 cwd=folder, bufsize=0)
+        child = subprocess.Popen([program.encode(), *words], stdin=subprocess.PIPE if pieces else source, stdout=told,
+                                 stderr=line, cwd=folder, bufsize=0)
         peak = None
         if pieces:
             # What writes may wait for a program that hangs: it is killed then, and the write fails.
