@@ -1,5 +1,2 @@
 -- The definitions that the contracts of this crate cite.
 pub mod Crewed
-pub mod Engine
-pub mod Steps
-pub mod View

@@ -28,7 +28,7 @@ use crate::crewed::opening::{open, open_tallies};
 use crate::crewed::places::{FlowTallies, Places};
 use crate::crewed::post::{Crew, Host, Post, Remembered};
 use crate::crewed::repairing::Repairing;
-use crate::records::give_up;
+use fg_engine::give_up;
 use fg_crew::{Gate, crew};
 use fg_flows::Plan;
 use fg_io::{Outlet, Sink, Source};

@@ -4,7 +4,7 @@ ghost use Rattle.fg_io.specs.Faults.{CountsFaults};
 ghost use Rattle.fg_flows.specs.Plan.{PlanFits};
 ghost use Rattle.fg_results.specs.Contract.{IsRepair};
 
-use crate::alone::repair_alone;
+use fg_engine::repair_alone;
 use crate::crewed::repair;
 use fg_crew::Gate;
 use fg_flows::Plan;

@@ -5,7 +5,7 @@ use crate::crewed::arrivals::Progress;
 use crate::crewed::places::Places;
 use crate::crewed::points::{CALLER, Hears, PLAYING};
 use crate::crewed::signal::Signal;
-use crate::window::WindowState;
+use fg_engine::WindowState;
 use fg_board::{Admitter, Board};
 use fg_crew::Hints;
 use fg_desk::{Played, Reply, Tray};

@@ -14,7 +14,7 @@ use crate::crewed::board_window::BoardWindow;
 use crate::crewed::places::Places;
 use crate::crewed::points::Hears;
 use crate::crewed::post::{Host, Post};
-use crate::records::{give_up, repair_windows};
+use fg_engine::{give_up, repair_windows};
 use fg_crew::{Body, Gate, Hints};
 use fg_flows::Plan;
 use fg_io::{Outlet, Sink, Source};

@@ -1,0 +1,53 @@
+use Rattle.std.proofs.Common.{List, refl, ◌∙◌}
+use Rattle.fg_playout.specs.Play.{Play}
+use Rattle.fg_playout.specs.Admission.{IsDue}
+use Rattle.fg_playout.specs.Run.{ArePlaysDue}
+use Rattle.fg_playout.specs.Laws.{HavePlayed}
+use Rattle.fg_engine.specs.Steps.{played_as}
+use Rattle.fg_io.proofs.FaultLemmas.{on_err}
+use Rattle.fg_engine.proofs.Showing.{retold, one_more_shown, breaks_off, within_one_more, due_after, fails, keeps_playout}
+use Rattle.fg_engine.proofs.flow.Flow.play_due.Goals as goal
+
+pub loop-self-preserved : goal.loop-self-preserved
+loop-self-preserved g c =
+    let old = c.args.self.now in
+    let now = c.loop-self in
+    let from = g.D.WindowState.state now.self-inside.window in
+    let to = g.D.WindowState.state c.play-played.new.self in
+    let play = played_as c.play-played.result (g.D.WindowState.shows c.play-played.new.self c.play-played.result) in
+    let join = due_after old.state from to c.args.seq play c.runs_join.ensures.plays (c.loop-self-test.ensures.0 refl) c.play-played.ensures.play in
+    let holds = (c.requires.within c.args.seq now.invariant.so.plays from now.invariant.so.are).0 in
+    record {
+      so = one_more_shown (HavePlayed old.state c.args.seq) old.state old.sum (g.O.Outlet.lanes c.args.lanes.now)
+          from.playout.window from to now.self-inside.sum c.put_play.new.sum
+          (g.O.Outlet.lanes now.lanes) (g.O.Outlet.lanes c.put_play.new.lanes) play
+          now.invariant.so join c.play-played.ensures.play now.invariant.port c.in_ok-put_play.ensures.counts c.in_ok-put_play.ensures.puts;
+      counts = within_one_more from.playout.window from to now.self-inside.sum c.put_play.new.sum play
+          now.invariant.counts c.play-played.ensures.play holds.window.0 c.in_ok-put_play.ensures.counts;
+      port = c.in_ok-put_play.ensures.port ∙ now.invariant.port;
+      playout = keeps_playout from.playout.window from play to c.play-played.ensures.play ∙ now.invariant.playout;
+      faults = c.in_ok-put_play.ensures.faults.no_write (λ e. e) ∙ now.invariant.faults;
+    }
+
+pub returns-in_err-put_play-clause-breaks : goal.returns-in_err-put_play-clause-breaks
+returns-in_err-put_play-clause-breaks g c =
+    let old = c.args.self.now in
+    let now = c.loop-self in
+    let from = g.D.WindowState.state now.self-inside.window in
+    let to = g.D.WindowState.state c.play-played.new.self in
+    let play = played_as c.play-played.result (g.D.WindowState.shows c.play-played.new.self c.play-played.result) in
+    let join = due_after old.state from to c.args.seq play c.runs_join.ensures.plays (c.loop-self-test.ensures.0 refl) c.play-played.ensures.play in
+    on_err _ _ (breaks_off (HavePlayed old.state c.args.seq) old.state old.sum (g.O.Outlet.lanes c.args.lanes.now)
+    from to now.self-inside.sum (g.O.Outlet.lanes now.lanes) (g.O.Outlet.lanes c.put_play.new.lanes) play
+    now.invariant.so join now.invariant.port c.in_err-put_play.ensures.part)
+
+pub returns-clause-plays : goal.returns-clause-plays
+returns-clause-plays g c =
+    let old = c.args.self.now in
+    let now = c.loop-self in
+    let from = g.D.WindowState.state now.self-inside.window in
+    let none = fails (IsDue from c.args.seq) c.due.result c.loop-self-test.false c.due.ensures.1 in
+    retold (HavePlayed old.state c.args.seq) (ArePlaysDue old.state c.args.seq) old.state from old.sum now.self-inside.sum
+    (g.O.Outlet.lanes c.args.lanes.now) (g.O.Outlet.lanes now.lanes)
+    (λ (plays : List Play) played. (c.runs_join.ensures.all_due old.state from c.args.seq plays).1 (played, none))
+    now.invariant.so

@@ -1,0 +1,16 @@
+//! The repair of a trace on one thread: one repaired stream for each flow, and a report.
+//!
+//! What a flow does with a record, and at the end, is written once, over any window state: a desk, or what stands for one.
+#![tactic(auto)]
+
+mod alone;
+mod counts;
+mod engine;
+mod flow;
+mod play;
+mod records;
+mod window;
+
+pub use alone::repair_alone;
+pub use records::{give_up, repair_windows};
+pub use window::WindowState;

@@ -1,0 +1,79 @@
+//! A flow's window state as the engine sees it.
+ghost use Rattle.std.specs.Prelude.{◌≡◌, ◌<◌, ◌↔◌, List, length, Option, IsTrue, IsSome, IfSome, option_map};
+ghost use Rattle.std.specs.List.{slice_index_or};
+ghost use Rattle.std.specs.Option.{option_copied};
+ghost use Rattle.fg_words.specs.Word.{IsMedia};
+ghost use Rattle.fg_shape.specs.Shape.{IsShape};
+ghost use Rattle.fg_desk.specs.declared.desk.Played.{Played};
+ghost use Rattle.fg_playout.specs.State.{State};
+ghost use Rattle.fg_playout.specs.Admission.{IsDue, AdmitsMedia, AdmitsParity};
+ghost use Rattle.fg_playout.specs.Play.{IsPlay, Flushes, Shown, nothing_shown};
+ghost use Rattle.fg_playout.specs.Room.{HasRoom, farthest_limit};
+ghost use Rattle.fg_engine.specs.Steps.{played_as};
+
+use fg_desk::{Played, Reply};
+use fg_shape::Shape;
+use fg_words::{Shared, Word};
+
+/// What holds a flow's windows: it admits the flow's datagrams and plays its windows.
+///
+/// The engine sees the state of its desk as the engine's own calls have made it, whoever else works on it.
+pub trait WindowState: Drop {
+    /// The state of its desk.
+    ghost state: { Self → State };
+
+    /// What it shows of a play: of the one that it made last.
+    ghost shows: { Self → Played → List Shown };
+
+    /// Whether a play is due before a datagram of this sequence number is admitted.
+    fn due(&self, seq: u16) -> bool
+        ensures { IsTrue result ↔ IsDue (state self.now) seq };
+
+    /// A share that was let go, where there is one, for the payload of the next datagram. Somebody else may have a share of
+    /// the same word.
+    fn spare(&mut self) -> Option<Shared>
+        ensures { state self.new ≡ state self.old };
+
+    /// Admits a media datagram, or says why not. The share is let go with every reply but `Admitted`.
+    fn admit_media(&mut self, seq: u16, share: Shared) -> Reply
+        requires room { HasRoom (state self.old) }
+        requires not_due { ¬ IsDue (state self.old) seq }
+        requires media { IsMedia share }
+        ensures { AdmitsMedia (state self.old) seq share result (state self.new) };
+
+    /// Admits a parity datagram's equation, or says why not. `base` is the sequence number of its base. The share is let go
+    /// with every reply but `Admitted`.
+    fn admit_parity(&mut self, base: u16, shape: Shape, share: Shared) -> Reply
+        requires room { HasRoom (state self.old) }
+        requires shape { IsShape shape.offset shape.na }
+        ensures { AdmitsParity (state self.old)
+            (record { base = base; offset = shape.offset; count = shape.na; word = share }) result (state self.new) };
+
+    /// Plays a window. `word` and `repaired` then tell what it shows.
+    fn play(&mut self) -> Played
+        requires room { HasRoom (state self.old) }
+        requires started { IsSome (state self.old).top }
+        ensures play { IsPlay (state self.old).playout.window (state self.old)
+            (played_as result (shows self.new result)) (state self.new) }
+        ensures count { result.count ≡ length (shows self.new result) };
+
+    /// Plays up to the highest position that has a word or follows, and at most a window. None where none is left to be
+    /// played.
+    fn flush_step(&mut self) -> Option<Played>
+        requires { HasRoom (state self.old) }
+        ensures flushes { Flushes (state self.old)
+            (option_map (λ played. played_as played (shows self.new played)) result) (state self.new) }
+        ensures count { IfSome result (λ played. played.count ≡ length (shows self.new played)) };
+
+    /// The word that the last play shows at its position `i`, counted from 0.
+    fn word(&self, played: Played, i: u32) -> Option<&Word>
+        requires limit { played.first < farthest_limit }
+        requires within { i < length (shows self.now played) }
+        ensures { option_copied result ≡ (slice_index_or (shows self.now played) i nothing_shown).word };
+
+    /// Whether that word was not received, but recovered.
+    fn repaired(&self, played: Played, i: u32) -> bool
+        requires limit { played.first < farthest_limit }
+        requires within { i < length (shows self.now played) }
+        ensures { result ≡ (slice_index_or (shows self.now played) i nothing_shown).repaired };
+}
