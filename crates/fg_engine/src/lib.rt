@@ -9,8 +9,10 @@ mod engine;
 mod flow;
 mod play;
 mod records;
+mod shelved;
 mod window;
 
 pub use alone::repair_alone;
 pub use records::{give_up, repair_windows};
+pub use shelved::Shelved;
 pub use window::WindowState;
