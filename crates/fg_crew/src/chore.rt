@@ -1,4 +1,5 @@
 //! What a crew does: the chore of its workers, and the body that it runs beside them.
+ghost use Rattle.std.specs.Thread.{IsSync};
 
 use crate::hints::Hints;
 use std::sync::Wait;
@@ -30,7 +31,10 @@ pub trait Body: Send {
     ghost ran: { Self → Self.Answer → Self → Type 0 };
 
     /// Runs once. Hints to the workers go into `hints`.
+    ///
+    /// That several threads may use the handle is said once more as a clause, so that a body which starts threads has it.
     fn run<W: Threads + Wait + Sync>(&mut self, rt: &W, hints: &Hints) -> Self::Answer
-        requires { ready self.old }
+        requires ready { ready self.old }
+        requires shared { IsSync W.row }
         ensures { ran self.old result self.new };
 }

@@ -1,5 +1,6 @@
 //! Running a body beside workers.
 ghost use Rattle.std.specs.Prelude.{◌≡◌, ◌+◌, ◌-◌, ◌<◌, ◌≤◌, ◌^◌, All, IfOk, OnErr};
+ghost use Rattle.std.specs.Thread.{IsSync};
 
 use crate::chore::{Body, Chore};
 use crate::gate::Gate;
@@ -42,7 +43,8 @@ pub fn crew<W: Threads + Wait + Sync, C: Chore, G: Gate, B: Body>(
             ensures { All (C.fits chore.entry.now) owns.exit.now }
         { help_all(rt, owns, chore, gate, &hints) },
         &mut || -> B::Answer
-            requires { B.ready body.now }
+            requires ready { B.ready body.now }
+            requires shared { IsSync W.row }
             ensures { B.ran body.entry.now result body.exit.now }
         { run_body(rt, body, &hints) },
     );
@@ -51,7 +53,8 @@ pub fn crew<W: Threads + Wait + Sync, C: Chore, G: Gate, B: Body>(
 
 /// Runs the body, and then has the workers stop.
 fn run_body<W: Threads + Wait + Sync, B: Body>(rt: &W, body: &mut B, hints: &Hints) -> B::Answer
-    requires { B.ready body.old }
+    requires ready { B.ready body.old }
+    requires shared { IsSync W.row }
     ensures { B.ran body.old result body.new }
 {
     let answer = body.run(rt, hints);
