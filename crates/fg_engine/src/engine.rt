@@ -12,6 +12,7 @@ ghost use Rattle.fg_playout.specs.State.{opening};
 ghost use Rattle.fg_engine.specs.Engine.{EngineStands, IsRunning, HasCome, BreaksAfter, LanesStop, HasWalked, HasRead, TookAll, told_finish, IsFlushing, AreReady, HasEnded, BreaksAtFlush, LanesWhole, GrowAll, AreThere, MakesFirst};
 
 use crate::flow::Flow;
+use crate::takes_records::TakesRecords;
 use crate::window::WindowState;
 use fg_flows::laws::one_flow_has_a_port;
 use fg_flows::{Plan, Table};
@@ -24,12 +25,12 @@ use std::alloc::{AllocError, Global};
 
 /// The flows in the order of the plan, and what they share.
 #[derive(Drop)]
-pub(crate) struct Engine<D: WindowState> {
-    pub(crate) flows: Vec<Flow<D>>,
+pub struct Engine<D: WindowState> {
+    pub flows: Vec<Flow<D>>,
     /// The bytes that a play adds to a lane. It is filled again and again.
     pub(crate) piece: Vec<u8>,
     /// Records on a port of no flow.
-    pub(crate) other: u64,
+    pub other: u64,
 }
 
 impl<D: WindowState> Engine<D> {
@@ -87,7 +88,7 @@ impl<D: WindowState> Engine<D> {
     }
 
     /// Takes the next record, where there is one; else it answers how the trace ends.
-    fn take_next<S: Source, O: Outlet>(
+    pub(crate) fn take_next<S: Source, O: Outlet>(
         &mut self,
         alloc: Global,
         plan: &Plan,
@@ -135,43 +136,10 @@ impl<D: WindowState> Engine<D> {
         }
     }
 
-    /// Takes all records that are left, and answers how the trace ends.
-    fn take_all<S: Source, O: Outlet>(
-        &mut self,
-        alloc: Global,
-        plan: &Plan,
-        reader: &mut Reader,
-        input: &mut S,
-        lanes: &mut O,
-    ) -> Result<Tail, Fault>
-        requires fits { PlanFits plan.now }
-        requires underway { (first : Option (List ℕ)) × (before : Option Lanes)
-            × HasWalked plan.now first (S.left input.old) reader.old self.old before (O.lanes lanes.old) }
-        requires open { reader.old.kept ≡ None }
-        requires max { reader.old.max ≡ plan.now.max }
-        ensures whole { IfOk result (λ tail. (first : Option (List ℕ)) (before : Option Lanes)
-            → HasWalked plan.now first (S.left input.old) reader.old self.old before (O.lanes lanes.old)
-            → TookAll plan.now first self.new tail before (O.lanes lanes.new)) }
-        ensures stops { IfErr result (λ fault. (first : Option (List ℕ)) (before : Option Lanes)
-            → HasWalked plan.now first (S.left input.old) reader.old self.old before (O.lanes lanes.old)
-            → LanesStop plan.now (finish_after fault) first before (O.lanes lanes.new)) }
-        ensures far { (first : Option (List ℕ)) → HasRead plan.now.max reader.old first (S.left input.old)
-            → HasRead plan.now.max reader.new first (S.left input.new) }
-        ensures reaches { IfOk result (λ tail. HasReached (told_finish tail) reader.new (S.left input.new)) }
-        ensures faults { Counts result ((S.faults input.old, S.faults input.new) ∷ [])
-            ((O.faults lanes.old, O.faults lanes.new) ∷ []) }
-        ensures fixed { S.fixed input.new ≡ S.fixed input.old }
-    {
-        loop {
-            if let Some(tail) = self.take_next(alloc, plan, reader, input, lanes)? {
-                return Ok(tail);
-            }
-        }
-    }
-
     /// Writes the lanes of a trace, whose magic the reader has found, and answers how the trace ends.
-    pub(crate) fn write_lanes<S: Source, O: Outlet>(
+    pub(crate) fn write_lanes<T: TakesRecords<D>, S: Source, O: Outlet>(
         &mut self,
+        taking: &mut T,
         alloc: Global,
         plan: &Plan,
         reader: &mut Reader,
@@ -198,7 +166,7 @@ impl<D: WindowState> Engine<D> {
     {
         one_trace();
         make_lanes(&plan.table, lanes)?;
-        let tail = self.take_all(alloc, plan, reader, input, lanes)?;
+        let tail = taking.take_all(alloc, plan, self, reader, input, lanes)?;
         flush(&mut self.flows, &mut self.piece, lanes)?;
         Ok(tail)
     }

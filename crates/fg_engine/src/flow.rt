@@ -37,7 +37,7 @@ use std::marker::Model;
 
 /// A flow: its windows, and what is counted of it.
 #[derive(Drop)]
-pub(crate) struct Flow<D: WindowState> {
+pub struct Flow<D: WindowState> {
     pub(crate) window: D,
     pub(crate) sum: FlowSum,
 }

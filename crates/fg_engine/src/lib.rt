@@ -10,9 +10,13 @@ mod flow;
 mod play;
 mod records;
 mod shelved;
+mod takes_records;
 mod window;
 
 pub use alone::repair_alone;
+pub use engine::Engine;
+pub use flow::Flow;
 pub use records::{give_up, repair_windows};
 pub use shelved::Shelved;
+pub use takes_records::{OneByOne, TakesRecords};
 pub use window::WindowState;

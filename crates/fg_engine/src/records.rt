@@ -12,6 +12,7 @@ ghost use Rattle.fg_engine.specs.Engine.{sums_of, told_finish, answer_of};
 
 use crate::engine::Engine;
 use crate::flow::Flow;
+use crate::takes_records::TakesRecords;
 use crate::window::WindowState;
 use fg_flows::Plan;
 use fg_io::laws::parts_of_writes;
@@ -22,11 +23,13 @@ use fg_trace::laws::{one_trace, read_as_far_as_needed};
 use fg_trace::{Finish, Reader, TraceFault};
 use std::alloc::{AllocError, Global};
 
-/// Repairs the flows of a trace over these windows, which are those of the plan's flows in their order, and empty.
-pub fn repair_windows<D: WindowState, S: Source, K: Sink, O: Outlet>(
+/// Repairs the flows of a trace over these windows, which are those of the plan's flows in their order, and empty. Their
+/// records are taken as `taking` does.
+pub fn repair_windows<D: WindowState, T: TakesRecords<D>, S: Source, K: Sink, O: Outlet>(
     alloc: Global,
     plan: &Plan,
     windows: Vec<D>,
+    taking: &mut T,
     input: &mut S,
     out: &mut K,
     lanes: &mut O,
@@ -45,7 +48,7 @@ pub fn repair_windows<D: WindowState, S: Source, K: Sink, O: Outlet>(
         ((K.faults out.old, K.faults out.new) ∷ (O.faults lanes.old, O.faults lanes.new) ∷ []) }
     ensures fixed { S.fixed input.new ≡ S.fixed input.old }
 {
-    match repair(alloc, plan, windows, input, out, lanes) {
+    match repair(alloc, plan, windows, taking, input, out, lanes) {
         Ok(finish) => finish,
         Err(fault) => fault.into(),
     }
@@ -75,10 +78,11 @@ pub fn give_up<S: Source, K: Sink, O: Outlet>(
 }
 
 /// Repairs the flows of a trace. The first fault ends it.
-fn repair<D: WindowState, S: Source, K: Sink, O: Outlet>(
+fn repair<D: WindowState, T: TakesRecords<D>, S: Source, K: Sink, O: Outlet>(
     alloc: Global,
     plan: &Plan,
     windows: Vec<D>,
+    taking: &mut T,
     input: &mut S,
     out: &mut K,
     lanes: &mut O,
@@ -101,7 +105,7 @@ fn repair<D: WindowState, S: Source, K: Sink, O: Outlet>(
     read_as_far_as_needed();
     let mut reader = Reader::new(alloc, plan.max)?;
     match reader.start(input) {
-        Ok(()) => repair_records(alloc, plan, windows, &mut reader, input, out, lanes),
+        Ok(()) => repair_records(alloc, plan, windows, taking, &mut reader, input, out, lanes),
         Err(TraceFault::NotTrace(place)) => Ok(Finish::NotTrace(place)),
         Err(TraceFault::ReadFault) => Err(Fault::Read),
         Err(TraceFault::Cut(_)) => unreachable!(),
@@ -110,10 +114,11 @@ fn repair<D: WindowState, S: Source, K: Sink, O: Outlet>(
 }
 
 /// Repairs the flows of a trace whose magic the reader has found.
-fn repair_records<D: WindowState, S: Source, K: Sink, O: Outlet>(
+fn repair_records<D: WindowState, T: TakesRecords<D>, S: Source, K: Sink, O: Outlet>(
     alloc: Global,
     plan: &Plan,
     windows: Vec<D>,
+    taking: &mut T,
     reader: &mut Reader,
     input: &mut S,
     out: &mut K,
@@ -142,7 +147,7 @@ fn repair_records<D: WindowState, S: Source, K: Sink, O: Outlet>(
     read_as_far_as_needed();
     let mut engine = Engine::new(alloc, plan, windows)?;
     let sums = Vec::with_capacity(alloc, engine.flows.len())?;
-    let tail = engine.write_lanes(alloc, plan, reader, input, lanes)?;
+    let tail = engine.write_lanes(taking, alloc, plan, reader, input, lanes)?;
     report(alloc, engine, sums, tail, out)?;
     Ok(finish_at(tail))
 }

@@ -14,7 +14,7 @@ use crate::crewed::board_window::BoardWindow;
 use crate::crewed::places::Places;
 use crate::crewed::points::Hears;
 use crate::crewed::post::{Host, Post};
-use fg_engine::{give_up, repair_windows};
+use fg_engine::{OneByOne, give_up, repair_windows};
 use fg_crew::{Body, Gate, Hints};
 use fg_flows::Plan;
 use fg_io::{Outlet, Sink, Source};
@@ -90,7 +90,13 @@ impl<
             hosts,
         ) {
             Ok(windows) => repair_windows(
-                self.alloc, self.plan, windows, self.input, self.out, self.lanes,
+                self.alloc,
+                self.plan,
+                windows,
+                &mut OneByOne,
+                self.input,
+                self.out,
+                self.lanes,
             ),
             Err(AllocError) => give_up(self.plan, self.input, self.out, self.lanes),
         }
