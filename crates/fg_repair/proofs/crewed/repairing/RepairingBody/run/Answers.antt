@@ -10,11 +10,11 @@ pub windows_on-requires-clause-new : goal.windows_on-requires-clause-new
 windows_on-requires-clause-new g c = (
   playout_of c.args.self.now.plan.now,
   subst (λ (hosts : Vec Host). All (IsNewHost (playout_of c.args.self.now.plan.now)) hosts.items)
-      (sym c.replace-hosts.ensures.value) c.requires.1.new_hosts,
+      (sym c.replace-hosts.ensures.value) c.requires.ready.1.new_hosts,
 )
 
 pub repair_windows-requires-clause-empty : goal.repair_windows-requires-clause-empty
 repair_windows-requires-clause-empty g c =
     c.in-Ok.ensures.new (playout_of c.args.self.now.plan.now)
     (subst (λ (hosts : Vec Host). All (IsNewHost (playout_of c.args.self.now.plan.now)) hosts.items)
-    (sym c.replace-hosts.ensures.value) c.requires.1.new_hosts)
+    (sym c.replace-hosts.ensures.value) c.requires.ready.1.new_hosts)
