@@ -1,8 +1,9 @@
 -- A play is told position after position, as it shows them.
-use Rattle.std.proofs.Common.{◌≡◌, ◌+◌, ◌<◌, ◌≤◌, ℕ, Bool, List, [], ◌∷◌, ◌++◌, length, take, Option, sym, ap, subst, ◌∙◌, arith}
+use Rattle.std.proofs.Common.{◌≡◌, ◌+◌, ◌<◌, ◌≤◌, ℕ, Bool, List, [], ◌∷◌, ◌++◌, length, take, drop, take-append-drop, append_assoc, Option, sym, ap, subst, ◌∙◌, arith}
 use Rattle.std.specs.List.{count_by, flat_map, slice_index_or}
 use Rattle.std.proofs.lemmas.List.{append-nil, length-take-le, take_all, take_more}
 use Rattle.std.proofs.lemmas.List.Concat.{flat_map-append}
+use Rattle.fg_io.specs.Prefix.{IsPrefix}
 use Rattle.fg_words.specs.declared.Word.{Word}
 use Rattle.fg_desk.specs.declared.desk.Played.{Played}
 use Rattle.fg_playout.specs.Play.{Shown, nothing_shown}
@@ -44,16 +45,25 @@ module _ (shown : List Shown) where
       ∙ shown_more sum first (take i shown) (the_shown word repaired ∷ [])
       ∙ ap (λ (more : List Shown). with_shown sum first more) (one_more i word repaired below word_is repaired_is)
 
-  pub lane_one_more :
-      (lane new : List ℕ) (i : ℕ) (word : Option Word) (repaired : Bool) → i < length shown
+  lane_next :
+      (i : ℕ) (word : Option Word) (repaired : Bool) → i < length shown
       → word ≡ (slice_index_or shown i nothing_shown).word → repaired ≡ (slice_index_or shown i nothing_shown).repaired
-      → lane ≡ flat_map shown_payload (take i shown) → new ≡ lane ++ shown_payload (the_shown word repaired)
-      → new ≡ flat_map shown_payload (take (i + 1) shown)
-  lane_one_more lane new i word repaired below word_is repaired_is before after =
-      after
-      ∙ (λ j. before j ++ sym (append-nil (shown_payload (the_shown word repaired))) j)
+      → flat_map shown_payload (take i shown) ++ shown_payload (the_shown word repaired) ≡ flat_map shown_payload (take (i + 1) shown)
+  lane_next i word repaired below word_is repaired_is =
+      (λ j. flat_map shown_payload (take i shown) ++ sym (append-nil (shown_payload (the_shown word repaired))) j)
       ∙ sym (flat_map-append shown_payload (take i shown) (the_shown word repaired ∷ []))
       ∙ ap (λ (more : List Shown). flat_map shown_payload more) (one_more i word repaired below word_is repaired_is)
+
+  pub lane_one_more :
+      (old lane new : List ℕ) (i : ℕ) (word : Option Word) (repaired : Bool) → i < length shown
+      → word ≡ (slice_index_or shown i nothing_shown).word → repaired ≡ (slice_index_or shown i nothing_shown).repaired
+      → lane ≡ old ++ flat_map shown_payload (take i shown) → new ≡ lane ++ shown_payload (the_shown word repaired)
+      → new ≡ old ++ flat_map shown_payload (take (i + 1) shown)
+  lane_one_more old lane new i word repaired below word_is repaired_is before after =
+      after
+      ∙ ap (λ (bytes : List ℕ). bytes ++ shown_payload (the_shown word repaired)) before
+      ∙ append_assoc old (flat_map shown_payload (take i shown)) (shown_payload (the_shown word repaired))
+      ∙ ap (λ (bytes : List ℕ). old ++ bytes) (lane_next i word repaired below word_is repaired_is)
 
   all_of_play : (played : Played) (i : ℕ) → length shown ≤ i → take i shown ≡ all_shown (played_as played shown ∷ [])
   all_of_play played i all = take_all i shown all ∙ sym (append-nil shown)
@@ -71,7 +81,21 @@ module _ (shown : List Shown) where
       ∙ ap (λ (s : FlowSum). record s { windows = s.windows + 1; inconsistent = s.inconsistent + count_by is_inconsistent (play ∷ []) }) is
 
   pub lane_all :
-      (lane : List ℕ) (played : Played) (i : ℕ) → length shown ≤ i
-      → lane ≡ flat_map shown_payload (take i shown) → lane ≡ lane_of (played_as played shown ∷ [])
-  lane_all lane played i all before =
-      before ∙ ap (λ (some : List Shown). flat_map shown_payload some) (all_of_play played i all)
+      (old lane : List ℕ) (played : Played) (i : ℕ) → length shown ≤ i
+      → lane ≡ old ++ flat_map shown_payload (take i shown) → lane ≡ old ++ lane_of (played_as played shown ∷ [])
+  lane_all old lane played i all before =
+      before ∙ ap (λ (some : List Shown). old ++ flat_map shown_payload some) (all_of_play played i all)
+
+  -- What was added so far is a front of what the play shows.
+  pub lane_part :
+      (old lane : List ℕ) (played : Played) (i : ℕ) → lane ≡ old ++ flat_map shown_payload (take i shown)
+      → (part : List ℕ) × IsPrefix part (lane_of (played_as played shown ∷ [])) × (lane ≡ old ++ part)
+  lane_part old lane played i before = (
+    flat_map shown_payload (take i shown),
+    (
+      flat_map shown_payload (drop i shown),
+      ap (λ (all : List Shown). flat_map shown_payload all) (append-nil shown ∙ sym (take-append-drop i shown))
+          ∙ flat_map-append shown_payload (take i shown) (drop i shown),
+    ),
+    before,
+  )

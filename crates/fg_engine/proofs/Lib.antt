@@ -11,6 +11,7 @@ pub mod Lanes
 pub mod Reaching
 pub mod Reading
 pub mod Results
+pub mod Shelving
 pub mod Showing
 pub mod Standing
 pub mod Stopping

@@ -124,7 +124,7 @@ pub others_of_none : (table : List ℕ) (records : List Record) (r : Record) →
 others_of_none table records r none =
     others_more table records r false (list_any_none (λ flow. is_of flow r) table (All-from_get_or (λ flow. is_of flow r ≡ false) table 0 (λ k below. none_at table r none k below)))
 
-pub come_none : {D : Type 0} → (plan : Plan) (engine : Engine D) (port : ℕ) → IsOfNone plan.table port → (before now : Option Lanes) (records : List Record) (r : Record) → HasCome plan records engine before now → r.port ≡ port → HasCome {D = D} plan (records ++ r ∷ []) (record { flows = engine.flows; piece = engine.piece; other = engine.other + 1 }) before now
+pub come_none : {D : Type 0} → (plan : Plan) (engine : Engine D) (port : ℕ) → IsOfNone plan.table port → (before now : Option Lanes) (records : List Record) (r : Record) → HasCome plan records engine before now → r.port ≡ port → HasCome {D = D} plan (records ++ r ∷ []) (record { flows = engine.flows; writer = engine.writer; other = engine.other + 1 }) before now
 come_none plan engine port none before now records r h e =
     let of_none : IsOfNone plan.table r.port = subst (IsOfNone plan.table) (sym e) none in
     record {
@@ -213,7 +213,7 @@ pub come_some :
     → KeepsSettings old new
     → (datagram : List ℕ) (now after : Option Lanes) → Takes old new kind datagram now after
     → (before : Option Lanes) (records : List Record) (r : Record) → HasCome plan records engine before now → r.port ≡ port → r.datagram ≡ datagram
-    → HasCome {D = D} plan (records ++ r ∷ []) (record { flows = with_item engine.flows i new; piece = shared.piece; other = engine.other }) before after
+    → HasCome {D = D} plan (records ++ r ∷ []) (record { flows = with_item engine.flows i new; writer = shared.writer; other = engine.other }) before after
 come_some law plan good engine port i kind of old new shared at keeps datagram now after takes before records r h e same =
     let here : IsPortOf plan.table r.port i kind = subst (λ p. IsPortOf plan.table p i kind) (sym e) of in
     let flow = slice_index plan.table i in

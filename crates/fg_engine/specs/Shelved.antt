@@ -1,5 +1,5 @@
 -- What waits for a lane, seen as lanes: this project's own.
-use Rattle.std.specs.Prelude.{ℕ, Option, Some, None, cond, nat_eq}
+use Rattle.std.specs.Prelude.{Some, None, cond, nat_eq}
 use Rattle.fg_io.specs.Outlet.{Lanes}
 use Rattle.fg_engine.specs.declared.shelved.Shelved.{Shelved}
 

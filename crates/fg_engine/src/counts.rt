@@ -1,5 +1,5 @@
 //! What is counted of a flow.
-ghost use Rattle.std.specs.Prelude.{◌≡◌, ◌+◌, ◌<◌, ◌++◌, [], ◌∷◌, OnOk};
+ghost use Rattle.std.specs.Prelude.{◌≡◌, ◌+◌, ◌<◌, ◌++◌, [], ◌∷◌, OnOk, OnErr};
 ghost use Rattle.std.specs.List.{count_by};
 ghost use Rattle.std.specs.Option.{option_copied};
 ghost use Rattle.fg_shape.specs.Shape.{position_limit};
@@ -7,7 +7,7 @@ ghost use Rattle.fg_playout.specs.Play.{Play};
 ghost use Rattle.fg_results.specs.Flow.{is_inconsistent, shown_payload};
 ghost use Rattle.fg_engine.specs.Steps.{MarksHaveRoom, RepliesHaveRoom, CountsWithin, with_reply, with_answer, with_shown};
 
-use crate::play::payload;
+use crate::play::{TakesPayloads, payload};
 use fg_desk::{Outcome, Reply};
 use fg_flows::Kind;
 use fg_report::{FlowSum, Marks};
@@ -60,10 +60,10 @@ pub(crate) fn count_play(sum: &mut FlowSum, outcome: Outcome)
     }
 }
 
-/// Counts a position that was played, and appends its word's payload to the lane's bytes.
-pub(crate) fn show(
+/// Counts a position that was played, and adds its word's payload to the flow's bytes.
+pub(crate) fn show<B: TakesPayloads>(
     sum: &mut FlowSum,
-    lane: &mut Vec<u8>,
+    lane: &mut B,
     position: u64,
     word: Option<&Word>,
     repaired: bool,
@@ -72,8 +72,9 @@ pub(crate) fn show(
     requires limit { position < position_limit }
     ensures counts { OnOk result (sum.new ≡ with_shown sum.old position
         (record { word = option_copied word.entry; repaired = repaired } ∷ [])) }
-    ensures lane { OnOk result (lane.new.items ≡ lane.old.items
+    ensures lane { OnOk result (B.bytes lane.new ≡ B.bytes lane.old
         ++ shown_payload (record { word = option_copied word.entry; repaired = repaired })) }
+    ensures unchanged { OnErr result (B.bytes lane.new ≡ B.bytes lane.old) }
     ensures port { sum.new.port ≡ sum.old.port }
 {
     if repaired {
@@ -82,7 +83,7 @@ pub(crate) fn show(
     match word {
         Some(word) => {
             sum.shown += 1;
-            lane.extend_from_slice(payload(word))
+            lane.take_payload(payload(word))
         }
         None => {
             sum.missing += 1;

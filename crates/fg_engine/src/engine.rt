@@ -12,6 +12,7 @@ ghost use Rattle.fg_playout.specs.State.{opening};
 ghost use Rattle.fg_engine.specs.Engine.{EngineStands, IsRunning, HasCome, BreaksAfter, LanesStop, HasWalked, HasRead, TookAll, told_finish, IsFlushing, AreReady, HasEnded, BreaksAtFlush, LanesWhole, GrowAll, AreThere, MakesFirst};
 
 use crate::flow::Flow;
+use crate::player::LaneWriter;
 use crate::takes_records::TakesRecords;
 use crate::window::WindowState;
 use fg_flows::laws::one_flow_has_a_port;
@@ -20,15 +21,14 @@ use fg_io::{Fault, Outlet, Source, put};
 use fg_report::Tail;
 use fg_trace::laws::{one_trace, walks_the_front};
 use fg_trace::{Reader, Step, TraceFault};
-use fg_words::PAYLOAD_LIMIT;
 use std::alloc::{AllocError, Global};
 
 /// The flows in the order of the plan, and what they share.
 #[derive(Drop)]
 pub struct Engine<D: WindowState> {
     pub flows: Vec<Flow<D>>,
-    /// The bytes that a play adds to a lane. It is filled again and again.
-    pub(crate) piece: Vec<u8>,
+    /// Writes the plays of all flows.
+    pub(crate) writer: LaneWriter,
     /// Records on a port of no flow.
     pub other: u64,
 }
@@ -47,10 +47,10 @@ impl<D: WindowState> Engine<D> {
             let port = plan.table.port(flows.len());
             flows.push(Flow::new(alloc, port, window))?;
         }
-        let piece = Vec::with_capacity(alloc, plan.window as usize * PAYLOAD_LIMIT)?;
+        let writer = LaneWriter::new(alloc, plan.window)?;
         Ok(Engine {
             flows,
-            piece,
+            writer,
             other: 0,
         })
     }
@@ -80,7 +80,7 @@ impl<D: WindowState> Engine<D> {
         one_flow_has_a_port();
         match plan.table.find(port) {
             Some((i, kind)) => {
-                self.flows[i].take(alloc, &mut self.piece, kind, datagram, lanes)?;
+                self.flows[i].take(alloc, &mut self.writer, kind, datagram, lanes)?;
             }
             None => self.other += 1,
         }
@@ -167,7 +167,7 @@ impl<D: WindowState> Engine<D> {
         one_trace();
         make_lanes(&plan.table, lanes)?;
         let tail = taking.take_all(alloc, plan, self, reader, input, lanes)?;
-        flush(&mut self.flows, &mut self.piece, lanes)?;
+        flush(&mut self.flows, &mut self.writer, lanes)?;
         Ok(tail)
     }
 }
@@ -189,7 +189,7 @@ fn make_lanes<O: Outlet>(table: &Table, lanes: &mut O) -> Result<(), Fault>
 /// Flushes the flows, in their order.
 fn flush<D: WindowState, O: Outlet>(
     flows: &mut [Flow<D>],
-    piece: &mut Vec<u8>,
+    writer: &mut LaneWriter,
     lanes: &mut O,
 ) -> Result<(), Fault>
     requires { AreReady flows.old (O.lanes lanes.old) }
@@ -203,7 +203,7 @@ fn flush<D: WindowState, O: Outlet>(
 {
     one_flow_has_a_port();
     for flow in flows.iter_mut() {
-        flow.flush(piece, lanes)?;
+        flow.flush(writer, lanes)?;
     }
     Ok(())
 }

@@ -1,5 +1,5 @@
 //! One flow of a repair.
-ghost use Rattle.std.specs.Prelude.{◌≡◌, ◌≢◌, ◌<◌, ℕ, List, [], ◌∷◌, length, IfOk, OnOk, OnErr};
+ghost use Rattle.std.specs.Prelude.{◌≡◌, ◌≢◌, ℕ, List, [], ◌∷◌, IfOk, OnOk, OnErr};
 ghost use Rattle.fg_io.specs.Faults.{Counts};
 ghost use Rattle.fg_trace.specs.Trace.{Record};
 ghost use Rattle.fg_fechead.specs.declared.Parity.{Parity as ParityRead};
@@ -18,13 +18,13 @@ ghost use Rattle.fg_engine.specs.Steps.{HasTaken, IsUnderway, TakesRecord, Break
 ghost use Rattle.fg_engine.specs.Steps.{CountsWithin, Grows, GrowsPart, HaveShown, BreakOff, AdmitsDatagram, BreaksAtDatagram, with_plays, played_as};
 
 use crate::counts::count_answer;
-use crate::play::fill;
+use crate::player::Player;
 use crate::window::WindowState;
 use fg_desk::{Played, Reply};
 use fg_fechead::laws::parity_datagrams_read_one_way;
 use fg_fechead::parity_share;
 use fg_flows::Kind;
-use fg_io::{Fault, Outlet, put};
+use fg_io::Fault;
 use fg_playout::laws::{
     counts_add, counts_stay_within, each_gets_a_reply, flush_steps_come_next, flushes_end,
     one_outcome, one_taking, plays_reach_the_mark, runs_join, runs_only_add, runs_stay_within,
@@ -38,8 +38,10 @@ use std::marker::Model;
 /// A flow: its windows, and what is counted of it.
 #[derive(Drop)]
 pub struct Flow<D: WindowState> {
-    pub(crate) window: D,
-    pub(crate) sum: FlowSum,
+    /// The windows.
+    pub window: D,
+    /// What is counted of it. Its port is the flow's.
+    pub sum: FlowSum,
 }
 
 impl<D: WindowState> Model for Flow<D> {
@@ -54,7 +56,7 @@ impl<D: WindowState> Model for Flow<D> {
 
 impl<D: WindowState> Flow<D> {
     /// The flow on this port over these windows, before its first record.
-    pub(crate) fn new(alloc: Global, port: u16, window: D) -> Flow<D>
+    pub fn new(alloc: Global, port: u16, window: D) -> Flow<D>
         ensures { (playout : Playout) → D.state window ≡ opening playout
             → HasTaken playout port [] result.state result.sum [] }
     {
@@ -76,15 +78,20 @@ impl<D: WindowState> Flow<D> {
     }
 
     /// Takes a datagram that came on the flow's port of this kind: plays what is due before it, and admits it or counts why
-    /// not. What the plays show goes to the flow's lane.
-    pub(crate) fn take<O: Outlet>(
+    /// not. The player takes what the plays show to the flow's lane.
+    ///
+    /// # Errors
+    ///
+    /// There was no memory, or the player's place has counted a fault. The flow is of no further use then.
+    pub fn take<L, P: Player<L>>(
         &mut self,
         alloc: Global,
-        piece: &mut Vec<u8>,
+        player: &mut P,
         kind: Kind,
         datagram: &[u8],
-        lanes: &mut O,
+        lanes: &mut L,
     ) -> Result<(), Fault>
+        requires player { P.takes lanes.old self.old.sum.port }
         requires underway { IsUnderway self.old.state.playout self.old.sum.port
             self.old.state self.old.sum }
         ensures takes { OnOk result ((records : List Record) (r : Record) (lane : List ℕ)
@@ -92,16 +99,17 @@ impl<D: WindowState> Flow<D> {
             self.old.state self.old.sum lane
             → r.datagram ≡ datagram.now → port_of self.old.sum.port kind ≡ r.port
             → TakesRecord self.old.state.playout self.old.sum.port records r lane
-            self.new.state self.new.sum (O.lanes lanes.old) (O.lanes lanes.new)) }
+            self.new.state self.new.sum (P.lanes lanes.old) (P.lanes lanes.new)) }
         ensures breaks { OnErr result ((records : List Record) (r : Record) (lane : List ℕ)
             → HasTaken self.old.state.playout self.old.sum.port records
             self.old.state self.old.sum lane
             → r.datagram ≡ datagram.now → port_of self.old.sum.port kind ≡ r.port
             → BreaksAtRecord self.old.state.playout self.old.sum.port records r lane
-            (O.lanes lanes.old) (O.lanes lanes.new)) }
+            (P.lanes lanes.old) (P.lanes lanes.new)) }
         ensures port { self.new.sum.port ≡ self.old.sum.port }
+        ensures still { P.takes lanes.new self.old.sum.port }
         ensures playout { self.new.state.playout ≡ self.old.state.playout }
-        ensures faults { Counts result [] ((O.faults lanes.old, O.faults lanes.new) ∷ []) }
+        ensures faults { Counts result [] ((P.faults lanes.old, P.faults lanes.new) ∷ []) }
     {
         // What a flow has come to is said of its run: how runs join, stay within the limits and are counted, that what is taken
         // later only adds, and that a taking, its outcome and what a datagram is read as are each one.
@@ -116,31 +124,33 @@ impl<D: WindowState> Flow<D> {
         one_outcome();
         media_datagrams_read_one_way();
         parity_datagrams_read_one_way();
-        let reply = self.admit(alloc, piece, kind, datagram, lanes)?;
+        let reply = self.admit(alloc, player, kind, datagram, lanes)?;
         count_answer(&mut self.sum, kind, reply);
         Ok(())
     }
 
-    /// Plays all that is left. What the plays show goes to the flow's lane.
-    pub(crate) fn flush<O: Outlet>(
-        &mut self,
-        piece: &mut Vec<u8>,
-        lanes: &mut O,
-    ) -> Result<(), Fault>
+    /// Plays all that is left. The player takes what the plays show to the flow's lane.
+    ///
+    /// # Errors
+    ///
+    /// There was no memory, or the player's place has counted a fault. The flow is of no further use then.
+    pub fn flush<L, P: Player<L>>(&mut self, player: &mut P, lanes: &mut L) -> Result<(), Fault>
+        requires player { P.takes lanes.old self.old.sum.port }
         requires underway { IsUnderway self.old.state.playout self.old.sum.port
             self.old.state self.old.sum }
         ensures ends { OnOk result ((records : List Record) (lane : List ℕ)
             → HasTaken self.old.state.playout self.old.sum.port records
             self.old.state self.old.sum lane
             → EndsFlow self.old.state.playout self.old.sum.port records lane
-            self.new.sum (O.lanes lanes.old) (O.lanes lanes.new)) }
+            self.new.sum (P.lanes lanes.old) (P.lanes lanes.new)) }
         ensures breaks { OnErr result ((records : List Record) (lane : List ℕ)
             → HasTaken self.old.state.playout self.old.sum.port records
             self.old.state self.old.sum lane
             → BreaksAtEnd self.old.state.playout self.old.sum.port records lane
-            (O.lanes lanes.old) (O.lanes lanes.new)) }
+            (P.lanes lanes.old) (P.lanes lanes.new)) }
         ensures port { self.new.sum.port ≡ self.old.sum.port }
-        ensures faults { Counts result [] ((O.faults lanes.old, O.faults lanes.new) ∷ []) }
+        ensures still { P.takes lanes.new self.old.sum.port }
+        ensures faults { Counts result [] ((P.faults lanes.old, P.faults lanes.new) ∷ []) }
     {
         // A flush ends the run, stays within the limits, and its steps are the run's next plays.
         flushes_end();
@@ -149,28 +159,30 @@ impl<D: WindowState> Flow<D> {
         flush_steps_come_next();
         media_datagrams_read_one_way();
         parity_datagrams_read_one_way();
-        self.play_rest(piece, lanes)
+        self.play_rest(player, lanes)
     }
 
     /// Plays what is due before a datagram that came on the port of this kind, and admits it or says why not. There is no
     /// reply where its reader refused it.
-    fn admit<O: Outlet>(
+    fn admit<L, P: Player<L>>(
         &mut self,
         alloc: Global,
-        piece: &mut Vec<u8>,
+        player: &mut P,
         kind: Kind,
         datagram: &[u8],
-        lanes: &mut O,
+        lanes: &mut L,
     ) -> Result<Option<Reply>, Fault>
+        requires player { P.takes lanes.old self.old.sum.port }
         requires within { StaysWithin self.old.state }
         requires counts { CountsWithin self.old.sum self.old.state.mark }
         ensures admits { IfOk result (λ reply. AdmitsDatagram kind datagram.now self.old.state self.old.sum
-            (O.lanes lanes.old) reply self.new.state self.new.sum (O.lanes lanes.new)) }
+            (P.lanes lanes.old) reply self.new.state self.new.sum (P.lanes lanes.new)) }
         ensures breaks { OnErr result (BreaksAtDatagram kind datagram.now self.old.state self.old.sum.port
-            (O.lanes lanes.old) (O.lanes lanes.new)) }
+            (P.lanes lanes.old) (P.lanes lanes.new)) }
         ensures port { self.new.sum.port ≡ self.old.sum.port }
+        ensures still { P.takes lanes.new self.old.sum.port }
         ensures playout { self.new.state.playout ≡ self.old.state.playout }
-        ensures faults { Counts result [] ((O.faults lanes.old, O.faults lanes.new) ∷ []) }
+        ensures faults { Counts result [] ((P.faults lanes.old, P.faults lanes.new) ∷ []) }
     {
         match kind {
             Kind::Media => {
@@ -178,7 +190,7 @@ impl<D: WindowState> Flow<D> {
                 let Ok((seq, _, share)) = media_share(alloc, spare, datagram)? else {
                     return Ok(None);
                 };
-                self.play_due(piece, seq, lanes)?;
+                self.play_due(player, seq, lanes)?;
                 Ok(Some(self.window.admit_media(seq, share)))
             }
             _ => Ok(admit_parity(alloc, &mut self.window, datagram)?),
@@ -186,46 +198,50 @@ impl<D: WindowState> Flow<D> {
     }
 
     /// Plays while a play is due before a datagram of this sequence number.
-    fn play_due<O: Outlet>(
+    fn play_due<L, P: Player<L>>(
         &mut self,
-        piece: &mut Vec<u8>,
+        player: &mut P,
         seq: u16,
-        lanes: &mut O,
+        lanes: &mut L,
     ) -> Result<(), Fault>
+        requires player { P.takes lanes.old self.old.sum.port }
         requires within { StaysWithin self.old.state }
         requires counts { CountsWithin self.old.sum self.old.state.mark }
         ensures plays { OnOk result (HaveShown (ArePlaysDue self.old.state seq) self.old.state self.old.sum
-            (O.lanes lanes.old) self.new.state self.new.sum (O.lanes lanes.new)) }
+            (P.lanes lanes.old) self.new.state self.new.sum (P.lanes lanes.new)) }
         ensures none_due { OnOk result (¬ IsDue self.new.state seq) }
         ensures room { OnOk result (HasRoom self.new.state) }
         ensures breaks { OnErr result (BreakOff (HavePlayed self.old.state seq) self.old.sum.port
-            (O.lanes lanes.old) (O.lanes lanes.new)) }
+            (P.lanes lanes.old) (P.lanes lanes.new)) }
         ensures port { self.new.sum.port ≡ self.old.sum.port }
+        ensures still { P.takes lanes.new self.old.sum.port }
         ensures playout { self.new.state.playout ≡ self.old.state.playout }
-        ensures faults { Counts result [] ((O.faults lanes.old, O.faults lanes.new) ∷ []) }
+        ensures faults { Counts result [] ((P.faults lanes.old, P.faults lanes.new) ∷ []) }
     {
         runs_join();
         while self.window.due(seq) {
             let played = self.window.play();
-            put_play(&mut self.sum, piece, &self.window, played, lanes)?;
+            player.put_play(lanes, &mut self.sum, &self.window, played)?;
         }
         Ok(())
     }
 
     /// Plays while something is left to be played.
-    fn play_rest<O: Outlet>(&mut self, piece: &mut Vec<u8>, lanes: &mut O) -> Result<(), Fault>
+    fn play_rest<L, P: Player<L>>(&mut self, player: &mut P, lanes: &mut L) -> Result<(), Fault>
+        requires player { P.takes lanes.old self.old.sum.port }
         requires within { FlushesWithin self.old.state }
         requires counts { CountsWithin self.old.sum self.old.state.mark }
         ensures plays { OnOk result ((empty : State) × HaveShown (IsFlush self.old.state) self.old.state
-            self.old.sum (O.lanes lanes.old) empty self.new.sum (O.lanes lanes.new)) }
+            self.old.sum (P.lanes lanes.old) empty self.new.sum (P.lanes lanes.new)) }
         ensures breaks { OnErr result (BreakOff (AreFlushSteps self.old.state) self.old.sum.port
-            (O.lanes lanes.old) (O.lanes lanes.new)) }
+            (P.lanes lanes.old) (P.lanes lanes.new)) }
         ensures port { self.new.sum.port ≡ self.old.sum.port }
-        ensures faults { Counts result [] ((O.faults lanes.old, O.faults lanes.new) ∷ []) }
+        ensures still { P.takes lanes.new self.old.sum.port }
+        ensures faults { Counts result [] ((P.faults lanes.old, P.faults lanes.new) ∷ []) }
     {
         flushes_end();
         while let Some(played) = self.window.flush_step() {
-            put_play(&mut self.sum, piece, &self.window, played, lanes)?;
+            player.put_play(lanes, &mut self.sum, &self.window, played)?;
         }
         Ok(())
     }
@@ -249,28 +265,4 @@ fn admit_parity<D: WindowState>(
         return Ok(None);
     };
     Ok(Some(window.admit_parity(parity.base, parity.shape, share)))
-}
-
-/// Counts the play that was just made, and puts its words' payloads to the flow's lane.
-fn put_play<D: WindowState, O: Outlet>(
-    sum: &mut FlowSum,
-    piece: &mut Vec<u8>,
-    window: &D,
-    played: Played,
-    lanes: &mut O,
-) -> Result<(), Fault>
-    requires within { CountsWithin sum.old played.first }
-    requires limit { played.first < farthest_limit }
-    requires count { played.count ≡ length (D.shows window.now played) }
-    ensures counts { OnOk result (sum.new
-        ≡ with_plays sum.old played.first (played_as played (D.shows window.now played) ∷ [])) }
-    ensures puts { OnOk result (Grows (O.lanes lanes.old) sum.old.port
-        (lane_of (played_as played (D.shows window.now played) ∷ [])) (O.lanes lanes.new)) }
-    ensures part { OnErr result (GrowsPart (O.lanes lanes.old) sum.old.port
-        (lane_of (played_as played (D.shows window.now played) ∷ [])) (O.lanes lanes.new)) }
-    ensures port { sum.new.port ≡ sum.old.port }
-    ensures faults { Counts result [] ((O.faults lanes.old, O.faults lanes.new) ∷ []) }
-{
-    fill(piece, sum, window, played)?;
-    put(lanes, sum.port, piece.as_slice())
 }

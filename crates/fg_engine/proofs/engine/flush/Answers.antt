@@ -18,6 +18,7 @@ flush-requires g c =
     let short : i < length c.loop-flow.flows = omega arith in
     let h = c.loop-flow.invariant.flushing r.plan r.records r.before r.fits r.flushing in
     record {
+      player = tt;
       underway = underway r.plan r.fits r.records _ old _ r.few
           (next_stands r.plan r.records i c.loop-flow.flows r.before _ old h short (get_or_default c.loop-flow.flows i c.flow-item.result old short));
     }

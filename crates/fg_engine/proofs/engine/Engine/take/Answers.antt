@@ -10,7 +10,7 @@ returns-in_err-take-in-Some-clause-breaks g c =
 pub returns-in_ok-take-in-Some-clause-takes : goal.returns-in_ok-take-in-Some-clause-takes
 returns-in_ok-take-in-Some-clause-takes g c =
     come_some c.one_flow_has_a_port.ensures c.args.plan.now c.requires.fits.table c.args.self.now c.args.port c.in-Some.i c.in-Some.kind c.in-Some.ensures.found
-    c.index_mut.result.now c.take.new.self (record c.args.self.now { piece = c.take.new.piece }) c.index_mut.ensures.value
+    c.index_mut.result.now c.take.new.self (record c.args.self.now { writer = c.take.new.player }) c.index_mut.ensures.value
     (record { port = c.take.ensures.port; playout = c.take.ensures.playout })
     c.args.datagram.now _ _ c.in_ok-take-in-Some.ensures.takes
 

@@ -20,11 +20,11 @@ admit_parity-requires g c =
 pub returns-in_err-admit_parity-in_default-clause-breaks : goal.returns-in_err-admit_parity-in_default-clause-breaks
 returns-in_err-admit_parity-in_default-clause-breaks g c =
     on_err _ _ (parity_without_memory c.args.kind c.args.datagram.now c.args.self.now.state c.args.self.now.sum.port
-    (g.O.Outlet.lanes c.args.lanes.now) c.in_default.not-Media c.in_err-admit_parity-in_default.ensures.read)
+    (g.P.Player.lanes c.args.lanes.now) c.in_default.not-Media c.in_err-admit_parity-in_default.ensures.read)
 
 pub returns-in_ok-admit_parity-in_default-clause-admits : goal.returns-in_ok-admit_parity-in_default-clause-admits
 returns-in_ok-admit_parity-in_default-clause-admits g c =
-    let lanes = g.O.Outlet.lanes c.args.lanes.now in
+    let lanes = g.P.Player.lanes c.args.lanes.now in
     let reply = c.in_ok-admit_parity-in_default.field-0 in
     let state = g.D.WindowState.state c.admit_parity.new.window in
     let admits = c.in_ok-admit_parity-in_default.ensures.admits c.args.kind c.in_default.not-Media in
@@ -33,7 +33,7 @@ returns-in_ok-admit_parity-in_default-clause-admits g c =
 
 pub returns-in_default-2-clause-admits : goal.returns-in_default-2-clause-admits
 returns-in_default-2-clause-admits g c =
-    let lanes = g.O.Outlet.lanes c.args.lanes.now in
+    let lanes = g.P.Player.lanes c.args.lanes.now in
     let old = c.args.self.now in
     let same : record { state = g.D.WindowState.state c.spare-spare.new.self; sum = c.self.inside.sum } ≡ old = (λ i. record { state = c.spare-spare.ensures i; sum = c.self.inside.sum }) ∙ c.self.view_is in
     rw c.in-Media.is (subst (λ (flow : FlowView). AdmitsDatagram Media c.args.datagram.now old.state old.sum lanes None flow.state flow.sum lanes) (sym same)
@@ -44,7 +44,7 @@ returns-in_default-2-clause-admits g c =
 pub returns-in_err-seq-in-Media-clause-breaks : goal.returns-in_err-seq-in-Media-clause-breaks
 returns-in_err-seq-in-Media-clause-breaks g c =
     let read = c.in_err-seq-in-Media.ensures.memory in
-    rw c.in-Media.is (on_err _ _ (media_without_memory c.args.datagram.now c.args.self.now.state c.args.self.now.sum.port (g.O.Outlet.lanes c.args.lanes.now)
+    rw c.in-Media.is (on_err _ _ (media_without_memory c.args.datagram.now c.args.self.now.state c.args.self.now.sum.port (g.P.Player.lanes c.args.lanes.now)
     read.0 read.1 read.2 read.3))
 
 pub returns-in_err-play_due-in-Media-clause-breaks : goal.returns-in_err-play_due-in-Media-clause-breaks
@@ -53,17 +53,17 @@ returns-in_err-play_due-in-Media-clause-breaks g c =
     let same : record { state = g.D.WindowState.state c.spare-spare.new.self; sum = c.self.inside.sum } ≡ old = (λ i. record { state = c.spare-spare.ensures i; sum = c.self.inside.sum }) ∙ c.self.view_is in
     let read = IfOk-at_ok (λ (t : ℕ × ℕ × Word). IsMediaDatagram c.args.datagram.now t.0 t.1 t.2) c.in-Ok.is c.in_ok-seq-in-Media.ensures.ok in
     rw c.in-Media.is (on_err _ _ (media_breaks_off c.args.datagram.now old.state old.sum.port
-    (g.O.Outlet.lanes c.args.lanes.now) (g.O.Outlet.lanes c.play_due.new.lanes)
+    (g.P.Player.lanes c.args.lanes.now) (g.P.Player.lanes c.play_due.new.lanes)
     c.in-Ok.seq c.in-Ok.field-0-1 c.in-Ok.share read
-    (subst (λ (flow : FlowView). BreakOff (HavePlayed flow.state c.in-Ok.seq) flow.sum.port (g.O.Outlet.lanes c.args.lanes.now) (g.O.Outlet.lanes c.play_due.new.lanes))
+    (subst (λ (flow : FlowView). BreakOff (HavePlayed flow.state c.in-Ok.seq) flow.sum.port (g.P.Player.lanes c.args.lanes.now) (g.P.Player.lanes c.play_due.new.lanes))
     same c.in_err-play_due-in-Media.ensures.breaks)))
 
 pub returns-in_ok-play_due-in-Media-clause-admits : goal.returns-in_ok-play_due-in-Media-clause-admits
 returns-in_ok-play_due-in-Media-clause-admits g c =
     let old = c.args.self.now in
     let same : record { state = g.D.WindowState.state c.spare-spare.new.self; sum = c.self.inside.sum } ≡ old = (λ i. record { state = c.spare-spare.ensures i; sum = c.self.inside.sum }) ∙ c.self.view_is in
-    let before = g.O.Outlet.lanes c.args.lanes.now in
-    let after = g.O.Outlet.lanes c.play_due.new.lanes in
+    let before = g.P.Player.lanes c.args.lanes.now in
+    let after = g.P.Player.lanes c.play_due.new.lanes in
     let due = g.D.WindowState.state c.self-in-Media.inside.window in
     let read = IfOk-at_ok (λ (t : ℕ × ℕ × Word). IsMediaDatagram c.args.datagram.now t.0 t.1 t.2) c.in-Ok.is c.in_ok-seq-in-Media.ensures.ok in
     let shown : HaveShown (ArePlaysDue old.state c.in-Ok.seq) old.state old.sum before c.play_due.new.self.state c.play_due.new.self.sum after =

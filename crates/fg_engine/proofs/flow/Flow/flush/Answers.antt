@@ -13,11 +13,11 @@ pub returns-clause-ends : goal.returns-clause-ends
 returns-clause-ends g c =
     let old = c.args.self.now in
     on_ok_weaker _ (flow_ends c.plays_reach_the_mark.ensures.taken old.state.playout old.state old.sum c.play_rest.new.self.sum
-    (g.O.Outlet.lanes c.args.lanes.now) (g.O.Outlet.lanes c.play_rest.new.lanes) c.requires.underway.fits.window.0) c.play_rest.ensures.plays
+    (g.P.Player.lanes c.args.lanes.now) (g.P.Player.lanes c.play_rest.new.lanes) c.requires.underway.fits.window.0) c.play_rest.ensures.plays
 
 pub returns-clause-breaks : goal.returns-clause-breaks
 returns-clause-breaks g c =
     let old = c.args.self.now in
     on_err_weaker _ (flow_breaks c.media_datagrams_read_one_way.ensures.one_way c.parity_datagrams_read_one_way.ensures c.flush_steps_come_next.ensures
     old.state.playout old.sum.port old.state old.sum
-    (g.O.Outlet.lanes c.args.lanes.now) (g.O.Outlet.lanes c.play_rest.new.lanes)) c.play_rest.ensures.breaks
+    (g.P.Player.lanes c.args.lanes.now) (g.P.Player.lanes c.play_rest.new.lanes)) c.play_rest.ensures.breaks

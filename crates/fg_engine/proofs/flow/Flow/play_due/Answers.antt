@@ -1,4 +1,4 @@
-use Rattle.std.proofs.Common.{List, refl, ◌∙◌}
+use Rattle.std.proofs.Common.{List, refl, sym, subst, ◌∙◌}
 use Rattle.fg_playout.specs.Play.{Play}
 use Rattle.fg_playout.specs.Admission.{IsDue}
 use Rattle.fg_playout.specs.Run.{ArePlaysDue}
@@ -7,6 +7,11 @@ use Rattle.fg_engine.specs.Steps.{played_as}
 use Rattle.fg_io.proofs.FaultLemmas.{on_err}
 use Rattle.fg_engine.proofs.Showing.{retold, one_more_shown, breaks_off, within_one_more, due_after, fails, keeps_playout}
 use Rattle.fg_engine.proofs.flow.Flow.play_due.Goals as goal
+
+pub put_play-requires-clause-player : goal.put_play-requires-clause-player
+put_play-requires-clause-player g c =
+    let now = c.loop-self in
+    subst (g.P.Player.takes now.lanes) (sym now.invariant.port) now.invariant.still
 
 pub loop-self-preserved : goal.loop-self-preserved
 loop-self-preserved g c =
@@ -18,13 +23,14 @@ loop-self-preserved g c =
     let join = due_after old.state from to c.args.seq play c.runs_join.ensures.plays (c.loop-self-test.ensures.0 refl) c.play-played.ensures.play in
     let holds = (c.requires.within c.args.seq now.invariant.so.plays from now.invariant.so.are).0 in
     record {
-      so = one_more_shown (HavePlayed old.state c.args.seq) old.state old.sum (g.O.Outlet.lanes c.args.lanes.now)
+      so = one_more_shown (HavePlayed old.state c.args.seq) old.state old.sum (g.P.Player.lanes c.args.lanes.now)
           from.playout.window from to now.self-inside.sum c.put_play.new.sum
-          (g.O.Outlet.lanes now.lanes) (g.O.Outlet.lanes c.put_play.new.lanes) play
+          (g.P.Player.lanes now.lanes) (g.P.Player.lanes c.put_play.new.to) play
           now.invariant.so join c.play-played.ensures.play now.invariant.port c.in_ok-put_play.ensures.counts c.in_ok-put_play.ensures.puts;
       counts = within_one_more from.playout.window from to now.self-inside.sum c.put_play.new.sum play
           now.invariant.counts c.play-played.ensures.play holds.window.0 c.in_ok-put_play.ensures.counts;
       port = c.in_ok-put_play.ensures.port ∙ now.invariant.port;
+      still = subst (g.P.Player.takes c.put_play.new.to) now.invariant.port c.put_play.ensures.still;
       playout = keeps_playout from.playout.window from play to c.play-played.ensures.play ∙ now.invariant.playout;
       faults = c.in_ok-put_play.ensures.faults.no_write (λ e. e) ∙ now.invariant.faults;
     }
@@ -37,8 +43,8 @@ returns-in_err-put_play-clause-breaks g c =
     let to = g.D.WindowState.state c.play-played.new.self in
     let play = played_as c.play-played.result (g.D.WindowState.shows c.play-played.new.self c.play-played.result) in
     let join = due_after old.state from to c.args.seq play c.runs_join.ensures.plays (c.loop-self-test.ensures.0 refl) c.play-played.ensures.play in
-    on_err _ _ (breaks_off (HavePlayed old.state c.args.seq) old.state old.sum (g.O.Outlet.lanes c.args.lanes.now)
-    from to now.self-inside.sum (g.O.Outlet.lanes now.lanes) (g.O.Outlet.lanes c.put_play.new.lanes) play
+    on_err _ _ (breaks_off (HavePlayed old.state c.args.seq) old.state old.sum (g.P.Player.lanes c.args.lanes.now)
+    from to now.self-inside.sum (g.P.Player.lanes now.lanes) (g.P.Player.lanes c.put_play.new.to) play
     now.invariant.so join now.invariant.port c.in_err-put_play.ensures.part)
 
 pub returns-clause-plays : goal.returns-clause-plays
@@ -48,6 +54,6 @@ returns-clause-plays g c =
     let from = g.D.WindowState.state now.self-inside.window in
     let none = fails (IsDue from c.args.seq) c.due.result c.loop-self-test.false c.due.ensures.1 in
     retold (HavePlayed old.state c.args.seq) (ArePlaysDue old.state c.args.seq) old.state from old.sum now.self-inside.sum
-    (g.O.Outlet.lanes c.args.lanes.now) (g.O.Outlet.lanes now.lanes)
+    (g.P.Player.lanes c.args.lanes.now) (g.P.Player.lanes now.lanes)
     (λ (plays : List Play) played. (c.runs_join.ensures.all_due old.state from c.args.seq plays).1 (played, none))
     now.invariant.so

@@ -6,12 +6,13 @@ use Rattle.fg_engine.proofs.flow.Flow.play_due.Given as goal
 
 abbrev pub invariant-loop-self : goal.invariant-loop-self
 invariant-loop-self g l = record {
-  so : HaveShown (HavePlayed l.fn.self.state l.seq) l.fn.self.state l.fn.self.sum (g.O.Outlet.lanes l.fn.lanes)
-      (g.D.WindowState.state l.self-inside.window) l.self-inside.sum (g.O.Outlet.lanes l.lanes);
+  so : HaveShown (HavePlayed l.fn.self.state l.seq) l.fn.self.state l.fn.self.sum (g.P.Player.lanes l.fn.lanes)
+      (g.D.WindowState.state l.self-inside.window) l.self-inside.sum (g.P.Player.lanes l.lanes);
   counts : CountsWithin l.self-inside.sum (g.D.WindowState.state l.self-inside.window).mark;
   port : l.self-inside.sum.port ≡ l.fn.self.sum.port;
+  still : g.P.Player.takes l.lanes l.fn.self.sum.port;
   playout : (g.D.WindowState.state l.self-inside.window).playout ≡ l.fn.self.state.playout;
-  faults : g.O.Outlet.faults l.lanes ≡ g.O.Outlet.faults l.fn.lanes;
+  faults : g.P.Player.faults l.lanes ≡ g.P.Player.faults l.fn.lanes;
 }
 
 abbrev pub decreases-loop-self : goal.decreases-loop-self

@@ -1,4 +1,4 @@
-use Rattle.std.proofs.Common.{◌+◌, ◌-◌, min, List, ◌∙◌}
+use Rattle.std.proofs.Common.{◌+◌, ◌-◌, min, List, sym, subst, ◌∙◌}
 use Rattle.fg_playout.specs.Play.{Play}
 use Rattle.fg_playout.specs.Run.{IsFlush}
 use Rattle.fg_playout.specs.Laws.{AreFlushSteps}
@@ -6,6 +6,11 @@ use Rattle.fg_engine.specs.Steps.{played_as}
 use Rattle.fg_io.proofs.FaultLemmas.{on_err}
 use Rattle.fg_engine.proofs.Showing.{retold, one_more_shown, breaks_off, within_one_more, step_after, step_shows, keeps_playout}
 use Rattle.fg_engine.proofs.flow.Flow.play_rest.Goals as goal
+
+pub put_play-requires-clause-player : goal.put_play-requires-clause-player
+put_play-requires-clause-player g c =
+    let now = c.loop-played in
+    subst (g.P.Player.takes now.lanes) (sym now.invariant.port) now.invariant.still
 
 pub loop-played-preserved : goal.loop-played-preserved
 loop-played-preserved g c =
@@ -19,13 +24,14 @@ loop-played-preserved g c =
     let holds = (c.requires.within now.invariant.so.plays from now.invariant.so.are).0 in
     let count = min from.playout.window (step.highest + 1 - from.mark) in
     record {
-      so = one_more_shown (AreFlushSteps old.state) old.state old.sum (g.O.Outlet.lanes c.args.lanes.now)
+      so = one_more_shown (AreFlushSteps old.state) old.state old.sum (g.P.Player.lanes c.args.lanes.now)
           count from to now.self-inside.sum c.put_play.new.sum
-          (g.O.Outlet.lanes now.lanes) (g.O.Outlet.lanes c.put_play.new.lanes) play
+          (g.P.Player.lanes now.lanes) (g.P.Player.lanes c.put_play.new.to) play
           now.invariant.so join step.plays now.invariant.port c.in_ok-put_play.ensures.counts c.in_ok-put_play.ensures.puts;
       counts = within_one_more count from to now.self-inside.sum c.put_play.new.sum play
           now.invariant.counts step.plays (step_shows from to play step holds.window.0) c.in_ok-put_play.ensures.counts;
       port = c.in_ok-put_play.ensures.port ∙ now.invariant.port;
+      still = subst (g.P.Player.takes c.put_play.new.to) now.invariant.port c.put_play.ensures.still;
       playout = keeps_playout count from play to step.plays ∙ now.invariant.playout;
       faults = c.in_ok-put_play.ensures.faults.no_write (λ e. e) ∙ now.invariant.faults;
     }
@@ -38,8 +44,8 @@ returns-in_err-put_play-clause-breaks g c =
     let to = g.D.WindowState.state c.flush_step.new.self in
     let play = played_as c.in-Some.played (g.D.WindowState.shows c.flush_step.new.self c.in-Some.played) in
     let join = step_after old.state from to play c.flushes_end.ensures.joined c.in-Some.ensures.flushes in
-    on_err _ _ (breaks_off (AreFlushSteps old.state) old.state old.sum (g.O.Outlet.lanes c.args.lanes.now)
-    from to now.self-inside.sum (g.O.Outlet.lanes now.lanes) (g.O.Outlet.lanes c.put_play.new.lanes) play
+    on_err _ _ (breaks_off (AreFlushSteps old.state) old.state old.sum (g.P.Player.lanes c.args.lanes.now)
+    from to now.self-inside.sum (g.P.Player.lanes now.lanes) (g.P.Player.lanes c.put_play.new.to) play
     now.invariant.so join now.invariant.port c.in_err-put_play.ensures.part)
 
 pub returns-clause-plays : goal.returns-clause-plays
@@ -49,7 +55,7 @@ returns-clause-plays g c =
     let from = g.D.WindowState.state now.self-inside.window in (
       from,
       retold (AreFlushSteps old.state) (IsFlush old.state) old.state from old.sum now.self-inside.sum
-          (g.O.Outlet.lanes c.args.lanes.now) (g.O.Outlet.lanes now.lanes)
+          (g.P.Player.lanes c.args.lanes.now) (g.P.Player.lanes now.lanes)
           (λ (plays : List Play) steps. (c.flushes_end.ensures.nothing_left old.state from plays).1 (steps, c.in_default.ensures.flushes.0))
           now.invariant.so,
     )

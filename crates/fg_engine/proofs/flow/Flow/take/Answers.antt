@@ -24,14 +24,14 @@ returns-in_err-reply-clause-breaks g c =
     on_err _ _ (record_breaks c.media_datagrams_read_one_way.ensures.one_way c.parity_datagrams_read_one_way.ensures
     c.runs_only_add.ensures.later c.one_taking.ensures c.one_outcome.ensures.play
     old.state.playout old.sum.port c.args.kind c.args.datagram.now old.state old.sum
-    (g.O.Outlet.lanes c.args.lanes.now) (g.O.Outlet.lanes c.admit.new.lanes)
+    (g.P.Player.lanes c.args.lanes.now) (g.P.Player.lanes c.admit.new.lanes)
     (stays_within c.runs_stay_within.ensures.taking old.state.playout old.sum.port old.state old.sum c.requires.underway) c.in_err-reply.ensures.breaks)
 
 pub returns-clause-takes : goal.returns-clause-takes
 returns-clause-takes g c =
     let old = c.args.self.now in
-    let before = g.O.Outlet.lanes c.args.lanes.now in
-    let after = g.O.Outlet.lanes c.admit.new.lanes in
+    let before = g.P.Player.lanes c.args.lanes.now in
+    let after = g.P.Player.lanes c.admit.new.lanes in
     record_taken c.plays_reach_the_mark.ensures.taken c.runs_join.ensures.takings c.counts_add.ensures c.each_gets_a_reply.ensures
     old.state.playout c.args.kind c.args.datagram.now old.state (g.D.WindowState.state c.self.inside.window)
     old.sum c.self.inside.sum c.count_answer.new.sum c.in_ok-reply.reply
