@@ -146,6 +146,7 @@ impl<D: WindowState> Engine<D> {
         input: &mut S,
         lanes: &mut O,
     ) -> Result<Tail, Fault>
+        requires ready { T.ready taking.old }
         requires fits { PlanFits plan.now }
         requires new { EngineStands plan.now [] self.old (λ _. []) }
         requires begun { (first : Option (List ℕ)) × StandsAfter reader.old first (S.left input.old) [] }

@@ -34,6 +34,7 @@ pub fn repair_windows<D: WindowState, T: TakesRecords<D>, S: Source, K: Sink, O:
     out: &mut K,
     lanes: &mut O,
 ) -> Finish
+    requires ready { T.ready taking.old }
     requires fits { PlanFits plan.now }
     requires count { length windows.items ≡ length plan.now.table }
     requires empty { All (λ window. D.state window ≡ opening (playout_of plan.now)) windows.items }
@@ -87,6 +88,7 @@ fn repair<D: WindowState, T: TakesRecords<D>, S: Source, K: Sink, O: Outlet>(
     out: &mut K,
     lanes: &mut O,
 ) -> Result<Finish, Fault>
+    requires ready { T.ready taking.old }
     requires fits { PlanFits plan.now }
     requires count { length windows.items ≡ length plan.now.table }
     requires empty { All (λ window. D.state window ≡ opening (playout_of plan.now)) windows.items }
@@ -124,6 +126,7 @@ fn repair_records<D: WindowState, T: TakesRecords<D>, S: Source, K: Sink, O: Out
     out: &mut K,
     lanes: &mut O,
 ) -> Result<Finish, Fault>
+    requires ready { T.ready taking.old }
     requires fits { PlanFits plan.now }
     requires count { length windows.items ≡ length plan.now.table }
     requires empty { All (λ window. D.state window ≡ opening (playout_of plan.now)) windows.items }

@@ -17,6 +17,9 @@ use std::alloc::Global;
 
 /// Takes the records of a trace for the flows, one by one or many at a time.
 pub trait TakesRecords<D: WindowState> {
+    /// It can take them.
+    ghost ready: { Self → Type 0 };
+
     /// Takes all records that are left, and answers how the trace ends. What plays show goes to the flows' lanes.
     fn take_all<S: Source, O: Outlet>(
         &mut self,
@@ -27,6 +30,7 @@ pub trait TakesRecords<D: WindowState> {
         input: &mut S,
         lanes: &mut O,
     ) -> Result<Tail, Fault>
+        requires ready { ready self.old }
         requires fits { PlanFits plan.now }
         requires underway { (first : Option (List ℕ)) × (before : Option Lanes)
             × HasWalked plan.now first (S.left input.old) reader.old engine.old before (O.lanes lanes.old) }
@@ -51,6 +55,8 @@ pub trait TakesRecords<D: WindowState> {
 pub struct OneByOne;
 
 impl<D: WindowState> TakesRecords<D> for OneByOne {
+    ghost ready = { λ _. Unit {0} };
+
     fn take_all<S: Source, O: Outlet>(
         &mut self,
         alloc: Global,
