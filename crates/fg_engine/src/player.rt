@@ -96,6 +96,7 @@ impl<O: Outlet> Player<O> for LaneWriter {
 }
 
 /// Puts each payload of a play on the shelf of its flow, where it waits. It is copied there from where the window keeps it.
+#[derive(Drop)]
 pub struct ShelfFiller;
 
 impl Player<Shelved> for ShelfFiller {

@@ -1,0 +1,152 @@
+//! A flow of a repair in batches.
+ghost use Rattle.std.specs.Prelude.{◌≡◌, ◌<◌, ◌↔◌, ℕ, [], ◌∷◌, false, length, IsTrue, OnOk, OnErr};
+ghost use Rattle.std.specs.Bool.{OnFalse};
+ghost use Rattle.fg_io.specs.Faults.{Counts};
+ghost use Rattle.fg_flows.specs.Sheaf.{items_of};
+ghost use Rattle.fg_engine.specs.Steps.{Grows, GrowsPart};
+ghost use Rattle.fg_repair.specs.Batches.{CanRun, HasRun, emptied};
+
+use fg_engine::{Flow, ShelfFiller, Shelved, WindowState};
+use fg_flows::{Kind, Sheaf};
+use fg_io::{Failed, Fault, Outlet};
+use fg_report::Shelf;
+use std::alloc::{AllocError, Global};
+use std::marker::Model;
+
+/// A flow, and what waits for its lane.
+#[derive(Drop)]
+pub(crate) struct BatchFlow<D: WindowState> {
+    flow: Flow<D>,
+    shelved: Shelved,
+    // Whether it found no memory for the records that it ran last.
+    starved: bool,
+}
+
+impl<D: WindowState> Model for BatchFlow<D> {
+    ghost use Rattle.std.specs.Prelude.{◌≡◌};
+    ghost use Rattle.fg_repair.specs.BatchView.{BatchView, batch_code};
+
+    ghost Value = { BatchView };
+
+    ghost coded = { batch_code };
+
+    ghost view = { λ a. record { flow = a.flow; shelf = a.shelved.shelf; starved = a.starved } };
+
+    // What waits is the flow's.
+    ghost invariant = { λ a. a.shelved.port ≡ a.flow.sum.port };
+}
+
+impl<D: WindowState> BatchFlow<D> {
+    /// The flow, for whose lane nothing waits.
+    pub(crate) fn new(alloc: Global, flow: Flow<D>) -> BatchFlow<D>
+        ensures { result ≡ record { flow = flow; shelf = []; starved = false } }
+    {
+        let port = flow.sum.port;
+        BatchFlow {
+            flow,
+            shelved: Shelved {
+                port,
+                shelf: Shelf::new(alloc),
+            },
+            starved: false,
+        }
+    }
+
+    /// The flow. What waits is lost.
+    pub(crate) fn into_flow(self) -> Flow<D>
+        ensures { result ≡ self.flow }
+    {
+        self.flow
+    }
+
+    /// Whether it found no memory for the records that it ran last.
+    pub(crate) fn is_starved(&self) -> bool
+        ensures { result ≡ self.now.starved }
+    {
+        self.starved
+    }
+
+    /// Whether it may play while it runs its records of a batch: no play is due after its last media datagram unless one is
+    /// due before it, or none was admitted yet.
+    pub(crate) fn may_play(&self, sheaf: &Sheaf, index: usize) -> bool
+        requires { index < length sheaf.now.items }
+    {
+        match last_media(sheaf, index) {
+            Some(seq) => self.flow.sum.media.admitted == 0 || self.flow.window.due(seq),
+            None => false,
+        }
+    }
+
+    /// Runs the flow's records of a batch, in their order. What its plays show waits for its lane then.
+    ///
+    /// Where there was no memory for one, it says so from then on, and the records after that one are not taken.
+    pub(crate) fn run(&mut self, alloc: Global, sheaf: &Sheaf, index: usize)
+        requires within { index < length sheaf.now.items }
+        requires can { CanRun self.old.flow (length (items_of sheaf.now index)) }
+        ensures { OnFalse self.new.starved (HasRun (items_of sheaf.now index) self.old self.new) }
+    {
+        self.starved = self.run_items(alloc, sheaf, index).is_err();
+    }
+
+    /// Runs the flow's records of a batch. The first for which there is no memory ends it.
+    fn run_items(&mut self, alloc: Global, sheaf: &Sheaf, index: usize) -> Result<(), AllocError>
+        requires within { index < length sheaf.now.items }
+        requires can { CanRun self.old.flow (length (items_of sheaf.now index)) }
+        ensures { OnOk result (HasRun (items_of sheaf.now index) self.old self.new) }
+    {
+        for k in 0..sheaf.count(index) {
+            let (kind, _, payload) = sheaf.item(index, k);
+            self.run_item(alloc, kind, payload)?;
+        }
+        Ok(())
+    }
+
+    /// Runs one record of the flow.
+    fn run_item(&mut self, alloc: Global, kind: Kind, payload: &[u8]) -> Result<(), AllocError>
+        requires { CanRun self.old.flow 1 }
+        ensures { OnOk result ((time : ℕ)
+            → HasRun (record { kind = kind; time = time; payload = payload.now } ∷ []) self.old self.new) }
+    {
+        match self
+            .flow
+            .take(alloc, &mut ShelfFiller, kind, payload, &mut self.shelved)
+        {
+            Ok(()) => Ok(()),
+            Err(Fault::Memory) => Err(AllocError),
+            // A shelf counts no fault of the outside.
+            Err(Fault::Read | Fault::Write) => unreachable!(),
+        }
+    }
+
+    /// Puts what waits to the flow's lane. Nothing waits then.
+    ///
+    /// # Errors
+    ///
+    /// The put failed, and the lane has gained a front of what waited.
+    pub(crate) fn empty<O: Outlet>(&mut self, lanes: &mut O) -> Result<(), Fault>
+        ensures puts { OnOk result (Grows (O.lanes lanes.old) self.old.flow.sum.port self.old.shelf
+            (O.lanes lanes.new)) }
+        ensures part { OnErr result (GrowsPart (O.lanes lanes.old) self.old.flow.sum.port self.old.shelf
+            (O.lanes lanes.new)) }
+        ensures empty { self.new ≡ emptied self.old }
+        ensures faults { Counts result [] ((O.faults lanes.old, O.faults lanes.new) ∷ []) }
+    {
+        match self.shelved.shelf.empty_into(self.shelved.port, lanes) {
+            Ok(()) => Ok(()),
+            Err(Failed) => Err(Fault::Write),
+        }
+    }
+}
+
+/// The sequence number of the flow's last media datagram in the batch, as far as it has one.
+fn last_media(sheaf: &Sheaf, index: usize) -> Option<u16>
+    requires { index < length sheaf.now.items }
+{
+    let mut last = None;
+    for k in 0..sheaf.count(index) {
+        if let (Kind::Media, _, [_, _, high, low, ..]) = sheaf.item(index, k) {
+            last = Some(u16::from_be_bytes([*high, *low]));
+        }
+    }
+    last
+}
