@@ -10,7 +10,7 @@ use Rattle.fg_flows.specs.Plan.{playout_of}
 use Rattle.fg_shape.specs.Playout.{Playout}
 use Rattle.fg_results.specs.Flow.{FlowResult, records_of, lane_of}
 use Rattle.fg_results.specs.Laws.{OneFlowResult, OneGained}
-use Rattle.fg_results.specs.Stops.{HasShown, HasLane, Making, Taking, Flushing}
+use Rattle.fg_results.specs.Stops.{HasShown, HasLane, Making, Taking, Emptying, Flushing}
 use Rattle.fg_results.proofs.ArrivalLemmas.{arrivals_are_read, one_list_arrives}
 
 one_shown : MediaReadsOneWay → ParityReadsOneWay → OneTaking → (playout : Playout) (flow : ℕ) (records : List Record) (one other : List ℕ) → HasShown playout flow records one → HasShown playout flow records other → one ≡ other
@@ -28,6 +28,12 @@ pub one_gained : MediaReadsOneWay → ParityReadsOneWay → OneTaking → OneFlo
 one_gained media parity once law plan records (Making n) flow one other a b = a ∙ sym b
 one_gained media parity once law plan records (Taking n) flow one other a b =
     one_shown media parity once (playout_of plan) flow (take n records) one other a b
+one_gained media parity once law plan records (Emptying done first next) flow one other (inl a) (inl b) =
+    one_shown media parity once (playout_of plan) flow (take next records) one other a.1 b.1
+one_gained media parity once law plan records (Emptying done first next) flow one other (inl a) (inr b) = absurd (b.0 a.0)
+one_gained media parity once law plan records (Emptying done first next) flow one other (inr a) (inl b) = absurd (a.0 b.0)
+one_gained media parity once law plan records (Emptying done first next) flow one other (inr a) (inr b) =
+    one_shown media parity once (playout_of plan) flow (take first records) one other a.1 b.1
 one_gained media parity once law plan records (Flushing n) flow one other (inl a) (inl b) =
     one_lane law (playout_of plan) flow records one other a.1 b.1
 one_gained media parity once law plan records (Flushing n) flow one other (inl a) (inr b) = absurd (b.0 a.0)

@@ -15,9 +15,9 @@ use Rattle.fg_flows.specs.Plan.{playout_of}
 use Rattle.fg_results.specs.Contract.{IsRepair}
 use Rattle.fg_results.specs.Flow.{FlowResult}
 use Rattle.fg_results.specs.Lanes.{OthersStay, PutsAll}
-use Rattle.fg_results.specs.Laws.{OneFlowResult, StopsLeaveParts}
+use Rattle.fg_results.specs.Laws.{ByRecordIsOneWay, OneFlowResult, StopsLeaveParts}
 use Rattle.fg_results.specs.Repair.{AreResults, Finishes, OutputsPart, lanes_of as lanes_of_results, report_text}
-use Rattle.fg_results.specs.Stops.{Stops, StopsIn}
+use Rattle.fg_results.specs.Stops.{Growth, ByRecord, Stops, StopsIn}
 use Rattle.fg_results.proofs.Fronts.{one_of_each}
 use Rattle.fg_results.proofs.StopLemmas.{stops_whole}
 
@@ -54,14 +54,14 @@ answers_fault plan answer (Some bytes) fault = λ records end trace. inl fault
 
 -- Before the report was begun, the lanes have gained parts.
 parts_before :
-    {K : Type 0} → StopsLeaveParts → (plan : Plan) (answer : Finish) (input : Option (List ℕ)) (lanes lanes' : Option Lanes)
+    {K : Type 0} → StopsLeaveParts → (growth : Growth) (plan : Plan) (answer : Finish) (input : Option (List ℕ)) (lanes lanes' : Option Lanes)
     (written : K → Option (List ℕ)) (out out' : K) → 1 ≤ plan.window → WhereTold (OthersStay plan.table) lanes lanes'
-    → out' ≡ out → StopsIn plan answer input lanes lanes' → OutputsPart plan input lanes lanes' written out out'
-parts_before law plan answer None lanes lanes' written out out' some others quiet stops = record { others = others; front = tt }
-parts_before law plan answer (Some bytes) lanes lanes' written out out' some others quiet stops = record {
+    → out' ≡ out → StopsIn growth plan answer input lanes lanes' → OutputsPart plan input lanes lanes' written out out'
+parts_before law growth plan answer None lanes lanes' written out out' some others quiet stops = record { others = others; front = tt }
+parts_before law growth plan answer (Some bytes) lanes lanes' written out out' some others quiet stops = record {
   others = others;
   front = λ records results end trace are.
-      inl (law plan answer records results lanes lanes' some are (stops records end trace), quiet);
+      inl (law growth plan answer records results lanes lanes' some are (stops records end trace), quiet);
 }
 
 -- All lanes are whole, and the sink has gained a prefix of the report.
@@ -107,22 +107,22 @@ parts_in_report law one plan (Some bytes) lanes lanes' written out out' h = reco
 }
 
 report_stops :
-    OneTrace → (plan : Plan) (answer : Finish) (input : Option (List ℕ)) (lanes lanes' : Option Lanes) (written written' : Option (List ℕ))
-    → PutsPartOfReport plan input lanes lanes' written written' → StopsIn plan answer input lanes lanes'
-report_stops law plan answer None lanes lanes' written written' h = tt
-report_stops law plan answer (Some bytes) lanes lanes' written written' h = λ records end trace.
+    OneTrace → (growth : Growth) (plan : Plan) (answer : Finish) (input : Option (List ℕ)) (lanes lanes' : Option Lanes) (written written' : Option (List ℕ))
+    → PutsPartOfReport plan input lanes lanes' written written' → StopsIn growth plan answer input lanes lanes'
+report_stops law growth plan answer None lanes lanes' written written' h = tt
+report_stops law growth plan answer (Some bytes) lanes lanes' written written' h = λ records end trace.
     let same = law bytes plan.max h.records records h.end end h.of_input trace in
-    subst (λ (all : List Record). Stops plan answer all lanes lanes') same.0
-    (stops_whole plan answer h.records h.results lanes lanes' h.are_results h.puts)
+    subst (λ (all : List Record). Stops growth plan answer all lanes lanes') same.0
+    (stops_whole growth plan answer h.records h.results lanes lanes' h.are_results h.puts)
 
 module _ {O K : Type 0}
-    (plan : Plan) (answer : Finish) (input input' : Option (List ℕ)) (lanes_of : O → Option Lanes) (lanes lanes' : O)
+    (growth : Growth) (plan : Plan) (answer : Finish) (input input' : Option (List ℕ)) (lanes_of : O → Option Lanes) (lanes lanes' : O)
     (written : K → Option (List ℕ)) (out out' : K)
     (reads : IfSome input (λ bytes. IsReadFor plan.max answer bytes input'))
     (refused : IfSome input (λ bytes. (place : ℕ) → IsTrace bytes plan.max [] (NotTrace place) → (lanes' ≡ lanes) × (out' ≡ out))) where
   pub whole_repair :
       OneTrace → Finishes plan answer input (lanes_of lanes) (lanes_of lanes') (written out) (written out')
-      → (ReadsAll answer → IsAtEnd input') → IsRepair plan answer input input' lanes_of lanes lanes' written out out'
+      → (ReadsAll answer → IsAtEnd input') → IsRepair growth plan answer input input' lanes_of lanes lanes' written out out'
   whole_repair law finishes all_read =
       let none : IsFault answer → ⊥ = λ fault. no_fault finishes.0 (subst IsFault finishes.1 fault) in
       record {
@@ -138,8 +138,8 @@ module _ {O K : Type 0}
 
   faulted :
       IsFault answer → OutputsPart plan input (lanes_of lanes) (lanes_of lanes') written out out'
-      → StopsIn plan answer input (lanes_of lanes) (lanes_of lanes') → (answer ≡ finish.ReadFault → out' ≡ out)
-      → IsRepair plan answer input input' lanes_of lanes lanes' written out out'
+      → StopsIn growth plan answer input (lanes_of lanes) (lanes_of lanes') → (answer ≡ finish.ReadFault → out' ≡ out)
+      → IsRepair growth plan answer input input' lanes_of lanes lanes' written out out'
   faulted fault part stops no_report = record {
     whole = inl fault;
     exactly = answers_fault plan answer input fault;
@@ -154,18 +154,44 @@ module _ {O K : Type 0}
   -- A fault that comes before the report is begun.
   pub stopped_repair :
       StopsLeaveParts → 1 ≤ plan.window → IsFault answer → WhereTold (OthersStay plan.table) (lanes_of lanes) (lanes_of lanes')
-      → out' ≡ out → StopsIn plan answer input (lanes_of lanes) (lanes_of lanes')
-      → IsRepair plan answer input input' lanes_of lanes lanes' written out out'
+      → out' ≡ out → StopsIn growth plan answer input (lanes_of lanes) (lanes_of lanes')
+      → IsRepair growth plan answer input input' lanes_of lanes lanes' written out out'
   stopped_repair law some fault others quiet stops =
-      faulted fault (parts_before law plan answer input (lanes_of lanes) (lanes_of lanes') written out out' some others quiet stops)
+      faulted fault (parts_before law growth plan answer input (lanes_of lanes) (lanes_of lanes') written out out' some others quiet stops)
       stops (λ _. quiet)
 
   -- One that comes while the report is written, after all lanes. No source is read then.
   pub stopped_report :
       OneTrace → OneFlowResult → IsFault answer → (answer ≡ finish.ReadFault → ⊥)
       → PutsPartOfReport plan input (lanes_of lanes) (lanes_of lanes') (written out) (written out')
-      → IsRepair plan answer input input' lanes_of lanes lanes' written out out'
+      → IsRepair growth plan answer input input' lanes_of lanes lanes' written out out'
   stopped_report law one fault unread h =
       faulted fault (parts_in_report law one plan input (lanes_of lanes) (lanes_of lanes') written out out' h)
-      (report_stops law plan answer input (lanes_of lanes) (lanes_of lanes') (written out) (written out') h)
+      (report_stops law growth plan answer input (lanes_of lanes) (lanes_of lanes') (written out) (written out') h)
       (λ read. absurd (unread read))
+
+-- In any way
+
+stops_in_any :
+    ByRecordIsOneWay → (growth : Growth) (plan : Plan) (answer : Finish) (input : Option (List ℕ)) (lanes lanes' : Option Lanes)
+    → StopsIn ByRecord plan answer input lanes lanes' → StopsIn growth plan answer input lanes lanes'
+stops_in_any law growth plan answer None lanes lanes' stops = tt
+stops_in_any law growth plan answer (Some bytes) lanes lanes' stops =
+    λ records end trace. law growth plan answer records lanes lanes' (stops records end trace)
+
+-- A repair whose lanes grow record by record is one whose lanes grow in any way.
+pub repair_in_any :
+    {O K : Type 0} → ByRecordIsOneWay → (growth : Growth) (plan : Plan) (answer : Finish) (input input' : Option (List ℕ))
+    (lanes_of : O → Option Lanes) (lanes lanes' : O) (written : K → Option (List ℕ)) (out out' : K)
+    → IsRepair ByRecord plan answer input input' lanes_of lanes lanes' written out out'
+    → IsRepair growth plan answer input input' lanes_of lanes lanes' written out out'
+repair_in_any law growth plan answer input input' lanes_of lanes lanes' written out out' h = record {
+  whole = h.whole;
+  exactly = h.exactly;
+  all_read = h.all_read;
+  reads = h.reads;
+  refused = h.refused;
+  part = h.part;
+  stops = λ fault. stops_in_any law growth plan answer input (lanes_of lanes) (lanes_of lanes') (h.stops fault);
+  no_report = h.no_report;
+}

@@ -10,8 +10,9 @@ use Rattle.fg_flows.specs.declared.Plan.{Plan}
 use Rattle.fg_flows.specs.Plan.{playout_of}
 use Rattle.fg_results.specs.Flow.{FlowResult, IsFlowResult}
 use Rattle.fg_results.specs.Lanes.{PutsAll}
+use Rattle.fg_results.specs.Laws.{ByRecordIsOneWay}
 use Rattle.fg_results.specs.Repair.{AreResults, lanes_of}
-use Rattle.fg_results.specs.Stops.{Stops, Flushing, HasGained, HasGainedPart}
+use Rattle.fg_results.specs.Stops.{Growth, ByRecord, ByBatch, Stage, Making, Taking, Emptying, Flushing, MayStopAt, Stops, HasGained, HasGainedPart}
 
 -- Each port of a list is among the first of it that are as many as it has.
 pub first_all : (ports : List ℕ) (port : ℕ) → Contains ports port → Contains (take (length ports) ports) port
@@ -37,12 +38,44 @@ each_whole plan records broken n (p ∷ ports) (r ∷ results) h f = (
   each_whole plan records broken n ports results h.1 (λ port c. f port (suc c.0, omega (arith, c.1), c.2)),
 )
 
+-- Where lanes may stop, in whichever way they grow
+
+pub may_make : (growth : Growth) (n : ℕ) → MayStopAt growth (Making n)
+may_make ByRecord n = tt
+may_make ByBatch n = tt
+
+pub may_take : (growth : Growth) (n : ℕ) → MayStopAt growth (Taking n)
+may_take ByRecord n = tt
+may_take ByBatch n = tt
+
+pub may_flush : (growth : Growth) (n : ℕ) → MayStopAt growth (Flushing n)
+may_flush ByRecord n = tt
+may_flush ByBatch n = tt
+
+may_in_any : (growth : Growth) (stage : Stage) → MayStopAt ByRecord stage → MayStopAt growth stage
+may_in_any growth (Making n) may = may_make growth n
+may_in_any growth (Taking n) may = may_take growth n
+may_in_any growth (Emptying done first next) may = absurd may
+may_in_any growth (Flushing n) may = may_flush growth n
+
+pub by_record_is_one_way : ByRecordIsOneWay
+by_record_is_one_way growth plan answer records before after stops = record {
+  stage = stops.stage;
+  may = may_in_any growth stops.stage stops.may;
+  broken = stops.broken;
+  unbroken = stops.unbroken;
+  pieces = stops.pieces;
+  gained = stops.gained;
+  puts = stops.puts;
+}
+
 -- A repair whose lanes are whole stops where all flows are flushed, whatever it answers.
 pub stops_whole :
-    (plan : Plan) (answer : Finish) (records : List Record) (results : List FlowResult) (lanes lanes' : Option Lanes)
-    → AreResults plan records results → PutsAll lanes plan.table (lanes_of results) lanes' → Stops plan answer records lanes lanes'
-stops_whole plan answer records results lanes lanes' are puts = record {
+    (growth : Growth) (plan : Plan) (answer : Finish) (records : List Record) (results : List FlowResult) (lanes lanes' : Option Lanes)
+    → AreResults plan records results → PutsAll lanes plan.table (lanes_of results) lanes' → Stops growth plan answer records lanes lanes'
+stops_whole growth plan answer records results lanes lanes' are puts = record {
   stage = Flushing (length plan.table);
+  may = may_flush growth (length plan.table);
   broken = None;
   unbroken = λ _. refl;
   pieces = lanes_of results;

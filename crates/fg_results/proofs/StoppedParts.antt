@@ -16,7 +16,7 @@ use Rattle.fg_results.specs.Flow.{FlowResult, IsFlowResult, lane_of as lane_of_p
 use Rattle.fg_results.specs.Lanes.{LanesGain, LaneGainsPart, LanesGainPart}
 use Rattle.fg_results.specs.Laws.{OneFlowResult, ShownIsFront, StopsLeaveParts}
 use Rattle.fg_results.specs.Repair.{AreResults, lanes_of}
-use Rattle.fg_results.specs.Stops.{Stage, Making, Taking, Flushing, Stops, HasShown, HasGained, HasGainedPart, made_at, next_stage}
+use Rattle.fg_results.specs.Stops.{Growth, Stage, Making, Taking, Emptying, Flushing, Stops, HasShown, HasGained, HasGainedPart, made_at, next_stage}
 use Rattle.fg_results.proofs.StopLemmas.{first_in}
 use Rattle.fg_results.proofs.Zips.{zip_at}
 
@@ -58,6 +58,10 @@ module _ (front : ShownIsFront) (one : OneFlowResult) where
       subst (λ (some : List ℕ). IsPrefix some result.lane) (sym none) (IsPrefix-nil result.lane)
   gained_begins plan records (Taking n) flow bytes result shown is =
       shown_first (playout_of plan) flow n records bytes result shown is
+  gained_begins plan records (Emptying done first next) flow bytes result (inl shown) is =
+      shown_first (playout_of plan) flow next records bytes result shown.1 is
+  gained_begins plan records (Emptying done first next) flow bytes result (inr shown) is =
+      shown_first (playout_of plan) flow first records bytes result shown.1 is
   gained_begins plan records (Flushing n) flow bytes result (inl whole) is = (
     [],
     ap (λ (r : FlowResult). r.lane) (one (playout_of plan) flow records result whole.1.result is whole.1.is_result)
@@ -91,6 +95,10 @@ module _ (exist : FlowResultExists) where
       → (bytes : List ℕ) × HasGained plan records stage flow bytes
   some_gained plan records (Making n) flow some = (([]), refl)
   some_gained plan records (Taking n) flow some = some_shown (playout_of plan) flow (take n records) some
+  some_gained plan records (Emptying done first next) flow some = ⊎_elim
+      (λ early. (let shown = some_shown (playout_of plan) flow (take next records) some in (shown.0, inl (early, shown.1))))
+      (λ later. (let shown = some_shown (playout_of plan) flow (take first records) some in (shown.0, inr (later, shown.1))))
+      (contains_or_not (take done plan.table) flow)
   some_gained plan records (Flushing n) flow some = ⊎_elim
       (λ first. (let result = exist (playout_of plan) flow records some in
       (result.0.lane, inl (first, record { result = result.0; is_result = result.1; bytes_are = refl }))))
@@ -112,6 +120,7 @@ each_part P old new (p ∷ ports) (r ∷ results) are f = (f p r are.0, each_par
 made_in : (plan : Plan) (stage : Stage) (port : ℕ) → Contains (made_at plan stage) port → Contains plan.table port
 made_in plan (Making n) port c = first_in plan.table n port c
 made_in plan (Taking n) port c = c
+made_in plan (Emptying done first next) port c = c
 made_in plan (Flushing n) port c = c
 
 module _ (front : ShownIsFront) (one : OneFlowResult) (exist : FlowResultExists) where
@@ -129,13 +138,13 @@ module _ (front : ShownIsFront) (one : OneFlowResult) (exist : FlowResultExists)
       (gained_begins front one plan records (next_stage stage) flow next.0 result next.1 is)
 
   lane_part :
-      (plan : Plan) (answer : Finish) (records : List Record) (before after : Option Lanes) (old new : Lanes)
-      → 1 ≤ plan.window → (stops : Stops plan answer records before after)
+      (growth : Growth) (plan : Plan) (answer : Finish) (records : List Record) (before after : Option Lanes) (old new : Lanes)
+      → 1 ≤ plan.window → (stops : Stops growth plan answer records before after)
       → LanesGain old (made_at plan stops.stage) stops.pieces new
       → (flow : ℕ) (result : FlowResult) → IsFlowResult (playout_of plan) records flow result
       → Contains (made_at plan stops.stage) flow ⊎ ¬ Contains (made_at plan stops.stage) flow
       → LaneGainsPart old new flow result.lane
-  lane_part plan answer records before after old new some stops puts flow result is (inl made) =
+  lane_part growth plan answer records before after old new some stops puts flow result is (inl made) =
       let at = zip_at _ _ (made_at plan stops.stage) stops.pieces flow stops.gained puts.lanes made in
       record {
         part = at.0;
@@ -143,7 +152,7 @@ module _ (front : ShownIsFront) (one : OneFlowResult) (exist : FlowResultExists)
         bytes = ap (λ lane. unwrap_or lane []) at.2;
         kept = λ _. subst IsSome (sym at.2) refl;
       }
-  lane_part plan answer records before after old new some stops puts flow result is (inr none) =
+  lane_part growth plan answer records before after old new some stops puts flow result is (inr none) =
       let stays : lane_of new flow ≡ lane_of old flow = puts.others flow none in
       record {
         part = [];
@@ -153,19 +162,19 @@ module _ (front : ShownIsFront) (one : OneFlowResult) (exist : FlowResultExists)
       }
 
   lanes_part :
-      (plan : Plan) (answer : Finish) (records : List Record) (results : List FlowResult) (before after : Option Lanes) (old new : Lanes)
-      → 1 ≤ plan.window → AreResults plan records results → (stops : Stops plan answer records before after)
+      (growth : Growth) (plan : Plan) (answer : Finish) (records : List Record) (results : List FlowResult) (before after : Option Lanes) (old new : Lanes)
+      → 1 ≤ plan.window → AreResults plan records results → (stops : Stops growth plan answer records before after)
       → LanesGain old (made_at plan stops.stage) stops.pieces new → LanesGainPart old plan.table (lanes_of results) new
-  lanes_part plan answer records results before after old new some are stops puts = record {
+  lanes_part growth plan answer records results before after old new some are stops puts = record {
     lanes = each_part (IsFlowResult (playout_of plan) records) old new plan.table results are
-        (λ flow result is. lane_part plan answer records before after old new some stops puts flow result is
+        (λ flow result is. lane_part growth plan answer records before after old new some stops puts flow result is
         (contains_or_not (made_at plan stops.stage) flow));
     others = λ other none. puts.others other (λ c. none (made_in plan stops.stage other c));
   }
 
   pub stops_leave_parts : StopsLeaveParts
-  stops_leave_parts plan answer records results None None some are stops = tt
-  stops_leave_parts plan answer records results None (Some new) some are stops = absurd stops.puts
-  stops_leave_parts plan answer records results (Some old) None some are stops = absurd stops.puts
-  stops_leave_parts plan answer records results (Some old) (Some new) some are stops =
-      lanes_part plan answer records results (Some old) (Some new) old new some are stops stops.puts
+  stops_leave_parts growth plan answer records results None None some are stops = tt
+  stops_leave_parts growth plan answer records results None (Some new) some are stops = absurd stops.puts
+  stops_leave_parts growth plan answer records results (Some old) None some are stops = absurd stops.puts
+  stops_leave_parts growth plan answer records results (Some old) (Some new) some are stops =
+      lanes_part growth plan answer records results (Some old) (Some new) old new some are stops stops.puts

@@ -10,12 +10,13 @@ use Rattle.fg_trace.specs.Reading.{IsReadFor}
 use Rattle.fg_trace.specs.Trace.{Record, Ending, NotTrace, IsTrace}
 use Rattle.fg_flows.specs.declared.Plan.{Plan}
 use Rattle.fg_results.specs.Repair.{Finishes, OutputsPart}
-use Rattle.fg_results.specs.Stops.{StopsIn}
+use Rattle.fg_results.specs.Stops.{Growth, StopsIn}
 
--- The call that answers so is a repair by this plan. `input` are the bytes of the source before it, `input'` those that are
+-- The call that answers so is a repair by this plan, whose lanes grow so. `input` are the bytes of the source before it, `input'` those that are
 -- left after it, `lanes_of` tells an outlet's lanes, and `written` what a sink has.
 pub record IsRepair {O K : Type 0}
-    (plan : Plan) (answer : Finish) (input input' : Option (List ℕ)) (lanes_of : O → Option Lanes) (lanes lanes' : O)
+    (growth : Growth) (plan : Plan) (answer : Finish) (input input' : Option (List ℕ))
+    (lanes_of : O → Option Lanes) (lanes lanes' : O)
     (written : K → Option (List ℕ)) (out out' : K) : Type 0 where
   -- Every answer but a fault's or want of memory's is that of the trace's ending, and then the outputs are whole.
   pub whole : IsFault answer ⊎ Finishes plan answer input (lanes_of lanes) (lanes_of lanes') (written out) (written out')
@@ -30,6 +31,6 @@ pub record IsRepair {O K : Type 0}
   -- After a fault or want of memory the outputs are parts.
   pub part : IsFault answer → OutputsPart plan input (lanes_of lanes) (lanes_of lanes') written out out'
   -- The first fault ends the call: each lane has gained exactly what was shown up to there, but for the one that it broke.
-  pub stops : IsFault answer → StopsIn plan answer input (lanes_of lanes) (lanes_of lanes')
+  pub stops : IsFault answer → StopsIn growth plan answer input (lanes_of lanes) (lanes_of lanes')
   -- After a read fault no report was begun.
   pub no_report : answer ≡ finish.ReadFault → out' ≡ out

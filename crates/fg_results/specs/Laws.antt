@@ -9,7 +9,7 @@ use Rattle.fg_shape.specs.Playout.{Playout}
 use Rattle.fg_results.specs.Flow.{FlowResult, IsFlowResult}
 use Rattle.fg_results.specs.Lanes.{PutsAllPart}
 use Rattle.fg_results.specs.Repair.{AreResults, lanes_of}
-use Rattle.fg_results.specs.Stops.{Stage, Stops, HasGained, HasShown}
+use Rattle.fg_results.specs.Stops.{Growth, ByRecord, Stage, Stops, HasGained, HasShown}
 
 -- Records give a flow one result at most.
 abbrev pub OneFlowResult : Type 0
@@ -37,9 +37,16 @@ OneGained =
     (plan : Plan) (records : List Record) (stage : Stage) (flow : ℕ) (one other : List ℕ)
     → HasGained plan records stage flow one → HasGained plan records stage flow other → one ≡ other
 
+-- Where a repair stops whose lanes grow record by record, one may stop whose lanes grow in any way.
+abbrev pub ByRecordIsOneWay : Type 0
+ByRecordIsOneWay =
+    (growth : Growth) (plan : Plan) (answer : Finish) (records : List Record) (before after : Option Lanes)
+    → Stops ByRecord plan answer records before after → Stops growth plan answer records before after
+
 -- Wherever a repair stops, each flow's lane has gained a prefix of its bytes.
 abbrev pub StopsLeaveParts : Type 0
 StopsLeaveParts =
-    (plan : Plan) (answer : Finish) (records : List Record) (results : List FlowResult) (before after : Option Lanes)
-    → 1 ≤ plan.window → AreResults plan records results → Stops plan answer records before after
+    (growth : Growth) (plan : Plan) (answer : Finish) (records : List Record) (results : List FlowResult)
+    (before after : Option Lanes)
+    → 1 ≤ plan.window → AreResults plan records results → Stops growth plan answer records before after
     → PutsAllPart before plan.table (lanes_of results) after

@@ -1,5 +1,5 @@
 -- Where a fault stops a repair. This project's own.
-use Rattle.std.specs.Prelude.{◌≡◌, ◌⊎◌, ◌+◌, ℕ, List, [], Option, None, Some, IfSome, take}
+use Rattle.std.specs.Prelude.{◌≡◌, ◌⊎◌, ◌+◌, ◌≤◌, ◌==◌, ⊤, ℕ, List, [], Option, None, Some, IfSome, if◌then◌else◌, take}
 use Rattle.std.specs.List.{AllZip, Contains}
 use Rattle.fg_io.specs.Prefix.{IsPrefix}
 use Rattle.fg_io.specs.Outlet.{Lanes}
@@ -32,28 +32,55 @@ pub record HasLane (playout : Playout) (flow : ℕ) (records : List Record) (byt
   pub is_result : IsFlowResult playout records flow result
   pub bytes_are : bytes ≡ result.lane
 
--- How far a repair has come: the lanes of so many flows were made; or all were, and so many records were taken; or all
--- records were, and so many flows were flushed. Flows are made and flushed in their order.
+-- How the lanes grow: as each record is taken, or as each batch of records is.
+pub data Growth : Type 0 where
+  ByRecord : Growth
+  ByBatch : Growth
+
+-- The lanes of a repair without workers grow record by record, and with workers batch by batch.
+abbrev pub growth_of : Plan → Growth
+growth_of plan = if plan.workers == 0 then ByRecord else ByBatch
+
+-- How far a repair has come: the lanes of so many flows were made; or all were, and so many records were taken; or a batch
+-- of records was run too, from the first so many records up to the next so many, and so many flows have put what they show
+-- of it; or all records were taken, and so many flows were flushed. Flows are made, put and flushed in their order.
 pub data Stage : Type 0 where
   Making : ℕ → Stage
   Taking : ℕ → Stage
+  Emptying : (done first next : ℕ) → Stage
   Flushing : ℕ → Stage
 
 abbrev pub next_stage : Stage → Stage
 next_stage (Making n) = Making (n + 1)
 next_stage (Taking n) = Taking (n + 1)
+next_stage (Emptying done first next) = Emptying (done + 1) first next
 next_stage (Flushing n) = Flushing (n + 1)
+
+-- A repair whose lanes grow so may stop there: between the flows of a batch only where they grow batch by batch.
+abbrev pub MayStopAt : Growth → Stage → Type 0
+MayStopAt ByRecord (Making n) = ⊤
+MayStopAt ByRecord (Taking n) = ⊤
+MayStopAt ByRecord (Emptying done first next) = ⊥
+MayStopAt ByRecord (Flushing n) = ⊤
+MayStopAt ByBatch (Making n) = ⊤
+MayStopAt ByBatch (Taking n) = ⊤
+MayStopAt ByBatch (Emptying done first next) = first ≤ next
+MayStopAt ByBatch (Flushing n) = ⊤
 
 -- The flows whose lanes are made.
 abbrev pub made_at : Plan → Stage → List ℕ
 made_at plan (Making n) = take n plan.table
 made_at plan (Taking n) = plan.table
+made_at plan (Emptying done first next) = plan.table
 made_at plan (Flushing n) = plan.table
 
 -- What a flow's lane has gained at a stage, exactly.
 abbrev pub HasGained : Plan → List Record → Stage → ℕ → List ℕ → Type 0
 HasGained plan records (Making n) flow bytes = bytes ≡ []
 HasGained plan records (Taking n) flow bytes = HasShown (playout_of plan) flow (take n records) bytes
+HasGained plan records (Emptying done first next) flow bytes =
+    (Contains (take done plan.table) flow × HasShown (playout_of plan) flow (take next records) bytes)
+    ⊎ ((¬ Contains (take done plan.table) flow) × HasShown (playout_of plan) flow (take first records) bytes)
 HasGained plan records (Flushing n) flow bytes =
     (Contains (take n plan.table) flow × HasLane (playout_of plan) flow records bytes)
     ⊎ ((¬ Contains (take n plan.table) flow) × HasShown (playout_of plan) flow records bytes)
@@ -70,11 +97,13 @@ abbrev pub HasGainedPart : Plan → List Record → Stage → ℕ → List ℕ �
 HasGainedPart plan records stage flow bytes =
     LiesBetween (HasGained plan records stage flow) (HasGained plan records (next_stage stage) flow) bytes
 
--- A repair of these records stopped at a stage. Each flow whose lane is made has gained exactly what stands there, but for
+-- A repair of these records, whose lanes grow so, stopped at a stage. Each flow whose lane is made has gained exactly what stands there, but for
 -- one at most, at which a put failed or memory was wanting: it has gained that and a part of what comes next. After a read
 -- fault there is no such one. All other lanes are as they were.
-pub record Stops (plan : Plan) (answer : Finish) (records : List Record) (before after : Option Lanes) : Type 0 where
+pub record Stops
+    (growth : Growth) (plan : Plan) (answer : Finish) (records : List Record) (before after : Option Lanes) : Type 0 where
   pub stage : Stage
+  pub may : MayStopAt growth stage
   pub broken : Option ℕ
   pub unbroken : answer ≡ finish.ReadFault → broken ≡ None
   pub pieces : List (List ℕ)
@@ -85,7 +114,7 @@ pub record Stops (plan : Plan) (answer : Finish) (records : List Record) (before
   pub puts : PutsAll before (made_at plan stage) pieces after
 
 -- So does the repair of the input's trace.
-abbrev pub StopsIn : Plan → Finish → Option (List ℕ) → Option Lanes → Option Lanes → Type 0
-StopsIn plan answer input before after =
+abbrev pub StopsIn : Growth → Plan → Finish → Option (List ℕ) → Option Lanes → Option Lanes → Type 0
+StopsIn growth plan answer input before after =
     IfSome input (λ bytes. (records : List Record) (end : Ending)
-    → IsTrace bytes plan.max records end → Stops plan answer records before after)
+    → IsTrace bytes plan.max records end → Stops growth plan answer records before after)

@@ -1,7 +1,7 @@
 //! The laws that show the definition of a repair to be right. Each is the contract of a function that does nothing, or only
 //! calls laws of the crates below.
 ghost use Rattle.fg_results.specs.Existence.{FlowResultExists, ResultsExist};
-ghost use Rattle.fg_results.specs.Laws.{OneFlowResult, OneResult, OneGained, ShownIsFront, StopsLeaveParts};
+ghost use Rattle.fg_results.specs.Laws.{OneFlowResult, OneResult, OneGained, ShownIsFront, ByRecordIsOneWay, StopsLeaveParts};
 
 use fg_fechead::laws::{parity_datagrams_are_decided, parity_datagrams_read_one_way};
 use fg_playout::laws::{one_run, one_taking, runs_exist, taken_plays_come_first};
@@ -52,6 +52,12 @@ pub fn one_gained()
     parity_datagrams_read_one_way();
     one_taking();
     one_flow_result();
+}
+
+/// Where a repair stops whose lanes grow record by record, one may stop whose lanes grow in any way.
+pub fn by_record_is_one_way()
+    ensures { ByRecordIsOneWay }
+{
 }
 
 /// Wherever a repair stops, each flow's lane has gained a prefix of its bytes.
