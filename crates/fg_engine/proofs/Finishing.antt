@@ -20,6 +20,7 @@ use Rattle.fg_results.specs.Existence.{ResultsExist}
 use Rattle.fg_results.specs.Laws.{OneFlowResult, StopsLeaveParts}
 use Rattle.fg_engine.specs.Engine.{LanesStop, LanesWhole, TellsTail, sums_of, told_finish, answer_of}
 use Rattle.fg_results.specs.Lanes.{PutsAll}
+use Rattle.fg_results.specs.Stops.{Growth}
 use Rattle.fg_results.specs.Repair.{Gain, Finishes, lanes_of, tail_of, report_text}
 use Rattle.fg_io.specs.declared.fault.Fault.{Fault}
 use Rattle.fg_io.specs.declared.fault.Fault.TheVariants.{Read, Write, Memory}
@@ -116,39 +117,39 @@ fault_is Memory = tt
 
 -- Before the report was begun.
 pub stopped :
-    {O K : Type 0} → StopsLeaveParts → (plan : Plan) → PlanFits plan → (result : Result Finish Fault) → IsErr result
+    {O K : Type 0} → StopsLeaveParts → (growth : Growth) (plan : Plan) → PlanFits plan → (result : Result Finish Fault) → IsErr result
     → (first left : Option (List ℕ)) (told : O → Option Lanes) (lanes lanes' : O) (written : K → Option (List ℕ)) (out : K)
     → IfSome first (λ bytes. IsReadFor plan.max (answer_of result) bytes left)
     → IfSome first (λ bytes. (place : ℕ) → IsTrace bytes plan.max [] (NotTrace place) → (lanes' ≡ lanes) × (out ≡ out))
-    → IfErr result (λ fault. LanesStop plan (finish_after fault) first (told lanes) (told lanes'))
-    → IsRepair plan (answer_of result) first left told lanes lanes' written out out
-stopped law plan fits (Ok x) is first left told lanes lanes' written out reads refused h = absurd cc
-stopped law plan fits (Err fault) is first left told lanes lanes' written out reads refused h =
-    stopped_repair plan (finish_after fault) first left told lanes lanes' written out out reads refused law fits.playout.window.0
+    → IfErr result (λ fault. LanesStop growth plan (finish_after fault) first (told lanes) (told lanes'))
+    → IsRepair growth plan (answer_of result) first left told lanes lanes' written out out
+stopped law growth plan fits (Ok x) is first left told lanes lanes' written out reads refused h = absurd cc
+stopped law growth plan fits (Err fault) is first left told lanes lanes' written out reads refused h =
+    stopped_repair growth plan (finish_after fault) first left told lanes lanes' written out out reads refused law fits.playout.window.0
     (fault_is fault) h.others refl h.stops
 
 -- Before any lane was made.
 pub stopped_first :
-    {O K : Type 0} → StopsLeaveParts → (plan : Plan) → PlanFits plan → (result : Result Finish Fault) → IsErr result
+    {O K : Type 0} → StopsLeaveParts → (growth : Growth) (plan : Plan) → PlanFits plan → (result : Result Finish Fault) → IsErr result
     → (first left : Option (List ℕ)) (told : O → Option Lanes) (lanes : O) (written : K → Option (List ℕ)) (out : K)
     → IfSome first (λ bytes. IsReadFor plan.max (answer_of result) bytes left)
-    → IsRepair plan (answer_of result) first left told lanes lanes written out out
-stopped_first law plan fits (Ok x) is first left told lanes written out reads = absurd cc
-stopped_first law plan fits (Err fault) is first left told lanes written out reads =
-    stopped law plan fits (Err fault) is first left told lanes lanes written out reads (none_made plan.max first lanes out)
-    (none_stops plan (finish_after fault) first (told lanes))
+    → IsRepair growth plan (answer_of result) first left told lanes lanes written out out
+stopped_first law growth plan fits (Ok x) is first left told lanes written out reads = absurd cc
+stopped_first law growth plan fits (Err fault) is first left told lanes written out reads =
+    stopped law growth plan fits (Err fault) is first left told lanes lanes written out reads (none_made plan.max first lanes out)
+    (none_stops growth plan (finish_after fault) first (told lanes))
 
 -- While the report was written.
 pub stopped_in_report :
-    {O K D : Type 0} → OneTrace → OneFlowResult → (plan : Plan) (result : Result Finish Fault) → IsErr result → (result ≡ Err Read → ⊥)
+    {O K D : Type 0} → OneTrace → OneFlowResult → (growth : Growth) (plan : Plan) (result : Result Finish Fault) → IsErr result → (result ≡ Err Read → ⊥)
     → (first left : Option (List ℕ)) (told : O → Option Lanes) (lanes lanes' : O) (written : K → Option (List ℕ)) (out out' : K)
     → IfSome first (λ bytes. IsReadFor plan.max (answer_of result) bytes left)
     → IfSome first (λ bytes. (place : ℕ) → IsTrace bytes plan.max [] (NotTrace place) → (lanes' ≡ lanes) × (out' ≡ out))
     → (engine : Engine D) (tail : Tail) → LanesWhole plan first engine tail (told lanes) (told lanes')
     → GainsPart (written out) (report_of (sums_of engine.flows.items) engine.other tail) (written out')
-    → IsRepair plan (answer_of result) first left told lanes lanes' written out out'
-stopped_in_report law one plan (Ok x) is unread first left told lanes lanes' written out out' reads refused engine tail h part = absurd cc
-stopped_in_report law one plan (Err fault) is unread first left told lanes lanes' written out out' reads refused engine tail h part =
-    stopped_report plan (finish_after fault) first left told lanes lanes' written out out' reads refused law one
+    → IsRepair growth plan (answer_of result) first left told lanes lanes' written out out'
+stopped_in_report law one growth plan (Ok x) is unread first left told lanes lanes' written out out' reads refused engine tail h part = absurd cc
+stopped_in_report law one growth plan (Err fault) is unread first left told lanes lanes' written out out' reads refused engine tail h part =
+    stopped_report growth plan (finish_after fault) first left told lanes lanes' written out out' reads refused law one
     (fault_is fault) (λ read. unread (ap Err (read_only fault read)))
     (part_of_report plan first engine tail (told lanes) (told lanes') (written out) (written out') h part)

@@ -11,7 +11,8 @@ use Rattle.fg_trace.specs.declared.step.Finish.TheVariants as finish
 use Rattle.fg_trace.specs.Trace.{Record}
 use Rattle.fg_engine.specs.Engine.{GrowAll, AreThere, BreaksAfter, MakesFirst}
 use Rattle.fg_results.specs.Lanes.{PutsAll}
-use Rattle.fg_results.specs.Stops.{Stops, HasShown, LiesBetween, Stage, Making, Taking, made_at, HasGained, HasGainedPart}
+use Rattle.fg_results.specs.Stops.{Growth, MayStopAt, Stops, HasShown, LiesBetween, Stage, Making, Taking, made_at, HasGained, HasGainedPart}
+use Rattle.fg_results.proofs.StopLemmas.{may_make, may_take}
 use Rattle.fg_engine.proofs.Flushing.{some_is}
 
 -- What the lanes have gained, in the order of the ports
@@ -31,13 +32,14 @@ each_put ports gained None (Some new) g t = absurd g
 each_put ports gained None None g t = tt
 
 pub stops_at :
-    (plan : Plan) (answer : Finish) (records : List Record) (stage : Stage) (broken : Option ℕ) (gained : ℕ → List ℕ) (before after : Option Lanes)
-    → (answer ≡ finish.ReadFault → broken ≡ None)
+    (growth : Growth) (plan : Plan) (answer : Finish) (records : List Record) (stage : Stage) (broken : Option ℕ) (gained : ℕ → List ℕ) (before after : Option Lanes)
+    → MayStopAt growth stage → (answer ≡ finish.ReadFault → broken ≡ None)
     → ((flow : ℕ) → Contains (made_at plan stage) flow
     → HasGained plan records stage flow (gained flow) ⊎ ((broken ≡ Some flow) × HasGainedPart plan records stage flow (gained flow)))
-    → GrowAll before (made_at plan stage) gained after → AreThere (made_at plan stage) after → Stops plan answer records before after
-stops_at plan answer records stage broken gained before after quiet exact grow there = record {
+    → GrowAll before (made_at plan stage) gained after → AreThere (made_at plan stage) after → Stops growth plan answer records before after
+stops_at growth plan answer records stage broken gained before after may quiet exact grow there = record {
   stage = stage;
+  may = may;
   broken = broken;
   unbroken = quiet;
   pieces = map gained (made_at plan stage);
@@ -49,9 +51,9 @@ stops_at plan answer records stage broken gained before after quiet exact grow t
 
 -- While lanes are made
 
-pub making_stops : (plan : Plan) (answer : Finish) (records : List Record) (before after : Option Lanes) → MakesFirst plan.table before after → Stops plan answer records before after
-making_stops plan answer records before after h =
-    stops_at plan answer records (Making h.count) None (λ _. []) before after (λ _. refl) (λ flow c. inl refl) h.grow h.there
+pub making_stops : (growth : Growth) (plan : Plan) (answer : Finish) (records : List Record) (before after : Option Lanes) → MakesFirst plan.table before after → Stops growth plan answer records before after
+making_stops growth plan answer records before after h =
+    stops_at growth plan answer records (Making h.count) None (λ _. []) before after (may_make growth h.count) (λ _. refl) (λ flow c. inl refl) h.grow h.there
 
 -- While records are taken
 
@@ -93,11 +95,11 @@ shown_at_stage plan all taken next broken flow bytes now then (inr part) =
     )
 
 pub taking_stops :
-    (plan : Plan) (answer : Finish) (all taken next : List Record) (broken : Option ℕ) (before after : Option Lanes)
+    (growth : Growth) (plan : Plan) (answer : Finish) (all taken next : List Record) (broken : Option ℕ) (before after : Option Lanes)
     → (answer ≡ finish.ReadFault → broken ≡ None) → Follows taken next broken → next ≡ take (length next) all → BreaksAfter plan taken next broken before after
-    → Stops plan answer all before after
-taking_stops plan answer all taken next broken before after quiet follows walked h =
-    stops_at plan answer all (Taking (length taken)) broken h.gained before after quiet
+    → Stops growth plan answer all before after
+taking_stops growth plan answer all taken next broken before after quiet follows walked h =
+    stops_at growth plan answer all (Taking (length taken)) broken h.gained before after (may_take growth (length taken)) quiet
     (λ flow c. shown_at_stage plan all taken next broken flow (h.gained flow) (taken_first taken next all broken follows walked)
     (next_first taken next all broken follows walked flow) (h.exact flow c))
     h.grow h.there

@@ -15,7 +15,7 @@ use Rattle.fg_trace.specs.Trace.{Record, Ending, IsTrace, trace_of}
 use Rattle.fg_engine.specs.declared.engine.Engine.{Engine}
 use Rattle.fg_engine.specs.Engine.{LanesGrow, GrowAll, IsRunning, HasCome, BreaksAfter, LanesStop, HasWalked, TookAll, TellsTail}
 use Rattle.fg_results.specs.Lanes.{OthersStay}
-use Rattle.fg_results.specs.Stops.{StopsIn}
+use Rattle.fg_results.specs.Stops.{Growth, StopsIn}
 use Rattle.fg_engine.proofs.Lanes.{told_map}
 use Rattle.fg_engine.proofs.Standing.{shown_at}
 use Rattle.fg_engine.proofs.Stopping.{Follows, taking_stops}
@@ -41,31 +41,31 @@ running plan fits first now reader engine before after max h = record {
 pub others_told : (ports : List ℕ) (gained : ℕ → List ℕ) (before after : Option Lanes) → GrowAll before ports gained after → WhereTold (OthersStay ports) before after
 others_told ports gained before after g = told_map (λ old new. LanesGrow old ports gained new) (OthersStay ports) (λ old new h. h.others) before after g
 
-break_stop : WalksTheFront → (plan : Plan) (answer : Finish) (first now : Option (List ℕ)) (reader : ReaderState) (taken records : List Record) (broken : Option ℕ) (before after : Option Lanes) → reader.max ≡ plan.max → StandsAfter reader first now records → (answer ≡ finish.ReadFault → broken ≡ None) → Follows taken records broken → BreaksAfter plan taken records broken before after → StopsIn plan answer first before after
-break_stop law plan answer None now reader taken records broken before after max stands quiet follows h = tt
-break_stop law plan answer (Some bytes) now reader taken records broken before after max stands quiet follows h = λ all end trace.
-    taking_stops plan answer all taken records broken before after quiet follows
+break_stop : WalksTheFront → (growth : Growth) (plan : Plan) (answer : Finish) (first now : Option (List ℕ)) (reader : ReaderState) (taken records : List Record) (broken : Option ℕ) (before after : Option Lanes) → reader.max ≡ plan.max → StandsAfter reader first now records → (answer ≡ finish.ReadFault → broken ≡ None) → Follows taken records broken → BreaksAfter plan taken records broken before after → StopsIn growth plan answer first before after
+break_stop law growth plan answer None now reader taken records broken before after max stands quiet follows h = tt
+break_stop law growth plan answer (Some bytes) now reader taken records broken before after max stands quiet follows h = λ all end trace.
+    taking_stops growth plan answer all taken records broken before after quiet follows
     (law reader bytes now records all end stands (subst (λ n. IsTrace bytes n all end) (sym max) trace)) h
 
-pub broken_stop : WalksTheFront → (plan : Plan) (answer : Finish) (first now : Option (List ℕ)) (reader : ReaderState) (taken records : List Record) (broken : Option ℕ) (before after : Option Lanes) → reader.max ≡ plan.max → StandsAfter reader first now records → (answer ≡ finish.ReadFault → broken ≡ None) → Follows taken records broken → BreaksAfter plan taken records broken before after → LanesStop plan answer first before after
-broken_stop law plan answer first now reader taken records broken before after max stands quiet follows h = record {
+pub broken_stop : WalksTheFront → (growth : Growth) (plan : Plan) (answer : Finish) (first now : Option (List ℕ)) (reader : ReaderState) (taken records : List Record) (broken : Option ℕ) (before after : Option Lanes) → reader.max ≡ plan.max → StandsAfter reader first now records → (answer ≡ finish.ReadFault → broken ≡ None) → Follows taken records broken → BreaksAfter plan taken records broken before after → LanesStop growth plan answer first before after
+broken_stop law growth plan answer first now reader taken records broken before after max stands quiet follows h = record {
   others = others_told plan.table h.gained before after h.grow;
-  stops = break_stop law plan answer first now reader taken records broken before after max stands quiet follows h;
+  stops = break_stop law growth plan answer first now reader taken records broken before after max stands quiet follows h;
 }
 
 -- A record
 
 pub stop_at_record :
-    {D : Type 0} → WalksTheFront → (plan : Plan) (fault : Finish) → (fault ≡ finish.ReadFault → ⊥) → (first left now : Option (List ℕ)) (reader next : ReaderState) (engine : Engine D) (before at after : Option Lanes) (answer : Answer) (time port size : ℕ) (datagram : List ℕ)
+    {D : Type 0} → WalksTheFront → (growth : Growth) (plan : Plan) (fault : Finish) → (fault ≡ finish.ReadFault → ⊥) → (first left now : Option (List ℕ)) (reader next : ReaderState) (engine : Engine D) (before at after : Option Lanes) (answer : Answer) (time port size : ℕ) (datagram : List ℕ)
     → next.max ≡ plan.max → answer ≡ Ok (Datagram time port size) → datagram ≡ next.payload
     → ((records : List Record) → StandsAfter reader first left records → Walks answer next first now records)
     → ((records : List Record) (r : Record) → HasCome plan records engine before at → r.port ≡ port → r.datagram ≡ datagram → (broken : Option ℕ) × BreaksAfter plan records (records ++ r ∷ []) broken before after)
-    → HasWalked plan first left reader engine before at → LanesStop plan fault first before after
-stop_at_record law plan fault loud first left now reader next engine before at after answer time port size datagram max is payload walks breaks h =
+    → HasWalked plan first left reader engine before at → LanesStop growth plan fault first before after
+stop_at_record law growth plan fault loud first left now reader next engine before at after answer time port size datagram max is payload walks breaks h =
     let r : Record = record { time = time; port = port; datagram = next.payload } in
     let stands : StandsAfter next first now (h.records ++ r ∷ []) = subst (λ (a : Answer). Walks a next first now h.records) is (walks h.records h.stands) in
     let off = breaks h.records r h.come refl (sym payload) in
-    broken_stop law plan fault first now next h.records (h.records ++ r ∷ []) off.0 before after max stands (λ quiet. absurd (loud quiet)) (inr (r, refl)) off.1
+    broken_stop law growth plan fault first now next h.records (h.records ++ r ∷ []) off.0 before after max stands (λ quiet. absurd (loud quiet)) (inr (r, refl)) off.1
 
 -- A read fault
 
@@ -78,11 +78,11 @@ come_breaks plan records engine before after h = record {
 }
 
 pub stop_at_fault :
-    {D : Type 0} → WalksTheFront → (plan : Plan) (answer : Finish) (first left now : Option (List ℕ)) (reader next : ReaderState) (engine : Engine D) (before at : Option Lanes) (why : TraceFault)
+    {D : Type 0} → WalksTheFront → (growth : Growth) (plan : Plan) (answer : Finish) (first left now : Option (List ℕ)) (reader next : ReaderState) (engine : Engine D) (before at : Option Lanes) (why : TraceFault)
     → next.max ≡ plan.max → ((records : List Record) → StandsAfter reader first left records → Walks (Err why) next first now records)
-    → HasWalked plan first left reader engine before at → LanesStop plan answer first before at
-stop_at_fault law plan answer first left now reader next engine before at why max walks h =
-    broken_stop law plan answer first now next h.records h.records None before at max (stands_still next first now h.records why (walks h.records h.stands)) (λ quiet. refl) (inl (refl, refl)) (come_breaks plan h.records engine before at h.come)
+    → HasWalked plan first left reader engine before at → LanesStop growth plan answer first before at
+stop_at_fault law growth plan answer first left now reader next engine before at why max walks h =
+    broken_stop law growth plan answer first now next h.records h.records None before at max (stands_still next first now h.records why (walks h.records h.stands)) (λ quiet. refl) (inl (refl, refl)) (come_breaks plan h.records engine before at h.come)
 
 -- The end
 

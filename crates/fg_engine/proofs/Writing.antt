@@ -13,21 +13,22 @@ use Rattle.fg_engine.specs.declared.engine.Engine.{Engine}
 use Rattle.fg_engine.specs.Engine.{GrowAll, AreThere, MakesFirst, EngineStands, LanesStop, HasWalked, TookAll, AreReady, IsFlushing, BreaksAtFlush, HasEnded, LanesWhole}
 use Rattle.fg_engine.proofs.Flushing.{flushing_none}
 use Rattle.fg_engine.proofs.Lanes.{grow_none}
-use Rattle.fg_results.specs.Stops.{Stops, StopsIn, Flushing}
+use Rattle.fg_results.specs.Stops.{Growth, Stops, StopsIn, Flushing}
+use Rattle.fg_results.proofs.StopLemmas.{may_flush}
 use Rattle.fg_engine.proofs.Stopping.{making_stops, stops_at}
 use Rattle.fg_engine.specs.View.{FlowView}
 use Rattle.fg_engine.proofs.Walking.{others_told}
 
 -- Before any record
 
-nothing_stops : (plan : Plan) (answer : Finish) (first : Option (List ℕ)) (before after : Option Lanes) → MakesFirst plan.table before after → StopsIn plan answer first before after
-nothing_stops plan answer None before after h = tt
-nothing_stops plan answer (Some bytes) before after h = λ records end trace. making_stops plan answer records before after h
+nothing_stops : (growth : Growth) (plan : Plan) (answer : Finish) (first : Option (List ℕ)) (before after : Option Lanes) → MakesFirst plan.table before after → StopsIn growth plan answer first before after
+nothing_stops growth plan answer None before after h = tt
+nothing_stops growth plan answer (Some bytes) before after h = λ records end trace. making_stops growth plan answer records before after h
 
-pub making_lanes_stops : (plan : Plan) (answer : Finish) (first : Option (List ℕ)) (before after : Option Lanes) → GrowAll before plan.table (λ _. []) after → MakesFirst plan.table before after → LanesStop plan answer first before after
-making_lanes_stops plan answer first before after g h = record {
+pub making_lanes_stops : (growth : Growth) (plan : Plan) (answer : Finish) (first : Option (List ℕ)) (before after : Option Lanes) → GrowAll before plan.table (λ _. []) after → MakesFirst plan.table before after → LanesStop growth plan answer first before after
+making_lanes_stops growth plan answer first before after g h = record {
   others = others_told plan.table (λ _. []) before after g;
-  stops = nothing_stops plan answer first before after h;
+  stops = nothing_stops growth plan answer first before after h;
 }
 
 -- where no lane is made yet
@@ -35,9 +36,9 @@ none_there : (lanes : Option Lanes) → AreThere [] lanes
 none_there None = tt
 none_there (Some told) = λ port c. absurd (omega (arith, c.1))
 
-pub none_stops : (plan : Plan) (answer : Finish) (first : Option (List ℕ)) (lanes : Option Lanes) → LanesStop plan answer first lanes lanes
-none_stops plan answer first lanes =
-    making_lanes_stops plan answer first lanes lanes (grow_none lanes plan.table) (record { count = 0; grow = grow_none lanes []; there = none_there lanes })
+pub none_stops : (growth : Growth) (plan : Plan) (answer : Finish) (first : Option (List ℕ)) (lanes : Option Lanes) → LanesStop growth plan answer first lanes lanes
+none_stops growth plan answer first lanes =
+    making_lanes_stops growth plan answer first lanes lanes (grow_none lanes plan.table) (record { count = 0; grow = grow_none lanes []; there = none_there lanes })
 
 pub begun : {D : Type 0} → (plan : Plan) (first left : Option (List ℕ)) (reader : ReaderState) (engine : Engine D) (before now : Option Lanes) → EngineStands plan [] engine (λ _. []) → GrowAll before plan.table (λ _. []) now → AreThere plan.table now → StandsAfter reader first left [] → HasWalked plan first left reader engine before now
 begun plan first left reader engine before now new grow there stands = record {
@@ -61,16 +62,16 @@ ready plan fits first engine tail before now flows e h = record {
   flushing = took_flushing plan first engine tail before now flows e h;
 }
 
-flush_stop : OneTrace → (plan : Plan) (answer : Finish) → (answer ≡ finish.ReadFault → ⊥) → (first : Option (List ℕ)) (records : List Record) (end : Ending) (before after : Option Lanes) → IfSome first (λ bytes. IsTrace bytes plan.max records end) → BreaksAtFlush plan records before after → StopsIn plan answer first before after
-flush_stop law plan answer loud None records end before after trace h = tt
-flush_stop law plan answer loud (Some bytes) records end before after trace h = λ all other k.
-    subst (λ (rs : List Record). Stops plan answer rs before after) (sym (law bytes plan.max all records other end k trace).0)
-    (stops_at plan answer records (Flushing h.count) h.broken h.gained before after (λ quiet. absurd (loud quiet)) h.exact h.grow h.there)
+flush_stop : OneTrace → (growth : Growth) (plan : Plan) (answer : Finish) → (answer ≡ finish.ReadFault → ⊥) → (first : Option (List ℕ)) (records : List Record) (end : Ending) (before after : Option Lanes) → IfSome first (λ bytes. IsTrace bytes plan.max records end) → BreaksAtFlush plan records before after → StopsIn growth plan answer first before after
+flush_stop law growth plan answer loud None records end before after trace h = tt
+flush_stop law growth plan answer loud (Some bytes) records end before after trace h = λ all other k.
+    subst (λ (rs : List Record). Stops growth plan answer rs before after) (sym (law bytes plan.max all records other end k trace).0)
+    (stops_at growth plan answer records (Flushing h.count) h.broken h.gained before after (may_flush growth h.count) (λ quiet. absurd (loud quiet)) h.exact h.grow h.there)
 
-pub flush_stops : {D : Type 0} → OneTrace → (plan : Plan) (answer : Finish) → (answer ≡ finish.ReadFault → ⊥) → (first : Option (List ℕ)) (engine : Engine D) (tail : Tail) (before now after : Option Lanes) (t : TookAll plan first engine tail before now) → BreaksAtFlush plan t.records before after → LanesStop plan answer first before after
-flush_stops law plan answer loud first engine tail before now after t h = record {
+pub flush_stops : {D : Type 0} → OneTrace → (growth : Growth) (plan : Plan) (answer : Finish) → (answer ≡ finish.ReadFault → ⊥) → (first : Option (List ℕ)) (engine : Engine D) (tail : Tail) (before now after : Option Lanes) (t : TookAll plan first engine tail before now) → BreaksAtFlush plan t.records before after → LanesStop growth plan answer first before after
+flush_stops law growth plan answer loud first engine tail before now after t h = record {
   others = others_told plan.table h.gained before after h.grow;
-  stops = flush_stop law plan answer loud first t.records t.end before after t.of_input h;
+  stops = flush_stop law growth plan answer loud first t.records t.end before after t.of_input h;
 }
 
 pub all_whole : {D : Type 0} → (plan : Plan) (first : Option (List ℕ)) (engine ended : Engine D) (tail : Tail) (before now after : Option Lanes) (flows : List FlowView) (t : TookAll plan first engine tail before now) → ended.flows.items ≡ flows → ended.other ≡ engine.other → HasEnded plan t.records flows before after → LanesWhole plan first ended tail before after

@@ -19,7 +19,7 @@ use Rattle.fg_results.specs.Lanes.{OthersStay, PutsAll}
 use Rattle.fg_results.specs.Repair.{AreResults, lanes_of, others_of, tail_of}
 use Rattle.fg_engine.specs.View.{FlowView}
 use Rattle.fg_engine.specs.Steps.{HasTaken}
-use Rattle.fg_results.specs.Stops.{HasShown, LiesBetween, Flushing, HasGained, HasGainedPart, StopsIn}
+use Rattle.fg_results.specs.Stops.{HasShown, LiesBetween, Flushing, HasGained, HasGainedPart, Growth, StopsIn}
 
 -- The lanes
 
@@ -87,10 +87,10 @@ pub record MakesFirst (ports : List ℕ) (before after : Option Lanes) : Type 0 
   pub grow : GrowAll before (take count ports) (λ _. []) after
   pub there : AreThere (take count ports) after
 
--- What a fault leaves of the lanes of the input's trace, where it is answered so.
-pub record LanesStop (plan : Plan) (answer : Finish) (first : Option (List ℕ)) (before after : Option Lanes) : Type 0 where
+-- What a fault leaves of the lanes of the input's trace, where they grow so and it is answered so.
+pub record LanesStop (growth : Growth) (plan : Plan) (answer : Finish) (first : Option (List ℕ)) (before after : Option Lanes) : Type 0 where
   pub others : WhereTold (OthersStay plan.table) before after
-  pub stops : StopsIn plan answer first before after
+  pub stops : StopsIn growth plan answer first before after
 
 -- The reader stands after the records that the engine has taken.
 pub record HasWalked {D : Type 0}

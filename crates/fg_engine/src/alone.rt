@@ -4,6 +4,7 @@ ghost use Rattle.fg_io.specs.Faults.{CountsFaults};
 ghost use Rattle.fg_flows.specs.Plan.{PlanFits, playout_of};
 ghost use Rattle.fg_playout.specs.State.{opening};
 ghost use Rattle.fg_results.specs.Contract.{IsRepair};
+ghost use Rattle.fg_results.specs.Stops.{ByRecord};
 
 use crate::records::{give_up, repair_windows};
 use crate::takes_records::OneByOne;
@@ -81,7 +82,7 @@ pub fn repair_alone<S: Source, K: Sink, O: Outlet>(
 ) -> Finish
     requires { PlanFits plan.now }
 
-    ensures repairs { IsRepair plan.now result (S.left input.old) (S.left input.new) O.lanes lanes.old lanes.new
+    ensures repairs { IsRepair ByRecord plan.now result (S.left input.old) (S.left input.new) O.lanes lanes.old lanes.new
         K.written out.old out.new }
 
     // A fault of the outside is answered only where it was counted in this call, and with every other answer none was. No

@@ -9,6 +9,7 @@ ghost use Rattle.fg_trace.specs.Trace.{Record};
 ghost use Rattle.fg_flows.specs.declared.Plan.{Plan};
 ghost use Rattle.fg_flows.specs.Plan.{PlanFits, playout_of};
 ghost use Rattle.fg_playout.specs.State.{opening};
+ghost use Rattle.fg_results.specs.Stops.{ByRecord};
 ghost use Rattle.fg_engine.specs.Engine.{EngineStands, IsRunning, HasCome, BreaksAfter, LanesStop, HasWalked, HasRead, TookAll, told_finish, IsFlushing, AreReady, HasEnded, BreaksAtFlush, LanesWhole, GrowAll, AreThere, MakesFirst};
 
 use crate::flow::Flow;
@@ -109,7 +110,7 @@ impl<D: WindowState> Engine<D> {
             → TookAll plan.now first self.new tail before (O.lanes lanes.new))) }
         ensures stops { IfErr result (λ fault. (first : Option (List ℕ)) (before : Option Lanes)
             → HasWalked plan.now first (S.left input.old) reader.old self.old before (O.lanes lanes.old)
-            → LanesStop plan.now (finish_after fault) first before (O.lanes lanes.new)) }
+            → LanesStop ByRecord plan.now (finish_after fault) first before (O.lanes lanes.new)) }
         ensures far { (first : Option (List ℕ)) → HasRead plan.now.max reader.old first (S.left input.old)
             → HasRead plan.now.max reader.new first (S.left input.new) }
         ensures reaches { IfOk result (λ end. IfSome end (λ tail.
@@ -157,7 +158,7 @@ impl<D: WindowState> Engine<D> {
             → LanesWhole plan.now first self.new tail (O.lanes lanes.old) (O.lanes lanes.new)) }
         ensures stops { IfErr result (λ fault. (first : Option (List ℕ))
             → StandsAfter reader.old first (S.left input.old) []
-            → LanesStop plan.now (finish_after fault) first (O.lanes lanes.old) (O.lanes lanes.new)) }
+            → LanesStop T.growth plan.now (finish_after fault) first (O.lanes lanes.old) (O.lanes lanes.new)) }
         ensures far { (first : Option (List ℕ)) → HasRead plan.now.max reader.old first (S.left input.old)
             → HasRead plan.now.max reader.new first (S.left input.new) }
         ensures reaches { IfOk result (λ tail. HasReached (told_finish tail) reader.new (S.left input.new)) }

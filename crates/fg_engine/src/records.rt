@@ -8,6 +8,7 @@ ghost use Rattle.fg_flows.specs.Plan.{PlanFits, playout_of};
 ghost use Rattle.fg_playout.specs.State.{opening};
 ghost use Rattle.fg_report.specs.Text.{report_of};
 ghost use Rattle.fg_results.specs.Contract.{IsRepair};
+ghost use Rattle.fg_results.specs.Stops.{ByRecord};
 ghost use Rattle.fg_engine.specs.Engine.{sums_of, told_finish, answer_of};
 
 use crate::engine::Engine;
@@ -39,7 +40,7 @@ pub fn repair_windows<D: WindowState, T: TakesRecords<D>, S: Source, K: Sink, O:
     requires count { length windows.items ≡ length plan.now.table }
     requires empty { All (λ window. D.state window ≡ opening (playout_of plan.now)) windows.items }
 
-    ensures repairs { IsRepair plan.now result (S.left input.old) (S.left input.new) O.lanes lanes.old lanes.new
+    ensures repairs { IsRepair T.growth plan.now result (S.left input.old) (S.left input.new) O.lanes lanes.old lanes.new
         K.written out.old out.new }
 
     // A fault of the outside is answered only where it was counted in this call, and with every other answer none was. No
@@ -64,7 +65,7 @@ pub fn give_up<S: Source, K: Sink, O: Outlet>(
 ) -> Finish
     requires { PlanFits plan.now }
     ensures answer { result ≡ Finish.Memory }
-    ensures repairs { IsRepair plan.now result (S.left input.old) (S.left input.new) O.lanes lanes.old lanes.new
+    ensures repairs { IsRepair ByRecord plan.now result (S.left input.old) (S.left input.new) O.lanes lanes.old lanes.new
         K.written out.old out.new }
     ensures faults { CountsFaults (result ≡ Finish.ReadFault) (result ≡ Finish.WriteFault)
         ((S.faults input.old, S.faults input.new) ∷ [])
@@ -92,7 +93,7 @@ fn repair<D: WindowState, T: TakesRecords<D>, S: Source, K: Sink, O: Outlet>(
     requires fits { PlanFits plan.now }
     requires count { length windows.items ≡ length plan.now.table }
     requires empty { All (λ window. D.state window ≡ opening (playout_of plan.now)) windows.items }
-    ensures repairs { IsRepair plan.now (answer_of result) (S.left input.old) (S.left input.new) O.lanes lanes.old lanes.new
+    ensures repairs { IsRepair T.growth plan.now (answer_of result) (S.left input.old) (S.left input.new) O.lanes lanes.old lanes.new
         K.written out.old out.new }
     ensures ending { IfOk result (λ finish. ¬ IsFault finish) }
     ensures faults { Counts result ((S.faults input.old, S.faults input.new) ∷ [])
@@ -135,7 +136,7 @@ fn repair_records<D: WindowState, T: TakesRecords<D>, S: Source, K: Sink, O: Out
     requires max { reader.old.max ≡ plan.now.max }
     requires bounded { reader.old.place + length reader.old.held ≤ reader.old.max + 1 }
     ensures repairs { (first : Option (List ℕ)) → StandsAfter reader.old first (S.left input.old) []
-        → IsRepair plan.now (answer_of result) first (S.left input.new) O.lanes lanes.old lanes.new
+        → IsRepair T.growth plan.now (answer_of result) first (S.left input.new) O.lanes lanes.old lanes.new
         K.written out.old out.new }
     ensures ending { IfOk result (λ finish. ¬ IsFault finish) }
     ensures faults { Counts result ((S.faults input.old, S.faults input.new) ∷ [])

@@ -5,6 +5,7 @@ ghost use Rattle.fg_io.specs.Outlet.{Lanes};
 ghost use Rattle.fg_trace.specs.Finish.{finish_after};
 ghost use Rattle.fg_trace.specs.Reading.{HasReached};
 ghost use Rattle.fg_flows.specs.Plan.{PlanFits};
+ghost use Rattle.fg_results.specs.Stops.{Growth, ByRecord};
 ghost use Rattle.fg_engine.specs.Engine.{LanesStop, HasWalked, HasRead, TookAll, told_finish};
 
 use crate::engine::Engine;
@@ -19,6 +20,9 @@ use std::alloc::Global;
 pub trait TakesRecords<D: WindowState> {
     /// It can take them.
     ghost ready: { Self → Type 0 };
+
+    /// How the lanes grow meanwhile.
+    ghost growth: { Growth };
 
     /// Takes all records that are left, and answers how the trace ends. What plays show goes to the flows' lanes.
     fn take_all<S: Source, O: Outlet>(
@@ -41,7 +45,7 @@ pub trait TakesRecords<D: WindowState> {
             → TookAll plan.now first engine.new tail before (O.lanes lanes.new)) }
         ensures stops { IfErr result (λ fault. (first : Option (List ℕ)) (before : Option Lanes)
             → HasWalked plan.now first (S.left input.old) reader.old engine.old before (O.lanes lanes.old)
-            → LanesStop plan.now (finish_after fault) first before (O.lanes lanes.new)) }
+            → LanesStop growth plan.now (finish_after fault) first before (O.lanes lanes.new)) }
         ensures far { (first : Option (List ℕ)) → HasRead plan.now.max reader.old first (S.left input.old)
             → HasRead plan.now.max reader.new first (S.left input.new) }
         ensures reaches { IfOk result (λ tail. HasReached (told_finish tail) reader.new (S.left input.new)) }
@@ -56,6 +60,8 @@ pub struct OneByOne;
 
 impl<D: WindowState> TakesRecords<D> for OneByOne {
     ghost ready = { λ _. Unit {0} };
+
+    ghost growth = { ByRecord };
 
     fn take_all<S: Source, O: Outlet>(
         &mut self,

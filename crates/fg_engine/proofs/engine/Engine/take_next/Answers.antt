@@ -5,6 +5,7 @@ use Rattle.fg_trace.specs.Trace.{Ended, Cut, TooLong}
 use Rattle.fg_io.specs.Outlet.{Lanes}
 use Rattle.fg_io.specs.declared.fault.Fault.{Fault}
 use Rattle.fg_trace.specs.Finish.{finish_after}
+use Rattle.fg_results.specs.Stops.{ByRecord}
 use Rattle.fg_engine.specs.Engine.{HasWalked, LanesStop}
 use Rattle.fg_engine.proofs.Results.{passed_on, read_only}
 use Rattle.fg_engine.proofs.Walking.{running, stop_at_record, stop_at_fault, took_all}
@@ -19,10 +20,10 @@ take-requires-clause-running g c =
 pub returns-in_err-take-in-Ok-Datagram-clause-stops : goal.returns-in_err-take-in-Ok-Datagram-clause-stops
 returns-in_err-take-in-Ok-Datagram-clause-stops g c =
     passed_on (λ (fault : Fault). (first : Option (List ℕ)) (before : Option Lanes) → HasWalked c.args.plan.now first (g.S.Source.left c.args.input.now) c.args.reader.now c.args.self.now before (g.O.Outlet.lanes c.args.lanes.now)
-    → LanesStop c.args.plan.now (finish_after fault) first before (g.O.Outlet.lanes c.take.new.lanes))
+    → LanesStop ByRecord c.args.plan.now (finish_after fault) first before (g.O.Outlet.lanes c.take.new.lanes))
     c.from_residual.result c.in_err-take-in-Ok-Datagram.field-0.0 c.from_residual.ensures.1
     (λ first before h.
-    stop_at_record c.walks_the_front.ensures c.args.plan.now (finish_after c.in_err-take-in-Ok-Datagram.field-0.0)
+    stop_at_record c.walks_the_front.ensures ByRecord c.args.plan.now (finish_after c.in_err-take-in-Ok-Datagram.field-0.0)
     (λ read. c.in_err-take-in-Ok-Datagram.ensures.faults.read (read_only c.in_err-take-in-Ok-Datagram.field-0.0 read))
     first _ _ c.args.reader.now c.next.new.self c.args.self.now before _ _ c.next.result c.in-Ok-Datagram.field-0-0 c.in-Ok-Datagram.port c.in-Ok-Datagram.field-0-2 c.payload.result.now
     (c.next.ensures.max ∙ c.requires.max) (c.in-Ok-Datagram.is ∙ ap Ok c.in-Ok-Datagram.field-0-is) c.payload.ensures (c.next.ensures.walks first) (c.in_err-take-in-Ok-Datagram.ensures.breaks before) h)
@@ -44,5 +45,5 @@ returns-in-Err-TooLong-clause-ends g c = λ first before h.
 
 pub returns-in-Err-ReadFault-clause-stops : goal.returns-in-Err-ReadFault-clause-stops
 returns-in-Err-ReadFault-clause-stops g c = λ first before h.
-    stop_at_fault c.walks_the_front.ensures c.args.plan.now _ first _ _ c.args.reader.now c.next.new.self c.args.self.now before _ c.in-Err-ReadFault.field-0
+    stop_at_fault c.walks_the_front.ensures ByRecord c.args.plan.now _ first _ _ c.args.reader.now c.next.new.self c.args.self.now before _ c.in-Err-ReadFault.field-0
     (c.next.ensures.max ∙ c.requires.max) (c.in-Err-ReadFault.ensures.walks first) h

@@ -11,15 +11,15 @@ use Rattle.fg_engine.proofs.engine.Engine.write_lanes.Goals as goal
 pub returns-in_err-make_lanes-clause-stops : goal.returns-in_err-make_lanes-clause-stops
 returns-in_err-make_lanes-clause-stops g c =
     passed_on (λ (fault : Fault). (first : Option (List ℕ)) → StandsAfter c.args.reader.now first (g.S.Source.left c.args.input.now) []
-    → LanesStop c.args.plan.now (finish_after fault) first (g.O.Outlet.lanes c.args.lanes.now) (g.O.Outlet.lanes c.make_lanes.new.lanes))
+    → LanesStop g.T.TakesRecords.growth c.args.plan.now (finish_after fault) first (g.O.Outlet.lanes c.args.lanes.now) (g.O.Outlet.lanes c.make_lanes.new.lanes))
     c.from_residual.result c.in_err-make_lanes.field-0.0 c.from_residual.ensures.1
-    (λ first h. making_lanes_stops c.args.plan.now _ first _ _ c.in_err-make_lanes.ensures.part c.in_err-make_lanes.ensures.first)
+    (λ first h. making_lanes_stops g.T.TakesRecords.growth c.args.plan.now _ first _ _ c.in_err-make_lanes.ensures.part c.in_err-make_lanes.ensures.first)
 
 pub returns-in_err-tail-clause-stops : goal.returns-in_err-tail-clause-stops
 returns-in_err-tail-clause-stops g c =
     let before = g.O.Outlet.lanes c.args.lanes.now in
     passed_on (λ (fault : Fault). (first : Option (List ℕ)) → StandsAfter c.args.reader.now first (g.S.Source.left c.args.input.now) []
-    → LanesStop c.args.plan.now (finish_after fault) first before (g.O.Outlet.lanes c.take_all.new.lanes))
+    → LanesStop g.T.TakesRecords.growth c.args.plan.now (finish_after fault) first before (g.O.Outlet.lanes c.take_all.new.lanes))
     c.from_residual-in_err-tail.result c.in_err-tail.field-0.0 c.from_residual-in_err-tail.ensures.1
     (λ first h. c.in_err-tail.ensures.stops first before
     (begun c.args.plan.now first _ c.args.reader.now c.args.self.now before _ c.requires.new c.in_ok-make_lanes.ensures.made c.in_ok-make_lanes.ensures.there h))
@@ -35,12 +35,12 @@ pub returns-in_err-flush-clause-stops : goal.returns-in_err-flush-clause-stops
 returns-in_err-flush-clause-stops g c =
     let before = g.O.Outlet.lanes c.args.lanes.now in
     passed_on (λ (fault : Fault). (first : Option (List ℕ)) → StandsAfter c.args.reader.now first (g.S.Source.left c.args.input.now) []
-    → LanesStop c.args.plan.now (finish_after fault) first before (g.O.Outlet.lanes c.flush.new.lanes))
+    → LanesStop g.T.TakesRecords.growth c.args.plan.now (finish_after fault) first before (g.O.Outlet.lanes c.flush.new.lanes))
     c.from_residual-in_err-flush.result c.in_err-flush.field-0.0 c.from_residual-in_err-flush.ensures.1
     (λ first h.
     let took = c.in_ok-tail.ensures.whole first before (begun c.args.plan.now first _ c.args.reader.now c.args.self.now before _ c.requires.new c.in_ok-make_lanes.ensures.made c.in_ok-make_lanes.ensures.there h) in
     let flushing = took_flushing c.args.plan.now first c.take_all.new.engine c.in_ok-tail.tail before _ c.deref_mut.result.now c.deref_mut.ensures.value took in
-    flush_stops c.one_trace.ensures c.args.plan.now (finish_after c.in_err-flush.field-0.0)
+    flush_stops c.one_trace.ensures g.T.TakesRecords.growth c.args.plan.now (finish_after c.in_err-flush.field-0.0)
     (λ read. c.in_err-flush.ensures.faults.read (read_only c.in_err-flush.field-0.0 read)) first c.take_all.new.engine c.in_ok-tail.tail before _ _ took
     (c.in_err-flush.ensures.breaks c.args.plan.now took.records before c.requires.fits flushing))
 
