@@ -8,7 +8,7 @@ ghost use Rattle.fg_flows.specs.Plan.{PlanFits, playout_of};
 ghost use Rattle.fg_playout.specs.State.{opening};
 ghost use Rattle.fg_report.specs.Text.{report_of};
 ghost use Rattle.fg_results.specs.Contract.{IsRepair};
-ghost use Rattle.fg_results.specs.Stops.{ByRecord};
+ghost use Rattle.fg_results.specs.Stops.{ByRecord, ByBatch};
 ghost use Rattle.fg_engine.specs.Engine.{sums_of, told_finish, answer_of};
 
 use crate::engine::Engine;
@@ -56,7 +56,7 @@ pub fn repair_windows<D: WindowState, T: TakesRecords<D>, S: Source, K: Sink, O:
     }
 }
 
-/// Ends a repair for want of memory before it has begun.
+/// Ends a repair for want of memory before it has begun, in whichever way its lanes would grow.
 pub fn give_up<S: Source, K: Sink, O: Outlet>(
     plan: &Plan,
     input: &mut S,
@@ -65,7 +65,9 @@ pub fn give_up<S: Source, K: Sink, O: Outlet>(
 ) -> Finish
     requires { PlanFits plan.now }
     ensures answer { result ≡ Finish.Memory }
-    ensures repairs { IsRepair ByRecord plan.now result (S.left input.old) (S.left input.new) O.lanes lanes.old lanes.new
+    ensures by_record { IsRepair ByRecord plan.now result (S.left input.old) (S.left input.new) O.lanes lanes.old lanes.new
+        K.written out.old out.new }
+    ensures by_batch { IsRepair ByBatch plan.now result (S.left input.old) (S.left input.new) O.lanes lanes.old lanes.new
         K.written out.old out.new }
     ensures faults { CountsFaults (result ≡ Finish.ReadFault) (result ≡ Finish.WriteFault)
         ((S.faults input.old, S.faults input.new) ∷ [])

@@ -7,6 +7,7 @@ ghost use Rattle.std.specs.Prelude.{◌≡◌, [], ◌∷◌, length};
 ghost use Rattle.fg_io.specs.Faults.{CountsFaults};
 ghost use Rattle.fg_flows.specs.Plan.{PlanFits};
 ghost use Rattle.fg_results.specs.Contract.{IsRepair};
+ghost use Rattle.fg_results.specs.Stops.{ByBatch};
 ghost use Rattle.fg_repair.specs.Crewed.{CanBegin, IsCrew};
 
 mod arrivals;
@@ -52,7 +53,7 @@ pub fn repair<
 >(rt: &W, alloc: Global, plan: &Plan, input: &mut S, out: &mut K, lanes: &mut O, gate: &G) -> Finish
     requires { PlanFits plan.now }
 
-    ensures repairs { IsRepair plan.now result (S.left input.old) (S.left input.new) O.lanes lanes.old lanes.new
+    ensures repairs { IsRepair ByBatch plan.now result (S.left input.old) (S.left input.new) O.lanes lanes.old lanes.new
         K.written out.old out.new }
 
     // A fault of the outside is answered only where it was counted in this call, and with every other answer none was. No
@@ -87,7 +88,7 @@ fn repair_with<
 ) -> Finish
     requires fits { PlanFits plan.now }
     requires made { IsCrew plan.now (length plan.now.table) made }
-    ensures repairs { IsRepair plan.now result (S.left input.old) (S.left input.new) O.lanes lanes.old lanes.new
+    ensures repairs { IsRepair ByBatch plan.now result (S.left input.old) (S.left input.new) O.lanes lanes.old lanes.new
         K.written out.old out.new }
     ensures faults { CountsFaults (result ≡ Finish.ReadFault) (result ≡ Finish.WriteFault)
         ((S.faults input.old, S.faults input.new) ∷ [])
@@ -141,7 +142,7 @@ fn repair_beside<
 ) -> Finish
     requires fits { PlanFits plan.now }
     requires begins { CanBegin plan.now posts.now hosts.items }
-    ensures repairs { IsRepair plan.now result (S.left input.old) (S.left input.new) O.lanes lanes.old lanes.new
+    ensures repairs { IsRepair ByBatch plan.now result (S.left input.old) (S.left input.new) O.lanes lanes.old lanes.new
         K.written out.old out.new }
     ensures faults { CountsFaults (result ≡ Finish.ReadFault) (result ≡ Finish.WriteFault)
         ((S.faults input.old, S.faults input.new) ∷ [])

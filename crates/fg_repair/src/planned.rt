@@ -3,6 +3,7 @@ ghost use Rattle.std.specs.Prelude.{◌≡◌, [], ◌∷◌};
 ghost use Rattle.fg_io.specs.Faults.{CountsFaults};
 ghost use Rattle.fg_flows.specs.Plan.{PlanFits};
 ghost use Rattle.fg_results.specs.Contract.{IsRepair};
+ghost use Rattle.fg_results.specs.Stops.{growth_of};
 
 use fg_engine::repair_alone;
 use crate::crewed::repair;
@@ -24,7 +25,7 @@ pub fn repair_as_planned<
 >(rt: &W, alloc: Global, plan: &Plan, input: &mut S, out: &mut K, lanes: &mut O, gate: &G) -> Finish
     requires { PlanFits plan.now }
 
-    ensures repairs { IsRepair plan.now result (S.left input.old) (S.left input.new) O.lanes lanes.old lanes.new
+    ensures repairs { IsRepair (growth_of plan.now) plan.now result (S.left input.old) (S.left input.new) O.lanes lanes.old lanes.new
         K.written out.old out.new }
 
     // A fault of the outside is answered only where it was counted in this call, and with every other answer none was. No

@@ -6,6 +6,7 @@ ghost use Rattle.fg_trace.specs.declared.step.Finish.TheVariants as finish;
 ghost use Rattle.fg_flows.specs.Plan.{PlanFits};
 ghost use Rattle.fg_playout.specs.State.{opening};
 ghost use Rattle.fg_results.specs.Contract.{IsRepair};
+ghost use Rattle.fg_results.specs.Stops.{ByBatch};
 ghost use Rattle.fg_board.specs.Actors.{desk_of};
 ghost use Rattle.fg_repair.specs.Crewed.{HostAll, IsNewHost, CanBegin};
 
@@ -18,6 +19,7 @@ use fg_engine::{OneByOne, give_up, repair_windows};
 use fg_crew::{Body, Gate, Hints};
 use fg_flows::Plan;
 use fg_io::{Outlet, Sink, Source};
+use fg_results::laws::by_record_is_one_way;
 use fg_trace::Finish;
 use std::alloc::{AllocError, Global};
 use std::mem;
@@ -69,7 +71,7 @@ impl<
         × CanBegin repairing.plan.now repairing.posts.now repairing.hosts.items };
 
     ghost ran = { λ old answer new.
-        IsRepair old.plan.now answer (S.left old.input.now) (S.left new.input.now) O.lanes old.lanes.now new.lanes.now
+        IsRepair ByBatch old.plan.now answer (S.left old.input.now) (S.left new.input.now) O.lanes old.lanes.now new.lanes.now
         K.written old.out.now new.out.now
         × CountsFaults (answer ≡ finish.ReadFault) (answer ≡ finish.WriteFault)
         ((S.faults old.input.now, S.faults new.input.now) ∷ [])
@@ -79,6 +81,7 @@ impl<
         × (new.lanes.ghost_name ≡ old.lanes.ghost_name) };
 
     fn run<W: Threads + Wait + Sync>(&mut self, rt: &W, hints: &Hints) -> Finish {
+        by_record_is_one_way();
         let hosts = mem::replace(&mut self.hosts, Vec::new(self.alloc));
         match windows_on(
             rt,
