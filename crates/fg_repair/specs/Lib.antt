@@ -2,3 +2,4 @@
 pub mod BatchView
 pub mod Batches
 pub mod Crewed
+pub mod Walking

@@ -1,4 +1,8 @@
 //! The records of a repair in batches, which the flows run side by side.
 mod emptying;
+mod filling;
 mod flows;
 mod running;
+mod walking;
+
+pub(crate) use walking::InBatches;

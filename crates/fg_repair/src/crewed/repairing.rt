@@ -10,16 +10,16 @@ ghost use Rattle.fg_results.specs.Stops.{ByBatch};
 ghost use Rattle.fg_board.specs.Actors.{desk_of};
 ghost use Rattle.fg_repair.specs.Crewed.{HostAll, IsNewHost, CanBegin};
 
+use crate::batches::InBatches;
 use crate::crewed::arrivals::Progress;
 use crate::crewed::board_window::BoardWindow;
 use crate::crewed::places::Places;
 use crate::crewed::points::Hears;
 use crate::crewed::post::{Host, Post};
-use fg_engine::{OneByOne, give_up, repair_windows};
 use fg_crew::{Body, Gate, Hints};
+use fg_engine::{give_up, repair_windows};
 use fg_flows::Plan;
 use fg_io::{Outlet, Sink, Source};
-use fg_results::laws::by_record_is_one_way;
 use fg_trace::Finish;
 use std::alloc::{AllocError, Global};
 use std::mem;
@@ -81,7 +81,6 @@ impl<
         × (new.lanes.ghost_name ≡ old.lanes.ghost_name) };
 
     fn run<W: Threads + Wait + Sync>(&mut self, rt: &W, hints: &Hints) -> Finish {
-        by_record_is_one_way();
         let hosts = mem::replace(&mut self.hosts, Vec::new(self.alloc));
         match windows_on(
             rt,
@@ -96,7 +95,7 @@ impl<
                 self.alloc,
                 self.plan,
                 windows,
-                &mut OneByOne,
+                &mut InBatches { rt },
                 self.input,
                 self.out,
                 self.lanes,

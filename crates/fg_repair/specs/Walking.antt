@@ -1,0 +1,89 @@
+-- How a trace is walked batch by batch. No public contract cites what stands here.
+use Rattle.std.specs.Prelude.{◌≡◌, ◌+◌, ◌<◌, ◌^◌, ◌⊎◌, ◌++◌, ℕ, Option, Some, IfSome, List, [], length, slice_index, take}
+use Rattle.std.specs.List.{Contains, slice_index_or}
+use Rattle.fg_io.specs.Outlet.{Lanes}
+use Rattle.fg_trace.specs.Reader.{ReaderState, StandsAfter}
+use Rattle.fg_trace.specs.Trace.{Record, Ending, IsTrace}
+use Rattle.fg_flows.specs.declared.Plan.{Plan}
+use Rattle.fg_flows.specs.Plan.{playout_of}
+use Rattle.fg_report.specs.declared.tail.Tail.{Tail}
+use Rattle.fg_results.specs.Repair.{others_of}
+use Rattle.fg_results.specs.Stops.{HasShown, LiesBetween}
+use Rattle.fg_engine.specs.Engine.{FlowStands, GrowAll, AreThere, TellsTail}
+use Rattle.fg_repair.specs.BatchView.{BatchView}
+use Rattle.fg_repair.specs.declared.batches.filling.Batches.{Batches}
+use Rattle.fg_repair.specs.Batches.{HoldsBatch}
+
+-- Each flow of the plan has taken these records and has shown these bytes, and nothing waits for its lane.
+pub record FlowsStand (plan : Plan) (records : List Record) (flows : List (BatchView)) (gained : ℕ → List ℕ) : Type 0 where
+  pub count : length flows ≡ length plan.table
+  pub each : (k : ℕ) (d : BatchView) → k < length plan.table
+      → FlowStands plan records (slice_index plan.table k) (slice_index_or flows k d).flow (gained (slice_index plan.table k))
+  pub empty : (k : ℕ) (d : BatchView) → k < length plan.table → (slice_index_or flows k d).shelf ≡ []
+
+-- The flows have taken these records, and their lanes have gained what they have shown. The records of the batch, which come
+-- next, are in the sheaf. Those of no flow are counted.
+pub record IsFilled {D : Type 0}
+    (plan : Plan) (records batch : List Record) (batches : Batches D) (before after : Option Lanes) : Type 0 where
+  pub gained : ℕ → List ℕ
+  pub stands : FlowsStand plan records batches.flows.items gained
+  pub holds : HoldsBatch plan batch batches.sheaf
+  pub other : batches.other ≡ others_of plan.table (records ++ batch)
+  pub grow : GrowAll before plan.table gained after
+  pub there : AreThere plan.table after
+
+-- It is so after few records of a plan that fits.
+pub record CanFill {D : Type 0} (plan : Plan) (batches : Batches D) (after : Option Lanes) : Type 0 where
+  pub records : List Record
+  pub batch : List Record
+  pub before : Option Lanes
+  pub filled : IsFilled plan records batch batches before after
+  pub few : length (records ++ batch) < 2 ^ 43
+
+-- The reader stands after these records.
+pub record HasFilled {D : Type 0}
+    (plan : Plan) (first now : Option (List ℕ)) (reader : ReaderState) (batches : Batches D) (before after : Option Lanes) : Type 0 where
+  pub records : List Record
+  pub batch : List Record
+  pub stands : StandsAfter reader first now (records ++ batch)
+  pub filled : IsFilled plan records batch batches before after
+
+-- They are all records of the trace, and it ends so.
+pub record FilledAll {D : Type 0}
+    (plan : Plan) (first : Option (List ℕ)) (batches : Batches D) (tail : Tail) (before after : Option Lanes) : Type 0 where
+  pub records : List Record
+  pub batch : List Record
+  pub end : Ending
+  pub of_input : IfSome first (λ bytes. IsTrace bytes plan.max (records ++ batch) end)
+  pub tells : TellsTail end tail
+  pub few : length (records ++ batch) < 2 ^ 43
+  pub filled : IsFilled plan records batch batches before after
+
+-- The last batch was run too.
+pub record RanAll {D : Type 0}
+    (plan : Plan) (first : Option (List ℕ)) (batches : Batches D) (tail : Tail) (before after : Option Lanes) : Type 0 where
+  pub records : List Record
+  pub end : Ending
+  pub of_input : IfSome first (λ bytes. IsTrace bytes plan.max records end)
+  pub tells : TellsTail end tail
+  pub few : length records < 2 ^ 43
+  pub filled : IsFilled plan records [] batches before after
+
+-- What a flow's lane has gained where the first flows have put what they show of a batch, whose last record is the last of
+-- `next`, and the others what they have shown before.
+abbrev pub HasPut : Plan → List Record → List Record → ℕ → ℕ → List ℕ → Type 0
+HasPut plan taken next done flow bytes =
+    (Contains (take done plan.table) flow × HasShown (playout_of plan) flow next bytes)
+    ⊎ ((¬ Contains (take done plan.table) flow) × HasShown (playout_of plan) flow taken bytes)
+
+-- A fault came while a batch was run, or while the flows put what they show of it: the first flows have put it, but for one
+-- that the fault broke, whose lane has gained a part of it.
+pub record BreaksInBatch (plan : Plan) (taken next : List Record) (before after : Option Lanes) : Type 0 where
+  pub done : ℕ
+  pub broken : Option ℕ
+  pub gained : ℕ → List ℕ
+  pub grow : GrowAll before plan.table gained after
+  pub there : AreThere plan.table after
+  pub exact : (flow : ℕ) → Contains plan.table flow
+      → HasPut plan taken next done flow (gained flow)
+      ⊎ ((broken ≡ Some flow) × LiesBetween (HasPut plan taken next done flow) (HasPut plan taken next (done + 1) flow) (gained flow))
