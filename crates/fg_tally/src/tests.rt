@@ -2,5 +2,8 @@
 
 mod crossing;
 mod gone;
+mod plain;
+mod random;
 mod row;
 mod scene;
+mod stage;

@@ -43,7 +43,7 @@ fn retired_is_gone(wait: &impl Wait, alloc: Global) -> Result<bool, AllocError> 
     if tally.start(wait, key) != Begun::Held || tally.held().is_none() {
         return Ok(false);
     }
-    if !play(wait, alloc, &board, &mut admitter, 4)? {
+    if play(wait, alloc, &board, &mut admitter, 4)?.is_none() {
         return Ok(false);
     }
     let stale = fold(wait, &mut tally, key, 0) == Some(Folded::Stale);

@@ -4,9 +4,9 @@ ghost use Rattle.std.specs.Prelude.{◌≡◌, ◌≤◌};
 
 use crate::{Folded, Tally};
 use fg_board::{Admitter, Board, Key};
-use fg_desk::{Reply, Tray};
+use fg_desk::{Played, Reply, Tray};
 use fg_shape::{Shape, contains, shape_ok};
-use fg_words::Word;
+use fg_words::{Shared, Word};
 use std::alloc::{AllocError, Global};
 use std::sync::Wait;
 
@@ -33,6 +33,24 @@ pub(super) fn sum_of(base: u32, shape: Shape) -> Word {
     sum
 }
 
+/// Admits a media datagram. None where a play is due first, or the word is no media word.
+pub(super) fn send_media(
+    wait: &impl Wait,
+    board: &Board,
+    admitter: &mut Admitter,
+    seq: u16,
+    share: Shared,
+) -> Option<Reply>
+    requires { admitter.old.seat.turn ≡ board.now.name }
+    ensures turn { admitter.new.seat.turn ≡ admitter.old.seat.turn }
+    ensures window { admitter.new.playout.window ≡ admitter.old.playout.window }
+{
+    if !admitter.room() || admitter.due(seq) || !share.word().is_media() {
+        return None;
+    }
+    Some(admitter.admit_media(wait, board, seq, share))
+}
+
 /// Admits the media datagram that has the word of its sequence number. Whether it was admitted.
 pub(super) fn admit_media(
     wait: &impl Wait,
@@ -46,10 +64,27 @@ pub(super) fn admit_media(
     ensures window { admitter.new.playout.window ≡ admitter.old.playout.window }
 {
     let share = word_of(u32::from(seq)).share(alloc)?;
-    if !admitter.room() || admitter.due(seq) || !share.word().is_media() {
-        return Ok(false);
+    Ok(send_media(wait, board, admitter, seq, share) == Some(Reply::Admitted))
+}
+
+/// Admits a parity datagram. Its key, where it was admitted.
+pub(super) fn send_parity(
+    wait: &impl Wait,
+    board: &Board,
+    admitter: &mut Admitter,
+    base: u16,
+    shape: Shape,
+    share: Shared,
+) -> Option<Key>
+    requires { admitter.old.seat.turn ≡ board.now.name }
+    ensures turn { admitter.new.seat.turn ≡ admitter.old.seat.turn }
+    ensures window { admitter.new.playout.window ≡ admitter.old.playout.window }
+{
+    if !admitter.room() || !shape_ok(shape) {
+        return None;
     }
-    Ok(admitter.admit_media(wait, board, seq, share) == Reply::Admitted)
+    let (_, key) = admitter.admit_parity(wait, board, base, shape, share);
+    key
 }
 
 /// Admits the parity datagram of the words that have the numbers of their positions.
@@ -66,37 +101,35 @@ pub(super) fn admit_parity(
     ensures window { admitter.new.playout.window ≡ admitter.old.playout.window }
 {
     let share = sum_of(u32::from(base), shape).share(alloc)?;
-    if !admitter.room() || !shape_ok(shape) {
-        return Ok(None);
-    }
-    let (_, key) = admitter.admit_parity(wait, board, base, shape, share);
-    Ok(key)
+    Ok(send_parity(wait, board, admitter, base, shape, share))
 }
 
-/// Plays a window. Whether a play was due before this sequence number.
+/// Plays a window, with what it shows. None where no play is due before this sequence number.
 pub(super) fn play(
     wait: &impl Wait,
     alloc: Global,
     board: &Board,
     admitter: &mut Admitter,
     seq: u16,
-) -> Result<bool, AllocError>
+) -> Result<Option<(Played, Tray)>, AllocError>
     requires turn { admitter.old.seat.turn ≡ board.now.name }
     requires window { admitter.old.playout.window ≤ 100 }
+    ensures turn { admitter.new.seat.turn ≡ admitter.old.seat.turn }
+    ensures window { admitter.new.playout.window ≡ admitter.old.playout.window }
 {
     let mut tray = Tray::new(alloc, 100)?;
     if !admitter.room() || !admitter.due(seq) {
-        return Ok(false);
+        return Ok(None);
     }
-    let _ = admitter.play(wait, board, &mut tray);
-    Ok(true)
+    let played = admitter.play(wait, board, &mut tray);
+    Ok(Some((played, tray)))
 }
 
-/// Folds a slot. None where the tally holds the key of an equation without such a slot.
+/// Folds a slot. None where the tally holds this key, of an equation without such a slot.
 pub(super) fn fold(wait: &impl Wait, tally: &mut Tally<'_>, key: Key, slot: u64) -> Option<Folded> {
     match tally.held() {
         Some(held) => {
-            if !contains(held.base, held.shape, slot) {
+            if held.key == key && !contains(held.base, held.shape, slot) {
                 return None;
             }
             Some(tally.fold(wait, key, slot))
