@@ -21,9 +21,9 @@ impl Arrivals {
         })
     }
 
-    /// Whether a position has a word.
-    pub(crate) fn has(&self, position: u64) -> bool {
-        self.bits.has(bit_of(position))
+    /// Whether a position, modulo 65,536, has a word.
+    pub(crate) fn has(&self, position: u16) -> bool {
+        self.bits.has(usize::from(position))
     }
 
     /// Marks a position that has a word now.
@@ -65,6 +65,11 @@ impl Progress {
             self.word = word;
             arrivals.bits.clear_word((word + WORDS / 2) % WORDS);
         }
+    }
+
+    /// The position of a sequence number, modulo 65,536, once a media datagram was admitted.
+    pub(crate) fn position(&self, seq: u16) -> u16 {
+        seq.wrapping_sub(self.first.unwrap_or(seq))
     }
 
     /// The sequence number of the first media datagram, which is this one where none was before.

@@ -2,6 +2,7 @@
 ghost use Rattle.std.specs.Prelude.{◌≡◌, ◌≤◌};
 
 use crate::crewed::arrivals::Progress;
+use crate::crewed::held_places::Waiting;
 use crate::crewed::places::Places;
 use crate::crewed::points::{CALLER, Hears, PLAYING};
 use crate::crewed::signal::Signal;
@@ -13,8 +14,7 @@ use fg_shape::Shape;
 use fg_words::{Shared, Word};
 use std::sync::Wait;
 
-/// A flow's windows on its board. Its workers are hinted of each datagram that is admitted, and each equation is held by the
-/// tally of its place.
+/// A flow's windows on its board. Its workers are told and hinted of each datagram that is admitted.
 #[derive(Drop)]
 pub(crate) struct BoardWindow<'a, W: Wait, G: Hears, P: Places> {
     pub(crate) wait: &'a W,
@@ -71,7 +71,11 @@ impl<'a, W: Wait, G: Hears, P: Places> WindowState for BoardWindow<'a, W, G, P> 
             .admitter
             .admit_parity(self.wait, self.board, base, shape, share);
         if let Some(key) = key {
-            self.places.start(self.wait, self.signal, self.flow, key);
+            self.signal.held.tell(Waiting {
+                key,
+                base: self.progress.position(base),
+                shape,
+            });
         }
         self.hint_after(reply);
         reply

@@ -22,13 +22,21 @@ pub(crate) fn unfolded(held: &Held) -> u32 {
 }
 
 /// The position of a slot by its number, for what only saves looks.
-pub(crate) fn position_of(held: &Held, number: u32) -> u64 {
+fn position_of(held: &Held, number: u32) -> u64 {
     let distance = u64::from(number).wrapping_mul(u64::from(held.shape.offset));
     held.base.wrapping_add(distance)
 }
 
+/// Whether a tally holds the equation of this key.
+pub(crate) fn holds(tally: &Tally<'_>, key: Key) -> bool {
+    match tally.held() {
+        Some(held) => held.key == key,
+        None => false,
+    }
+}
+
 /// Whether the bit of a number is set.
-pub(crate) fn has_number(numbers: u32, number: u32) -> bool {
+fn has_number(numbers: u32, number: u32) -> bool {
     numbers.wrapping_shr(number) & 1 == 1
 }
 

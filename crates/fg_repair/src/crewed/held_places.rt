@@ -1,23 +1,67 @@
-//! Which places of a flow's tallies wait to be settled.
+//! Which places of a flow's tallies wait to be settled, and the equations there.
+ghost use Rattle.std.specs.Prelude.{◌≡◌, IfSome};
 
 use crate::crewed::bits::Bits;
+use fg_board::Key;
+use fg_shape::Shape;
 use std::alloc::{AllocError, Global};
+use std::sync::atomic::{AtomicU8, AtomicU16, AtomicU64, Ordering};
 
 /// How many equations of a flow can be live at once, each at a place of its own.
 pub(crate) const PLACES: u32 = 512;
 
-/// Which places have an equation that was admitted and, for all that is known here, isn't settled yet. It only saves looks: a
-/// tally tells itself what it holds.
+/// An equation that was admitted, as far as a worker has to know it before it starts a tally.
+#[derive(Clone, Copy)]
+pub(crate) struct Waiting {
+    pub(crate) key: Key,
+    /// The position of its base, modulo 65,536.
+    pub(crate) base: u16,
+    pub(crate) shape: Shape,
+}
+
+impl Waiting {
+    /// The position of a slot by its number, modulo 65,536.
+    pub(crate) fn position(&self, number: u8) -> u16 {
+        let distance = u16::from(number).wrapping_mul(u16::from(self.shape.offset));
+        self.base.wrapping_add(distance)
+    }
+}
+
+/// What is told of the equation at a place, in words of its own.
+#[derive(Drop)]
+struct Told {
+    serial: AtomicU64,
+    epoch: AtomicU64,
+    base: AtomicU16,
+    offset: AtomicU8,
+    count: AtomicU8,
+}
+
+/// Which places have an equation that was admitted and, for all that is known here, isn't settled yet, and which one. It only
+/// saves looks: whoever reads what was told of two equations in turn gets a key that the board knows nothing of, or the slots of
+/// another equation, and a tally tells itself what it holds.
 #[derive(Drop)]
 pub(crate) struct HeldPlaces {
     bits: Bits,
+    told: Vec<Told>,
 }
 
 impl HeldPlaces {
     /// None.
     pub(crate) fn new(alloc: Global) -> Result<HeldPlaces, AllocError> {
+        let mut told = Vec::with_capacity(alloc, PLACES as usize)?;
+        for _ in 0..PLACES {
+            told.push(Told {
+                serial: AtomicU64::new(0),
+                epoch: AtomicU64::new(0),
+                base: AtomicU16::new(0),
+                offset: AtomicU8::new(0),
+                count: AtomicU8::new(0),
+            })?;
+        }
         Ok(HeldPlaces {
             bits: Bits::new(alloc, PLACES as usize / 64)?,
+            told,
         })
     }
 
@@ -26,13 +70,46 @@ impl HeldPlaces {
         self.bits.has(place as usize)
     }
 
-    /// Marks a place, whose tally was started.
-    pub(crate) fn mark(&self, place: u32) {
-        self.bits.set(place as usize);
+    /// Tells of an equation that was admitted, and marks its place.
+    pub(crate) fn tell(&self, waiting: Waiting) {
+        let place = waiting.key.place as usize;
+        if let Some(told) = self.told.get(place) {
+            told.serial.store(waiting.key.serial, Ordering::SeqCst);
+            told.epoch.store(waiting.key.epoch, Ordering::SeqCst);
+            told.base.store(waiting.base, Ordering::SeqCst);
+            told.offset.store(waiting.shape.offset, Ordering::SeqCst);
+            told.count.store(waiting.shape.na, Ordering::SeqCst);
+            self.bits.set(place);
+        }
     }
 
-    /// Marks a place no more, since there is nothing left to do for a worker.
-    pub(crate) fn unmark(&self, place: u32) {
-        self.bits.clear(place as usize);
+    /// What was told last of the equation at a place.
+    pub(crate) fn at(&self, place: u32) -> Option<Waiting>
+        ensures { IfSome result (λ waiting. waiting.key.place ≡ place) }
+    {
+        let told = self.told.get(place as usize)?;
+        Some(Waiting {
+            key: Key {
+                place,
+                serial: told.serial.load(Ordering::SeqCst),
+                epoch: told.epoch.load(Ordering::SeqCst),
+            },
+            base: told.base.load(Ordering::SeqCst),
+            shape: Shape {
+                offset: told.offset.load(Ordering::SeqCst),
+                na: told.count.load(Ordering::SeqCst),
+            },
+        })
+    }
+
+    /// Marks the place of an equation no more, since there is nothing left to do for a worker. Where another equation was told of
+    /// meanwhile, the place stays marked.
+    pub(crate) fn unmark(&self, key: Key) {
+        self.bits.clear(key.place as usize);
+        if let Some(waiting) = self.at(key.place) {
+            if waiting.key.serial != key.serial {
+                self.bits.set(key.place as usize);
+            }
+        }
     }
 }

@@ -1,11 +1,12 @@
-//! The tallies of all flows, by flow and place, as the caller and the workers use them.
+//! The tallies of all flows, by flow and place, as the workers use them.
 ghost use Rattle.std.specs.Prelude.{◌<◌};
 ghost use Rattle.fg_playout.specs.Admission.{live_limit};
 
-use crate::crewed::folding::{Ready, fold_slots, position_of, ready_to_settle, unfolded};
+use crate::crewed::folding::{Ready, fold_slots, holds, ready_to_settle, unfolded};
+use crate::crewed::held_places::Waiting;
 use crate::crewed::signal::Signal;
 use fg_board::{Fate, Key};
-use fg_tally::{Held, Tallies};
+use fg_tally::{Tallies, Tally};
 use std::alloc::{AllocError, Global};
 use std::sync::Wait;
 
@@ -13,12 +14,8 @@ use std::sync::Wait;
 ///
 /// It is a trait so that who shares it among threads needn't know of what the tallies borrow.
 pub(crate) trait Places {
-    /// Has the place of the key hold its equation, and marks it.
-    fn start<W: Wait>(&self, wait: &W, signal: &Signal, flow: u32, key: Key)
-        requires { key.place < live_limit };
-
-    /// Folds what arrived of the equation at a place. Answers what is to be settled, if something is. A place where nothing is
-    /// left to be done is marked no more.
+    /// Folds what arrived of the equation at a place, where exactly one slot is without a word. Answers what is to be settled, if
+    /// something is. A place where nothing is left to be done is marked no more.
     fn fold<W: Wait>(&self, wait: &W, signal: &Signal, flow: u32, place: u32) -> Option<Ready>
         requires { place < live_limit };
 
@@ -42,14 +39,6 @@ pub(crate) struct FlowTallies<'b> {
 }
 
 impl<'b> Places for FlowTallies<'b> {
-    fn start<W: Wait>(&self, wait: &W, signal: &Signal, flow: u32, key: Key) {
-        if let Some(tallies) = self.flows.get(flow as usize) {
-            let mut tally = tallies.lock(wait, key.place);
-            let _ = tally.start(wait, key);
-            signal.held.mark(key.place);
-        }
-    }
-
     fn fold<W: Wait>(&self, wait: &W, signal: &Signal, flow: u32, place: u32) -> Option<Ready> {
         match self.flows.get(flow as usize) {
             Some(tallies) => fold_at(wait, signal, tallies, place),
@@ -73,53 +62,67 @@ impl<'b> Places for FlowTallies<'b> {
     }
 }
 
-/// Folds what arrived of the equation at a place, while it has the lock. A place where nothing is left to be done is unmarked
-/// before the lock is given back, so that no later equation's mark goes.
+/// Folds what arrived of the equation at a place, where exactly one slot is without a word. Where the tally holds another
+/// equation, it is started first. A place is marked no more where all slots have a word, since the play sums them anyway, and
+/// where the equation is gone.
 fn fold_at(wait: &impl Wait, signal: &Signal, tallies: &Tallies<'_>, place: u32) -> Option<Ready>
     requires { place < live_limit }
 {
-    let mut tally = tallies.lock(wait, place);
-    let numbers = match tally.held() {
-        Some(held) => to_be_folded(signal, place, &held)?,
-        None => {
-            signal.held.unmark(place);
-            return None;
+    let waiting = signal.held.at(place)?;
+    let arrived = arrived(signal, &waiting);
+    match u32::from(waiting.shape.na).saturating_sub(arrived.count_ones()) {
+        0 => {
+            signal.held.unmark(waiting.key);
+            None
         }
+        1 => fold_arrived(wait, signal, tallies, waiting.key, arrived),
+        _ => None,
+    }
+}
+
+/// Folds the slots of these numbers into the tally of the key's place, but for those that are folded.
+fn fold_arrived(
+    wait: &impl Wait,
+    signal: &Signal,
+    tallies: &Tallies<'_>,
+    key: Key,
+    numbers: u32,
+) -> Option<Ready>
+    requires { key.place < live_limit }
+{
+    let mut tally = tallies.lock(wait, key.place);
+    let is_there = match begin(wait, &mut tally, key) {
+        Some(unfolded) => fold_slots(wait, &mut tally, numbers & unfolded),
+        None => false,
     };
-    if !fold_slots(wait, &mut tally, numbers) {
-        signal.held.unmark(place);
+    if !is_there {
+        signal.held.unmark(key);
         return None;
     }
     ready_to_settle(&tally)
 }
 
-/// The numbers of the slots that arrived and aren't folded, where exactly one slot is without a word. Where all have one the play
-/// sums them anyway, and the place is unmarked.
-fn to_be_folded(signal: &Signal, place: u32, held: &Held) -> Option<u32> {
-    let open = unfolded(held);
-    let arrived = arrived(signal, held);
-    match (open & !arrived).count_ones() {
-        0 => {
-            signal.held.unmark(place);
-            None
-        }
-        1 => Some(open & arrived),
-        _ => None,
+/// Has a tally hold the equation of this key. Answers the numbers of the slots that aren't folded, or none where the equation is
+/// gone.
+fn begin(wait: &impl Wait, tally: &mut Tally<'_>, key: Key) -> Option<u32> {
+    if !holds(tally, key) {
+        let _ = tally.start(wait, key);
     }
+    Some(unfolded(&tally.held()?))
 }
 
 /// The numbers of the slots that arrived.
-fn arrived(signal: &Signal, held: &Held) -> u32 {
+fn arrived(signal: &Signal, waiting: &Waiting) -> u32 {
     let mut numbers = 0;
-    for number in 0..u32::from(held.shape.na) {
-        if signal.arrivals.has(position_of(held, number)) {
-            numbers |= 1u32.wrapping_shl(number);
+    for number in 0..waiting.shape.na {
+        if signal.arrivals.has(waiting.position(number)) {
+            numbers |= 1u32.wrapping_shl(u32::from(number));
         }
     }
     numbers
 }
 
-/// Settles what the tally of a place holds, if it still holds this key. A place that is settled is unmarked.
+/// Settles what the tally of a place holds, if it still holds this key. A place that is settled is marked no more.
 fn settle_at(
     wait: &impl Wait,
     alloc: Global,
@@ -133,7 +136,7 @@ fn settle_at(
     let mut tally = tallies.lock(wait, place);
     let settled = tally.settle(wait, alloc, key)?;
     if settled.is_some() {
-        signal.held.unmark(place);
+        signal.held.unmark(key);
     }
     Ok(settled)
 }
