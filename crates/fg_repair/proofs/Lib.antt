@@ -1,3 +1,4 @@
 pub mod Crewing
 pub mod Crossing
+pub mod Runs
 pub mod Slots

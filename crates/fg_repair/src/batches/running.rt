@@ -1,6 +1,7 @@
 //! How the flows run the records of a batch, side by side.
 ghost use Rattle.std.specs.Prelude.{◌≡◌, ◌<◌, ◌≤◌, ℕ, length, slice_index_or, OnOk};
 ghost use Rattle.std.specs.Bool.{OnFalse};
+ghost use Rattle.std.specs.List.{list_any};
 ghost use Rattle.fg_flows.specs.Sheaf.{items_of};
 ghost use Rattle.fg_repair.specs.BatchView.{BatchView};
 ghost use Rattle.fg_repair.specs.Batches.{CanRun, HasRun};
@@ -40,10 +41,17 @@ pub(crate) fn run_flows<R: Threads + Sync, D: WindowState + Send>(
                 (HasRun (items_of sheaf.entry.now index) flow.entry.now flow.exit.now) }
         { flow.run(alloc, sheaf, index) },
     );
-    if flows.iter().any(|flow| flow.is_starved()) {
+    if is_any_starved(flows) {
         return Err(AllocError);
     }
     Ok(())
+}
+
+/// Whether a flow found no memory for the records that it ran last.
+fn is_any_starved<D: WindowState>(flows: &[BatchFlow<D>]) -> bool
+    ensures { result ≡ list_any (λ flow. flow.starved) flows.now }
+{
+    flows.iter().any(|flow| flow.is_starved())
 }
 
 /// In how many threads a batch is run: in two where at least two flows may play in it, else in one.
