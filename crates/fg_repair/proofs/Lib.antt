@@ -1,4 +1,5 @@
 pub mod Crewing
 pub mod Crossing
+pub mod Emptying
 pub mod Runs
 pub mod Slots
