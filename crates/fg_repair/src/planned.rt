@@ -5,9 +5,9 @@ ghost use Rattle.fg_flows.specs.Plan.{PlanFits};
 ghost use Rattle.fg_results.specs.Contract.{IsRepair};
 ghost use Rattle.fg_results.specs.Stops.{growth_of};
 
-use fg_engine::repair_alone;
 use crate::crewed::repair;
 use fg_crew::Gate;
+use fg_engine::repair_alone;
 use fg_flows::Plan;
 use fg_io::{Outlet, Sink, Source};
 use fg_trace::Finish;

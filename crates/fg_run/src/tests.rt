@@ -9,6 +9,7 @@ use fg_ts::TsFault;
 use std::process::Abort;
 use std::test::Fail;
 
+mod batches;
 mod captures;
 mod drills;
 mod examples;

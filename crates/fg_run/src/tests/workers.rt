@@ -12,11 +12,11 @@ const FOLDED: u32 = 1;
 
 const TAKEN: u32 = 3;
 
-const PLAYS: u32 = 5;
+pub(super) const PLAYS: u32 = 5;
 
 /// Counts of what passed a gate, and naps.
 #[derive(Drop)]
-struct Counts<'a, W: Wait> {
+pub(super) struct Counts<'a, W: Wait> {
     wait: &'a W,
     /// It stays 0, so that a nap on it ends by time.
     clock: AtomicU64,
@@ -26,14 +26,14 @@ struct Counts<'a, W: Wait> {
     others: AtomicU64,
     all: AtomicU64,
     /// How often the caller was about to play.
-    plays: AtomicU64,
+    pub(super) plays: AtomicU64,
     /// How many holds came to their end in vain.
-    failed: AtomicU64,
+    pub(super) failed: AtomicU64,
 }
 
 impl<'a, W: Wait> Counts<'a, W> {
     /// Nothing has passed.
-    fn new(wait: &'a W) -> Counts<'a, W> {
+    pub(super) fn new(wait: &'a W) -> Counts<'a, W> {
         Counts {
             wait,
             clock: AtomicU64::new(0),
@@ -61,7 +61,7 @@ impl<'a, W: Wait> Counts<'a, W> {
     }
 
     /// Holds the thread until the count is this or more.
-    fn hold(&self, count: &AtomicU64, least: u64) {
+    pub(super) fn hold(&self, count: &AtomicU64, least: u64) {
         for _ in 0..NAPS {
             if count.load(Ordering::SeqCst) >= least {
                 return;
