@@ -1,4 +1,4 @@
--- How far a repair has come, for one flow. No public contract cites what stands here.
+-- How far a repair has come, for one flow.
 use Rattle.std.specs.Prelude.{◌≡◌, ◌+◌, ◌≤◌, ◌<◌, ◌^◌, ℕ, not, Option, Some, None, IsSome, List, [], ◌∷◌, ◌++◌, length}
 use Rattle.std.specs.List.{AllZip, count_by}
 use Rattle.fg_io.specs.Prefix.{IsPrefix}
