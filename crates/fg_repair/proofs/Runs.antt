@@ -45,8 +45,8 @@ ran_none old = record {
     [],
     sym (append-nil old.shelf),
     taken_as old.flow.state.playout old.flow.sum.port records (records ++ more) old.flow.state old.flow.sum lane (lane ++ [])
-    (sym (ap (λ (rs : List Record). records ++ rs) (zip_none (IsItemOf old.flow.sum.port) more zip) ∙ append-nil records))
-    (sym (append-nil lane)) taken,
+        (sym (ap (λ (rs : List Record). records ++ rs) (zip_none (IsItemOf old.flow.sum.port) more zip) ∙ append-nil records))
+        (sym (append-nil lane)) taken,
   );
 }
 
@@ -82,14 +82,13 @@ ran_then first second old mid new one other = record {
         before.0 ++ after.0,
         after.1 ∙ ap (λ (bytes : List ℕ). bytes ++ after.0) before.1 ∙ append_assoc old.shelf before.0 after.0,
         taken_as old.flow.state.playout old.flow.sum.port ((records ++ cut.0) ++ cut.1) (records ++ more) new.flow.state new.flow.sum
-        ((lane ++ before.0) ++ after.0) (lane ++ (before.0 ++ after.0))
-        (append_assoc records cut.0 cut.1 ∙ ap (λ (rs : List Record). records ++ rs) (sym cut.2))
-        (append_assoc lane before.0 after.0) back,
+            ((lane ++ before.0) ++ after.0) (lane ++ (before.0 ++ after.0))
+            (append_assoc records cut.0 cut.1 ∙ ap (λ (rs : List Record). records ++ rs) (sym cut.2))
+            (append_assoc lane before.0 after.0) back,
       );
 }
 
 -- One more is run
-
 
 pub ran_more :
     (items : List Item) (k : ℕ) (item : Item) (old mid new : BatchView) → slice_get items k ≡ Some item → HasRun (take k items) old mid

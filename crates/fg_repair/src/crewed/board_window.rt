@@ -3,7 +3,6 @@ ghost use Rattle.std.specs.Prelude.{◌≡◌, ◌≤◌};
 
 use crate::crewed::arrivals::Progress;
 use crate::crewed::held_places::Waiting;
-use crate::crewed::places::Places;
 use crate::crewed::points::{CALLER, Hears, PLAYING};
 use crate::crewed::signal::Signal;
 use fg_board::{Admitter, Board};
@@ -16,13 +15,12 @@ use std::sync::Wait;
 
 /// A flow's windows on its board. Its workers are told and hinted of each datagram that is admitted.
 #[derive(Drop)]
-pub(crate) struct BoardWindow<'a, W: Wait, G: Hears, P: Places> {
+pub(crate) struct BoardWindow<'a, W: Wait, G: Hears> {
     pub(crate) wait: &'a W,
     pub(crate) gate: &'a G,
     pub(crate) hints: &'a Hints,
     pub(crate) signal: &'a Signal,
     pub(crate) board: &'a Board,
-    pub(crate) places: &'a P,
     /// Its number among the flows, which a hint names.
     pub(crate) flow: u32,
     pub(crate) progress: Progress,
@@ -33,7 +31,7 @@ pub(crate) struct BoardWindow<'a, W: Wait, G: Hears, P: Places> {
     ghost holds_a_window: { admitter.playout.window ≤ tray.window },
 }
 
-impl<'a, W: Wait, G: Hears, P: Places> BoardWindow<'a, W, G, P> {
+impl<'a, W: Wait, G: Hears> BoardWindow<'a, W, G> {
     /// Hints the workers, where a datagram was admitted.
     fn hint_after(&self, reply: Reply) {
         if let Reply::Admitted = reply {
@@ -42,7 +40,7 @@ impl<'a, W: Wait, G: Hears, P: Places> BoardWindow<'a, W, G, P> {
     }
 }
 
-impl<'a, W: Wait, G: Hears, P: Places> WindowState for BoardWindow<'a, W, G, P> {
+impl<'a, W: Wait, G: Hears> WindowState for BoardWindow<'a, W, G> {
     ghost use Rattle.fg_board.specs.Actors.{desk_of};
 
     ghost state = { λ window. desk_of window.admitter };

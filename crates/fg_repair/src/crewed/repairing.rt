@@ -13,7 +13,6 @@ ghost use Rattle.fg_repair.specs.Crewed.{HostAll, IsNewHost, CanBegin};
 use crate::batches::InBatches;
 use crate::crewed::arrivals::Progress;
 use crate::crewed::board_window::BoardWindow;
-use crate::crewed::places::Places;
 use crate::crewed::points::Hears;
 use crate::crewed::post::{Host, Post};
 use fg_crew::{Body, Gate, Hints};
@@ -27,24 +26,11 @@ use std::sync::Wait;
 use std::thread::Threads;
 
 /// A repair over the flows' boards.
-pub(crate) struct Repairing<
-    'p,
-    'g,
-    'a,
-    'i,
-    'o,
-    'l,
-    G: Gate,
-    P: Places,
-    S: Source,
-    K: Sink,
-    O: Outlet,
-> {
+pub(crate) struct Repairing<'p, 'g, 'a, 'i, 'o, 'l, G: Gate, S: Source, K: Sink, O: Outlet> {
     pub(crate) alloc: Global,
     pub(crate) plan: &'p Plan,
     pub(crate) gate: &'g G,
     pub(crate) posts: &'a [Post],
-    pub(crate) places: &'a P,
     /// Those of the posts, until it begins.
     pub(crate) hosts: Vec<Host>,
     pub(crate) input: &'i mut S,
@@ -52,19 +38,8 @@ pub(crate) struct Repairing<
     pub(crate) lanes: &'l mut O,
 }
 
-impl<
-    'p,
-    'g,
-    'a,
-    'i,
-    'o,
-    'l,
-    G: Gate,
-    P: Places + Sync,
-    S: Source + Send,
-    K: Sink + Send,
-    O: Outlet + Send,
-> Body for Repairing<'p, 'g, 'a, 'i, 'o, 'l, G, P, S, K, O> {
+impl<'p, 'g, 'a, 'i, 'o, 'l, G: Gate, S: Source + Send, K: Sink + Send, O: Outlet + Send> Body
+    for Repairing<'p, 'g, 'a, 'i, 'o, 'l, G, S, K, O> {
     type Answer = Finish;
 
     ghost ready = { λ repairing. PlanFits repairing.plan.now
@@ -82,15 +57,7 @@ impl<
 
     fn run<W: Threads + Wait + Sync>(&mut self, rt: &W, hints: &Hints) -> Finish {
         let hosts = mem::replace(&mut self.hosts, Vec::new(self.alloc));
-        match windows_on(
-            rt,
-            self.alloc,
-            self.gate,
-            hints,
-            self.posts,
-            self.places,
-            hosts,
-        ) {
+        match windows_on(rt, self.alloc, self.gate, hints, self.posts, hosts) {
             Ok(windows) => repair_windows(
                 self.alloc,
                 self.plan,
@@ -106,15 +73,14 @@ impl<
 }
 
 /// The flows' windows on their boards.
-fn windows_on<'a, W: Wait, G: Hears, P: Places>(
+fn windows_on<'a, W: Wait, G: Hears>(
     wait: &'a W,
     alloc: Global,
     gate: &'a G,
     hints: &'a Hints,
     posts: &'a [Post],
-    places: &'a P,
     hosts: Vec<Host>,
-) -> Result<Vec<BoardWindow<'a, W, G, P>>, AllocError>
+) -> Result<Vec<BoardWindow<'a, W, G>>, AllocError>
     requires hosts { HostAll posts.now hosts.items }
     requires new { (playout : Playout) × All (IsNewHost playout) hosts.items }
     requires few { length posts.now < 2 ^ 32 }
@@ -133,7 +99,6 @@ fn windows_on<'a, W: Wait, G: Hears, P: Places>(
             hints,
             signal: &post.signal,
             board: &post.board,
-            places,
             flow: i as u32,
             progress: Progress::new(),
             admitter,

@@ -33,7 +33,7 @@ loop-host-preserved g c =
           ∙ ap (λ n. n + 1) c.loop-host.invariant.count ∙ sym (length_push c.loop-host.yielded c.in-Some.host);
       rest = is ∙ sym (append_assoc c.loop-host.yielded (c.in-Some.host ∷ []) _);
       new = λ playout all.
-          all_more (λ (window : BoardWindow g.row.W.Denot g.row.G.Denot g.row.P.Denot). desk_of window.admitter ≡ opening playout)
+          all_more (λ (window : BoardWindow g.row.W.Denot g.row.G.Denot). desk_of window.admitter ≡ opening playout)
           c.loop-host.windows.items c.push.new.self.items _ c.in_ok-push.ensures.items
           (c.loop-host.invariant.new playout all)
           (all_next (IsNewHost playout) c.args.hosts.items c.loop-host.yielded c.in-Some.host _ all is).desk;

@@ -10,7 +10,7 @@ pub returns : goal.returns
 returns g c =
     let new : BatchView = record { flow = c.take.new.self; shelf = c.take.new.lanes.shelf; starved = c.self.inside.starved } in
     elim c.match-take.branch [
-      in-Ok w ↦
+      | in-Ok w ↦
           let ran : (time : ℕ) → HasRun (record { kind = c.args.kind; time = time; payload = c.args.payload.now } ∷ []) c.args.self.now new =
           λ (time : ℕ).
           let item : Item = record { kind = c.args.kind; time = time; payload = c.args.payload.now } in
