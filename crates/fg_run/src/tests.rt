@@ -11,10 +11,12 @@ use std::test::Fail;
 
 mod batches;
 mod captures;
+mod damaged;
 mod drills;
 mod examples;
 mod failing;
 mod flows;
+mod held;
 mod lengths;
 mod order;
 mod streams;

@@ -236,3 +236,39 @@ fn a_full_sink(rt: HostRuntime) -> Result<(), Fail> {
     outside.check_lane(&rt, rt.alloc(), 5000, Some(&[10, 11, 12]))?;
     Ok(())
 }
+
+/// Repairs datagrams in windows of four, of which one comes late, with so much room in the lane and the sink.
+fn late_with_room<W: Threads + Wait + Sync>(
+    rt: &W,
+    alloc: Global,
+    lane: usize,
+    out: usize,
+) -> Result<(Ended, Outside), AllocError> {
+    let sent = [0, 1, 3, 4, 2].map(Sent::Media);
+    let setting = Setting { lane, out, ..PLAIN };
+    let bytes = trace(alloc, &sent, &[])?;
+    let line = "repair flow=5000 window=4 depth=4";
+    run_line(rt, alloc, &setting, line, &bytes)
+}
+
+// The third of its four payloads doesn't fit.
+#[test]
+fn a_lane_that_fills_up_in_a_window(rt: HostRuntime) -> Result<(), Fail> {
+    let whole = lane_of(rt.alloc(), &[0, 1, 3, 4])?;
+    let (ended, outside) = late_with_room(&rt, rt.alloc(), 3000, 2000)?;
+    assert_eq!(rt; ended.status, 3);
+    assert_eq!(rt; outside.err.bytes(), b"write fault\n".as_slice());
+    assert!(rt; Some(outside.lane()) == whole.get(..3000));
+    assert!(rt; outside.out.bytes().is_empty());
+    Ok(())
+}
+
+#[test]
+fn a_sink_that_fills_up_in_the_first_line(rt: HostRuntime) -> Result<(), Fail> {
+    let (ended, outside) = late_with_room(&rt, rt.alloc(), 5264, 10)?;
+    assert_eq!(rt; ended.status, 3);
+    assert_eq!(rt; outside.err.bytes(), b"write fault\n".as_slice());
+    assert_eq!(rt; outside.out.bytes(), b"flow 5000 ".as_slice());
+    outside.check_lane(&rt, rt.alloc(), 5000, Some(&[0, 1, 3, 4]))?;
+    Ok(())
+}

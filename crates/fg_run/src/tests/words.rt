@@ -193,6 +193,19 @@ const FAILING_ERROR_SINK: Short<'static> = Short {
     },
 };
 
+const ERROR_SINK_THAT_FAILS_AT_ONCE: Short<'static> = Short {
+    line: "repair",
+    setting: Setting {
+        tells: &[0],
+        ..PLAIN
+    },
+    wanted: Wanted {
+        status: 1,
+        why: Why::Words(WordFault::Missing(Name::Flow)),
+        ..DONE
+    },
+};
+
 #[test]
 fn short_runs(rt: HostRuntime) -> Result<(), Fail> {
     for run in [
@@ -200,6 +213,7 @@ fn short_runs(rt: HostRuntime) -> Result<(), Fail> {
         HELP_THAT_IS_NOT_WRITTEN,
         FULL_ERROR_SINK,
         FAILING_ERROR_SINK,
+        ERROR_SINK_THAT_FAILS_AT_ONCE,
     ] {
         expect(&rt, rt.alloc(), &run.setting, run.line, b"", &run.wanted)?;
     }
