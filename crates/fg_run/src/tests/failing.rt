@@ -237,16 +237,24 @@ fn a_full_sink(rt: HostRuntime) -> Result<(), Fail> {
     Ok(())
 }
 
-/// Repairs datagrams in windows of four, of which one comes late, with so much room in the lane and the sink.
+/// Media 4 plays 0 to 3 in windows of four, so 2 is late.
+const LATE: [Sent; 5] = [
+    Sent::Media(0),
+    Sent::Media(1),
+    Sent::Media(3),
+    Sent::Media(4),
+    Sent::Media(2),
+];
+
+/// Repairs them with so much room in the lane and the sink.
 fn late_with_room<W: Threads + Wait + Sync>(
     rt: &W,
     alloc: Global,
     lane: usize,
     out: usize,
 ) -> Result<(Ended, Outside), AllocError> {
-    let sent = [0, 1, 3, 4, 2].map(Sent::Media);
     let setting = Setting { lane, out, ..PLAIN };
-    let bytes = trace(alloc, &sent, &[])?;
+    let bytes = trace(alloc, &LATE, &[])?;
     let line = "repair flow=5000 window=4 depth=4";
     run_line(rt, alloc, &setting, line, &bytes)
 }
