@@ -16,8 +16,8 @@ use Rattle.fg_encode.specs.Stream.{StreamEnding, IsCut}
 use Rattle.fg_results.specs.Flow.{FlowResult, IsFlowResult}
 use Rattle.fg_results.specs.Lanes.{PutsAll}
 use Rattle.fg_results.specs.Repair.{AreResults, Gain, Outputs, Finishes, lanes_of}
-use Rattle.fg_results.specs.Stops.{Stops, Making}
-use Rattle.fg_results.proofs.StopLemmas.{stops_whole}
+use Rattle.fg_results.specs.Stops.{Growth, Stops, Making, growth_of}
+use Rattle.fg_results.proofs.StopLemmas.{may_make, stops_whole}
 use Rattle.fg_drill.specs.ComesBack.{ThinnedTraceComesBack, ThinnedTraceIsRead}
 use Rattle.fg_thin.specs.PayloadLaws.{CutPayloads}
 use Rattle.fg_thin.specs.ThinnedSource.{thinned_trace}
@@ -80,7 +80,7 @@ finishes_back law plan answer (Some bytes) lanes lanes' written written' (inr h)
 -- Where it stops
 
 pub finish_stops : (plan : Plan) (answer : Finish) (input : Option (List ℕ)) (lanes lanes' : Option Lanes)
-    → (IsFinishFault answer → IfSome input (λ bytes. (records : List Record) (end : Ending) → IsTrace bytes plan.max records end → Stops plan answer records lanes lanes'))
+    → (IsFinishFault answer → IfSome input (λ bytes. (records : List Record) (end : Ending) → IsTrace bytes plan.max records end → Stops (growth_of plan) plan answer records lanes lanes'))
     → IsFinishFault answer → StopsTrace plan input (Ok answer) lanes lanes'
 finish_stops plan answer None lanes lanes' h fault = tt
 finish_stops plan answer (Some bytes) lanes lanes' h fault = λ records end is. (answer, refl, h fault records end is)
@@ -90,9 +90,10 @@ nothing_made : (lanes : Option Lanes) → PutsAll lanes [] [] lanes
 nothing_made None = tt
 nothing_made (Some lanes) = record { lanes = tt; others = λ other no. refl }
 
-pub nothing_stops : (plan : Plan) (answer : Finish) (records : List Record) (lanes : Option Lanes) → Stops plan answer records lanes lanes
-nothing_stops plan answer records lanes = record {
+pub nothing_stops : (growth : Growth) (plan : Plan) (answer : Finish) (records : List Record) (lanes : Option Lanes) → Stops growth plan answer records lanes lanes
+nothing_stops growth plan answer records lanes = record {
   stage = Making zero;
+  may = may_make growth zero;
   broken = None;
   unbroken = λ e. refl;
   pieces = [];
@@ -101,7 +102,7 @@ nothing_stops plan answer records lanes = record {
 }
 
 pub stops_first : (plan : Plan) (answer : Finish) (records : List Record) (lanes : Option Lanes) → StopsLanes plan (Ok answer) records lanes lanes
-stops_first plan answer records lanes = (answer, refl, nothing_stops plan answer records lanes)
+stops_first plan answer records lanes = (answer, refl, nothing_stops (growth_of plan) plan answer records lanes)
 
 -- after whole lanes a read failed
 pub last_read_stops : OneTrace → (plan : Plan) (trace : Option (List ℕ)) (lanes lanes' : Option Lanes) (written written' : Option (List ℕ))
@@ -109,7 +110,7 @@ pub last_read_stops : OneTrace → (plan : Plan) (trace : Option (List ℕ)) (la
 last_read_stops one plan None lanes lanes' written written' h = tt
 last_read_stops one plan (Some bytes) lanes lanes' written written' h = λ records end is.
     let same = one bytes plan.max h.records records Ended end h.of_input is in
-    (finish.ReadFault, refl, stops_whole plan finish.ReadFault records h.results lanes lanes' (subst (λ rs. AreResults plan rs h.results) same.0 h.are_results) h.gain.0)
+    (finish.ReadFault, refl, stops_whole (growth_of plan) plan finish.ReadFault records h.results lanes lanes' (subst (λ rs. AreResults plan rs h.results) same.0 h.are_results) h.gain.0)
 
 ending_no_fault : (end : StreamEnding) → IsFault (answer_to end) → ⊥
 ending_no_fault None h = h

@@ -15,7 +15,7 @@ use Rattle.fg_encode.specs.Stream.{StreamEnding, IsCut}
 use Rattle.fg_results.specs.Flow.{FlowResult, IsFlowResult}
 use Rattle.fg_results.specs.Lanes.{OthersStay, PutsAll, PutsAllPart}
 use Rattle.fg_results.specs.Repair.{AreResults, Gain, Outputs, lanes_of, report_text}
-use Rattle.fg_results.specs.Stops.{Stops}
+use Rattle.fg_results.specs.Stops.{Stops, growth_of}
 use Rattle.fg_drill.specs.ComesBack.{stream_of}
 use Rattle.fg_drill.specs.Repaired.{Peels, stream_shown}
 use Rattle.fg_thin.specs.Thinned.{is_lost, thinned}
@@ -91,11 +91,11 @@ pub record DrillsPart {K : Type 0}
       ⊎ (PutsAll lanes plan.table (lanes_of results) lanes'
       × GainsPart (written out) (report_text plan (records_sent settings losses payloads) results Ended) (written out')))
 
--- With this answer a repair of these records stopped at a stage: each lane has gained exactly what was shown up to there, but
--- for the one that a put broke.
+-- With this answer a repair of these records stopped at a stage where the plan lets it: each lane has gained exactly what was
+-- shown up to there, but for the one that a put broke.
 abbrev pub StopsLanes : Plan → Answer → List Record → Option Lanes → Option Lanes → Type 0
 StopsLanes plan answer records lanes lanes' =
-    (finish : Finish) × (answer ≡ Ok finish) × Stops plan finish records lanes lanes'
+    (finish : Finish) × (answer ≡ Ok finish) × Stops (growth_of plan) plan finish records lanes lanes'
 
 -- What comes back of a stream: no play is inconsistent, and the lane at the flow's port gains the stream without the slots
 -- that no play shows. Where what is sent peels, these are all payloads, one after another; and where the stream ends with its

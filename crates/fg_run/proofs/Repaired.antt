@@ -8,6 +8,7 @@ use Rattle.fg_trace.specs.Finish.{IsFault as IsFinishFault, ReadsAll as FinishRe
 use Rattle.fg_trace.specs.Trace.{Record, Ending, Ended, NotTrace, Cut, TooLong, IsTrace}
 use Rattle.fg_flows.specs.declared.Plan.{Plan}
 use Rattle.fg_results.specs.Contract.{IsRepair}
+use Rattle.fg_results.specs.Stops.{growth_of}
 use Rattle.fg_results.specs.Repair.{Finishes}
 use Rattle.fg_cli.specs.declared.Order.TheVariants.{Repair}
 use Rattle.fg_drill.specs.DrillLaws.{RepairsComeBack}
@@ -90,7 +91,7 @@ write_of finish.Memory e = absurd (let a = e in cc)
 pub repair_answered : {S O K : Type 0} {left : S → Option (List ℕ)} {input_faults : S → ℕ} {input input' : S}
     {lanes_of : O → Option Lanes} {lane_faults : O → ℕ} {lanes lanes' : O} {written : K → Option (List ℕ)} {out_faults : K → ℕ} {out out' : K}
     → RepairsComeBack → (plan : Plan) (answer : Finish)
-    → IsRepair plan answer (left input) (left input') lanes_of lanes lanes' written out out'
+    → IsRepair (growth_of plan) plan answer (left input) (left input') lanes_of lanes lanes' written out out'
     → CountsFaults (answer ≡ finish.ReadFault) (answer ≡ finish.WriteFault) ((input_faults input, input_faults input') ∷ [])
     ((out_faults out, out_faults out') ∷ (lane_faults lanes, lane_faults lanes') ∷ [])
     → RequestAnswered (Ordered (Repair plan)) (why_of_finish answer) left input_faults input input' lanes_of lane_faults lanes lanes' written out_faults out out'
