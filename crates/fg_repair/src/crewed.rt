@@ -40,10 +40,12 @@ use std::thread::Threads;
 
 /// Repairs the flows of a trace, with workers beside the caller.
 ///
-/// What it reads, writes and answers is what [`crate::repair_alone`] does, whatever the workers do. The gate hears of the
-/// points that the threads pass: 1 where at most one slot of a held equation isn't folded and the worker hasn't settled it yet,
-/// with no lock, 3 where a board has taken a word, 4 where a settle found no memory, and 5 before each play and each flush step,
-/// which the caller passes as worker 0.
+/// What it reads, writes and answers is what [`crate::repair_alone`] does, whatever the workers do. But lanes grow batch by
+/// batch: after a fault those of the first flows may have what a batch of records shows, and those of the others not yet.
+///
+/// The gate hears of the points that the threads pass: 1 where at most one slot of a held equation isn't folded and the worker
+/// hasn't settled it yet, with no lock, 3 where a board has taken a word, 4 where a settle found no memory, and 5 before each play
+/// and each flush step, which the thread that runs the flow passes as worker 0.
 pub fn repair<
     W: Threads + Wait + Sync,
     S: Source + Send,
