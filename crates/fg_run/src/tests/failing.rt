@@ -126,6 +126,12 @@ const REPAIR: Work<'static> = Work {
     least: [27, 1, 2],
 };
 
+// Without workers the records are taken one by one, and with some in batches.
+const REPAIR_ALONE: Work<'static> = Work {
+    line: "repair flow=5000 workers=0",
+    ..REPAIR
+};
+
 // It is the same trace.
 const INSPECTION: Work<'static> = Work {
     line: "inspect flow=5000",
@@ -137,6 +143,7 @@ const INSPECTION: Work<'static> = Work {
 fn commands_over_a_trace(rt: HostRuntime) -> Result<(), Fail> {
     let bytes = trace(rt.alloc(), &BLOCK, &TWO_PASSES)?;
     REPAIR.check(&rt, rt.alloc(), &bytes)?;
+    REPAIR_ALONE.check(&rt, rt.alloc(), &bytes)?;
     INSPECTION.check(&rt, rt.alloc(), &bytes)?;
     Ok(())
 }
