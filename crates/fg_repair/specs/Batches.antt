@@ -1,13 +1,17 @@
 -- The batches of a repair with workers, which run the flows side by side. No public contract cites what stands here.
-use Rattle.std.specs.Prelude.{◌≡◌, ◌==◌, ◌+◌, ◌<◌, ◌≤◌, ◌^◌, ◌++◌, ℕ, Option, List, [], ◌∷◌, length, slice_index, if◌then◌else◌}
-use Rattle.std.specs.List.{AllZip, slice_index_or}
+use Rattle.std.specs.Prelude.{◌≡◌, ◌==◌, ◌⊎◌, ◌+◌, ◌<◌, ◌≤◌, ◌^◌, ◌++◌, ℕ, Option, Some, List, [], ◌∷◌, length, slice_index, if◌then◌else◌}
+use Rattle.std.specs.Int.{from_be_bytes, w16}
+use Rattle.std.specs.List.{AllZip, slice_get, slice_index_or}
 use Rattle.fg_io.specs.Outlet.{Lanes}
 use Rattle.fg_io.specs.Prefix.{IsPrefix}
 use Rattle.fg_trace.specs.Trace.{Record}
+use Rattle.fg_shape.specs.declared.kind.Kind.{Kind}
+use Rattle.fg_shape.specs.declared.kind.Kind.TheVariants as kind
 use Rattle.fg_shape.specs.Kind.{port_of}
 use Rattle.fg_shape.specs.Playout.{PlayoutFits}
 use Rattle.fg_flows.specs.declared.Plan.{Plan}
-use Rattle.fg_flows.specs.Sheaf.{Item, SheafState}
+use Rattle.fg_flows.specs.Sheaf.{Item, SheafState, items_of}
+use Rattle.fg_playout.specs.Admission.{IsDue}
 use Rattle.fg_results.specs.Flow.{records_of}
 use Rattle.fg_engine.specs.View.{FlowView}
 use Rattle.fg_engine.specs.Steps.{HasTaken}
@@ -49,6 +53,43 @@ pub record HasRun (items : List Item) (old new : BatchView) : Type 0 where
       → AllZip (IsItemOf old.flow.sum.port) more items
       → (piece : List ℕ) × (new.shelf ≡ old.shelf ++ piece)
       × HasTaken old.flow.state.playout old.flow.sum.port (records ++ more) new.flow.state new.flow.sum (lane ++ piece)
+
+-- Whether a flow may play
+
+-- The bytes are those of a media datagram with this sequence number: bytes 2 and 3 of its header, by RFC 3550, section 5.1.
+pub record HasNumber (stream : Kind) (bytes : List ℕ) (seq : ℕ) : Type 0 where
+  pub media : stream ≡ kind.Media
+  pub long : 4 ≤ length bytes
+  pub seq_is : seq ≡ from_be_bytes w16 (slice_index bytes 2 ∷ slice_index bytes 3 ∷ [])
+
+-- None of these items has a number, from the one with the index `first` on, and before `end`.
+abbrev pub HaveNoNumber : List Item → ℕ → ℕ → Type 0
+HaveNoNumber items first end =
+    (j : ℕ) (item : Item) → first ≤ j → j < end → slice_get items j ≡ Some item → (seq : ℕ) → ¬ HasNumber item.kind item.payload seq
+
+-- The last number that the first `end` items have is this one.
+pub record IsLastNumber (items : List Item) (end seq : ℕ) : Type 0 where
+  pub at : ℕ
+  pub item : Item
+  pub within : at < end
+  pub is_at : slice_get items at ≡ Some item
+  pub has : HasNumber item.kind item.payload seq
+  pub later : HaveNoNumber items (at + 1) end
+
+-- The flow may play while it runs the items: it has admitted no media datagram yet, or a play is due before the last of them.
+pub record MayPlay (flow : FlowView) (items : List Item) : Type 0 where
+  pub seq : ℕ
+  pub last : IsLastNumber items (length items) seq
+  pub plays : (flow.sum.media.admitted ≡ 0) ⊎ IsDue flow.state seq
+
+-- Two of the flows may play while they run what the sheaf has of each.
+pub record TwoMayPlay (flows : List BatchView) (sheaf : SheafState) (d : BatchView) : Type 0 where
+  pub one : ℕ
+  pub other : ℕ
+  pub apart : one < other
+  pub within : other < length flows
+  pub one_may : MayPlay (slice_index_or flows one d).flow (items_of sheaf one)
+  pub other_may : MayPlay (slice_index_or flows other d).flow (items_of sheaf other)
 
 -- What waits for the lanes
 

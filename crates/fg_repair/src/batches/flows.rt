@@ -1,10 +1,10 @@
 //! A flow of a repair in batches.
-ghost use Rattle.std.specs.Prelude.{◌≡◌, ◌<◌, ◌↔◌, ℕ, [], ◌∷◌, false, length, IsTrue, OnOk, OnErr};
+ghost use Rattle.std.specs.Prelude.{◌≡◌, ◌<◌, ◌↔◌, ℕ, [], ◌∷◌, false, length, IfSome, IfNone, IsTrue, OnOk, OnErr};
 ghost use Rattle.std.specs.Bool.{OnFalse};
 ghost use Rattle.fg_io.specs.Faults.{Counts};
 ghost use Rattle.fg_flows.specs.Sheaf.{items_of};
 ghost use Rattle.fg_engine.specs.Steps.{Grows, GrowsPart};
-ghost use Rattle.fg_repair.specs.Batches.{CanRun, HasRun, emptied};
+ghost use Rattle.fg_repair.specs.Batches.{CanRun, HasRun, HasNumber, HaveNoNumber, IsLastNumber, MayPlay, emptied};
 
 use fg_engine::{Flow, ShelfFiller, Shelved, WindowState};
 use fg_flows::{Kind, Sheaf};
@@ -66,12 +66,13 @@ impl<D: WindowState> BatchFlow<D> {
         self.starved
     }
 
-    /// Whether it may play while it runs its records of a batch: no play is due after its last media datagram unless one is
-    /// due before it, or none was admitted yet.
+    /// Whether it may play while it runs its records of the batch: it has admitted no media datagram yet, or a play is due
+    /// before the last of them.
     pub(crate) fn may_play(&self, sheaf: &Sheaf, index: usize) -> bool
         requires { index < length sheaf.now.items }
+        ensures { IsTrue result ↔ MayPlay self.now.flow (items_of sheaf.now index) }
     {
-        match last_media(sheaf, index) {
+        match last_number(sheaf, index) {
             Some(seq) => self.flow.sum.media.admitted == 0 || self.flow.window.due(seq),
             None => false,
         }
@@ -138,15 +139,29 @@ impl<D: WindowState> BatchFlow<D> {
     }
 }
 
-/// The sequence number of the flow's last media datagram in the batch, as far as it has one.
-fn last_media(sheaf: &Sheaf, index: usize) -> Option<u16>
+/// The sequence number of the last media datagram that the flow has in the batch.
+fn last_number(sheaf: &Sheaf, index: usize) -> Option<u16>
     requires { index < length sheaf.now.items }
+    ensures some { IfSome result (λ seq. let items = items_of sheaf.now index in IsLastNumber items (length items) seq) }
+    ensures none { IfNone result (let items = items_of sheaf.now index in HaveNoNumber items 0 (length items)) }
 {
     let mut last = None;
     for k in 0..sheaf.count(index) {
-        if let (Kind::Media, _, [_, _, high, low, ..]) = sheaf.item(index, k) {
-            last = Some(u16::from_be_bytes([*high, *low]));
+        let (kind, _, datagram) = sheaf.item(index, k);
+        if let Some(seq) = number(kind, datagram) {
+            last = Some(seq);
         }
     }
     last
+}
+
+/// The sequence number of a media datagram, where it is long enough to have one.
+fn number(kind: Kind, datagram: &[u8]) -> Option<u16>
+    ensures some { IfSome result (λ seq. HasNumber kind datagram.now seq) }
+    ensures none { IfNone result ((seq : ℕ) → ¬ HasNumber kind datagram.now seq) }
+{
+    match kind {
+        Kind::Media if datagram.len() >= 4 => Some(u16::from_be_bytes([datagram[2], datagram[3]])),
+        _ => None,
+    }
 }

@@ -1,10 +1,10 @@
 //! How the flows run the records of a batch, side by side.
-ghost use Rattle.std.specs.Prelude.{◌≡◌, ◌<◌, ◌≤◌, ℕ, length, slice_index_or, OnOk};
+ghost use Rattle.std.specs.Prelude.{◌≡◌, ◌<◌, ◌≤◌, ◌↔◌, ℕ, length, slice_index_or, OnOk};
 ghost use Rattle.std.specs.Bool.{OnFalse};
 ghost use Rattle.std.specs.List.{list_any};
 ghost use Rattle.fg_flows.specs.Sheaf.{items_of};
 ghost use Rattle.fg_repair.specs.BatchView.{BatchView};
-ghost use Rattle.fg_repair.specs.Batches.{CanRun, HasRun};
+ghost use Rattle.fg_repair.specs.Batches.{CanRun, HasRun, TwoMayPlay};
 
 use crate::batches::flows::BatchFlow;
 use fg_engine::WindowState;
@@ -57,13 +57,14 @@ fn is_any_starved<D: WindowState>(flows: &[BatchFlow<D>]) -> bool
 /// In how many threads a batch is run: in two where at least two flows may play in it, else in one.
 pub(crate) fn threads_for<D: WindowState>(sheaf: &Sheaf, flows: &[BatchFlow<D>]) -> usize
     requires { length flows.now ≡ length sheaf.now.items }
-    ensures { (1 ≤ result) × (result ≤ 2) }
+    ensures few { (1 ≤ result) × (result ≤ 2) }
+    ensures second { (d : BatchView) → (result ≡ 2) ↔ TwoMayPlay flows.now sheaf.now d }
 {
-    let mut threads = 0;
+    let mut playing = 0_usize;
     for (index, flow) in flows.iter().enumerate() {
-        if threads < 2 && flow.may_play(sheaf, index) {
-            threads += 1;
+        if playing < 2 && flow.may_play(sheaf, index) {
+            playing += 1;
         }
     }
-    threads.max(1)
+    if playing < 2 { 1 } else { 2 }
 }
