@@ -1,16 +1,15 @@
 -- How what waits is put to the lanes, flow after flow.
-use Rattle.std.proofs.Common.{◌≡◌, ◌==◌, ◌⊎◌, inl, inr, ℕ, zero, suc, ◌+◌, ◌<◌, ◌≤◌, true, false, cond, nat_eq, Option, Some, None, IsSome, IfSome, List, min, [], ◌∷◌, ◌++◌, length, map, set, take, slice_index, if◌then◌else◌, refl, sym, ap, ◌∙◌, subst, arith, add-one}
+use Rattle.std.proofs.Common.{◌≡◌, ◌⊎◌, inl, inr, ℕ, zero, suc, ◌+◌, ◌<◌, ◌≤◌, true, false, cond, nat_eq, Option, List, min, [], ◌∷◌, ◌++◌, length, map, set, take, slice_index, if◌then◌else◌, refl, sym, ap, ◌∙◌, subst, arith, add-one}
 use Rattle.std.specs.List.{Contains, slice_index_or}
 use Rattle.std.proofs.Math.Seq.{take-suc}
 use Rattle.std.proofs.lemmas.Bool.{cases_eq}
 use Rattle.std.proofs.lemmas.Bool.Decides.{nat_tests}
 use Rattle.std.proofs.lemmas.List.{get_or-map, get_or-set_same, get_or-set_other, get_or-take, get_or_default, length-map, length-set, length-take, same_lists, take_all}
 use Rattle.fg_io.specs.Prefix.{IsPrefix}
-use Rattle.fg_io.specs.Outlet.{Lanes, lane_of}
-use Rattle.fg_flows.specs.declared.Plan.{Plan}
+use Rattle.fg_io.specs.Outlet.{Lanes}
 use Rattle.fg_flows.specs.Flows.{IsTable}
 use Rattle.fg_flows.specs.Laws.{OneFlowHasAPort}
-use Rattle.fg_engine.specs.Engine.{GrowAll, AreThere}
+use Rattle.fg_engine.specs.Engine.{GrowAll}
 use Rattle.fg_engine.specs.Steps.{Grows, GrowsPart}
 use Rattle.fg_engine.proofs.Lanes.{more, more_same, more_other, grow_more, grow_none, contains_at}
 use Rattle.fg_engine.proofs.Standing.{ports_differ}

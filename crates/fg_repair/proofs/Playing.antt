@@ -1,9 +1,8 @@
 -- Which flows may play.
-use Rattle.std.proofs.Common.{◌≡◌, ◌⊎◌, inl, inr, ℕ, zero, suc, ◌+◌, ◌<◌, ◌≤◌, Option, Some, None, IfSome, IfNone, List, length, refl, sym, ap, ◌∙◌, subst, arith, slice_index_or}
+use Rattle.std.proofs.Common.{◌≡◌, ◌⊎◌, inl, inr, ℕ, zero, suc, ◌+◌, ◌<◌, ◌≤◌, Option, Some, None, IfSome, IfNone, List, length, sym, ◌∙◌, subst, arith, slice_index_or}
 use Rattle.std.specs.List.{slice_get}
 use Rattle.std.proofs.lemmas.Bool.{cases_eq}
 use Rattle.fg_flows.specs.Sheaf.{Item, SheafState, items_of}
-use Rattle.fg_engine.specs.View.{FlowView}
 use Rattle.fg_repair.specs.BatchView.{BatchView}
 use Rattle.fg_repair.specs.Batches.{HasNumber, HaveNoNumber, IsLastNumber, MayPlay, TwoMayPlay}
 

@@ -1,5 +1,5 @@
 -- What a flow comes to that runs items, one after another.
-use Rattle.std.proofs.Common.{◌≡◌, ℕ, ◌+◌, ◌≤◌, ◌<◌, ◌^◌, Bool, true, false, Option, Some, List, [], ◌∷◌, ◌++◌, length, map, nat_eq, take, refl, sym, ap, subst, ◌∙◌, arith, append_assoc, append-nil, add-one, length-append, slice_index_or, Result, Ok, Err, OnOk}
+use Rattle.std.proofs.Common.{◌≡◌, ℕ, ◌+◌, ◌≤◌, ◌<◌, ◌^◌, Bool, true, false, Some, List, [], ◌∷◌, ◌++◌, length, map, take, refl, sym, ap, subst, ◌∙◌, arith, append_assoc, append-nil, add-one, length-append, slice_index_or, Result, Ok, Err, OnOk}
 use Rattle.std.specs.List.{AllZip, list_any, slice_get}
 use Rattle.std.specs.Result.{is_err}
 use Rattle.std.proofs.Math.Seq.{take-suc}

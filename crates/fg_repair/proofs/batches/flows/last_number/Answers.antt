@@ -1,4 +1,4 @@
-use Rattle.std.proofs.Common.{◌≡◌, ◌+◌, ℕ, Option, Some, length, sym, subst, arith}
+use Rattle.std.proofs.Common.{◌+◌, ℕ, Option, Some, sym, subst, arith}
 use Rattle.fg_flows.specs.Sheaf.{Item, items_of}
 use Rattle.fg_repair.proofs.Playing.{Found, found_none, found_here, found_still, found_some, found_no}
 use Rattle.fg_repair.proofs.batches.flows.last_number.Goals.{in-Some, in_default}

@@ -1,9 +1,9 @@
-use Rattle.std.proofs.Common.{◌≡◌, ◌∙◌, ◌+◌, ◌<◌, ◌≤◌, ℕ, true, length, refl, sym, subst, arith, slice_index_or}
+use Rattle.std.proofs.Common.{◌≡◌, ◌∙◌, ◌+◌, ◌<◌, ◌≤◌, true, length, refl, sym, subst, arith, slice_index_or}
 use Rattle.std.proofs.lemmas.List.{get_or_default}
 use Rattle.fg_flows.specs.Sheaf.{items_of}
 use Rattle.fg_repair.specs.BatchView.{BatchView}
 use Rattle.fg_repair.specs.Batches.{MayPlay}
-use Rattle.fg_repair.proofs.Playing.{May, Playing, playing_none, playing_more, playing_still, playing_enough, two_may, fewer_may}
+use Rattle.fg_repair.proofs.Playing.{Playing, playing_none, playing_more, playing_still, playing_enough, two_may, fewer_may}
 use Rattle.fg_repair.proofs.batches.running.threads_for.Goals.{then-playing-lt2+then-may_play, else-playing-lt2, else-playing-lt2-via-then-playing-lt2+else-may_play, else-playing-lt2-via-else-playing-lt2}
 use Rattle.fg_repair.proofs.batches.running.threads_for.Goals as goal
 

@@ -1,6 +1,5 @@
 use Rattle.std.proofs.Common.{◌≡◌, ◌∙◌, false, sym, subst}
 use Rattle.std.proofs.lemmas.Bool.{OnFalse_from}
-use Rattle.std.specs.Result.{is_err}
 use Rattle.fg_flows.specs.Sheaf.{items_of}
 use Rattle.fg_repair.specs.BatchView.{BatchView}
 use Rattle.fg_repair.specs.Batches.{HasRun}

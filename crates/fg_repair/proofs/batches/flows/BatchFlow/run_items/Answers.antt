@@ -1,4 +1,4 @@
-use Rattle.std.proofs.Common.{◌≡◌, ◌+◌, ◌≤◌, List, length, take, subst, arith}
+use Rattle.std.proofs.Common.{◌≡◌, List, length, take, subst, arith}
 use Rattle.std.proofs.lemmas.List.{length-take-le, take_all}
 use Rattle.fg_flows.specs.Sheaf.{Item, items_of}
 use Rattle.fg_repair.specs.Batches.{HasRun}
