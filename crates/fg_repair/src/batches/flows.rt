@@ -80,7 +80,7 @@ impl<D: WindowState> BatchFlow<D> {
 
     /// Runs the flow's records of a batch, in their order. What its plays show waits for its lane then.
     ///
-    /// Where there was no memory for one, it says so from then on, and the records after that one are not taken.
+    /// Where there was no memory for one, [`BatchFlow::is_starved`] tells it, and the records after that one are not taken.
     pub(crate) fn run(&mut self, alloc: Global, sheaf: &Sheaf, index: usize)
         requires within { index < length sheaf.now.items }
         requires can { CanRun self.old.flow (length (items_of sheaf.now index)) }
