@@ -1,5 +1,4 @@
 //! What a crew does: the chore of its workers, and the body that it runs beside them.
-ghost use Rattle.std.specs.Thread.{IsSync};
 
 use crate::hints::Hints;
 use std::sync::Wait;
@@ -31,10 +30,7 @@ pub trait Body: Send {
     ghost ran: { Self → Self.Answer → Self → Type 0 };
 
     /// Runs once. Hints to the workers go into `hints`.
-    ///
-    /// That several threads may use the handle is said once more as a clause, so that a body which starts threads has it.
     fn run<W: Threads + Wait + Sync>(&mut self, rt: &W, hints: &Hints) -> Self::Answer
-        requires ready { ready self.old }
-        requires shared { IsSync W.row }
+        requires { ready self.old }
         ensures { ran self.old result self.new };
 }

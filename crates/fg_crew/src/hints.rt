@@ -22,7 +22,7 @@ pub struct Hints {
 
 impl Hints {
     /// No hint. All memory is taken here.
-    pub(crate) fn new(alloc: Global) -> Result<Hints, AllocError> {
+    pub fn new(alloc: Global) -> Result<Hints, AllocError> {
         Ok(Hints {
             queue: ArrayQueue::new(alloc, HINTS_LIMIT)?,
             found: AtomicU64::new(0),

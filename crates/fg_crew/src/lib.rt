@@ -10,7 +10,7 @@ mod running;
 pub use chore::{Body, Chore};
 pub use gate::{Gate, NoGate};
 pub use hints::{HINTS_LIMIT, Hints};
-pub use running::crew;
+pub use running::{crew, run_beside};
 
 #[cfg(test)]
 mod tests;

@@ -1,6 +1,5 @@
 //! Running a body beside workers.
 ghost use Rattle.std.specs.Prelude.{◌≡◌, ◌+◌, ◌-◌, ◌<◌, ◌≤◌, ◌^◌, All, IfOk, OnErr};
-ghost use Rattle.std.specs.Thread.{IsSync};
 
 use crate::chore::{Body, Chore};
 use crate::gate::Gate;
@@ -16,11 +15,10 @@ const STARTED: u32 = 0;
 /// How many hints wait where all workers are needed.
 const BACKLOG: usize = 8;
 
-/// Runs the body once beside one worker for each of `owns`, has the workers stop, and answers what the body answered.
+/// Runs the body once beside one worker for each of `owns`, has the workers stop, and answers what the body answered. The only
+/// error is want of memory, before anything is run.
 ///
-/// Workers have the numbers from 1 on. Each passes point 0 of the gate as it starts, takes hints and does the chore for each.
-/// Those that are more than the processors can run beside the body help only while hints pile up. Where no thread can be made for the workers, the body runs first, and they then find that they are to stop. The only error
-/// is want of memory, before anything is run.
+/// See [`run_beside`], which takes the body as a closure and hints that are there already.
 pub fn crew<W: Threads + Wait + Sync, C: Chore, G: Gate, B: Body>(
     rt: &W,
     alloc: Global,
@@ -36,28 +34,58 @@ pub fn crew<W: Threads + Wait + Sync, C: Chore, G: Gate, B: Body>(
     ensures refused { OnErr result ((body.new ≡ body.old) × (owns.new ≡ owns.old)) }
 {
     let hints = Hints::new(alloc)?;
+    let answer = run_beside(
+        rt,
+        &hints,
+        owns,
+        chore,
+        gate,
+        &mut || -> B::Answer
+            requires { B.ready body.now }
+            ensures { B.ran body.entry.now result body.exit.now }
+        { body.run(rt, &hints) },
+    );
+    Ok(answer)
+}
+
+/// Calls the body once beside one worker for each of `owns`, has the workers stop, and answers what the body answered.
+///
+/// Workers have the numbers from 1 on. Each passes point 0 of the gate as it starts, takes hints from `hints`, which no crew had
+/// before, and does the chore for each. Those that are more than the processors can run beside the body help only while hints
+/// pile up. Where no thread can be made for the workers, the body runs first, and they then find that they are to stop.
+pub fn run_beside<W: Threads + Wait + Sync, C: Chore, G: Gate, A: Send, F: FnMut() -> A + Send>(
+    rt: &W,
+    hints: &Hints,
+    owns: &mut [C::Own],
+    chore: &C,
+    gate: &G,
+    body: &mut F,
+) -> A
+    requires fit { All (C.fits chore.now) owns.old }
+    requires ready { F.pre body.old }
+    ensures ran { F.step body.old result body.new }
+    ensures fit { All (C.fits chore.now) owns.new }
+{
     let ((), answer) = join_mut(
         rt,
         &mut ||
             requires { All (C.fits chore.now) owns.now }
             ensures { All (C.fits chore.entry.now) owns.exit.now }
-        { help_all(rt, owns, chore, gate, &hints) },
-        &mut || -> B::Answer
-            requires ready { B.ready body.now }
-            requires shared { IsSync W.row }
-            ensures { B.ran body.entry.now result body.exit.now }
-        { run_body(rt, body, &hints) },
+        { help_all(rt, owns, chore, gate, hints) },
+        &mut || -> A
+            requires { F.pre body.now }
+            ensures { F.step body.entry.now result body.exit.now }
+        { run_body(body, hints) },
     );
-    Ok(answer)
+    answer
 }
 
-/// Runs the body, and then has the workers stop.
-fn run_body<W: Threads + Wait + Sync, B: Body>(rt: &W, body: &mut B, hints: &Hints) -> B::Answer
-    requires ready { B.ready body.old }
-    requires shared { IsSync W.row }
-    ensures { B.ran body.old result body.new }
+/// Calls the body, and then has the workers stop.
+fn run_body<A, F: FnMut() -> A>(body: &mut F, hints: &Hints) -> A
+    requires { F.pre body.old }
+    ensures { F.step body.old result body.new }
 {
-    let answer = body.run(rt, hints);
+    let answer = body();
     hints.stop();
     answer
 }
