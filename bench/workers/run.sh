@@ -1,8 +1,9 @@
 #!/usr/bin/env bash
 # Times repairs beside 1, 4 and 16 workers and without any, of one flow and of four in one trace, with none, 3 and 10 in a
-# hundred records lost, file to file: first on the machine as it is, then beside busy loops, two a processor. It prints the
-# ratios of the least wall times and of processor times to those without workers of the same run, and then how many words
-# came from workers, which a copy of the program with a counting gate tells. Outside the gate.
+# hundred records lost, and of 16 and 64 flows with 3, file to file: first on the machine as it is, then beside busy loops, two
+# a processor. It prints the ratios of the least wall times and of processor times to those without workers of the same run, and
+# the peaks of memory, and then how many words came from workers, which a copy of the program with a counting gate tells.
+# Outside the gate.
 #
 #   run.sh [DATAGRAMS] [ROUNDS]
 set -euo pipefail
