@@ -57,8 +57,7 @@ pub fn one_gained()
 /// Where a repair stops whose lanes grow record by record, one may stop whose lanes grow in any way.
 pub fn by_record_is_one_way()
     ensures { ByRecordIsOneWay }
-{
-}
+{}
 
 /// Wherever a repair stops, each flow's lane has gained a prefix of its bytes.
 pub fn stops_leave_parts()
