@@ -1,6 +1,11 @@
+pub mod Batched
 pub mod Crewing
 pub mod Crossing
+pub mod Emptied
 pub mod Emptying
+pub mod Filled
+pub mod Gathering
 pub mod Playing
+pub mod Reached
 pub mod Runs
 pub mod Slots

@@ -1,5 +1,5 @@
 -- How a trace is walked batch by batch. No public contract cites what stands here.
-use Rattle.std.specs.Prelude.{◌≡◌, ◌+◌, ◌<◌, ◌^◌, ◌⊎◌, ◌++◌, ℕ, Option, Some, IfSome, List, [], length, slice_index, take}
+use Rattle.std.specs.Prelude.{◌≡◌, ◌+◌, ◌<◌, ◌^◌, ◌⊎◌, ◌++◌, ℕ, false, Option, Some, IfSome, List, [], length, slice_index, take}
 use Rattle.std.specs.List.{Contains, slice_index_or}
 use Rattle.fg_io.specs.Outlet.{Lanes}
 use Rattle.fg_trace.specs.Reader.{ReaderState, StandsAfter}
@@ -9,10 +9,15 @@ use Rattle.fg_flows.specs.Plan.{playout_of}
 use Rattle.fg_report.specs.declared.tail.Tail.{Tail}
 use Rattle.fg_results.specs.Repair.{others_of}
 use Rattle.fg_results.specs.Stops.{HasShown, LiesBetween}
+use Rattle.fg_engine.specs.View.{FlowView}
 use Rattle.fg_engine.specs.Engine.{FlowStands, GrowAll, AreThere, TellsTail}
 use Rattle.fg_repair.specs.BatchView.{BatchView}
 use Rattle.fg_repair.specs.declared.batches.filling.Batches.{Batches}
 use Rattle.fg_repair.specs.Batches.{HoldsBatch}
+
+-- The flow, for whose lane nothing waits.
+abbrev pub unshelved : FlowView → BatchView
+unshelved flow = record { flow = flow; shelf = []; starved = false }
 
 -- Each flow of the plan has taken these records and has shown these bytes, and nothing waits for its lane.
 pub record FlowsStand (plan : Plan) (records : List Record) (flows : List (BatchView)) (gained : ℕ → List ℕ) : Type 0 where

@@ -1,5 +1,5 @@
 //! The batches of a repair: the records that wait in a sheaf, and the flows that run them.
-ghost use Rattle.std.specs.Prelude.{◌≡◌, ◌+◌, ◌<◌, ◌≤◌, ◌^◌, ◌++◌, ℕ, Option, List, [], ◌∷◌, length, map, All, IfOk, OnOk, OnErr};
+ghost use Rattle.std.specs.Prelude.{◌≡◌, ◌+◌, ◌<◌, ◌≤◌, ◌^◌, ◌++◌, ℕ, Option, List, [], ◌∷◌, length, map, IfOk, OnOk, OnErr};
 ghost use Rattle.fg_io.specs.Faults.{Counts};
 ghost use Rattle.fg_io.specs.Outlet.{Lanes};
 ghost use Rattle.fg_trace.specs.Trace.{Record};
@@ -8,7 +8,7 @@ ghost use Rattle.fg_flows.specs.declared.Plan.{Plan as PlanOf};
 ghost use Rattle.fg_flows.specs.Plan.{PlanFits};
 ghost use Rattle.fg_flows.specs.Flows.{IsPortOf};
 ghost use Rattle.fg_flows.specs.Sheaf.{no_items};
-ghost use Rattle.fg_repair.specs.Walking.{IsFilled, CanFill, BreaksInBatch};
+ghost use Rattle.fg_repair.specs.Walking.{unshelved, IsFilled, CanFill, BreaksInBatch};
 
 use crate::batches::emptying::empty_shelves;
 use crate::batches::flows::BatchFlow;
@@ -17,6 +17,7 @@ use fg_engine::{Flow, WindowState};
 use fg_flows::laws::one_flow_has_a_port;
 use fg_flows::{Kind, Plan, Sheaf};
 use fg_io::{Fault, Outlet};
+use fg_results::laws::one_gained;
 use std::alloc::{AllocError, Global};
 use std::thread::Threads;
 
@@ -38,8 +39,7 @@ impl<D: WindowState> Batches<D> {
         other: u64,
     ) -> Result<Batches<D>, AllocError>
         requires { PlanFits plan.now }
-        ensures flows { IfOk result (λ batches. map (λ flow. flow.flow) batches.flows.items ≡ flows.items) }
-        ensures empty { IfOk result (λ batches. All (λ flow. flow.shelf ≡ []) batches.flows.items) }
+        ensures flows { IfOk result (λ batches. batches.flows.items ≡ map unshelved flows.items) }
         ensures sheaf { IfOk result (λ batches. batches.sheaf ≡ no_items (length plan.now.table)) }
         ensures other { IfOk result (λ batches. batches.other ≡ other) }
     {
@@ -56,8 +56,7 @@ fn with_shelves<D: WindowState>(
     alloc: Global,
     flows: Vec<Flow<D>>,
 ) -> Result<Vec<BatchFlow<D>>, AllocError>
-    ensures flows { IfOk result (λ all. map (λ flow. flow.flow) all.items ≡ flows.items) }
-    ensures empty { IfOk result (λ all. All (λ flow. flow.shelf ≡ []) all.items) }
+    ensures { IfOk result (λ all. all.items ≡ map unshelved flows.items) }
 {
     let mut all = Vec::with_capacity(alloc, flows.len())?;
     for flow in flows {
@@ -168,6 +167,9 @@ impl<D: WindowState + Send> Batches<D> {
             → BreaksInBatch plan.now records (records ++ batch) before (O.lanes lanes.new)) }
         ensures faults { Counts result [] ((O.faults lanes.old, O.faults lanes.new) ∷ []) }
     {
+        // What a flow has shown of some records is one list of bytes.
+        one_flow_has_a_port();
+        one_gained();
         let threads = threads_for(&self.sheaf, &self.flows);
         run_flows(rt, alloc, threads, &self.sheaf, &mut self.flows)?;
         empty_shelves(&mut self.flows, lanes)?;
