@@ -7,7 +7,6 @@ ghost use Rattle.fg_results.specs.Contract.{IsRepair};
 ghost use Rattle.fg_results.specs.Stops.{ByRecord};
 
 use crate::records::{give_up, repair_windows};
-use crate::takes_records::OneByOne;
 use crate::window::WindowState;
 use fg_desk::{Desk, Played, Reply};
 use fg_flows::Plan;
@@ -93,7 +92,7 @@ pub fn repair_alone<S: Source, K: Sink, O: Outlet>(
     ensures fixed { S.fixed input.new ≡ S.fixed input.old }
 {
     match open_desks(alloc, plan) {
-        Ok(desks) => repair_windows(alloc, plan, desks, &mut OneByOne, input, out, lanes),
+        Ok(desks) => repair_windows(alloc, plan, desks, input, out, lanes),
         Err(AllocError) => give_up(plan, input, out, lanes),
     }
 }

@@ -14,7 +14,6 @@ ghost use Rattle.fg_engine.specs.Engine.{EngineStands, IsRunning, HasCome, Break
 
 use crate::flow::Flow;
 use crate::player::LaneWriter;
-use crate::takes_records::TakesRecords;
 use crate::window::WindowState;
 use fg_flows::laws::one_flow_has_a_port;
 use fg_flows::{Plan, Table};
@@ -29,7 +28,7 @@ use std::alloc::{AllocError, Global};
 pub struct Engine<D: WindowState> {
     pub flows: Vec<Flow<D>>,
     /// Writes the plays of all flows.
-    pub(crate) writer: LaneWriter,
+    pub writer: LaneWriter,
     /// Records on a port of no flow.
     pub other: u64,
 }
@@ -37,7 +36,7 @@ pub struct Engine<D: WindowState> {
 impl<D: WindowState> Engine<D> {
     /// The flows of the plan over these windows, which are in their order, before the first record. All further memory is
     /// taken here.
-    pub(crate) fn new(alloc: Global, plan: &Plan, windows: Vec<D>) -> Result<Engine<D>, AllocError>
+    pub fn new(alloc: Global, plan: &Plan, windows: Vec<D>) -> Result<Engine<D>, AllocError>
         requires fits { PlanFits plan.now }
         requires count { length windows.items ≡ length plan.now.table }
         requires empty { All (λ window. D.state window ≡ opening (playout_of plan.now)) windows.items }
@@ -89,7 +88,7 @@ impl<D: WindowState> Engine<D> {
     }
 
     /// Takes the next record, where there is one; else it answers how the trace ends.
-    pub(crate) fn take_next<S: Source, O: Outlet>(
+    fn take_next<S: Source, O: Outlet>(
         &mut self,
         alloc: Global,
         plan: &Plan,
@@ -137,17 +136,49 @@ impl<D: WindowState> Engine<D> {
         }
     }
 
-    /// Writes the lanes of a trace, whose magic the reader has found, and answers how the trace ends.
-    pub(crate) fn write_lanes<T: TakesRecords<D>, S: Source, O: Outlet>(
+    /// Takes all records that are left, and answers how the trace ends.
+    fn take_all<S: Source, O: Outlet>(
         &mut self,
-        taking: &mut T,
         alloc: Global,
         plan: &Plan,
         reader: &mut Reader,
         input: &mut S,
         lanes: &mut O,
     ) -> Result<Tail, Fault>
-        requires ready { T.ready taking.old }
+        requires fits { PlanFits plan.now }
+        requires underway { (first : Option (List ℕ)) × (before : Option Lanes)
+            × HasWalked plan.now first (S.left input.old) reader.old self.old before (O.lanes lanes.old) }
+        requires open { reader.old.kept ≡ None }
+        requires max { reader.old.max ≡ plan.now.max }
+        ensures whole { IfOk result (λ tail. (first : Option (List ℕ)) (before : Option Lanes)
+            → HasWalked plan.now first (S.left input.old) reader.old self.old before (O.lanes lanes.old)
+            → TookAll plan.now first self.new tail before (O.lanes lanes.new)) }
+        ensures stops { IfErr result (λ fault. (first : Option (List ℕ)) (before : Option Lanes)
+            → HasWalked plan.now first (S.left input.old) reader.old self.old before (O.lanes lanes.old)
+            → LanesStop ByRecord plan.now (finish_after fault) first before (O.lanes lanes.new)) }
+        ensures far { (first : Option (List ℕ)) → HasRead plan.now.max reader.old first (S.left input.old)
+            → HasRead plan.now.max reader.new first (S.left input.new) }
+        ensures reaches { IfOk result (λ tail. HasReached (told_finish tail) reader.new (S.left input.new)) }
+        ensures faults { Counts result ((S.faults input.old, S.faults input.new) ∷ [])
+            ((O.faults lanes.old, O.faults lanes.new) ∷ []) }
+        ensures fixed { S.fixed input.new ≡ S.fixed input.old }
+    {
+        loop {
+            if let Some(tail) = self.take_next(alloc, plan, reader, input, lanes)? {
+                return Ok(tail);
+            }
+        }
+    }
+
+    /// Writes the lanes of a trace, whose magic the reader has found, and answers how the trace ends.
+    pub(crate) fn write_lanes<S: Source, O: Outlet>(
+        &mut self,
+        alloc: Global,
+        plan: &Plan,
+        reader: &mut Reader,
+        input: &mut S,
+        lanes: &mut O,
+    ) -> Result<Tail, Fault>
         requires fits { PlanFits plan.now }
         requires new { EngineStands plan.now [] self.old (λ _. []) }
         requires begun { (first : Option (List ℕ)) × StandsAfter reader.old first (S.left input.old) [] }
@@ -158,7 +189,7 @@ impl<D: WindowState> Engine<D> {
             → LanesWhole plan.now first self.new tail (O.lanes lanes.old) (O.lanes lanes.new)) }
         ensures stops { IfErr result (λ fault. (first : Option (List ℕ))
             → StandsAfter reader.old first (S.left input.old) []
-            → LanesStop T.growth plan.now (finish_after fault) first (O.lanes lanes.old) (O.lanes lanes.new)) }
+            → LanesStop ByRecord plan.now (finish_after fault) first (O.lanes lanes.old) (O.lanes lanes.new)) }
         ensures far { (first : Option (List ℕ)) → HasRead plan.now.max reader.old first (S.left input.old)
             → HasRead plan.now.max reader.new first (S.left input.new) }
         ensures reaches { IfOk result (λ tail. HasReached (told_finish tail) reader.new (S.left input.new)) }
@@ -168,14 +199,14 @@ impl<D: WindowState> Engine<D> {
     {
         one_trace();
         make_lanes(&plan.table, lanes)?;
-        let tail = taking.take_all(alloc, plan, self, reader, input, lanes)?;
+        let tail = self.take_all(alloc, plan, reader, input, lanes)?;
         flush(&mut self.flows, &mut self.writer, lanes)?;
         Ok(tail)
     }
 }
 
 /// Makes each flow's lane, by an empty put.
-fn make_lanes<O: Outlet>(table: &Table, lanes: &mut O) -> Result<(), Fault>
+pub fn make_lanes<O: Outlet>(table: &Table, lanes: &mut O) -> Result<(), Fault>
     ensures made { OnOk result (GrowAll (O.lanes lanes.old) table.now (λ _. []) (O.lanes lanes.new)) }
     ensures there { OnOk result (AreThere table.now (O.lanes lanes.new)) }
     ensures part { OnErr result (GrowAll (O.lanes lanes.old) table.now (λ _. []) (O.lanes lanes.new)) }
@@ -189,7 +220,7 @@ fn make_lanes<O: Outlet>(table: &Table, lanes: &mut O) -> Result<(), Fault>
 }
 
 /// Flushes the flows, in their order.
-fn flush<D: WindowState, O: Outlet>(
+pub fn flush<D: WindowState, O: Outlet>(
     flows: &mut [Flow<D>],
     writer: &mut LaneWriter,
     lanes: &mut O,

@@ -11,14 +11,12 @@ mod play;
 mod player;
 mod records;
 mod shelved;
-mod takes_records;
 mod window;
 
 pub use alone::repair_alone;
-pub use engine::Engine;
+pub use engine::{Engine, flush, make_lanes};
 pub use flow::Flow;
 pub use player::{LaneWriter, Player, ShelfFiller};
-pub use records::{give_up, repair_windows};
+pub use records::{finish_at, give_up, repair_windows, report};
 pub use shelved::Shelved;
-pub use takes_records::{OneByOne, TakesRecords};
 pub use window::WindowState;

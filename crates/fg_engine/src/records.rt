@@ -13,7 +13,6 @@ ghost use Rattle.fg_engine.specs.Engine.{sums_of, told_finish, answer_of};
 
 use crate::engine::Engine;
 use crate::flow::Flow;
-use crate::takes_records::TakesRecords;
 use crate::window::WindowState;
 use fg_flows::Plan;
 use fg_io::laws::parts_of_writes;
@@ -24,23 +23,20 @@ use fg_trace::laws::{one_trace, read_as_far_as_needed};
 use fg_trace::{Finish, Reader, TraceFault};
 use std::alloc::{AllocError, Global};
 
-/// Repairs the flows of a trace over these windows, which are those of the plan's flows in their order, and empty. Their
-/// records are taken as `taking` does.
-pub fn repair_windows<D: WindowState, T: TakesRecords<D>, S: Source, K: Sink, O: Outlet>(
+/// Repairs the flows of a trace over these windows, which are those of the plan's flows in their order, and empty.
+pub fn repair_windows<D: WindowState, S: Source, K: Sink, O: Outlet>(
     alloc: Global,
     plan: &Plan,
     windows: Vec<D>,
-    taking: &mut T,
     input: &mut S,
     out: &mut K,
     lanes: &mut O,
 ) -> Finish
-    requires ready { T.ready taking.old }
     requires fits { PlanFits plan.now }
     requires count { length windows.items ≡ length plan.now.table }
     requires empty { All (λ window. D.state window ≡ opening (playout_of plan.now)) windows.items }
 
-    ensures repairs { IsRepair T.growth plan.now result (S.left input.old) (S.left input.new) O.lanes lanes.old lanes.new
+    ensures repairs { IsRepair ByRecord plan.now result (S.left input.old) (S.left input.new) O.lanes lanes.old lanes.new
         K.written out.old out.new }
 
     // A fault of the outside is answered only where it was counted in this call, and with every other answer none was. No
@@ -50,7 +46,7 @@ pub fn repair_windows<D: WindowState, T: TakesRecords<D>, S: Source, K: Sink, O:
         ((K.faults out.old, K.faults out.new) ∷ (O.faults lanes.old, O.faults lanes.new) ∷ []) }
     ensures fixed { S.fixed input.new ≡ S.fixed input.old }
 {
-    match repair(alloc, plan, windows, taking, input, out, lanes) {
+    match repair(alloc, plan, windows, input, out, lanes) {
         Ok(finish) => finish,
         Err(fault) => fault.into(),
     }
@@ -82,20 +78,18 @@ pub fn give_up<S: Source, K: Sink, O: Outlet>(
 }
 
 /// Repairs the flows of a trace. The first fault ends it.
-fn repair<D: WindowState, T: TakesRecords<D>, S: Source, K: Sink, O: Outlet>(
+fn repair<D: WindowState, S: Source, K: Sink, O: Outlet>(
     alloc: Global,
     plan: &Plan,
     windows: Vec<D>,
-    taking: &mut T,
     input: &mut S,
     out: &mut K,
     lanes: &mut O,
 ) -> Result<Finish, Fault>
-    requires ready { T.ready taking.old }
     requires fits { PlanFits plan.now }
     requires count { length windows.items ≡ length plan.now.table }
     requires empty { All (λ window. D.state window ≡ opening (playout_of plan.now)) windows.items }
-    ensures repairs { IsRepair T.growth plan.now (answer_of result) (S.left input.old) (S.left input.new) O.lanes lanes.old lanes.new
+    ensures repairs { IsRepair ByRecord plan.now (answer_of result) (S.left input.old) (S.left input.new) O.lanes lanes.old lanes.new
         K.written out.old out.new }
     ensures ending { IfOk result (λ finish. ¬ IsFault finish) }
     ensures faults { Counts result ((S.faults input.old, S.faults input.new) ∷ [])
@@ -110,7 +104,7 @@ fn repair<D: WindowState, T: TakesRecords<D>, S: Source, K: Sink, O: Outlet>(
     read_as_far_as_needed();
     let mut reader = Reader::new(alloc, plan.max)?;
     match reader.start(input) {
-        Ok(()) => repair_records(alloc, plan, windows, taking, &mut reader, input, out, lanes),
+        Ok(()) => repair_records(alloc, plan, windows, &mut reader, input, out, lanes),
         Err(TraceFault::NotTrace(place)) => Ok(Finish::NotTrace(place)),
         Err(TraceFault::ReadFault) => Err(Fault::Read),
         Err(TraceFault::Cut(_)) => unreachable!(),
@@ -119,17 +113,15 @@ fn repair<D: WindowState, T: TakesRecords<D>, S: Source, K: Sink, O: Outlet>(
 }
 
 /// Repairs the flows of a trace whose magic the reader has found.
-fn repair_records<D: WindowState, T: TakesRecords<D>, S: Source, K: Sink, O: Outlet>(
+fn repair_records<D: WindowState, S: Source, K: Sink, O: Outlet>(
     alloc: Global,
     plan: &Plan,
     windows: Vec<D>,
-    taking: &mut T,
     reader: &mut Reader,
     input: &mut S,
     out: &mut K,
     lanes: &mut O,
 ) -> Result<Finish, Fault>
-    requires ready { T.ready taking.old }
     requires fits { PlanFits plan.now }
     requires count { length windows.items ≡ length plan.now.table }
     requires empty { All (λ window. D.state window ≡ opening (playout_of plan.now)) windows.items }
@@ -138,7 +130,7 @@ fn repair_records<D: WindowState, T: TakesRecords<D>, S: Source, K: Sink, O: Out
     requires max { reader.old.max ≡ plan.now.max }
     requires bounded { reader.old.place + length reader.old.held ≤ reader.old.max + 1 }
     ensures repairs { (first : Option (List ℕ)) → StandsAfter reader.old first (S.left input.old) []
-        → IsRepair T.growth plan.now (answer_of result) first (S.left input.new) O.lanes lanes.old lanes.new
+        → IsRepair ByRecord plan.now (answer_of result) first (S.left input.new) O.lanes lanes.old lanes.new
         K.written out.old out.new }
     ensures ending { IfOk result (λ finish. ¬ IsFault finish) }
     ensures faults { Counts result ((S.faults input.old, S.faults input.new) ∷ [])
@@ -153,13 +145,13 @@ fn repair_records<D: WindowState, T: TakesRecords<D>, S: Source, K: Sink, O: Out
     read_as_far_as_needed();
     let mut engine = Engine::new(alloc, plan, windows)?;
     let sums = Vec::with_capacity(alloc, engine.flows.len())?;
-    let tail = engine.write_lanes(taking, alloc, plan, reader, input, lanes)?;
+    let tail = engine.write_lanes(alloc, plan, reader, input, lanes)?;
     report(alloc, engine, sums, tail, out)?;
     Ok(finish_at(tail))
 }
 
 /// Writes the report of the flows. `sums` is empty, and has room for their counts.
-fn report<D: WindowState, K: Sink>(
+pub fn report<D: WindowState, K: Sink>(
     alloc: Global,
     engine: Engine<D>,
     sums: Vec<FlowSum>,
@@ -196,7 +188,7 @@ fn add_sums<D: WindowState>(
 }
 
 /// The answer to a trace with this tail.
-fn finish_at(tail: Tail) -> Finish
+pub fn finish_at(tail: Tail) -> Finish
     ensures { result ≡ told_finish tail }
 {
     match tail {

@@ -27,7 +27,7 @@ use Rattle.fg_engine.proofs.Breaking.{shown_of}
 use Rattle.fg_engine.proofs.Lanes.{told_then, contains_at}
 use Rattle.fg_engine.proofs.Standing.{moved, flow_taken, ports_differ}
 use Rattle.fg_repair.specs.BatchView.{BatchView}
-use Rattle.fg_repair.specs.Batches.{IsItemOf, AreItemsOf, CanRun, HasRun, AreOn, waiting, emptied, BreaksEmptying, HoldsBatch}
+use Rattle.fg_repair.specs.Batches.{IsItemOf, AreItemsOf, CanRun, HasRun, CanRunAll, HaveRun, AreOn, waiting, emptied, BreaksEmptying, HoldsBatch}
 use Rattle.fg_repair.specs.declared.batches.filling.Batches.{Batches}
 use Rattle.fg_repair.specs.Walking.{FlowsStand, IsFilled, CanFill, HasPut, BreaksInBatch}
 use Rattle.fg_repair.proofs.Gathering.{zip_place, holds_none}
@@ -150,27 +150,23 @@ there_then None None ports next t h = tt
 
 -- All flows that have run theirs
 
--- Each flow has run its items of the sheaf.
-abbrev pub AllHaveRun : SheafState → List BatchView → List BatchView → Type 0
-AllHaveRun sheaf old mid = (k : ℕ) (d : BatchView) → k < length old → HasRun (items_of sheaf k) (slice_index_or old k d) (slice_index_or mid k d)
-
 items_there : (plan : Plan) (batch : List Record) (sheaf : SheafState) (k : ℕ) → HoldsBatch plan batch sheaf → k < length plan.table → AreItemsOf batch (slice_index plan.table k) (items_of sheaf k)
 items_there plan batch sheaf k holds below = zip_place (AreItemsOf batch) 0 [] plan.table sheaf.items k holds below
 
 pub mid_stands :
     (plan : Plan) (records batch : List Record) (sheaf : SheafState) (old mid : List BatchView) (gained : ℕ → List ℕ)
-    → FlowsStand plan records old gained → HoldsBatch plan batch sheaf → AllHaveRun sheaf old mid
+    → FlowsStand plan records old gained → HoldsBatch plan batch sheaf → HaveRun sheaf old mid
     → (k : ℕ) (d : BatchView) → k < length plan.table
     → FlowStands plan (records ++ batch) (slice_index plan.table k) (slice_index_or mid k d).flow (gained (slice_index plan.table k) ++ (slice_index_or mid k d).shelf)
 mid_stands plan records batch sheaf old mid gained h holds ran k d below =
     ran_stands plan records batch (slice_index plan.table k) (slice_index_or old k d) (slice_index_or mid k d) (items_of sheaf k) (gained (slice_index plan.table k))
-    (h.each k d below) (h.empty k d below) (items_there plan batch sheaf k holds below) (ran k d (subst (λ n. k < n) (sym h.count) below))
+    (h.each k d below) (h.empty k d below) (items_there plan batch sheaf k holds below) (ran.each k d (subst (λ n. k < n) (sym h.count) below))
 
 pub mid_on :
     (plan : Plan) (records batch : List Record) (sheaf : SheafState) (old mid : List BatchView) (gained : ℕ → List ℕ)
-    → FlowsStand plan records old gained → HoldsBatch plan batch sheaf → AllHaveRun sheaf old mid → length mid ≡ length old → AreOn plan.table mid
-mid_on plan records batch sheaf old mid gained h holds ran long = record {
-  long = long ∙ h.count;
+    → FlowsStand plan records old gained → HoldsBatch plan batch sheaf → HaveRun sheaf old mid → AreOn plan.table mid
+mid_on plan records batch sheaf old mid gained h holds ran = record {
+  long = ran.count ∙ h.count;
   ports = λ k d below. (mid_stands plan records batch sheaf old mid gained h holds ran k d below).port_is;
 }
 
@@ -180,39 +176,39 @@ empty_at mid k d below = get_or-map emptied mid k d d below
 
 put_stands :
     OneFlowHasAPort → (plan : Plan) → IsTable plan.table → (records batch : List Record) (sheaf : SheafState) (old mid : List BatchView) (gained : ℕ → List ℕ)
-    → FlowsStand plan records old gained → HoldsBatch plan batch sheaf → AllHaveRun sheaf old mid → length mid ≡ length old
+    → FlowsStand plan records old gained → HoldsBatch plan batch sheaf → HaveRun sheaf old mid
     → (k : ℕ) (d : BatchView) → k < length plan.table
     → FlowStands plan (records ++ batch) (slice_index plan.table k) (slice_index_or mid k d).flow (gained (slice_index plan.table k) ++ waiting mid (slice_index plan.table k))
-put_stands law plan good records batch sheaf old mid gained h holds ran long k d below =
+put_stands law plan good records batch sheaf old mid gained h holds ran k d below =
     subst (λ (bytes : List ℕ). FlowStands plan (records ++ batch) (slice_index plan.table k) (slice_index_or mid k d).flow (gained (slice_index plan.table k) ++ bytes))
-    (sym (waits_at law plan.table good mid (mid_on plan records batch sheaf old mid gained h holds ran long) k d below))
+    (sym (waits_at law plan.table good mid (mid_on plan records batch sheaf old mid gained h holds ran) k d below))
     (mid_stands plan records batch sheaf old mid gained h holds ran k d below)
 
 flows_put :
     OneFlowHasAPort → (plan : Plan) → IsTable plan.table → (records batch : List Record) (sheaf : SheafState) (old mid new : List BatchView) (gained : ℕ → List ℕ)
-    → FlowsStand plan records old gained → HoldsBatch plan batch sheaf → AllHaveRun sheaf old mid → length mid ≡ length old → new ≡ map emptied mid
+    → FlowsStand plan records old gained → HoldsBatch plan batch sheaf → HaveRun sheaf old mid → new ≡ map emptied mid
     → FlowsStand plan (records ++ batch) new (λ port. gained port ++ waiting mid port)
-flows_put law plan good records batch sheaf old mid new gained h holds ran long is =
-    let wide : (k : ℕ) → k < length plan.table → k < length mid = λ k below. omega (arith, below, long, h.count) in
+flows_put law plan good records batch sheaf old mid new gained h holds ran is =
+    let wide : (k : ℕ) → k < length plan.table → k < length mid = λ k below. omega (arith, below, ran.count, h.count) in
     record {
-      count = ap length is ∙ length-map mid emptied ∙ long ∙ h.count;
+      count = ap length is ∙ length-map mid emptied ∙ ran.count ∙ h.count;
       each = λ k d below.
           subst (λ (f : BatchView). FlowStands plan (records ++ batch) (slice_index plan.table k) f.flow (gained (slice_index plan.table k) ++ waiting mid (slice_index plan.table k)))
           (sym (ap (λ (fs : List BatchView). slice_index_or fs k d) is ∙ empty_at mid k d (wide k below)))
-          (put_stands law plan good records batch sheaf old mid gained h holds ran long k d below);
+          (put_stands law plan good records batch sheaf old mid gained h holds ran k d below);
       empty = λ k d below. ap (λ (f : BatchView). f.shelf) (ap (λ (fs : List BatchView). slice_index_or fs k d) is ∙ empty_at mid k d (wide k below));
     }
 
 pub batch_put :
     {D : Type 0} → OneFlowHasAPort → (plan : Plan) → IsTable plan.table → (records batch : List Record) (old new : Batches D) (mid : List BatchView) (before now after : Option Lanes)
-    → AllHaveRun old.sheaf old.flows.items mid → length mid ≡ length old.flows.items → (AreOn plan.table mid → GrowAll now plan.table (waiting mid) after)
+    → HaveRun old.sheaf old.flows.items mid → (AreOn plan.table mid → GrowAll now plan.table (waiting mid) after)
     → new.flows.items ≡ map emptied mid → new.sheaf ≡ no_items (length plan.table) → new.other ≡ old.other
     → IsFilled plan records batch old before now → IsFilled plan (records ++ batch) [] new before after
-batch_put law plan good records batch old new mid before now after ran long puts flows sheaf other h =
-    let grown : GrowAll now plan.table (waiting mid) after = puts (mid_on plan records batch old.sheaf old.flows.items mid h.gained h.stands h.holds ran long) in
+batch_put law plan good records batch old new mid before now after ran puts flows sheaf other h =
+    let grown : GrowAll now plan.table (waiting mid) after = puts (mid_on plan records batch old.sheaf old.flows.items mid h.gained h.stands h.holds ran) in
     record {
       gained = λ port. h.gained port ++ waiting mid port;
-      stands = flows_put law plan good records batch old.sheaf old.flows.items mid new.flows.items h.gained h.stands h.holds ran long flows;
+      stands = flows_put law plan good records batch old.sheaf old.flows.items mid new.flows.items h.gained h.stands h.holds ran flows;
       holds = subst (λ (s : SheafState). HoldsBatch plan [] s) (sym sheaf) (holds_none plan.table);
       other = other ∙ h.other ∙ sym (ap (others_of plan.table) (append-nil (records ++ batch)));
       grow = grow_then before now after plan.table h.gained (waiting mid) h.grow grown;
@@ -256,9 +252,21 @@ none_put plan records batch next batches before now h = (
 -- What a flow shows of a batch that was run.
 pub stands_mid :
     {D : Type 0} → OneFlowHasAPort → (plan : Plan) → IsTable plan.table → (records batch : List Record) (old : Batches D) (mid : List BatchView) (before now : Option Lanes)
-    → AllHaveRun old.sheaf old.flows.items mid → length mid ≡ length old.flows.items → (h : IsFilled plan records batch old before now)
+    → HaveRun old.sheaf old.flows.items mid → (h : IsFilled plan records batch old before now)
     → (k : ℕ) → k < length plan.table → HasShown (playout_of plan) (slice_index plan.table k) (records ++ batch) (h.gained (slice_index plan.table k) ++ waiting mid (slice_index plan.table k))
-stands_mid law plan good records batch old mid before now ran long h k below =
-    let any = some_flow mid (omega (arith, long, h.stands.count, below)) in
-    let stands = put_stands law plan good records batch old.sheaf old.flows.items mid h.gained h.stands h.holds ran long k any below in
+stands_mid law plan good records batch old mid before now ran h k below =
+    let any = some_flow mid (omega (arith, ran.count, h.stands.count, below)) in
+    let stands = put_stands law plan good records batch old.sheaf old.flows.items mid h.gained h.stands h.holds ran k any below in
     shown_of (playout_of plan) (slice_index plan.table k) (records ++ batch) _ _ (h.gained (slice_index plan.table k) ++ waiting mid (slice_index plan.table k)) stands.taken
+
+-- All flows may run their records of a batch.
+pub can_run_all :
+    {D : Type 0} → (plan : Plan) → PlanFits plan → (records batch : List Record) (batches : Batches D) (before now : Option Lanes)
+    → length (records ++ batch) < 2 ^ 43 → IsFilled plan records batch batches before now → CanRunAll batches.sheaf batches.flows.items
+can_run_all plan fits records batch batches before now few h = record {
+  count = h.stands.count ∙ sym (zip_length (AreItemsOf batch) plan.table batches.sheaf.items h.holds);
+  each = λ k d below.
+      let inside : k < length plan.table = subst (λ n. k < n) h.stands.count below in
+      can_run plan fits records batch (slice_index plan.table k) (slice_index_or batches.flows.items k d) (items_of batches.sheaf k) (h.gained (slice_index plan.table k)) few
+      (h.stands.each k d inside) (items_there plan batch batches.sheaf k h.holds inside);
+}

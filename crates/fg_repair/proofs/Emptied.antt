@@ -15,10 +15,10 @@ use Rattle.fg_results.specs.Laws.{OneGained}
 use Rattle.fg_results.specs.Stops.{HasShown, LiesBetween, Taking}
 use Rattle.fg_engine.proofs.Standing.{ports_differ}
 use Rattle.fg_repair.specs.BatchView.{BatchView}
-use Rattle.fg_repair.specs.Batches.{AreOn, waiting, BreaksEmptying}
+use Rattle.fg_repair.specs.Batches.{AreOn, HaveRun, waiting, BreaksEmptying}
 use Rattle.fg_repair.specs.declared.batches.filling.Batches.{Batches}
 use Rattle.fg_repair.specs.Walking.{FlowsStand, IsFilled, HasPut, BreaksInBatch}
-use Rattle.fg_repair.proofs.Batched.{AllHaveRun, mid_on, shown_in, stands_mid, grow_then, there_then}
+use Rattle.fg_repair.proofs.Batched.{mid_on, shown_in, stands_mid, grow_then, there_then}
 
 -- The first ports of a list
 
@@ -95,10 +95,10 @@ exact_at law once plan good taken next mid gained before after e old new k below
 
 pub emptying_breaks :
     {D : Type 0} → OneFlowHasAPort → OneGained → (plan : Plan) → IsTable plan.table → (records batch : List Record) (old : Batches D) (mid : List BatchView) (before now after : Option Lanes)
-    → AllHaveRun old.sheaf old.flows.items mid → length mid ≡ length old.flows.items → (AreOn plan.table mid → BreaksEmptying plan.table mid now after)
+    → HaveRun old.sheaf old.flows.items mid → (AreOn plan.table mid → BreaksEmptying plan.table mid now after)
     → IsFilled plan records batch old before now → BreaksInBatch plan records (records ++ batch) before after
-emptying_breaks law once plan good records batch old mid before now after ran long breaks h =
-    let e : BreaksEmptying plan.table mid now after = breaks (mid_on plan records batch old.sheaf old.flows.items mid h.gained h.stands h.holds ran long) in
+emptying_breaks law once plan good records batch old mid before now after ran breaks h =
+    let e : BreaksEmptying plan.table mid now after = breaks (mid_on plan records batch old.sheaf old.flows.items mid h.gained h.stands h.holds ran) in
     record {
       done = e.done;
       broken = Some (slice_index plan.table e.done);
@@ -112,6 +112,6 @@ emptying_breaks law once plan good records batch old mid before now after ran lo
           (get_or_default plan.table c.0 0 flow c.1 ∙ c.2)
           (exact_at law once plan good records (records ++ batch) mid h.gained now after e
           (λ k below. shown_in plan records old.flows.items h.gained h.stands (slice_index plan.table k) (k, below, get_or_default plan.table k (slice_index plan.table k) 0 below))
-          (λ k below. stands_mid law plan good records batch old mid before now ran long h k below)
+          (λ k below. stands_mid law plan good records batch old mid before now ran h k below)
           c.0 c.1 (cases_lt c.0 e.done) (cases_eq c.0 e.done));
     }

@@ -117,3 +117,15 @@ pub record BreaksEmptying (ports : List ℕ) (flows : List BatchView) (before af
   pub first : (k : ℕ) → k < done → gained (slice_index ports k) ≡ waiting flows (slice_index ports k)
   pub broken : IsPrefix (gained (slice_index ports done)) (waiting flows (slice_index ports done))
   pub others : (k : ℕ) → done < k → k < length ports → gained (slice_index ports k) ≡ []
+
+-- How a batch is run
+
+-- Each flow may run its records of the sheaf.
+pub record CanRunAll (sheaf : SheafState) (flows : List BatchView) : Type 0 where
+  pub count : length flows ≡ length sheaf.items
+  pub each : (k : ℕ) (d : BatchView) → k < length flows → CanRun (slice_index_or flows k d).flow (length (items_of sheaf k))
+
+-- Each flow has run its records of the sheaf.
+pub record HaveRun (sheaf : SheafState) (old new : List BatchView) : Type 0 where
+  pub count : length new ≡ length old
+  pub each : (k : ℕ) (d : BatchView) → k < length old → HasRun (items_of sheaf k) (slice_index_or old k d) (slice_index_or new k d)

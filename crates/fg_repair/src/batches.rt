@@ -2,7 +2,8 @@
 mod emptying;
 mod filling;
 mod flows;
+mod records;
 mod running;
 mod walking;
 
-pub(crate) use walking::InBatches;
+pub(crate) use records::repair_in_batches;

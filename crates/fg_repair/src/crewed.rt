@@ -3,7 +3,8 @@
 //! Each flow's desk stands on a board. The caller's thread reads the trace, admits the datagrams and plays the windows. Each
 //! equation that it admits is held by a tally; the workers fold into it meanwhile what arrived, and bring the word of the one
 //! slot that is missing. Whatever they do, the replies and the plays are those of desks that the caller has to itself.
-ghost use Rattle.std.specs.Prelude.{◌≡◌, [], ◌∷◌, length};
+ghost use Rattle.std.specs.Prelude.{◌≡◌, [], ◌∷◌, length, All, IsOk, IfOk, OnErr};
+ghost use Rattle.std.specs.Thread.{IsSync};
 ghost use Rattle.fg_io.specs.Faults.{CountsFaults};
 ghost use Rattle.fg_flows.specs.Plan.{PlanFits};
 ghost use Rattle.fg_results.specs.Contract.{IsRepair};
@@ -28,15 +29,15 @@ use crate::crewed::helping::Helping;
 use crate::crewed::opening::{open, open_tallies};
 use crate::crewed::places::{FlowTallies, Places};
 use crate::crewed::post::{Crew, Host, Post, Remembered};
-use crate::crewed::repairing::Repairing;
-use fg_crew::{Gate, crew};
+use crate::crewed::repairing::repair_and_stop;
+use fg_crew::{Chore, Gate, Hints, help_all};
 use fg_engine::give_up;
 use fg_flows::Plan;
 use fg_io::{Outlet, Sink, Source};
 use fg_trace::Finish;
 use std::alloc::{AllocError, Global};
 use std::sync::Wait;
-use std::thread::Threads;
+use std::thread::{Threads, join_mut};
 
 /// Repairs the flows of a trace, with workers beside the caller.
 ///
@@ -151,35 +152,81 @@ fn repair_beside<
         ((K.faults out.old, K.faults out.new) ∷ (O.faults lanes.old, O.faults lanes.new) ∷ []) }
     ensures fixed { S.fixed input.new ≡ S.fixed input.old }
 {
-    let mut repairing = Repairing {
-        alloc,
-        plan,
-        gate,
-        posts,
-        hosts,
-        input,
-        out,
-        lanes,
-    };
     let helping = Helping {
         posts,
         places,
         gate,
         alloc,
     };
-    let answer = crew(rt, alloc, owns, &helping, gate, &mut repairing);
-    let Repairing {
-        alloc: _,
-        plan: _,
-        gate: _,
-        posts: _,
-        hosts: _,
-        input,
-        out,
-        lanes,
-    } = repairing;
-    match answer {
+    let mut hosts = hosts;
+    match run_beside(
+        rt, alloc, plan, posts, &mut hosts, owns, &helping, input, out, lanes, gate,
+    ) {
         Ok(finish) => finish,
         Err(AllocError) => give_up(plan, input, out, lanes),
     }
+}
+
+/// Repairs the flows of a trace in the caller's thread, beside one worker for each of `owns`, who does the chore.
+///
+/// # Errors
+///
+/// There was no memory, before anything was done.
+fn run_beside<
+    W: Threads + Wait + Sync,
+    C: Chore,
+    S: Source + Send,
+    K: Sink + Send,
+    O: Outlet + Send,
+    G: Gate,
+>(
+    rt: &W,
+    alloc: Global,
+    plan: &Plan,
+    posts: &[Post],
+    hosts: &mut Vec<Host>,
+    owns: &mut [C::Own],
+    chore: &C,
+    input: &mut S,
+    out: &mut K,
+    lanes: &mut O,
+    gate: &G,
+) -> Result<Finish, AllocError>
+    requires fits { PlanFits plan.now }
+    requires begins { CanBegin plan.now posts.now hosts.old.items }
+    requires fit { All (C.fits chore.now) owns.old }
+    ensures repairs { IfOk result (λ finish. IsRepair ByBatch plan.now finish (S.left input.old) (S.left input.new)
+        O.lanes lanes.old lanes.new K.written out.old out.new) }
+    ensures faults { IfOk result (λ finish. CountsFaults (finish ≡ Finish.ReadFault) (finish ≡ Finish.WriteFault)
+        ((S.faults input.old, S.faults input.new) ∷ [])
+        ((K.faults out.old, K.faults out.new) ∷ (O.faults lanes.old, O.faults lanes.new) ∷ [])) }
+    ensures fixed { IsOk result → S.fixed input.new ≡ S.fixed input.old }
+    ensures refused { OnErr result ((input.new ≡ input.old) × (out.new ≡ out.old) × (lanes.new ≡ lanes.old)) }
+{
+    let hints = Hints::new(alloc)?;
+    let ((), answer) = join_mut(
+        rt,
+        &mut ||
+            requires { All (C.fits chore.now) owns.now }
+            ensures { All (C.fits chore.entry.now) owns.exit.now }
+        { help_all(rt, owns, chore, gate, &hints) },
+        &mut || -> Finish
+            requires fits { PlanFits plan.now }
+            requires begins { CanBegin plan.now posts.now hosts.now.items }
+            requires shared { IsSync W.row }
+            requires gated { IsSync G.row }
+            ensures repairs { IsRepair ByBatch plan.entry.now result (S.left input.entry.now) (S.left input.exit.now)
+                O.lanes lanes.entry.now lanes.exit.now K.written out.entry.now out.exit.now }
+            ensures faults { CountsFaults (result ≡ Finish.ReadFault) (result ≡ Finish.WriteFault)
+                ((S.faults input.entry.now, S.faults input.exit.now) ∷ [])
+                ((K.faults out.entry.now, K.faults out.exit.now)
+                ∷ (O.faults lanes.entry.now, O.faults lanes.exit.now) ∷ []) }
+            ensures fixed { S.fixed input.exit.now ≡ S.fixed input.entry.now }
+        {
+            repair_and_stop(
+                rt, alloc, plan, gate, posts, hosts, input, out, lanes, &hints,
+            )
+        },
+    );
+    Ok(answer)
 }

@@ -8,6 +8,7 @@ ghost use Rattle.fg_flows.specs.declared.Plan.{Plan as PlanOf};
 ghost use Rattle.fg_flows.specs.Plan.{PlanFits};
 ghost use Rattle.fg_flows.specs.Flows.{IsPortOf};
 ghost use Rattle.fg_flows.specs.Sheaf.{no_items};
+ghost use Rattle.fg_repair.specs.Batches.{CanRunAll, HaveRun};
 ghost use Rattle.fg_repair.specs.Walking.{unshelved, IsFilled, CanFill, BreaksInBatch};
 
 use crate::batches::emptying::empty_shelves;
@@ -142,14 +143,14 @@ impl<D: WindowState + Send> Batches<D> {
         if self.sheaf.add(flow, kind, time, datagram) {
             return Ok(());
         }
-        self.run(rt, alloc, plan, lanes)?;
+        self.run_batch(rt, alloc, plan, lanes)?;
         // An empty sheaf has room for any record.
         let _added = self.sheaf.add(flow, kind, time, datagram);
         Ok(())
     }
 
     /// Runs the batch: each flow takes its records, and then its lane gains what waits for it. The sheaf is empty then.
-    pub(crate) fn run<W: Threads + Sync, O: Outlet>(
+    pub(crate) fn run_batch<W: Threads + Sync, O: Outlet>(
         &mut self,
         rt: &W,
         alloc: Global,
@@ -170,10 +171,27 @@ impl<D: WindowState + Send> Batches<D> {
         // What a flow has shown of some records is one list of bytes.
         one_flow_has_a_port();
         one_gained();
-        let threads = threads_for(&self.sheaf, &self.flows);
-        run_flows(rt, alloc, threads, &self.sheaf, &mut self.flows)?;
+        run_side_by_side(rt, alloc, &self.sheaf, &mut self.flows)?;
         empty_shelves(&mut self.flows, lanes)?;
         self.sheaf.clear();
         Ok(())
     }
+}
+
+/// Has each flow run its records of a batch, in two threads where at least two flows may play in it, else in one.
+///
+/// # Errors
+///
+/// A flow found no memory.
+fn run_side_by_side<W: Threads + Sync, D: WindowState + Send>(
+    rt: &W,
+    alloc: Global,
+    sheaf: &Sheaf,
+    flows: &mut [BatchFlow<D>],
+) -> Result<(), AllocError>
+    requires { CanRunAll sheaf.now flows.old }
+    ensures { OnOk result (HaveRun sheaf.now flows.old flows.new) }
+{
+    let threads = threads_for(sheaf, flows);
+    run_flows(rt, alloc, threads, sheaf, flows)
 }

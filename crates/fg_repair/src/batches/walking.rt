@@ -1,6 +1,5 @@
 //! Walking a trace batch by batch.
-ghost use Rattle.std.specs.Prelude.{◌≡◌, ◌<◌, ◌≤◌, ◌++◌, ℕ, Option, List, [], ◌∷◌, length, map, None, IfOk, IfErr, IfSome, IfNone, OnOk, OnErr};
-ghost use Rattle.std.specs.Thread.{IsSend, IsSync};
+ghost use Rattle.std.specs.Prelude.{◌≡◌, ◌<◌, ◌≤◌, ◌++◌, ℕ, Option, List, [], ◌∷◌, length, All, None, IfOk, IfErr, IfSome, IfNone, OnOk, OnErr};
 ghost use Rattle.fg_io.specs.Faults.{Counts};
 ghost use Rattle.fg_io.specs.Outlet.{Lanes};
 ghost use Rattle.fg_trace.specs.Finish.{finish_after};
@@ -13,7 +12,7 @@ ghost use Rattle.fg_engine.specs.Engine.{LanesStop, HasWalked, HasRead, TookAll,
 ghost use Rattle.fg_repair.specs.Walking.{HasFilled, FilledAll, RanAll};
 
 use crate::batches::filling::{Batches, flows_alone};
-use fg_engine::{Engine, TakesRecords, WindowState};
+use fg_engine::{Engine, WindowState};
 use fg_flows::Plan;
 use fg_io::{Fault, Outlet, Source};
 use fg_report::Tail;
@@ -23,43 +22,50 @@ use std::alloc::Global;
 use std::mem;
 use std::thread::Threads;
 
-/// Takes records batch by batch. The flows run their records of a batch side by side.
-#[derive(Drop)]
-pub(crate) struct InBatches<'a, W: Threads + Sync> {
-    pub(crate) rt: &'a W,
-}
-
-impl<'a, W: Threads + Sync, D: WindowState + Send> TakesRecords<D> for InBatches<'a, W> {
-    // The handle may be shared among threads, and the windows may be sent to them.
-    ghost growth = { ByBatch };
-
-    ghost ready = { λ _. IsSync W.row × IsSend D.row };
-
-    fn take_all<S: Source, O: Outlet>(
-        &mut self,
-        alloc: Global,
-        plan: &Plan,
-        engine: &mut Engine<D>,
-        reader: &mut Reader,
-        input: &mut S,
-        lanes: &mut O,
-    ) -> Result<Tail, Fault> {
-        // Where lanes stop, they have what the first records show.
-        walks_the_front();
-        one_trace();
-        let left = Vec::with_capacity(alloc, plan.table.count())?;
-        let flows = mem::replace(&mut engine.flows, Vec::new(alloc));
-        let mut batches = Batches::new(alloc, plan, flows, engine.other)?;
-        let tail = batches.take_all(self.rt, alloc, plan, reader, input, lanes)?;
-        let Batches {
-            flows,
-            sheaf: _,
-            other,
-        } = batches;
-        engine.other = other;
-        engine.flows = flows_alone(flows, left)?;
-        Ok(tail)
-    }
+/// Takes all records that are left, batch by batch, and answers how the trace ends. The flows run their records of a batch side
+/// by side, and what their plays show goes to the lanes batch by batch. All memory for the batches is taken first.
+pub(crate) fn take_in_batches<W: Threads + Sync, D: WindowState + Send, S: Source, O: Outlet>(
+    rt: &W,
+    alloc: Global,
+    plan: &Plan,
+    engine: &mut Engine<D>,
+    reader: &mut Reader,
+    input: &mut S,
+    lanes: &mut O,
+) -> Result<Tail, Fault>
+    requires fits { PlanFits plan.now }
+    requires underway { (first : Option (List ℕ)) × (before : Option Lanes)
+        × HasWalked plan.now first (S.left input.old) reader.old engine.old before (O.lanes lanes.old) }
+    requires open { reader.old.kept ≡ None }
+    requires max { reader.old.max ≡ plan.now.max }
+    ensures whole { IfOk result (λ tail. (first : Option (List ℕ)) (before : Option Lanes)
+        → HasWalked plan.now first (S.left input.old) reader.old engine.old before (O.lanes lanes.old)
+        → TookAll plan.now first engine.new tail before (O.lanes lanes.new)) }
+    ensures stops { IfErr result (λ fault. (first : Option (List ℕ)) (before : Option Lanes)
+        → HasWalked plan.now first (S.left input.old) reader.old engine.old before (O.lanes lanes.old)
+        → LanesStop ByBatch plan.now (finish_after fault) first before (O.lanes lanes.new)) }
+    ensures far { (first : Option (List ℕ)) → HasRead plan.now.max reader.old first (S.left input.old)
+        → HasRead plan.now.max reader.new first (S.left input.new) }
+    ensures reaches { IfOk result (λ tail. HasReached (told_finish tail) reader.new (S.left input.new)) }
+    ensures faults { Counts result ((S.faults input.old, S.faults input.new) ∷ [])
+        ((O.faults lanes.old, O.faults lanes.new) ∷ []) }
+    ensures fixed { S.fixed input.new ≡ S.fixed input.old }
+{
+    // Where lanes stop, they have what the first records show.
+    walks_the_front();
+    one_trace();
+    let left = Vec::with_capacity(alloc, plan.table.count())?;
+    let flows = mem::replace(&mut engine.flows, Vec::new(alloc));
+    let mut batches = Batches::new(alloc, plan, flows, engine.other)?;
+    let tail = batches.take_all(rt, alloc, plan, reader, input, lanes)?;
+    let Batches {
+        flows,
+        sheaf: _,
+        other,
+    } = batches;
+    engine.other = other;
+    engine.flows = flows_alone(flows, left)?;
+    Ok(tail)
 }
 
 impl<D: WindowState + Send> Batches<D> {
@@ -94,7 +100,7 @@ impl<D: WindowState + Send> Batches<D> {
         one_trace();
         loop {
             if let Some(tail) = self.take_next(rt, alloc, plan, reader, input, lanes)? {
-                self.run(rt, alloc, plan, lanes)?;
+                self.run_batch(rt, alloc, plan, lanes)?;
                 return Ok(tail);
             }
         }

@@ -10,13 +10,13 @@ ghost use Rattle.fg_results.specs.Stops.{ByBatch};
 ghost use Rattle.fg_board.specs.Actors.{desk_of};
 ghost use Rattle.fg_repair.specs.Crewed.{HostAll, IsNewHost, CanBegin};
 
-use crate::batches::InBatches;
+use crate::batches::repair_in_batches;
 use crate::crewed::arrivals::Progress;
 use crate::crewed::board_window::BoardWindow;
 use crate::crewed::points::Hears;
 use crate::crewed::post::{Host, Post};
-use fg_crew::{Body, Gate, Hints};
-use fg_engine::{give_up, repair_windows};
+use fg_crew::{Gate, Hints};
+use fg_engine::give_up;
 use fg_flows::Plan;
 use fg_io::{Outlet, Sink, Source};
 use fg_trace::Finish;
@@ -25,50 +25,62 @@ use std::mem;
 use std::sync::Wait;
 use std::thread::Threads;
 
-/// A repair over the flows' boards.
-pub(crate) struct Repairing<'p, 'g, 'a, 'i, 'o, 'l, G: Gate, S: Source, K: Sink, O: Outlet> {
-    pub(crate) alloc: Global,
-    pub(crate) plan: &'p Plan,
-    pub(crate) gate: &'g G,
-    pub(crate) posts: &'a [Post],
-    /// Those of the posts, until it begins.
-    pub(crate) hosts: Vec<Host>,
-    pub(crate) input: &'i mut S,
-    pub(crate) out: &'o mut K,
-    pub(crate) lanes: &'l mut O,
+/// Repairs the flows of a trace in this thread, over their boards, and then has the workers stop. The hosts are those of the
+/// posts, and none is left of them.
+pub(crate) fn repair_and_stop<W: Threads + Wait + Sync, G: Gate, S: Source, K: Sink, O: Outlet>(
+    rt: &W,
+    alloc: Global,
+    plan: &Plan,
+    gate: &G,
+    posts: &[Post],
+    hosts: &mut Vec<Host>,
+    input: &mut S,
+    out: &mut K,
+    lanes: &mut O,
+    hints: &Hints,
+) -> Finish
+    requires fits { PlanFits plan.now }
+    requires begins { CanBegin plan.now posts.now hosts.old.items }
+    ensures repairs { IsRepair ByBatch plan.now result (S.left input.old) (S.left input.new) O.lanes lanes.old lanes.new
+        K.written out.old out.new }
+    ensures faults { CountsFaults (result ≡ finish.ReadFault) (result ≡ finish.WriteFault)
+        ((S.faults input.old, S.faults input.new) ∷ [])
+        ((K.faults out.old, K.faults out.new) ∷ (O.faults lanes.old, O.faults lanes.new) ∷ []) }
+    ensures fixed { S.fixed input.new ≡ S.fixed input.old }
+{
+    let hosts = mem::replace(hosts, Vec::new(alloc));
+    let answer = repair_here(
+        rt, alloc, plan, gate, posts, hosts, input, out, lanes, hints,
+    );
+    hints.stop();
+    answer
 }
 
-impl<'p, 'g, 'a, 'i, 'o, 'l, G: Gate, S: Source + Send, K: Sink + Send, O: Outlet + Send> Body
-    for Repairing<'p, 'g, 'a, 'i, 'o, 'l, G, S, K, O> {
-    type Answer = Finish;
-
-    ghost ready = { λ repairing. PlanFits repairing.plan.now
-        × CanBegin repairing.plan.now repairing.posts.now repairing.hosts.items };
-
-    ghost ran = { λ old answer new.
-        IsRepair ByBatch old.plan.now answer (S.left old.input.now) (S.left new.input.now) O.lanes old.lanes.now new.lanes.now
-        K.written old.out.now new.out.now
-        × CountsFaults (answer ≡ finish.ReadFault) (answer ≡ finish.WriteFault)
-        ((S.faults old.input.now, S.faults new.input.now) ∷ [])
-        ((K.faults old.out.now, K.faults new.out.now) ∷ (O.faults old.lanes.now, O.faults new.lanes.now) ∷ [])
-        × (S.fixed new.input.now ≡ S.fixed old.input.now)
-        × (new.input.ghost_name ≡ old.input.ghost_name) × (new.out.ghost_name ≡ old.out.ghost_name)
-        × (new.lanes.ghost_name ≡ old.lanes.ghost_name) };
-
-    fn run<W: Threads + Wait + Sync>(&mut self, rt: &W, hints: &Hints) -> Finish {
-        let hosts = mem::replace(&mut self.hosts, Vec::new(self.alloc));
-        match windows_on(rt, self.alloc, self.gate, hints, self.posts, hosts) {
-            Ok(windows) => repair_windows(
-                self.alloc,
-                self.plan,
-                windows,
-                &mut InBatches { rt },
-                self.input,
-                self.out,
-                self.lanes,
-            ),
-            Err(AllocError) => give_up(self.plan, self.input, self.out, self.lanes),
-        }
+/// Repairs the flows of a trace in this thread, over their boards.
+fn repair_here<W: Threads + Wait + Sync, G: Gate, S: Source, K: Sink, O: Outlet>(
+    rt: &W,
+    alloc: Global,
+    plan: &Plan,
+    gate: &G,
+    posts: &[Post],
+    hosts: Vec<Host>,
+    input: &mut S,
+    out: &mut K,
+    lanes: &mut O,
+    hints: &Hints,
+) -> Finish
+    requires fits { PlanFits plan.now }
+    requires begins { CanBegin plan.now posts.now hosts.items }
+    ensures repairs { IsRepair ByBatch plan.now result (S.left input.old) (S.left input.new) O.lanes lanes.old lanes.new
+        K.written out.old out.new }
+    ensures faults { CountsFaults (result ≡ finish.ReadFault) (result ≡ finish.WriteFault)
+        ((S.faults input.old, S.faults input.new) ∷ [])
+        ((K.faults out.old, K.faults out.new) ∷ (O.faults lanes.old, O.faults lanes.new) ∷ []) }
+    ensures fixed { S.fixed input.new ≡ S.fixed input.old }
+{
+    match windows_on(rt, alloc, gate, hints, posts, hosts) {
+        Ok(windows) => repair_in_batches(rt, alloc, plan, windows, input, out, lanes),
+        Err(AllocError) => give_up(plan, input, out, lanes),
     }
 }
 

@@ -29,13 +29,13 @@ returns-clause-takes g c = λ before records batch r h of at same.
     let plan = c.args.plan.now in
     let begun : IsFilled plan records batch (record c.args.self.now { sheaf = c.add.new.self }) before (g.O.Outlet.lanes c.args.lanes.now) =
     subst (λ (s : SheafState). IsFilled plan records batch (record c.args.self.now { sheaf = s }) before (g.O.Outlet.lanes c.args.lanes.now)) (sym c.if-add.ensures.unchanged) h in
-    let ran = c.in_ok-run.ensures.runs before records batch begun in
-    let room : HasRoom c.run.new.self.sheaf c.args.datagram.now =
-    subst (λ (s : SheafState). HasRoom s c.args.datagram.now) (sym c.in_ok-run.ensures.empty) (room_in_none (length plan.table) c.args.datagram.now c.requires.size) in (
+    let ran = c.in_ok-run_batch.ensures.runs before records batch begun in
+    let room : HasRoom c.run_batch.new.self.sheaf c.args.datagram.now =
+    subst (λ (s : SheafState). HasRoom s c.args.datagram.now) (sym c.in_ok-run_batch.ensures.empty) (room_in_none (length plan.table) c.args.datagram.now c.requires.size) in (
       records ++ batch,
       r ∷ [],
       refl,
-      filled_more c.one_flow_has_a_port.ensures plan c.requires.fits.table (records ++ batch) [] c.run.new.self
-          (record c.run.new.self { sheaf = c.add-added.new.self }) before _ r c.args.flow c.args.kind c.args.time c.args.datagram.now
+      filled_more c.one_flow_has_a_port.ensures plan c.requires.fits.table (records ++ batch) [] c.run_batch.new.self
+          (record c.run_batch.new.self { sheaf = c.add-added.new.self }) before _ r c.args.flow c.args.kind c.args.time c.args.datagram.now
           refl refl (OnTrue_at (c.add-added.ensures.room.1 room) c.add-added.ensures.added) ran of at same,
     )

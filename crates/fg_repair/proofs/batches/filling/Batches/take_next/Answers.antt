@@ -13,7 +13,15 @@ use Rattle.fg_repair.proofs.Reached.{can_fill, filled_on, stop_at_record, stop_a
 use Rattle.fg_repair.proofs.batches.filling.Batches.take_next.Goals as goal
 
 pub take-requires-clause-can : goal.take-requires-clause-can
-take-requires-clause-can g c = ?
+take-requires-clause-can g c = λ κs lives.
+    let first = c.requires.underway.0 in
+    let before = c.requires.underway.1 in
+    can_fill c.args.plan.now c.requires.fits first _ c.args.reader.now c.args.self.now before _ c.requires.max c.requires.underway.2
+
+pub returns-in_ok-take-in-Ok-Datagram-clause-more : goal.returns-in_ok-take-in-Ok-Datagram-clause-more
+returns-in_ok-take-in-Ok-Datagram-clause-more g c = λ first before h.
+    filled_on c.args.plan.now first _ _ c.args.reader.now c.next.new.self c.args.self.now c.take.new.self before _ _ c.next.result c.in-Ok-Datagram.time c.in-Ok-Datagram.port c.in-Ok-Datagram.field-0-2 c.payload.result.now
+    (c.in-Ok-Datagram.is ∙ ap Ok c.in-Ok-Datagram.field-0-is) c.payload.ensures (c.next.ensures.walks first) c.in_ok-take-in-Ok-Datagram.ensures.takes h
 
 pub returns-in_err-take-in-Ok-Datagram-clause-stops : goal.returns-in_err-take-in-Ok-Datagram-clause-stops
 returns-in_err-take-in-Ok-Datagram-clause-stops g c =
