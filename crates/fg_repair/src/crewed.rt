@@ -29,15 +29,15 @@ use crate::crewed::helping::Helping;
 use crate::crewed::opening::{open, open_tallies};
 use crate::crewed::places::{FlowTallies, Places};
 use crate::crewed::post::{Crew, Host, Post, Remembered};
-use crate::crewed::repairing::repair_and_stop;
-use fg_crew::{Chore, Gate, Hints, help_all};
+use crate::crewed::repairing::repair_here;
+use fg_crew::{Chore, Gate, Hints, run_beside};
 use fg_engine::give_up;
 use fg_flows::Plan;
 use fg_io::{Outlet, Sink, Source};
 use fg_trace::Finish;
 use std::alloc::{AllocError, Global};
 use std::sync::Wait;
-use std::thread::{Threads, join_mut};
+use std::thread::Threads;
 
 /// Repairs the flows of a trace, with workers beside the caller.
 ///
@@ -159,7 +159,7 @@ fn repair_beside<
         alloc,
     };
     let mut hosts = hosts;
-    match run_beside(
+    match repair_with_crew(
         rt, alloc, plan, posts, &mut hosts, owns, &helping, input, out, lanes, gate,
     ) {
         Ok(finish) => finish,
@@ -172,7 +172,7 @@ fn repair_beside<
 /// # Errors
 ///
 /// There was no memory, before anything was done.
-fn run_beside<
+fn repair_with_crew<
     W: Threads + Wait + Sync,
     C: Chore,
     S: Source + Send,
@@ -204,12 +204,12 @@ fn run_beside<
     ensures refused { OnErr result ((input.new ≡ input.old) × (out.new ≡ out.old) × (lanes.new ≡ lanes.old)) }
 {
     let hints = Hints::new(alloc)?;
-    let ((), answer) = join_mut(
+    let finish = run_beside(
         rt,
-        &mut ||
-            requires { All (C.fits chore.now) owns.now }
-            ensures { All (C.fits chore.entry.now) owns.exit.now }
-        { help_all(rt, owns, chore, gate, &hints) },
+        &hints,
+        owns,
+        chore,
+        gate,
         &mut || -> Finish
             requires fits { PlanFits plan.now }
             requires begins { CanBegin plan.now posts.now hosts.now.items }
@@ -223,10 +223,10 @@ fn run_beside<
                 ∷ (O.faults lanes.entry.now, O.faults lanes.exit.now) ∷ []) }
             ensures fixed { S.fixed input.exit.now ≡ S.fixed input.entry.now }
         {
-            repair_and_stop(
+            repair_here(
                 rt, alloc, plan, gate, posts, hosts, input, out, lanes, &hints,
             )
         },
     );
-    Ok(answer)
+    Ok(finish)
 }

@@ -25,9 +25,8 @@ use std::mem;
 use std::sync::Wait;
 use std::thread::Threads;
 
-/// Repairs the flows of a trace in this thread, over their boards, and then has the workers stop. The hosts are those of the
-/// posts, and none is left of them.
-pub(crate) fn repair_and_stop<W: Threads + Wait + Sync, G: Gate, S: Source, K: Sink, O: Outlet>(
+/// Repairs the flows of a trace in this thread, over their boards. The hosts are those of the posts, and none is left of them.
+pub(crate) fn repair_here<W: Threads + Wait + Sync, G: Gate, S: Source, K: Sink, O: Outlet>(
     rt: &W,
     alloc: Global,
     plan: &Plan,
@@ -49,35 +48,6 @@ pub(crate) fn repair_and_stop<W: Threads + Wait + Sync, G: Gate, S: Source, K: S
     ensures fixed { S.fixed input.new ≡ S.fixed input.old }
 {
     let hosts = mem::replace(hosts, Vec::new(alloc));
-    let answer = repair_here(
-        rt, alloc, plan, gate, posts, hosts, input, out, lanes, hints,
-    );
-    hints.stop();
-    answer
-}
-
-/// Repairs the flows of a trace in this thread, over their boards.
-fn repair_here<W: Threads + Wait + Sync, G: Gate, S: Source, K: Sink, O: Outlet>(
-    rt: &W,
-    alloc: Global,
-    plan: &Plan,
-    gate: &G,
-    posts: &[Post],
-    hosts: Vec<Host>,
-    input: &mut S,
-    out: &mut K,
-    lanes: &mut O,
-    hints: &Hints,
-) -> Finish
-    requires fits { PlanFits plan.now }
-    requires begins { CanBegin plan.now posts.now hosts.items }
-    ensures repairs { IsRepair ByBatch plan.now result (S.left input.old) (S.left input.new) O.lanes lanes.old lanes.new
-        K.written out.old out.new }
-    ensures faults { CountsFaults (result ≡ finish.ReadFault) (result ≡ finish.WriteFault)
-        ((S.faults input.old, S.faults input.new) ∷ [])
-        ((K.faults out.old, K.faults out.new) ∷ (O.faults lanes.old, O.faults lanes.new) ∷ []) }
-    ensures fixed { S.fixed input.new ≡ S.fixed input.old }
-{
     match windows_on(rt, alloc, gate, hints, posts, hosts) {
         Ok(windows) => repair_in_batches(rt, alloc, plan, windows, input, out, lanes),
         Err(AllocError) => give_up(plan, input, out, lanes),
