@@ -1,12 +1,11 @@
 -- What the flows and their lanes come to when a batch is run.
-use Rattle.std.proofs.Common.{◌≡◌, ◌⊎◌, inl, inr, ℕ, zero, suc, ◌+◌, ◌<◌, ◌≤◌, ◌^◌, Bool, true, false, cond, nat_eq, Option, Some, None, List, [], ◌∷◌, ◌++◌, length, map, take, get_or, replicate, slice_index, unwrap_or, refl, sym, ap, ◌∙◌, subst, arith, append_assoc, append-nil, length-append, IsSome}
+use Rattle.std.proofs.Common.{◌≡◌, inl, inr, ℕ, zero, suc, ◌<◌, ◌^◌, Bool, true, false, cond, nat_eq, Option, Some, None, List, [], ◌∷◌, ◌++◌, length, map, get_or, slice_index, refl, sym, ap, ◌∙◌, subst, arith, append_assoc, append-nil, length-append}
 use Rattle.std.specs.List.{AllZip, Contains, filter, slice_index_or}
 use Rattle.std.proofs.lemmas.Bool.Decides.{nat_tests}
-use Rattle.std.proofs.lemmas.List.{get_or_default, get_or-map, length-map, get_or-take, take_all, length-take}
-use Rattle.std.proofs.lemmas.List.Elements.{filter-append, Contains-get_or}
+use Rattle.std.proofs.lemmas.List.{get_or_default, get_or-map, length-map}
+use Rattle.std.proofs.lemmas.List.Elements.{filter-append}
 use Rattle.std.proofs.lemmas.List.Sums.{length-filter, count_by-le-length}
-use Rattle.fg_io.specs.Prefix.{IsPrefix}
-use Rattle.fg_io.specs.Outlet.{Lanes, lane_of, lane_bytes, WhereTold}
+use Rattle.fg_io.specs.Outlet.{Lanes, lane_bytes}
 use Rattle.fg_trace.specs.Trace.{Record}
 use Rattle.fg_shape.specs.Playout.{Playout, PlayoutFits}
 use Rattle.fg_flows.specs.declared.Plan.{Plan}
@@ -17,19 +16,18 @@ use Rattle.fg_flows.specs.Sheaf.{Item, SheafState, items_of, no_items}
 use Rattle.fg_playout.specs.State.{State}
 use Rattle.fg_report.specs.declared.flow_sum.FlowSum.{FlowSum}
 use Rattle.fg_results.specs.Flow.{is_of, records_of, Arrives}
-use Rattle.fg_results.specs.Laws.{OneGained}
 use Rattle.fg_results.specs.Repair.{others_of}
-use Rattle.fg_results.specs.Stops.{HasShown, LiesBetween, Taking}
+use Rattle.fg_results.specs.Stops.{HasShown}
 use Rattle.fg_results.proofs.Zips.{zip_length}
-use Rattle.fg_engine.specs.Engine.{FlowStands, LaneGrown, LanesGrow, GrowAll, AreThere}
+use Rattle.fg_engine.specs.Engine.{FlowStands, LanesGrow, GrowAll, AreThere}
 use Rattle.fg_engine.specs.Steps.{HasTaken}
 use Rattle.fg_engine.proofs.Breaking.{shown_of}
-use Rattle.fg_engine.proofs.Lanes.{told_then, contains_at}
+use Rattle.fg_engine.proofs.Lanes.{told_then}
 use Rattle.fg_engine.proofs.Standing.{moved, flow_taken, ports_differ}
 use Rattle.fg_repair.specs.BatchView.{BatchView}
-use Rattle.fg_repair.specs.Batches.{IsItemOf, AreItemsOf, CanRun, HasRun, CanRunAll, HaveRun, AreOn, waiting, emptied, BreaksEmptying, HoldsBatch}
+use Rattle.fg_repair.specs.Batches.{IsItemOf, AreItemsOf, CanRun, HasRun, CanRunAll, HaveRun, AreOn, waiting, emptied, HoldsBatch}
 use Rattle.fg_repair.specs.declared.batches.filling.Batches.{Batches}
-use Rattle.fg_repair.specs.Walking.{FlowsStand, IsFilled, CanFill, HasPut, BreaksInBatch}
+use Rattle.fg_repair.specs.Walking.{FlowsStand, IsFilled, BreaksInBatch}
 use Rattle.fg_repair.proofs.Gathering.{zip_place, holds_none}
 
 -- A flow's own records, and all

@@ -1,7 +1,6 @@
 -- Where a put fails while what waits is put to the lanes.
-use Rattle.std.proofs.Common.{◌≡◌, ◌⊎◌, inl, inr, ℕ, suc, ◌+◌, ◌<◌, ◌≤◌, Option, Some, List, [], ◌++◌, length, take, get_or, slice_index, refl, sym, ap, ◌∙◌, subst, arith, append_assoc, append-nil}
-use Rattle.std.specs.List.{Contains, slice_index_or}
-use Rattle.std.proofs.lemmas.Bool.Decides.{nat_tests}
+use Rattle.std.proofs.Common.{◌≡◌, ◌⊎◌, inl, inr, ℕ, ◌+◌, ◌<◌, ◌≤◌, Option, Some, List, ◌++◌, length, take, slice_index, refl, sym, ap, ◌∙◌, subst, arith, append_assoc, append-nil}
+use Rattle.std.specs.List.{Contains}
 use Rattle.std.proofs.lemmas.Bool.{cases_lt, cases_eq}
 use Rattle.std.proofs.lemmas.List.{get_or_default, get_or-take, length-take, take_all}
 use Rattle.fg_io.specs.Prefix.{IsPrefix}
@@ -17,7 +16,7 @@ use Rattle.fg_engine.proofs.Standing.{ports_differ}
 use Rattle.fg_repair.specs.BatchView.{BatchView}
 use Rattle.fg_repair.specs.Batches.{AreOn, HaveRun, waiting, BreaksEmptying}
 use Rattle.fg_repair.specs.declared.batches.filling.Batches.{Batches}
-use Rattle.fg_repair.specs.Walking.{FlowsStand, IsFilled, HasPut, BreaksInBatch}
+use Rattle.fg_repair.specs.Walking.{IsFilled, HasPut, BreaksInBatch}
 use Rattle.fg_repair.proofs.Batched.{mid_on, shown_in, stands_mid, grow_then, there_then}
 
 -- The first ports of a list

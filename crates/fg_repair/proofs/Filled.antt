@@ -1,5 +1,5 @@
 -- How a batch is filled.
-use Rattle.std.proofs.Common.{◌≡◌, ℕ, ◌+◌, ◌<◌, ◌≤◌, ◌^◌, not, Option, List, [], ◌∷◌, ◌++◌, length, refl, sym, ap, ◌∙◌, subst, arith, append_assoc, slice_index}
+use Rattle.std.proofs.Common.{◌≡◌, ℕ, ◌+◌, ◌<◌, ◌≤◌, ◌^◌, not, Option, List, [], ◌∷◌, ◌++◌, length, sym, ap, ◌∙◌, subst, arith, append_assoc}
 use Rattle.std.specs.List.{list_any}
 use Rattle.std.proofs.lemmas.List.Sums.{count_by-le-length}
 use Rattle.std.proofs.lemmas.List.Folds.{sum_by-replicate}
@@ -7,7 +7,6 @@ use Rattle.fg_io.specs.Outlet.{Lanes}
 use Rattle.fg_trace.specs.Trace.{Record}
 use Rattle.fg_shape.specs.declared.kind.Kind.{Kind}
 use Rattle.fg_flows.specs.declared.Plan.{Plan}
-use Rattle.fg_flows.specs.Plan.{PlanFits}
 use Rattle.fg_flows.specs.Flows.{IsPortOf, IsTable}
 use Rattle.fg_flows.specs.Laws.{OneFlowHasAPort}
 use Rattle.fg_flows.specs.Sheaf.{HasRoom, Item, SheafState, with_item, no_items, payload_bytes}
@@ -16,7 +15,7 @@ use Rattle.fg_results.specs.Repair.{others_of}
 use Rattle.fg_results.proofs.Zips.{zip_length}
 use Rattle.fg_engine.proofs.Standing.{others_of_flow, others_of_none, IsOfNone}
 use Rattle.fg_repair.specs.declared.batches.filling.Batches.{Batches}
-use Rattle.fg_repair.specs.Batches.{IsItemOf, AreItemsOf, HoldsBatch}
+use Rattle.fg_repair.specs.Batches.{AreItemsOf, HoldsBatch}
 use Rattle.fg_repair.specs.Walking.{FlowsStand, IsFilled, CanFill}
 use Rattle.fg_repair.proofs.Gathering.{holds_one, holds_other}
 

@@ -1,5 +1,5 @@
 -- How a trace is walked batch by batch, from where the reader stands.
-use Rattle.std.proofs.Common.{◌≡◌, ◌⊎◌, inl, inr, ℕ, ◌+◌, ◌<◌, ◌≤◌, ◌^◌, Option, Some, None, IfSome, Result, Ok, Err, IfErr, List, [], ◌∷◌, ◌++◌, length, map, take, drop, slice_index, refl, sym, ap, ◌∙◌, subst, arith, append_assoc, append-nil, length-append}
+use Rattle.std.proofs.Common.{◌≡◌, ◌⊎◌, inl, inr, ℕ, ◌+◌, ◌<◌, ◌≤◌, Option, Some, None, IfSome, Result, Ok, Err, IfErr, List, [], ◌∷◌, ◌++◌, length, map, take, drop, slice_index, refl, sym, ap, ◌∙◌, subst, arith, append_assoc, append-nil, length-append}
 use Rattle.std.specs.List.{slice_index_or}
 use Rattle.std.proofs.Math.Seq.{take-append_seam}
 use Rattle.std.proofs.lemmas.List.{take_all, take-append-drop, get_or-map, length-map}
@@ -15,7 +15,7 @@ use Rattle.fg_trace.proofs.Opening.{stands_still}
 use Rattle.fg_flows.specs.declared.Plan.{Plan}
 use Rattle.fg_flows.specs.Plan.{PlanFits, playout_of}
 use Rattle.fg_report.specs.declared.tail.Tail.{Tail}
-use Rattle.fg_results.specs.Stops.{Growth, ByBatch, Stops, StopsIn, Emptying, HasGained, HasGainedPart, HasShown, LiesBetween}
+use Rattle.fg_results.specs.Stops.{ByBatch, Stops, StopsIn, Emptying, HasGained, HasGainedPart, HasShown, LiesBetween}
 use Rattle.fg_flows.specs.Sheaf.{SheafState, no_items}
 use Rattle.fg_results.specs.Repair.{others_of}
 use Rattle.fg_engine.specs.View.{FlowView}

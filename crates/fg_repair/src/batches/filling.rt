@@ -1,10 +1,8 @@
 //! The batches of a repair: the records that wait in a sheaf, and the flows that run them.
-ghost use Rattle.std.specs.Prelude.{◌≡◌, ◌+◌, ◌<◌, ◌≤◌, ◌^◌, ◌++◌, ℕ, Option, List, [], ◌∷◌, length, map, IfOk, OnOk, OnErr};
+ghost use Rattle.std.specs.Prelude.{◌≡◌, ◌+◌, ◌<◌, ◌≤◌, ◌++◌, Option, List, [], ◌∷◌, length, map, IfOk, OnOk, OnErr};
 ghost use Rattle.fg_io.specs.Faults.{Counts};
 ghost use Rattle.fg_io.specs.Outlet.{Lanes};
 ghost use Rattle.fg_trace.specs.Trace.{Record};
-ghost use Rattle.fg_shape.specs.Kind.{port_of};
-ghost use Rattle.fg_flows.specs.declared.Plan.{Plan as PlanOf};
 ghost use Rattle.fg_flows.specs.Plan.{PlanFits};
 ghost use Rattle.fg_flows.specs.Flows.{IsPortOf};
 ghost use Rattle.fg_flows.specs.Sheaf.{no_items};

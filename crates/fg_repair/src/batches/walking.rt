@@ -1,12 +1,10 @@
 //! Walking a trace batch by batch.
-ghost use Rattle.std.specs.Prelude.{◌≡◌, ◌<◌, ◌≤◌, ◌++◌, ℕ, Option, List, [], ◌∷◌, length, All, None, IfOk, IfErr, IfSome, IfNone, OnOk, OnErr};
+ghost use Rattle.std.specs.Prelude.{◌≡◌, ◌<◌, ◌≤◌, ℕ, Option, List, [], ◌∷◌, All, None, IfOk, IfErr, IfSome, IfNone};
 ghost use Rattle.fg_io.specs.Faults.{Counts};
 ghost use Rattle.fg_io.specs.Outlet.{Lanes};
 ghost use Rattle.fg_trace.specs.Finish.{finish_after};
 ghost use Rattle.fg_trace.specs.Reading.{HasReached};
-ghost use Rattle.fg_trace.specs.Trace.{Record};
 ghost use Rattle.fg_flows.specs.Plan.{PlanFits};
-ghost use Rattle.fg_flows.specs.Sheaf.{no_items};
 ghost use Rattle.fg_results.specs.Stops.{ByBatch};
 ghost use Rattle.fg_engine.specs.Engine.{LanesStop, HasWalked, HasRead, TookAll, told_finish};
 ghost use Rattle.fg_repair.specs.Walking.{HasFilled, FilledAll, RanAll};

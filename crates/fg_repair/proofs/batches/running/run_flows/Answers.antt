@@ -1,4 +1,4 @@
-use Rattle.std.proofs.Common.{◌<◌, ◌∙◌, ℕ, false, slice_index_or, sym, subst}
+use Rattle.std.proofs.Common.{◌<◌, ◌∙◌, ℕ, slice_index_or, sym, subst}
 use Rattle.std.specs.Bool.{OnFalse}
 use Rattle.std.proofs.lemmas.Bool.{OnFalse_at}
 use Rattle.fg_flows.specs.Sheaf.{items_of}

@@ -1,9 +1,6 @@
-use Rattle.std.proofs.Common.{◌≡◌, ◌<◌, ◌≤◌, ℕ, List, [], ◌∷◌, ◌++◌, Option, length, refl, sym, ◌∙◌, subst, arith, append_assoc}
+use Rattle.std.proofs.Common.{◌<◌, [], ◌∷◌, ◌++◌, length, refl, sym, subst, append_assoc}
 use Rattle.std.proofs.lemmas.Bool.{OnTrue_at}
-use Rattle.fg_io.specs.Outlet.{Lanes}
-use Rattle.fg_trace.specs.Trace.{Record}
-use Rattle.fg_flows.specs.Sheaf.{HasRoom, SheafState, no_items}
-use Rattle.fg_repair.specs.declared.batches.filling.Batches.{Batches}
+use Rattle.fg_flows.specs.Sheaf.{HasRoom, SheafState}
 use Rattle.fg_repair.specs.Walking.{IsFilled}
 use Rattle.fg_repair.proofs.Filled.{filled_more, filled_long, room_in_none}
 use Rattle.fg_repair.proofs.batches.filling.Batches.add.Goals as goal

@@ -1,6 +1,6 @@
-use Rattle.std.proofs.Common.{◌≡◌, ◌+◌, List, [], ◌∷◌, ◌++◌, ℕ, refl, sym, subst, append_assoc}
+use Rattle.std.proofs.Common.{◌+◌, [], ◌∷◌, ◌++◌, refl, sym, subst, append_assoc}
 use Rattle.fg_engine.proofs.Standing.{IsOfNone}
-use Rattle.fg_repair.proofs.Filled.{filled_other, few_others}
+use Rattle.fg_repair.proofs.Filled.{filled_other}
 use Rattle.fg_repair.proofs.batches.filling.Batches.take.Goals as goal
 
 pub returns-in-None-clause-takes : goal.returns-in-None-clause-takes
