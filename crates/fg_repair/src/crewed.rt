@@ -1,8 +1,9 @@
 //! The repair with workers beside the caller.
 //!
-//! Each flow's desk stands on a board. The caller's thread reads the trace, admits the datagrams and plays the windows. Each
-//! equation that it admits is held by a tally; the workers fold into it meanwhile what arrived, and bring the word of the one
-//! slot that is missing. Whatever they do, the replies and the plays are those of desks that the caller has to itself.
+//! Each flow's desk stands on a board. The caller's thread reads the trace in batches, and the flows run their records of a
+//! batch side by side: they admit the datagrams and play the windows. Each equation that is admitted is held by a tally; the
+//! workers fold into it meanwhile what arrived, and bring the word of the one slot that is missing. Whatever they do, the
+//! replies and the plays are those of desks that each flow has to itself.
 ghost use Rattle.std.specs.Prelude.{◌≡◌, [], ◌∷◌, length, All, IsOk, IfOk, OnErr};
 ghost use Rattle.std.specs.Thread.{IsSync};
 ghost use Rattle.fg_io.specs.Faults.{CountsFaults};

@@ -21,7 +21,7 @@ use std::mem;
 use std::thread::Threads;
 
 /// Takes all records that are left, batch by batch, and answers how the trace ends. The flows run their records of a batch side
-/// by side, and what their plays show goes to the lanes batch by batch. All memory for the batches is taken first.
+/// by side, and what their plays show goes to the lanes batch by batch. All memory for the records is taken first.
 pub(crate) fn take_in_batches<W: Threads + Sync, D: WindowState + Send, S: Source, O: Outlet>(
     rt: &W,
     alloc: Global,

@@ -26,5 +26,5 @@ pub(crate) const TAKEN: u32 = 3;
 /// A settle found no memory.
 pub(crate) const NO_MEMORY: u32 = 4;
 
-/// The caller is about to play a window or to make a flush step.
+/// A flow is about to play a window or to make a flush step, in the thread that runs it. It passes the point as the caller does.
 pub(crate) const PLAYING: u32 = 5;

@@ -1,4 +1,4 @@
-//! What the workers help: the repair on the caller's thread.
+//! What the workers help: the repair in batches.
 ghost use Rattle.std.specs.Prelude.{◌≡◌, ◌<◌, ◌^◌, [], ◌∷◌, length, All, IfOk};
 ghost use Rattle.fg_io.specs.Faults.{CountsFaults};
 ghost use Rattle.fg_shape.specs.Playout.{Playout};
