@@ -1,4 +1,4 @@
-//! Batches of records, which the flows run side by side where there are workers.
+//! Batches of records, which several flows run side by side where there are workers.
 use super::workers::{Counts, PLAYS};
 use super::*;
 use std::sync::atomic::Ordering;
@@ -160,7 +160,7 @@ fn a_batch_that_ends_by_its_bytes(rt: HostRuntime) -> Result<(), Fail> {
         piece: 100_000,
         ..ROOMY
     };
-    let line = "repair flow=5000 workers=2";
+    let line = "repair flow=5000 flow=5010 workers=2";
     let (ended, outside) = run_line(&rt, alloc, &setting, line, &bytes)?;
     assert_eq!(rt; ended.status, 0);
     let media = b"media 5000 admitted 20 duplicate 0 conflict 0 late 0 bad 20";
@@ -224,7 +224,7 @@ fn the_batch_of_a_failed_read_is_not_run(rt: HostRuntime) -> Result<(), Fail> {
         reads: &[395],
         ..ROOMY
     };
-    let line = "repair flow=5000 window=4 depth=4 workers=1";
+    let line = "repair flow=5000 flow=5010 window=4 depth=4 workers=1";
     let (ended, outside) = run_line(&rt, alloc, &setting, line, &bytes)?;
     assert_eq!(rt; ended.status, 2);
     outside.check_lane(&rt, alloc, 5000, Some(numbers(alloc, 252)?.as_slice()))?;
