@@ -7,7 +7,6 @@ bytes of the input. tools/fuzz and the scripts beside it compare the program wit
 """
 import re
 import struct
-from functools import reduce
 from typing import NamedTuple
 
 PACKET = 188
@@ -43,16 +42,16 @@ class Word(NamedTuple):
     bytes: int
 
 
-ZERO = Word(0, 0, 0, 0)
-
-
 def word_of(pt, ts, length, payload):
     return Word(pt, ts, length, int.from_bytes(payload.ljust(LARGEST, b"\0"), "big"))
 
 
 def sum_of(words):
     """The XOR of all, field by field."""
-    return reduce(lambda one, other: Word(*(a ^ b for a, b in zip(one, other))), words, ZERO)
+    pt = ts = length = data = 0
+    for word in words:
+        pt, ts, length, data = pt ^ word.pt, ts ^ word.ts, length ^ word.len, data ^ word.bytes
+    return Word(pt, ts, length, data)
 
 
 def payload_of(word):
@@ -141,7 +140,7 @@ class Equation(NamedTuple):
     word: Word
 
     def slots(self):
-        return [self.base + j * self.offset for j in range(self.na)]
+        return range(self.base, self.base + self.na * self.offset, self.offset)
 
 
 class Play(NamedTuple):
