@@ -14,6 +14,7 @@ use Rattle.fg_flows.specs.Sheaf.{Item, SheafState, items_of}
 use Rattle.fg_playout.specs.Admission.{IsDue}
 use Rattle.fg_results.specs.Flow.{records_of}
 use Rattle.fg_engine.specs.View.{FlowView}
+use Rattle.fg_engine.specs.declared.shelved.Shelved.{Shelved}
 use Rattle.fg_engine.specs.Steps.{HasTaken}
 use Rattle.fg_engine.specs.Engine.{GrowAll}
 use Rattle.fg_repair.specs.BatchView.{BatchView}
@@ -93,30 +94,39 @@ pub record TwoMayPlay (flows : List BatchView) (sheaf : SheafState) (d : BatchVi
 
 -- What waits for the lanes
 
--- The flows are on these ports, in this order.
-pub record AreOn (table : List ℕ) (flows : List BatchView) : Type 0 where
-  pub long : length flows ≡ length table
-  pub ports : (k : ℕ) (d : BatchView) → k < length table → (slice_index_or flows k d).flow.sum.port ≡ slice_index table k
+-- What waits is for the lanes of these ports, in this order.
+pub record WaitFor (table : List ℕ) (shelves : List Shelved) : Type 0 where
+  pub long : length shelves ≡ length table
+  pub ports : (k : ℕ) (d : Shelved) → k < length table → (slice_index_or shelves k d).port ≡ slice_index table k
 
--- What waits for the lane of this port: what the first flow on it has on its shelf.
-abbrev pub waiting : List BatchView → ℕ → List ℕ
+-- What waits for the lane of this port: what is on the first shelf of it.
+abbrev pub waiting : List Shelved → ℕ → List ℕ
 waiting [] port = []
-waiting (flow ∷ more) port = if flow.flow.sum.port == port then flow.shelf else waiting more port
+waiting (shelved ∷ more) port = if shelved.port == port then shelved.shelf else waiting more port
 
--- The flow, for whose lane nothing waits any more.
-abbrev pub emptied : BatchView → BatchView
-emptied flow = record flow { shelf = [] }
+-- The lane, for which nothing waits any more.
+abbrev pub emptied : Shelved → Shelved
+emptied shelved = record shelved { shelf = [] }
 
--- A put failed while the shelves were emptied: the lanes of the first flows have gained all that waited for them, the next a
+-- A put failed while the shelves were emptied: the lanes of the first ports have gained all that waited for them, the next a
 -- front of it, and the others nothing.
-pub record BreaksEmptying (ports : List ℕ) (flows : List BatchView) (before after : Option Lanes) : Type 0 where
+pub record BreaksEmptying (ports : List ℕ) (shelves : List Shelved) (before after : Option Lanes) : Type 0 where
   pub done : ℕ
   pub within : done < length ports
   pub gained : ℕ → List ℕ
   pub grow : GrowAll before ports gained after
-  pub first : (k : ℕ) → k < done → gained (slice_index ports k) ≡ waiting flows (slice_index ports k)
-  pub broken : IsPrefix (gained (slice_index ports done)) (waiting flows (slice_index ports done))
+  pub first : (k : ℕ) → k < done → gained (slice_index ports k) ≡ waiting shelves (slice_index ports k)
+  pub broken : IsPrefix (gained (slice_index ports done)) (waiting shelves (slice_index ports done))
   pub others : (k : ℕ) → done < k → k < length ports → gained (slice_index ports k) ≡ []
+
+-- Each flow has the shelf that waited, and what it had on its own waits now.
+pub record HaveExchanged (flows flows' : List BatchView) (shelves shelves' : List Shelved) : Type 0 where
+  pub flows_long : length flows' ≡ length flows
+  pub shelves_long : length shelves' ≡ length shelves
+  pub flows_are : (k : ℕ) (d : BatchView) (w : Shelved) → k < length flows
+      → slice_index_or flows' k d ≡ record (slice_index_or flows k d) { shelf = (slice_index_or shelves k w).shelf }
+  pub shelves_are : (k : ℕ) (d : BatchView) (w : Shelved) → k < length flows
+      → slice_index_or shelves' k w ≡ record (slice_index_or shelves k w) { shelf = (slice_index_or flows k d).shelf }
 
 -- How a batch is run
 

@@ -2,4 +2,5 @@
 pub mod BatchView
 pub mod Batches
 pub mod Crewed
+pub mod Gathering
 pub mod Walking

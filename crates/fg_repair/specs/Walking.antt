@@ -19,60 +19,30 @@ use Rattle.fg_repair.specs.Batches.{HoldsBatch}
 abbrev pub unshelved : FlowView → BatchView
 unshelved flow = record { flow = flow; shelf = []; starved = false }
 
--- Each flow of the plan has taken these records and has shown these bytes, and nothing waits for its lane.
-pub record FlowsStand (plan : Plan) (records : List Record) (flows : List (BatchView)) (gained : ℕ → List ℕ) : Type 0 where
-  pub count : length flows ≡ length plan.table
-  pub each : (k : ℕ) (d : BatchView) → k < length plan.table
-      → FlowStands plan records (slice_index plan.table k) (slice_index_or flows k d).flow (gained (slice_index plan.table k))
-  pub empty : (k : ℕ) (d : BatchView) → k < length plan.table → (slice_index_or flows k d).shelf ≡ []
-
--- The flows have taken these records, and their lanes have gained what they have shown. The records of the batch, which come
--- next, are in the sheaf. Those of no flow are counted.
-pub record IsFilled {D : Type 0}
-    (plan : Plan) (records batch : List Record) (batches : Batches D) (before after : Option Lanes) : Type 0 where
+-- The lanes have gained what the first records show, those of `put`. Each flow has taken those of `ran` too, and what they show
+-- waits for its lane. The records of the batch, which come next, are in the sheaf.
+pub record IsAhead {D : Type 0}
+    (plan : Plan) (put ran batch : List Record) (batches : Batches D) (before after : Option Lanes) : Type 0 where
   pub gained : ℕ → List ℕ
-  pub stands : FlowsStand plan records batches.flows.items gained
+  pub count : length batches.flows.items ≡ length plan.table
+  pub flows : (k : ℕ) (d : BatchView) → k < length plan.table
+      → FlowStands plan (put ++ ran) (slice_index plan.table k) (slice_index_or batches.flows.items k d).flow
+      (gained (slice_index plan.table k) ++ waiting batches.shelves.items (slice_index plan.table k))
+  pub shown : (port : ℕ) → Contains plan.table port → HasShown (playout_of plan) port put (gained port)
+  pub empty : (k : ℕ) (d : BatchView) → k < length plan.table → (slice_index_or batches.flows.items k d).shelf ≡ []
+  pub wait : WaitFor plan.table batches.shelves.items
   pub holds : HoldsBatch plan batch batches.sheaf
-  pub other : batches.other ≡ others_of plan.table (records ++ batch)
   pub grow : GrowAll before plan.table gained after
   pub there : AreThere plan.table after
 
 -- It is so after few records of a plan that fits.
-pub record CanFill {D : Type 0} (plan : Plan) (batches : Batches D) (after : Option Lanes) : Type 0 where
-  pub records : List Record
+pub record CanStep {D : Type 0} (plan : Plan) (batches : Batches D) (after : Option Lanes) : Type 0 where
+  pub put : List Record
+  pub ran : List Record
   pub batch : List Record
   pub before : Option Lanes
-  pub filled : IsFilled plan records batch batches before after
-  pub few : length (records ++ batch) < 2 ^ 43
-
--- The reader stands after these records.
-pub record HasFilled {D : Type 0}
-    (plan : Plan) (first now : Option (List ℕ)) (reader : ReaderState) (batches : Batches D) (before after : Option Lanes) : Type 0 where
-  pub records : List Record
-  pub batch : List Record
-  pub stands : StandsAfter reader first now (records ++ batch)
-  pub filled : IsFilled plan records batch batches before after
-
--- They are all records of the trace, and it ends so.
-pub record FilledAll {D : Type 0}
-    (plan : Plan) (first : Option (List ℕ)) (batches : Batches D) (tail : Tail) (before after : Option Lanes) : Type 0 where
-  pub records : List Record
-  pub batch : List Record
-  pub end : Ending
-  pub of_input : IfSome first (λ bytes. IsTrace bytes plan.max (records ++ batch) end)
-  pub tells : TellsTail end tail
-  pub few : length (records ++ batch) < 2 ^ 43
-  pub filled : IsFilled plan records batch batches before after
-
--- The last batch was run too.
-pub record RanAll {D : Type 0}
-    (plan : Plan) (first : Option (List ℕ)) (batches : Batches D) (tail : Tail) (before after : Option Lanes) : Type 0 where
-  pub records : List Record
-  pub end : Ending
-  pub of_input : IfSome first (λ bytes. IsTrace bytes plan.max records end)
-  pub tells : TellsTail end tail
-  pub few : length records < 2 ^ 43
-  pub filled : IsFilled plan records [] batches before after
+  pub ahead : IsAhead plan put ran batch batches before after
+  pub few : length ((put ++ ran) ++ batch) < 2 ^ 43
 
 -- What a flow's lane has gained where the first flows have put what they show of a batch, whose last record is the last of
 -- `next`, and the others what they have shown before.

@@ -1,5 +1,6 @@
 -- The definitions that the contracts of this crate cite.
 pub mod Contract
+pub mod Counted
 pub mod Existence
 pub mod Flow
 pub mod Lanes

@@ -56,16 +56,17 @@ next_stage (Taking n) = Taking (n + 1)
 next_stage (Emptying done first next) = Emptying (done + 1) first next
 next_stage (Flushing n) = Flushing (n + 1)
 
--- A repair whose lanes grow so may stop there: between the flows of a batch only where they grow batch by batch.
-abbrev pub MayStopAt : Growth → Stage → Type 0
-MayStopAt ByRecord (Making n) = ⊤
-MayStopAt ByRecord (Taking n) = ⊤
-MayStopAt ByRecord (Emptying done first next) = ⊥
-MayStopAt ByRecord (Flushing n) = ⊤
-MayStopAt ByBatch (Making n) = ⊤
-MayStopAt ByBatch (Taking n) = ⊤
-MayStopAt ByBatch (Emptying done first next) = first ≤ next
-MayStopAt ByBatch (Flushing n) = ⊤
+-- A repair whose lanes grow so may stop there with this answer: between the flows of a batch only where they grow batch by batch,
+-- and only where a put failed.
+abbrev pub MayStopAt : Growth → Finish → Stage → Type 0
+MayStopAt ByRecord answer (Making n) = ⊤
+MayStopAt ByRecord answer (Taking n) = ⊤
+MayStopAt ByRecord answer (Emptying done first next) = ⊥
+MayStopAt ByRecord answer (Flushing n) = ⊤
+MayStopAt ByBatch answer (Making n) = ⊤
+MayStopAt ByBatch answer (Taking n) = ⊤
+MayStopAt ByBatch answer (Emptying done first next) = (answer ≡ finish.WriteFault) × (first ≤ next)
+MayStopAt ByBatch answer (Flushing n) = ⊤
 
 -- The flows whose lanes are made.
 abbrev pub made_at : Plan → Stage → List ℕ
@@ -103,7 +104,7 @@ HasGainedPart plan records stage flow bytes =
 pub record Stops
     (growth : Growth) (plan : Plan) (answer : Finish) (records : List Record) (before after : Option Lanes) : Type 0 where
   pub stage : Stage
-  pub may : MayStopAt growth stage
+  pub may : MayStopAt growth answer stage
   pub broken : Option ℕ
   pub unbroken : answer ≡ finish.ReadFault → broken ≡ None
   pub pieces : List (List ℕ)

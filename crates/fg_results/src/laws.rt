@@ -1,7 +1,7 @@
 //! The laws that show the definition of a repair to be right. Each is the contract of a function that does nothing, or only
 //! calls laws of the crates below.
 ghost use Rattle.fg_results.specs.Existence.{FlowResultExists, ResultsExist};
-ghost use Rattle.fg_results.specs.Laws.{OneFlowResult, OneResult, OneGained, ShownIsFront, ByRecordIsOneWay, StopsLeaveParts};
+ghost use Rattle.fg_results.specs.Laws.{OneFlowResult, OneResult, OneGained, ShownIsFront, ByRecordIsOneWay, ByRecordCountsInAnyWay, StopsLeaveParts};
 
 use fg_fechead::laws::{parity_datagrams_are_decided, parity_datagrams_read_one_way};
 use fg_playout::laws::{one_run, one_taking, runs_exist, taken_plays_come_first};
@@ -54,9 +54,11 @@ pub fn one_gained()
     one_flow_result();
 }
 
-/// Where a repair stops whose lanes grow record by record, one may stop whose lanes grow in any way.
+/// Where a repair stops whose lanes grow record by record, one may stop whose lanes grow in any way, and it may have counted what that
+/// one has.
 pub fn by_record_is_one_way()
-    ensures { ByRecordIsOneWay }
+    ensures stops { ByRecordIsOneWay }
+    ensures counts { ByRecordCountsInAnyWay }
 {}
 
 /// Wherever a repair stops, each flow's lane has gained a prefix of its bytes.
