@@ -40,28 +40,28 @@ each_whole plan records broken n (p ∷ ports) (r ∷ results) h f = (
 
 -- Where lanes may stop, in whichever way they grow
 
-pub may_make : (growth : Growth) (n : ℕ) → MayStopAt growth (Making n)
-may_make ByRecord n = tt
-may_make ByBatch n = tt
+pub may_make : (growth : Growth) (answer : Finish) (n : ℕ) → MayStopAt growth answer (Making n)
+may_make ByRecord answer n = tt
+may_make ByBatch answer n = tt
 
-pub may_take : (growth : Growth) (n : ℕ) → MayStopAt growth (Taking n)
-may_take ByRecord n = tt
-may_take ByBatch n = tt
+pub may_take : (growth : Growth) (answer : Finish) (n : ℕ) → MayStopAt growth answer (Taking n)
+may_take ByRecord answer n = tt
+may_take ByBatch answer n = tt
 
-pub may_flush : (growth : Growth) (n : ℕ) → MayStopAt growth (Flushing n)
-may_flush ByRecord n = tt
-may_flush ByBatch n = tt
+pub may_flush : (growth : Growth) (answer : Finish) (n : ℕ) → MayStopAt growth answer (Flushing n)
+may_flush ByRecord answer n = tt
+may_flush ByBatch answer n = tt
 
-may_in_any : (growth : Growth) (stage : Stage) → MayStopAt ByRecord stage → MayStopAt growth stage
-may_in_any growth (Making n) may = may_make growth n
-may_in_any growth (Taking n) may = may_take growth n
-may_in_any growth (Emptying done first next) may = absurd may
-may_in_any growth (Flushing n) may = may_flush growth n
+may_in_any : (growth : Growth) (answer : Finish) (stage : Stage) → MayStopAt ByRecord answer stage → MayStopAt growth answer stage
+may_in_any growth answer (Making n) may = may_make growth answer n
+may_in_any growth answer (Taking n) may = may_take growth answer n
+may_in_any growth answer (Emptying done first next) may = absurd may
+may_in_any growth answer (Flushing n) may = may_flush growth answer n
 
 pub by_record_is_one_way : ByRecordIsOneWay
 by_record_is_one_way growth plan answer records before after stops = record {
   stage = stops.stage;
-  may = may_in_any growth stops.stage stops.may;
+  may = may_in_any growth answer stops.stage stops.may;
   broken = stops.broken;
   unbroken = stops.unbroken;
   pieces = stops.pieces;
@@ -75,7 +75,7 @@ pub stops_whole :
     → AreResults plan records results → PutsAll lanes plan.table (lanes_of results) lanes' → Stops growth plan answer records lanes lanes'
 stops_whole growth plan answer records results lanes lanes' are puts = record {
   stage = Flushing (length plan.table);
-  may = may_flush growth (length plan.table);
+  may = may_flush growth answer (length plan.table);
   broken = None;
   unbroken = λ _. refl;
   pieces = lanes_of results;
