@@ -93,7 +93,7 @@ nothing_made (Some lanes) = record { lanes = tt; others = λ other no. refl }
 pub nothing_stops : (growth : Growth) (plan : Plan) (answer : Finish) (records : List Record) (lanes : Option Lanes) → Stops growth plan answer records lanes lanes
 nothing_stops growth plan answer records lanes = record {
   stage = Making zero;
-  may = may_make growth zero;
+  may = may_make growth answer zero;
   broken = None;
   unbroken = λ e. refl;
   pieces = [];

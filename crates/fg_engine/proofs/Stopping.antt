@@ -33,7 +33,7 @@ each_put ports gained None None g t = tt
 
 pub stops_at :
     (growth : Growth) (plan : Plan) (answer : Finish) (records : List Record) (stage : Stage) (broken : Option ℕ) (gained : ℕ → List ℕ) (before after : Option Lanes)
-    → MayStopAt growth stage → (answer ≡ finish.ReadFault → broken ≡ None)
+    → MayStopAt growth answer stage → (answer ≡ finish.ReadFault → broken ≡ None)
     → ((flow : ℕ) → Contains (made_at plan stage) flow
     → HasGained plan records stage flow (gained flow) ⊎ ((broken ≡ Some flow) × HasGainedPart plan records stage flow (gained flow)))
     → GrowAll before (made_at plan stage) gained after → AreThere (made_at plan stage) after → Stops growth plan answer records before after
@@ -53,7 +53,7 @@ stops_at growth plan answer records stage broken gained before after may quiet e
 
 pub making_stops : (growth : Growth) (plan : Plan) (answer : Finish) (records : List Record) (before after : Option Lanes) → MakesFirst plan.table before after → Stops growth plan answer records before after
 making_stops growth plan answer records before after h =
-    stops_at growth plan answer records (Making h.count) None (λ _. []) before after (may_make growth h.count) (λ _. refl) (λ flow c. inl refl) h.grow h.there
+    stops_at growth plan answer records (Making h.count) None (λ _. []) before after (may_make growth answer h.count) (λ _. refl) (λ flow c. inl refl) h.grow h.there
 
 -- While records are taken
 
@@ -99,7 +99,7 @@ pub taking_stops :
     → (answer ≡ finish.ReadFault → broken ≡ None) → Follows taken next broken → next ≡ take (length next) all → BreaksAfter plan taken next broken before after
     → Stops growth plan answer all before after
 taking_stops growth plan answer all taken next broken before after quiet follows walked h =
-    stops_at growth plan answer all (Taking (length taken)) broken h.gained before after (may_take growth (length taken)) quiet
+    stops_at growth plan answer all (Taking (length taken)) broken h.gained before after (may_take growth answer (length taken)) quiet
     (λ flow c. shown_at_stage plan all taken next broken flow (h.gained flow) (taken_first taken next all broken follows walked)
     (next_first taken next all broken follows walked flow) (h.exact flow c))
     h.grow h.there

@@ -66,7 +66,7 @@ flush_stop : OneTrace → (growth : Growth) (plan : Plan) (answer : Finish) → 
 flush_stop law growth plan answer loud None records end before after trace h = tt
 flush_stop law growth plan answer loud (Some bytes) records end before after trace h = λ all other k.
     subst (λ (rs : List Record). Stops growth plan answer rs before after) (sym (law bytes plan.max all records other end k trace).0)
-    (stops_at growth plan answer records (Flushing h.count) h.broken h.gained before after (may_flush growth h.count) (λ quiet. absurd (loud quiet)) h.exact h.grow h.there)
+    (stops_at growth plan answer records (Flushing h.count) h.broken h.gained before after (may_flush growth answer h.count) (λ quiet. absurd (loud quiet)) h.exact h.grow h.there)
 
 pub flush_stops : {D : Type 0} → OneTrace → (growth : Growth) (plan : Plan) (answer : Finish) → (answer ≡ finish.ReadFault → ⊥) → (first : Option (List ℕ)) (engine : Engine D) (tail : Tail) (before now after : Option Lanes) (t : TookAll plan first engine tail before now) → BreaksAtFlush plan t.records before after → LanesStop growth plan answer first before after
 flush_stops law growth plan answer loud first engine tail before now after t h = record {
