@@ -79,7 +79,7 @@ is_of_no flow r never =
     let row : flow + 4 ≡ r.port → ⊥ = never kind.Row in
     grind (arith, nat_tests)
 
-not_of : (port : ℕ) (records : List Record) (r : Record) → is_of port r ≡ false → records_of port (records ++ r ∷ []) ≡ records_of port records
+pub not_of : (port : ℕ) (records : List Record) (r : Record) → is_of port r ≡ false → records_of port (records ++ r ∷ []) ≡ records_of port records
 not_of port records r e =
     filter-append (is_of port) records (r ∷ [])
     ∙ ap (λ b. records_of port records ++ cond b (r ∷ []) []) e

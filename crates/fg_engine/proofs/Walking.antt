@@ -86,7 +86,7 @@ stop_at_fault law growth plan answer first left now reader next engine before at
 
 -- The end
 
-ended : (plan : Plan) (first : Option (List ℕ)) (reader : ReaderState) (records : List Record) (end : Ending) → reader.max ≡ plan.max → IfSome first (λ bytes. IsTrace bytes reader.max records end) → IfSome first (λ bytes. IsTrace bytes plan.max records end)
+pub ended : (plan : Plan) (first : Option (List ℕ)) (reader : ReaderState) (records : List Record) (end : Ending) → reader.max ≡ plan.max → IfSome first (λ bytes. IsTrace bytes reader.max records end) → IfSome first (λ bytes. IsTrace bytes plan.max records end)
 ended plan first reader records end max h = subst (λ n. IfSome first (λ bytes. IsTrace bytes n records end)) max h
 
 pub took_all :
