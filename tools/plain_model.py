@@ -1,10 +1,13 @@
 """What every command of fgate answers, computed plainly from the definitions that docs/FORMATS.md and docs/MODEL.md tell: words,
-datagrams, desks, plays, traces, encodings, captures and continuity. Nothing is read off the program's code, nothing is fast, and
-a list is gone through again where that reads like the definition.
+datagrams, desks, plays, traces, encodings, captures and continuity. Nothing is read off the program's code, and a list is gone
+through again where that reads like the definition.
 
 `answer(words, data)` gives status, fault line, standard output and lanes for the words of a command line (bytes each) and the
 bytes of the input. tools/fuzz and the scripts beside it compare the program with this. It isn't run on its own.
 """
+import functools
+import itertools
+import operator
 import re
 import struct
 from typing import NamedTuple
@@ -34,43 +37,49 @@ DONE = Ends(0, "")
 
 # ---- Words ----
 
-class Word(NamedTuple):
-    """What can be recovered of a media datagram. `bytes` are the padded payload's 1,316 bytes as one number."""
-    pt: int
-    ts: int
-    len: int
-    bytes: int
+# What can be recovered of a media datagram: payload type (one byte), timestamp (four), length (two) and the payload padded to
+# 1,316 bytes, one behind another as one number. So the XOR of words, field by field, is the XOR of numbers.
+
+WORD = 7 + LARGEST
 
 
 def word_of(pt, ts, length, payload):
-    return Word(pt, ts, length, int.from_bytes(payload.ljust(LARGEST, b"\0"), "big"))
+    return int.from_bytes(struct.pack(">BIH", pt, ts, length) + payload.ljust(LARGEST, b"\0"), "big")
+
+
+def fields_of(word):
+    """Payload type, timestamp, length and padded payload."""
+    whole = word.to_bytes(WORD, "big")
+    return (*struct.unpack_from(">BIH", whole), whole[7:])
+
+
+def length_of(word):
+    return word >> 8 * LARGEST & 0xffff
 
 
 def sum_of(words):
     """The XOR of all, field by field."""
-    pt = ts = length = data = 0
-    for word in words:
-        pt, ts, length, data = pt ^ word.pt, ts ^ word.ts, length ^ word.len, data ^ word.bytes
-    return Word(pt, ts, length, data)
+    return functools.reduce(operator.xor, words, 0)
 
 
 def payload_of(word):
-    return word.bytes.to_bytes(LARGEST, "big")[:word.len]
+    return word.to_bytes(WORD, "big")[7:7 + length_of(word)]
 
 
 def are_packets(payload):
-    return len(payload) % PACKET == 0 and all(payload[at] == 0x47 for at in range(0, len(payload), PACKET))
+    return len(payload) % PACKET == 0 and payload[::PACKET] == b"\x47" * (len(payload) // PACKET)
 
 
 def is_media(word):
     """Whether a media datagram can have this word."""
-    whole = word.bytes.to_bytes(LARGEST, "big")
-    return (word.pt == 33 and word.len in range(PACKET, LARGEST + 1, PACKET) and are_packets(whole[:word.len])
-            and not any(whole[word.len:]))
+    pt, _, length, padded = fields_of(word)
+    return (pt == 33 and length in range(PACKET, LARGEST + 1, PACKET) and are_packets(padded[:length])
+            and padded[length:] == bytes(LARGEST - length))
 
 
 # ---- Datagrams. A reader gives the number of the first fault, or what the datagram says. ----
 
+@functools.lru_cache(maxsize=4096)
 def read_media(datagram):
     """A fault's number, or sequence number and word."""
     if len(datagram) < 12:
@@ -94,6 +103,7 @@ def is_shape(offset, na):
     return 1 <= offset <= 20 and 1 <= na <= 20 and (na - 1) * offset <= 99
 
 
+@functools.lru_cache(maxsize=4096)
 def read_parity(datagram):
     """A fault's number, or the base's sequence number, offset, number of slots and word."""
     if len(datagram) < 28:
@@ -121,9 +131,9 @@ def media_datagram(seq, ts, ssrc, payload):
 
 def parity_datagram(seq, stamp, base, offset, na, is_row, word, size):
     header = struct.pack(">BBHII", 0x80, 96, seq % 65536, stamp, 0)
-    fec = struct.pack(">HHBBBBIBBBB", base % 65536, word.len, 0x80 | word.pt, 0, 0, 0, word.ts, 0x40 if is_row else 0, offset, na,
-                      0)
-    return header + fec + word.bytes.to_bytes(LARGEST, "big")[:size]
+    pt, ts, length, padded = fields_of(word)
+    fec = struct.pack(">HHBBBBIBBBB", base % 65536, length, 0x80 | pt, 0, 0, 0, ts, 0x40 if is_row else 0, offset, na, 0)
+    return header + fec + padded[:size]
 
 
 # ---- Desks ----
@@ -133,22 +143,20 @@ def position(top, top_seq, seq):
     return top + (seq - top_seq + 32768) % 65536 - 32768
 
 
-class Equation(NamedTuple):
-    base: int
-    offset: int
-    na: int
-    word: Word
+class Equation:
+    """A live equation: its shape (base, offset and number of slots), its word, its slots, and the last of them."""
 
-    def slots(self):
-        return range(self.base, self.base + self.na * self.offset, self.offset)
+    def __init__(self, base, offset, na, word):
+        self.base, self.shape, self.word = base, (base, offset, na), word
+        self.last = base + (na - 1) * offset
+        self.slots = frozenset(range(base, self.last + 1, offset))
 
 
 class Play(NamedTuple):
-    """A closed window: its first position, what each position shows (None where nothing), whether each is repaired, and
-    whether the desk had a solution."""
-    first: int
+    """A closed window: what each position shows (None where nothing), how many are repaired, and whether the desk had a
+    solution. The first window starts at position 0, and each other one where the last one ended."""
     shown: list
-    repaired: list
+    repaired: int
     consistent: bool
 
 
@@ -159,10 +167,16 @@ class Desk:
         self.window, self.depth = window, depth
         self.top = None
         self.mark = 0
-        self.kept, self.media, self.equations = {}, {}, []
+        self.kept, self.media = {}, {}
+        # By their shapes, of which no two are the same.
+        self.equations = {}
 
-    def is_due(self, seq):
-        return self.top is not None and position(*self.top, seq) >= self.mark + self.depth
+    def due(self, seq):
+        """How many plays come before a media datagram of this sequence number: while it is `depth` positions past the mark or
+        more, the mark moves on by a window."""
+        if self.top is None:
+            return 0
+        return max(0, (position(*self.top, seq) - self.mark - self.depth) // self.window + 1)
 
     def admit_media(self, seq, word):
         if self.top is None:
@@ -185,68 +199,83 @@ class Desk:
         equation = Equation(position(*self.top, base_seq), offset, na, word)
         if equation.base < 0:
             return "beforestart"
-        slots = equation.slots()
-        if slots[-1] < self.mark or not self.reaches_back(equation):
+        if equation.last < self.mark or not self.reaches_back(equation):
             return "late"
-        if slots[-1] >= self.mark + self.depth + 100:
+        if equation.last >= self.mark + self.depth + 100:
             return "ahead"
-        for live in self.equations:
-            if live[:3] == equation[:3]:
-                return "duplicate" if live.word == word else "conflict"
+        if equation.shape in self.equations:
+            return "duplicate" if self.equations[equation.shape].word == word else "conflict"
         if len(self.equations) == 512:
             return "crowded"
-        self.equations.append(equation)
+        self.equations[equation.shape] = equation
         return "admitted"
 
     def reaches_back(self, equation):
         """Whether all slots before the mark are kept."""
-        return all(slot in self.kept for slot in equation.slots() if slot < self.mark)
+        return equation.base >= self.mark or all(slot in self.kept for slot in equation.slots if slot < self.mark)
+
+    def given(self):
+        """The words that are there before a peeling."""
+        return {**self.kept, **self.media}
 
     def peeled(self):
         """A word for each position of the closure: while an equation has one unknown slot, at the mark or past it, that slot
         gets the sum of the parity word and the other slots' words."""
-        known = {**self.kept, **self.media}
-        grows = True
+        known = self.given()
+        waiting, grows = list(self.equations.values()), True
         while grows:
-            grows = False
-            for equation in self.equations:
-                unknown = [slot for slot in equation.slots() if slot not in known]
-                if len(unknown) == 1 and unknown[0] >= self.mark:
-                    known[unknown[0]] = sum_of([equation.word] + [known[slot] for slot in equation.slots() if slot in known])
+            equations, waiting, grows = waiting, [], False
+            for equation in equations:
+                unknown = equation.slots.difference(known)
+                if len(unknown) == 1 and min(unknown) >= self.mark:
+                    others = equation.slots - unknown
+                    known[min(unknown)] = sum_of([equation.word, *(known[slot] for slot in others)])
                     grows = True
+                elif unknown:
+                    waiting.append(equation)
         return known
 
     def is_solution(self, words):
         """Whether all found words are media words, and each equation comes out whose slots all have words."""
-        given = {**self.kept, **self.media}
-        return (all(is_media(word) for at, word in words.items() if at not in given)
-                and all(sum_of(words[slot] for slot in equation.slots()) == equation.word for equation in self.equations
-                        if all(slot in words for slot in equation.slots())))
+        found = words.keys() - self.given().keys()
+        return (all(is_media(words[at]) for at in found)
+                and all(sum_of(words[slot] for slot in equation.slots) == equation.word
+                        for equation in self.equations.values() if not equation.slots.difference(words)))
 
-    def play(self, count=None):
-        count = count or self.window
+    def play(self, count):
+        if self.is_empty():
+            self.mark += count
+            return Play([None] * count, 0, True)
         words = self.peeled()
         consistent = self.is_solution(words)
         source = words if consistent else self.media
         window = range(self.mark, self.mark + count)
         shown = [source.get(at) for at in window]
-        repaired = [at in source and at not in self.media for at in window]
-        played = Play(self.mark, shown, repaired, consistent)
-        self.mark += count
-        self.kept.update({at: word for at, word in zip(window, shown) if word is not None})
-        self.kept = {at: word for at, word in self.kept.items() if self.mark - 100 <= at < self.mark}
-        self.media = {at: word for at, word in self.media.items() if at >= self.mark}
-        self.equations = [equation for equation in self.equations
-                          if consistent and equation.slots()[-1] >= self.mark and self.reaches_back(equation)]
-        return played
+        repaired = sum(at in source and at not in self.media for at in window)
+        self.move_mark(shown, consistent)
+        return Play(shown, repaired, consistent)
+
+    def move_mark(self, shown, consistent):
+        """Moves the mark behind a window that showed these words."""
+        window = range(self.mark, self.mark + len(shown))
+        self.mark = window.stop
+        self.kept.update((at, word) for at, word in zip(window, shown) if word is not None)
+        for at in window:
+            self.media.pop(at, None)
+            self.kept.pop(at - 100, None)
+        self.equations = {shape: equation for shape, equation in self.equations.items()
+                          if consistent and equation.last >= self.mark and self.reaches_back(equation)}
+
+    def is_empty(self):
+        return not (self.kept or self.media or self.equations)
 
     def flush(self):
         """The plays at the end: each window ends behind the closure's highest position at the latest."""
         while True:
-            ahead = [at for at in self.peeled() if at >= self.mark]
-            if not ahead:
+            highest = max(self.peeled(), default=-1)
+            if highest < self.mark:
                 return
-            yield self.play(min(self.window, max(ahead) + 1 - self.mark))
+            yield self.play(min(self.window, highest + 1 - self.mark))
 
 
 # ---- A repair ----
@@ -268,8 +297,7 @@ def run_of(records, port, window, depth):
         if isinstance(read, int):
             reply = "bad"
         elif kind == "media":
-            while desk.is_due(read[0]):
-                plays.append(desk.play())
+            plays += [desk.play(window) for _ in range(desk.due(read[0]))]
             reply = desk.admit_media(*read)
         else:
             reply = desk.admit_parity(*read)
@@ -277,18 +305,10 @@ def run_of(records, port, window, depth):
     return plays + list(desk.flush()), counts
 
 
-def gaps_of(plays):
-    """The runs of played positions that show nothing: first position and length."""
-    gaps = []
-    for play in plays:
-        for at, word in enumerate(play.shown, play.first):
-            if word is not None:
-                continue
-            if gaps and sum(gaps[-1]) == at:
-                gaps[-1] = gaps[-1][0], gaps[-1][1] + 1
-            else:
-                gaps.append((at, 1))
-    return gaps
+def gaps_of(shown):
+    """The runs of positions that show nothing: first position and length."""
+    marks = "".join("." if word is None else "#" for word in shown)
+    return [(gap.start(), len(gap[0])) for gap in re.finditer(r"\.+", marks)]
 
 
 def counted(kind, port, counts, names):
@@ -304,13 +324,13 @@ def repair(records, ports, window, depth):
         shown = [word for play in plays for word in play.shown]
         lanes[port] = b"".join(payload_of(word) for word in shown if word is not None)
         missing = shown.count(None)
-        repaired = sum(sum(play.repaired) for play in plays)
+        repaired = sum(play.repaired for play in plays)
         broken = sum(not play.consistent for play in plays)
         lines.append(f"flow {port} shown {len(shown) - missing} repaired {repaired} missing {missing} windows {len(plays)} "
                      f"inconsistent {broken}")
         lines.append(counted("media", port, counts["media"], MEDIA_COUNTS))
         lines += [counted(kind, port, counts[kind], PARITY_COUNTS) for kind in ("column", "row")]
-        lines += [f"gap {port} {first} {length}" for first, length in gaps_of(plays)]
+        lines += [f"gap {port} {first} {length}" for first, length in gaps_of(shown)]
     lines.append(f"other {sum(port not in taken for _, port, _ in records)}")
     return lanes, "".join(line + "\n" for line in lines)
 
@@ -322,7 +342,7 @@ def spelled(records):
 
 
 def first_difference(data, magic):
-    return next((at for at, byte in enumerate(magic) if data[at:at + 1] != bytes([byte])), None)
+    return None if data.startswith(magic) else next(at for at, byte in enumerate(magic) if data[at:at + 1] != bytes([byte]))
 
 
 def read_trace(data, most):
@@ -394,7 +414,7 @@ def encode(payloads, asked):
         for is_row, base, offset, na in sorted(ending.get(slot, [])):
             covered = [words[base + j * offset] for j in range(na)]
             datagram = parity_datagram(sent[is_row], stamps[slot], seq + base, offset, na, is_row, sum_of(covered),
-                                       max(word.len for word in covered))
+                                       max(length_of(word) for word in covered))
             records.append((time, port + (4 if is_row else 2), datagram))
             sent[is_row] += 1
     return records
@@ -402,36 +422,34 @@ def encode(payloads, asked):
 
 # ---- Samples ----
 
-class Draws:
+def draws(seed, stream):
     """PCG32, by O'Neill, of a seed and a stream."""
-    MASK = 2 ** 64 - 1
-
-    def __init__(self, seed, stream):
-        self.increment = stream << 1 | 1
-        self.state = 0
-        self.draw()
-        self.state = self.state + seed & self.MASK
-        self.draw()
-
-    def draw(self):
-        old = self.state
-        self.state = old * 6364136223846793005 + self.increment & self.MASK
-        mixed = ((old >> 18 ^ old) >> 27) & 0xffffffff
-        turn = old >> 59
-        return (mixed >> turn | mixed << (-turn & 31)) & 0xffffffff
+    mask = 2 ** 64 - 1
+    increment = stream << 1 | 1
+    state = increment + seed & mask
+    while True:
+        state = state * 6364136223846793005 + increment & mask
+        mixed = ((state >> 18 ^ state) >> 27) & 0xffffffff
+        turn = state >> 59
+        yield (mixed >> turn | mixed << (-turn & 31)) & 0xffffffff
 
 
 SAMPLED = {"columns": 10, "rows": 10, "fec": "both", "layout": "block", "packets": 7, "rate": 10_000_000, "port": 5000, "seq": 0,
            "ssrc": 0, "stamp": 0}
 
 
+@functools.lru_cache(maxsize=32)
+def sampled_stream(seed, datagrams):
+    packets = draws(seed, 54)
+    return b"".join(bytes([0x47, 1, 0, 0x10 + packet % 16]) + struct.pack("<46I", *itertools.islice(packets, 46))
+                    for packet in range(7 * datagrams))
+
+
 def sample(seed, datagrams, loss):
     """The records that are left, and the first line."""
-    packets, losses = Draws(seed, 54), Draws(seed, 55)
-    stream = b"".join(bytes([0x47, 1, 0, 0x10 + packet % 16]) + b"".join(packets.draw().to_bytes(4, "little") for _ in range(46))
-                      for packet in range(7 * datagrams))
+    stream, losses = sampled_stream(seed, datagrams), draws(seed, 55)
     records = encode(payloads_of(stream, LARGEST, len(stream))[0], SAMPLED)
-    left = records[:1] + [record for record in records[1:] if losses.draw() % 100 >= loss]
+    left = records[:1] + [record for record in records[1:] if next(losses) % 100 >= loss]
     return left, f"sample seed {seed} datagrams {datagrams} records {len(records)} lost {len(records) - len(left)}\n"
 
 
@@ -446,7 +464,7 @@ def inspected(number, time, port, datagram, ports):
     if isinstance(read, int):
         return line + f"{kind} bad {read}\n"
     if kind == "media":
-        return line + f"media seq {read[0]} len {read[1].len}\n"
+        return line + f"media seq {read[0]} len {length_of(read[1])}\n"
     return line + "{} base {} offset {} na {}\n".format(kind, *read[:3])
 
 

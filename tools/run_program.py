@@ -108,7 +108,7 @@ def feed(child, data, pieces, seconds):
         left = array.array("i", [1])
         while left[0] and time.monotonic() < ends and child.poll() is None:
             fcntl.ioctl(pipe, termios.FIONREAD, left)
-            time.sleep(0.001)
+            time.sleep(0.0003)
         return peak_now(child.pid)
     except BrokenPipeError:
         return None
@@ -116,26 +116,57 @@ def feed(child, data, pieces, seconds):
         child.stdin.close()
 
 
-def run(program, words, data, folder, seconds=SECONDS, pieces=None):
-    """Runs the program with these words (bytes each) in the folder. The data is a file, or where `pieces` cuts it a pipe."""
-    out, err, given = (f"{folder}.{name}" for name in ("out", "err", "in"))
-    with open(given, "wb") as file:
-        file.write(data)
-    with open(given, "rb") as source, open(out, "wb") as told, open(err, "wb") as line:
-        child = subprocess.Popen([program.encode(), *words], stdin=subprocess.PIPE if pieces else source, stdout=told,
-                                 stderr=line, cwd=folder, bufsize=0)
-        peak = None
-        if pieces:
+def clear(folder):
+    with os.scandir(folder) as entries:
+        for entry in entries:
+            if entry.is_dir(follow_symlinks=False):
+                shutil.rmtree(entry.path)
+            else:
+                os.unlink(entry.path)
+
+
+def contents_of(file):
+    return os.pread(file, os.fstat(file).st_size, 0)
+
+
+class Place:
+    """A folder in which programs run one after another. Both outputs, and input that is no pipe, are files in memory."""
+
+    def __init__(self, folder):
+        os.mkdir(folder)
+        self.folder = folder
+        self.given, self.out, self.err = (os.memfd_create(name) for name in ("given", "out", "err"))
+
+    def start(self, program, words, data, lanes, pieces=None):
+        """Starts the program with these words (bytes each), where of all files only these lanes are there. The data is a file,
+        or where `pieces` cuts it a pipe, into which `end` puts it."""
+        clear(self.folder)
+        for port, lane in lanes.items():
+            with open(os.path.join(self.folder, f"{port}.ts"), "wb") as file:
+                file.write(lane)
+        for file, text in ((self.given, b"" if pieces else data), (self.out, b""), (self.err, b"")):
+            os.ftruncate(file, 0)
+            os.pwrite(file, text, 0)
+            os.lseek(file, 0, os.SEEK_SET)
+        self.data, self.pieces = data, pieces
+        self.child = subprocess.Popen([program.encode(), *words], stdin=subprocess.PIPE if pieces else self.given,
+                                      stdout=self.out, stderr=self.err, cwd=self.folder, bufsize=0)
+
+    def end(self, seconds=SECONDS):
+        """What the run left that was started last."""
+        child, peak = self.child, None
+        if self.pieces:
             # What writes may wait for a program that hangs: it is killed then, and the write fails.
             old = signal.signal(signal.SIGALRM, lambda *_: child.kill())
             signal.setitimer(signal.ITIMER_REAL, seconds)
-            peak = feed(child, data, pieces, seconds)
+            peak = feed(child, self.data, self.pieces, seconds)
             signal.setitimer(signal.ITIMER_REAL, 0)
             signal.signal(signal.SIGALRM, old)
-            if child.returncode is not None:
-                return Ended(child.returncode, read_file(err), read_file(out), *lanes_of(folder), None)
-        status, _ = wait_for(child, seconds)
-    return Ended(status, read_file(err), read_file(out), *lanes_of(folder), peak)
+        if child.returncode is None:
+            status, _ = wait_for(child, seconds)
+        else:
+            status, peak = child.returncode, None
+        return Ended(status, contents_of(self.err), contents_of(self.out), *lanes_of(self.folder), peak)
 
 
 # ---- The runs ----
