@@ -184,6 +184,17 @@ buffer_words-entry mark entries q =
     ∙ word_or (entry_at mark entries q))
     (cases_lt q mark)
 
+-- those of the words that are told
+pub buffer_known-entry :
+    (mark : ℕ) (entries : List Slot) (q : ℕ)
+    → buffer_known (buffer_of mark entries) q
+    ≡ (if nat_lt q mark then word_in (entry_at mark entries q) else shared_in (entry_at mark entries q))
+buffer_known-entry mark entries q =
+    ⊎_elim
+    (λ before. buffer_known-below mark entries q before ∙ sym (if-less q mark (word_in (entry_at mark entries q)) (shared_in (entry_at mark entries q)) before))
+    (λ from. buffer_known-ahead mark entries q from ∙ sym (if-not_less q mark (word_in (entry_at mark entries q)) (shared_in (entry_at mark entries q)) from))
+    (cases_lt q mark)
+
 -- the words that have shares
 shared-in : (entry : Slot) → cond (is_alone entry) None (word_in entry) ≡ shared_in entry
 shared-in Empty = refl

@@ -9,5 +9,5 @@ mod spares;
 mod watches;
 
 pub use live_equations::{LIVE_LIMIT, LiveEquations, lost_slot};
-pub use playout_buffer::{KEPT, PlayoutBuffer};
+pub use playout_buffer::{KEPT, PlayoutBuffer, Told};
 pub use watches::Watches;

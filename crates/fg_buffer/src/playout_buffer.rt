@@ -1,6 +1,6 @@
 //! The buffer of entries around the mark.
 
-ghost use Rattle.std.specs.Prelude.{◌≡◌, ◌+◌, ◌-◌, ◌<◌, ◌≤◌, ◌^◌, ◌↔◌, ◌++◌, ◌∷◌, [], ℕ, pos, ◌-ℤ◌, length, take, drop, slice_index_or, Option, None, IsSome, IsTrue, IfOk, IfSome, IfNone};
+ghost use Rattle.std.specs.Prelude.{◌≡◌, ◌+◌, ◌-◌, ◌<◌, ◌≤◌, ◌^◌, ◌↔◌, ◌++◌, ◌∷◌, [], ℕ, pos, ◌-ℤ◌, false, if◌then◌else◌, length, take, drop, slice_index_or, Option, None, IsSome, IsTrue, IfOk, IfSome, IfNone};
 ghost use Rattle.std.specs.Option.{option_copied};
 ghost use Rattle.std.specs.FinMap.{empty, get};
 ghost use Rattle.std.specs.FinSet as set;
@@ -10,10 +10,10 @@ ghost use Rattle.fg_peel.specs.declared.Slot.{Slot};
 ghost use Rattle.fg_peel.specs.Solution.{IsSolution};
 ghost use Rattle.fg_peel.specs.Equation.{AreMedia, IsComplete};
 ghost use Rattle.fg_peel.specs.Peeling.{EndsPeeling};
-ghost use Rattle.fg_peel.specs.Slots.{words_from, equation_of, equations_of, AllFitFrom};
+ghost use Rattle.fg_peel.specs.Slots.{word_in, words_from, equation_of, equations_of, AllFitFrom};
 ghost use Rattle.fg_peel.specs.Peels.{IsPeel};
 ghost use Rattle.fg_buffer.specs.PlayoutBuffer.{opened_buffer, buffer_received, buffer_words, buffer_known, buffer_shared, IsBuffer, receives, publishes, AllLieIn, IsHighestWord, Advances};
-ghost use Rattle.fg_buffer.specs.BufferEntries.{entry_at, words_of, buffer_of, received_in, solved_in, AreEntries, Recovers, forgets};
+ghost use Rattle.fg_buffer.specs.BufferEntries.{entry_at, words_of, buffer_of, received_in, solved_in, shared_in, is_found, AreEntries, Recovers, forgets};
 ghost use Rattle.fg_buffer.specs.SmallSlots.{slot_of};
 
 use crate::entry_list::{EntryList, Placed};
@@ -60,6 +60,17 @@ impl Model for PlayoutBuffer {
     ghost view = { λ a. buffer_of a.mark a.entries };
 
     ghost invariant = { λ a. AreEntries a.mark a.entries × (IsTrue a.solved_media → SolvedAreMedia a.entries) };
+}
+
+/// What a buffer tells of one position.
+#[derive(Clone, Copy)]
+pub struct Told<'a> {
+    /// The word that is kept or was received or solved.
+    pub word: Option<&'a Word>,
+    /// The share of that word, where there is one.
+    pub share: Option<&'a Shared>,
+    /// Whether the word is kept and was not received.
+    pub repaired: bool,
 }
 
 impl PlayoutBuffer {
@@ -125,6 +136,20 @@ impl PlayoutBuffer {
         ensures word { IsTrue result → IsSome (buffer_known self.now position) }
     {
         position < self.mark && entry(self.mark, &self.entries, position).is_found()
+    }
+
+    /// The word of a position, its share and whether it was repaired, by one look at its entry.
+    #[inline]
+    pub fn told(&self, position: u64) -> Told<'_>
+        ensures word { option_copied result.word ≡ buffer_known self.now position }
+        ensures share { option_copied result.share ≡ buffer_shared self.now position }
+        ensures repaired { result.repaired ≡ set.contains self.now.repaired position }
+        ensures some { IsTrue result.repaired → IsSome (buffer_known self.now position) }
+    {
+        told_of(
+            entry(self.mark, &self.entries, position),
+            position < self.mark,
+        )
     }
 
     /// The word at a position, also where it was found ahead of its play.
@@ -304,6 +329,33 @@ fn entry(mark: u64, entries: &EntryList, position: u64) -> Content<'_>
     ensures { slot_of result ≡ entry_at mark entries.now position }
 {
     entries.at(place_of(mark, entries, position))
+}
+
+/// What is told of an entry. Of one that isn't played yet a word that stands alone isn't told.
+#[inline]
+fn told_of(content: Content<'_>, is_played: bool) -> Told<'_>
+    ensures word { option_copied result.word
+        ≡ (if is_played then word_in (slot_of content.entry) else shared_in (slot_of content.entry)) }
+    ensures share { option_copied result.share ≡ shared_in (slot_of content.entry) }
+    ensures repaired { result.repaired ≡ (if is_played then is_found (slot_of content.entry) else false) }
+{
+    let share = content.share();
+    if is_played {
+        Told {
+            word: content.word(),
+            share,
+            repaired: content.is_found(),
+        }
+    } else {
+        Told {
+            word: match share {
+                Some(share) => Some(share.word()),
+                None => None,
+            },
+            share,
+            repaired: false,
+        }
+    }
 }
 
 /// Whether the solved words are still media words where this one comes.

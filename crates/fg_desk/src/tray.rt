@@ -142,11 +142,8 @@ impl Tray {
         self.clear();
         for i in 0..count {
             let position = first + u64::from(i);
-            self.show(
-                buffer.word(position),
-                buffer.share(position),
-                buffer.is_repaired(position),
-            );
+            let kept = buffer.told(position);
+            self.show(kept.word, kept.share, kept.repaired);
         }
     }
 

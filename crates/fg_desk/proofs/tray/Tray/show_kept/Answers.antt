@@ -26,5 +26,5 @@ pub loop-i-preserved : goal.loop-i-preserved
 loop-i-preserved c =
     c.show.ensures
     ∙ one_more_shown c.args.buffer.now c.args.first c.loop-i.i c.args.self.now.window (c.args.first + c.from.result) c.loop-i.self
-    (option_copied c.word.result) c.is_repaired.result c.loop-i.invariant (ap (λ (k : ℕ). c.args.first + k) c.from.ensures)
-    c.word.ensures c.is_repaired.ensures.value
+    (option_copied c.told-kept.result.word) c.told-kept.result.repaired c.loop-i.invariant (ap (λ (k : ℕ). c.args.first + k) c.from.ensures)
+    c.told-kept.ensures.word c.told-kept.ensures.repaired
