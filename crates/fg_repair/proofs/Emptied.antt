@@ -1,10 +1,10 @@
 -- Where a put fails while what waits is put to the lanes.
-use Rattle.std.proofs.Common.{◌≡◌, ◌⊎◌, inl, inr, ℕ, ◌+◌, ◌<◌, ◌≤◌, Option, Some, List, ◌++◌, length, take, slice_index, refl, sym, ap, ◌∙◌, subst, arith, append_assoc, append-nil}
+use Rattle.std.proofs.Common.{◌≡◌, ◌⊎◌, inl, inr, ℕ, ◌+◌, ◌<◌, ◌≤◌, Option, Some, None, List, ◌++◌, length, take, slice_index, refl, sym, ap, ◌∙◌, subst, arith, append_assoc, append-nil}
 use Rattle.std.specs.List.{Contains}
 use Rattle.std.proofs.lemmas.Bool.{cases_lt, cases_eq}
 use Rattle.std.proofs.lemmas.List.{get_or_default, get_or-take, length-take, take_all}
 use Rattle.fg_io.specs.Prefix.{IsPrefix}
-use Rattle.fg_io.specs.Outlet.{Lanes}
+use Rattle.fg_io.specs.Outlet.{Lanes, lane_bytes}
 use Rattle.fg_trace.specs.Trace.{Record}
 use Rattle.fg_flows.specs.declared.Plan.{Plan}
 use Rattle.fg_flows.specs.Plan.{playout_of}
@@ -12,12 +12,36 @@ use Rattle.fg_flows.specs.Flows.{IsTable}
 use Rattle.fg_flows.specs.Laws.{OneFlowHasAPort}
 use Rattle.fg_results.specs.Laws.{OneGained}
 use Rattle.fg_results.specs.Stops.{HasShown, LiesBetween, Taking}
+use Rattle.fg_engine.specs.declared.shelved.Shelved.{Shelved}
+use Rattle.fg_engine.specs.Engine.{AreThere, GrowAll, LanesGrow}
+use Rattle.fg_engine.proofs.Lanes.{contains_at, told_then}
 use Rattle.fg_engine.proofs.Standing.{ports_differ}
-use Rattle.fg_repair.specs.BatchView.{BatchView}
-use Rattle.fg_repair.specs.Batches.{AreOn, HaveRun, waiting, BreaksEmptying}
-use Rattle.fg_repair.specs.declared.batches.filling.Batches.{Batches}
-use Rattle.fg_repair.specs.Walking.{IsFilled, HasPut, BreaksInBatch}
-use Rattle.fg_repair.proofs.Batched.{mid_on, shown_in, stands_mid, grow_then, there_then}
+use Rattle.fg_repair.specs.Batches.{BreaksEmptying, waiting}
+use Rattle.fg_repair.specs.Walking.{HasPut, BreaksInBatch}
+
+-- Lanes that grow, and grow again
+
+lanes_then : (before now after : Lanes) (ports : List ℕ) (gained next : ℕ → List ℕ) → LanesGrow before ports gained now → LanesGrow now ports next after → LanesGrow before ports (λ port. gained port ++ next port) after
+lanes_then before now after ports gained next g h = record {
+  lanes = λ port c. record {
+    bytes = (h.lanes port c).bytes ∙ ap (λ (bytes : List ℕ). bytes ++ next port) (g.lanes port c).bytes
+        ∙ append_assoc (lane_bytes before port) (gained port) (next port);
+    kept = λ s. (h.lanes port c).kept ((g.lanes port c).kept s);
+  };
+  others = λ port c. h.others port c ∙ g.others port c;
+}
+
+pub grow_then : (before now after : Option Lanes) (ports : List ℕ) (gained next : ℕ → List ℕ) → GrowAll before ports gained now → GrowAll now ports next after → GrowAll before ports (λ port. gained port ++ next port) after
+grow_then before now after ports gained next g h =
+    told_then (λ old new. LanesGrow old ports gained new) (λ old new. LanesGrow old ports next new)
+    (λ old new. LanesGrow old ports (λ port. gained port ++ next port) new)
+    (λ x y z g h. lanes_then x y z ports gained next g h) before now after g h
+
+pub there_then : (now after : Option Lanes) (ports : List ℕ) (next : ℕ → List ℕ) → AreThere ports now → GrowAll now ports next after → AreThere ports after
+there_then (Some now) (Some after) ports next t h = λ port c. (h.lanes port c).kept (t port c)
+there_then (Some now) None ports next t h = tt
+there_then None (Some after) ports next t h = absurd h
+there_then None None ports next t h = tt
 
 -- The first ports of a list
 
@@ -58,33 +82,33 @@ next_put law once plan good taken next k old part waits more below front shown (
     absurd (not.0 (first_has plan.table (k + 1) k (omega arith) below))
 
 exact_at :
-    OneFlowHasAPort → OneGained → (plan : Plan) → IsTable plan.table → (taken next : List Record) (mid : List BatchView) (gained : ℕ → List ℕ) (before after : Option Lanes)
-    → (e : BreaksEmptying plan.table mid before after)
+    OneFlowHasAPort → OneGained → (plan : Plan) → IsTable plan.table → (taken next : List Record) (shelves : List Shelved) (gained : ℕ → List ℕ) (before after : Option Lanes)
+    → (e : BreaksEmptying plan.table shelves before after)
     → ((k : ℕ) → k < length plan.table → HasShown (playout_of plan) (slice_index plan.table k) taken (gained (slice_index plan.table k)))
-    → ((k : ℕ) → k < length plan.table → HasShown (playout_of plan) (slice_index plan.table k) next (gained (slice_index plan.table k) ++ waiting mid (slice_index plan.table k)))
+    → ((k : ℕ) → k < length plan.table → HasShown (playout_of plan) (slice_index plan.table k) next (gained (slice_index plan.table k) ++ waiting shelves (slice_index plan.table k)))
     → (k : ℕ) → k < length plan.table → (k < e.done) ⊎ (e.done ≤ k) → (k ≡ e.done) ⊎ (k ≡ e.done → ⊥)
     → HasPut plan taken next e.done (slice_index plan.table k) (gained (slice_index plan.table k) ++ e.gained (slice_index plan.table k))
     ⊎ ((Some (slice_index plan.table e.done) ≡ Some (slice_index plan.table k))
     × LiesBetween (HasPut plan taken next e.done (slice_index plan.table k)) (HasPut plan taken next (e.done + 1) (slice_index plan.table k)) (gained (slice_index plan.table k) ++ e.gained (slice_index plan.table k)))
-exact_at law once plan good taken next mid gained before after e old new k below (inl less) at =
+exact_at law once plan good taken next shelves gained before after e old new k below (inl less) at =
     inl (inl (
       first_has plan.table e.done k less below,
       subst (λ (bytes : List ℕ). HasShown (playout_of plan) (slice_index plan.table k) next (gained (slice_index plan.table k) ++ bytes)) (sym (e.first k less)) (new k below),
     ))
-exact_at law once plan good taken next mid gained before after e old new k below (inr from) (inl is) =
-    let front : IsPrefix (e.gained (slice_index plan.table k)) (waiting mid (slice_index plan.table k)) =
-    subst (λ j. IsPrefix (e.gained (slice_index plan.table j)) (waiting mid (slice_index plan.table j))) (sym is) e.broken in
+exact_at law once plan good taken next shelves gained before after e old new k below (inr from) (inl is) =
+    let front : IsPrefix (e.gained (slice_index plan.table k)) (waiting shelves (slice_index plan.table k)) =
+    subst (λ j. IsPrefix (e.gained (slice_index plan.table j)) (waiting shelves (slice_index plan.table j))) (sym is) e.broken in
     inr (
       ap (λ j. Some (slice_index plan.table j)) (sym is),
       record {
         first = gained (slice_index plan.table k);
         are = inr (first_lacks law plan.table good e.done k from below, old k below);
         begins = (e.gained (slice_index plan.table k), refl);
-        next = λ more put. next_put law once plan good taken next k (gained (slice_index plan.table k)) (e.gained (slice_index plan.table k)) (waiting mid (slice_index plan.table k)) more below front (new k below)
+        next = λ more put. next_put law once plan good taken next k (gained (slice_index plan.table k)) (e.gained (slice_index plan.table k)) (waiting shelves (slice_index plan.table k)) more below front (new k below)
             (subst (λ n. HasPut plan taken next (n + 1) (slice_index plan.table k) more) (sym is) put);
       },
     )
-exact_at law once plan good taken next mid gained before after e old new k below (inr from) (inr ne) =
+exact_at law once plan good taken next shelves gained before after e old new k below (inr from) (inr ne) =
     inl (inr (
       first_lacks law plan.table good e.done k from below,
       subst (λ (bytes : List ℕ). HasShown (playout_of plan) (slice_index plan.table k) taken bytes)
@@ -92,25 +116,28 @@ exact_at law once plan good taken next mid gained before after e old new k below
           (old k below),
     ))
 
+-- A put failed while what waits was put: what is shown of `taken` was put before, and what waits is the rest of what is shown
+-- of `next`.
 pub emptying_breaks :
-    {D : Type 0} → OneFlowHasAPort → OneGained → (plan : Plan) → IsTable plan.table → (records batch : List Record) (old : Batches D) (mid : List BatchView) (before now after : Option Lanes)
-    → HaveRun old.sheaf old.flows.items mid → (AreOn plan.table mid → BreaksEmptying plan.table mid now after)
-    → IsFilled plan records batch old before now → BreaksInBatch plan records (records ++ batch) before after
-emptying_breaks law once plan good records batch old mid before now after ran breaks h =
-    let e : BreaksEmptying plan.table mid now after = breaks (mid_on plan records batch old.sheaf old.flows.items mid h.gained h.stands h.holds ran) in
+    OneFlowHasAPort → OneGained → (plan : Plan) → IsTable plan.table → (taken next : List Record) (shelves : List Shelved) (gained : ℕ → List ℕ) (before now after : Option Lanes)
+    → GrowAll before plan.table gained now → AreThere plan.table now
+    → ((port : ℕ) → Contains plan.table port → HasShown (playout_of plan) port taken (gained port))
+    → ((port : ℕ) → Contains plan.table port → HasShown (playout_of plan) port next (gained port ++ waiting shelves port))
+    → BreaksEmptying plan.table shelves now after → BreaksInBatch plan taken next before after
+emptying_breaks law once plan good taken next shelves gained before now after grow there old new e =
     record {
       done = e.done;
       broken = Some (slice_index plan.table e.done);
-      gained = λ port. h.gained port ++ e.gained port;
-      grow = grow_then before now after plan.table h.gained e.gained h.grow e.grow;
-      there = there_then now after plan.table e.gained h.there e.grow;
+      gained = λ port. gained port ++ e.gained port;
+      grow = grow_then before now after plan.table gained e.gained grow e.grow;
+      there = there_then now after plan.table e.gained there e.grow;
       exact = λ flow c.
-          subst (λ p. HasPut plan records (records ++ batch) e.done p (h.gained p ++ e.gained p)
+          subst (λ p. HasPut plan taken next e.done p (gained p ++ e.gained p)
           ⊎ ((Some (slice_index plan.table e.done) ≡ Some p)
-          × LiesBetween (HasPut plan records (records ++ batch) e.done p) (HasPut plan records (records ++ batch) (e.done + 1) p) (h.gained p ++ e.gained p)))
+          × LiesBetween (HasPut plan taken next e.done p) (HasPut plan taken next (e.done + 1) p) (gained p ++ e.gained p)))
           (get_or_default plan.table c.0 0 flow c.1 ∙ c.2)
-          (exact_at law once plan good records (records ++ batch) mid h.gained now after e
-          (λ k below. shown_in plan records old.flows.items h.gained h.stands (slice_index plan.table k) (k, below, get_or_default plan.table k (slice_index plan.table k) 0 below))
-          (λ k below. stands_mid law plan good records batch old mid before now ran h k below)
+          (exact_at law once plan good taken next shelves gained now after e
+          (λ k below. old (slice_index plan.table k) (contains_at plan.table k below))
+          (λ k below. new (slice_index plan.table k) (contains_at plan.table k below))
           c.0 c.1 (cases_lt c.0 e.done) (cases_eq c.0 e.done));
     }

@@ -3,6 +3,7 @@ pub mod Crewing
 pub mod Crossing
 pub mod Emptied
 pub mod Emptying
+pub mod Exchanged
 pub mod Filled
 pub mod Gathering
 pub mod Playing

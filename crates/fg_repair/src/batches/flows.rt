@@ -1,17 +1,16 @@
 //! A flow of a repair in batches.
-ghost use Rattle.std.specs.Prelude.{◌≡◌, ◌<◌, ◌↔◌, ℕ, [], ◌∷◌, false, length, IfSome, IfNone, IsTrue, OnOk, OnErr};
+ghost use Rattle.std.specs.Prelude.{◌≡◌, ◌<◌, ◌↔◌, ℕ, [], ◌∷◌, false, length, IfSome, IfNone, IsTrue, OnOk};
 ghost use Rattle.std.specs.Bool.{OnFalse};
-ghost use Rattle.fg_io.specs.Faults.{Counts};
 ghost use Rattle.fg_flows.specs.Sheaf.{items_of};
-ghost use Rattle.fg_engine.specs.Steps.{Grows, GrowsPart};
-ghost use Rattle.fg_repair.specs.Batches.{CanRun, HasRun, HasNumber, HaveNoNumber, IsLastNumber, MayPlay, emptied};
+ghost use Rattle.fg_repair.specs.Batches.{CanRun, HasRun, HasNumber, HaveNoNumber, IsLastNumber, MayPlay};
 
 use fg_engine::{Flow, ShelfFiller, Shelved, WindowState};
 use fg_flows::{Kind, Sheaf};
-use fg_io::{Failed, Fault, Outlet};
+use fg_io::Fault;
 use fg_report::Shelf;
 use std::alloc::{AllocError, Global};
 use std::marker::Model;
+use std::mem;
 
 /// A flow, and what waits for its lane.
 #[derive(Drop)]
@@ -119,23 +118,12 @@ impl<D: WindowState> BatchFlow<D> {
         }
     }
 
-    /// Puts what waits to the flow's lane. Nothing waits then.
-    ///
-    /// # Errors
-    ///
-    /// The put failed, and the lane has gained a front of what waited.
-    pub(crate) fn empty<O: Outlet>(&mut self, lanes: &mut O) -> Result<(), Fault>
-        ensures puts { OnOk result (Grows (O.lanes lanes.old) self.old.flow.sum.port self.old.shelf
-            (O.lanes lanes.new)) }
-        ensures part { OnErr result (GrowsPart (O.lanes lanes.old) self.old.flow.sum.port self.old.shelf
-            (O.lanes lanes.new)) }
-        ensures empty { self.new ≡ emptied self.old }
-        ensures faults { Counts result [] ((O.faults lanes.old, O.faults lanes.new) ∷ []) }
+    /// Takes this shelf in place of the one with what the flow has shown, and leaves that one.
+    pub(crate) fn exchange_shelf(&mut self, shelf: &mut Shelf)
+        ensures flow { self.new ≡ record self.old { shelf = shelf.old } }
+        ensures shelf { shelf.new ≡ self.old.shelf }
     {
-        match self.shelved.shelf.empty_into(self.shelved.port, lanes) {
-            Ok(()) => Ok(()),
-            Err(Failed) => Err(Fault::Write),
-        }
+        mem::swap(&mut self.shelved.shelf, shelf);
     }
 }
 
