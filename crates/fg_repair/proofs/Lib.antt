@@ -5,6 +5,7 @@ pub mod Emptied
 pub mod Emptying
 pub mod Exchanged
 pub mod Filled
+pub mod Gathered
 pub mod Gathering
 pub mod Playing
 pub mod Reached

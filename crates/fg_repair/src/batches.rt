@@ -2,6 +2,7 @@
 mod emptying;
 mod filling;
 mod flows;
+mod gathering;
 mod records;
 mod running;
 mod walking;
