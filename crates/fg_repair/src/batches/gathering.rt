@@ -1,11 +1,11 @@
 //! How the records of a batch are gathered, ahead of the flows that run them.
-ghost use Rattle.std.specs.Prelude.{◌≡◌, ◌<◌, ◌≤◌, ◌^◌, ◌++◌, ℕ, Option, None, Some, List, [], ◌∷◌, length, IfOk, IfErr, IfSome, IfNone, OnErr};
+ghost use Rattle.std.specs.Prelude.{◌≡◌, ◌<◌, ◌≤◌, ◌^◌, ◌++◌, ℕ, Option, None, Some, List, [], ◌∷◌, length, IfOk, IfErr, IfSome, IfNone, IsSome, OnErr};
 ghost use Rattle.fg_io.specs.Faults.{Counts};
 ghost use Rattle.fg_trace.specs.Reader.{StandsAfter};
 ghost use Rattle.fg_trace.specs.Reading.{HasReached};
 ghost use Rattle.fg_trace.specs.Trace.{Record};
 ghost use Rattle.fg_flows.specs.Plan.{PlanFits};
-ghost use Rattle.fg_flows.specs.Sheaf.{no_items};
+ghost use Rattle.fg_flows.specs.Sheaf.{HasRoom, no_items};
 ghost use Rattle.fg_engine.specs.Engine.{HasRead, told_finish};
 ghost use Rattle.fg_repair.specs.Gathering.{GathersLast, HasAdded, HasGathered, HasKept, with_record};
 
@@ -77,6 +77,10 @@ impl Gathering {
         ensures ends { IfOk result (λ end. IfSome end (λ tail. (first : Option (List ℕ)) (records : List Record)
             → HasGathered plan.now first (S.left input.old) reader.old records [] self.old
             → (batch : List Record) × GathersLast plan.now first records batch self.new tail)) }
+
+        // Before the trace ends, a batch ends only where the sheaf has no room for the next record.
+        ensures full { IfOk result (λ end. IfNone end
+            (IsSome self.new.next × ¬ HasRoom self.new.sheaf reader.new.payload)) }
         ensures fault { IfErr result (λ fault. fault ≡ Fault.Read) }
 
         // A read that fails leaves the reader after some records more.
@@ -147,6 +151,8 @@ impl Gathering {
             (first : Option (List ℕ)) (records batch : List Record)
             → HasGathered plan.now first (S.left input.old) reader.old records batch self.old
             → GathersLast plan.now first records batch self.new tail)) }
+        ensures left { IfOk result (λ end. IfNone end
+            (IsSome self.new.next → ¬ HasRoom self.new.sheaf reader.new.payload)) }
         ensures fault { IfErr result (λ fault. fault ≡ Fault.Read) }
         ensures after { OnErr result ((first : Option (List ℕ)) (records batch : List Record)
             → HasGathered plan.now first (S.left input.old) reader.old records batch self.old
@@ -183,11 +189,12 @@ impl Gathering {
         requires flows { length self.old.sheaf.items ≡ length plan.now.table }
         requires few { self.old.other < 2 ^ 43 }
         requires size { length datagram.now ≤ 65535 }
-        ensures { (records batch : List Record) (r : Record)
+        ensures keeps { (records batch : List Record) (r : Record)
             → HasKept plan.now [] records batch [] self.old
             → r.port ≡ port → r.time ≡ time → r.datagram ≡ datagram.now
             → (longer left : List Record) × ((records ++ longer) ++ left ≡ (records ++ batch) ++ r ∷ [])
             × HasKept plan.now datagram.now records longer left self.new }
+        ensures left { IsSome self.new.next → ¬ HasRoom self.new.sheaf datagram.now }
     {
         one_flow_has_a_port();
         match plan.table.find(port) {

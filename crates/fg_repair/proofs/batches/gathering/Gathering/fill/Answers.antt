@@ -1,10 +1,10 @@
-use Rattle.std.proofs.Common.{◌≡◌, ◌<◌, ◌∙◌, ◌++◌, sym, refl, Option, None, List, [], ℕ, arith, rules}
+use Rattle.std.proofs.Common.{◌≡◌, ◌<◌, ◌∙◌, ◌++◌, refl, Option, None, List, [], ℕ, arith, rules}
 use Rattle.fg_trace.specs.Reader.{StandsAfter}
 use Rattle.fg_trace.specs.Trace.{Record}
 use Rattle.fg_io.proofs.FaultLemmas.{on_err}
 use Rattle.fg_report.specs.declared.tail.Tail.{Tail}
 use Rattle.fg_repair.specs.Gathering.{GathersLast, HasGathered}
-use Rattle.fg_repair.proofs.Gathered.{is_none, left_added, none_after, none_at, some_at}
+use Rattle.fg_repair.proofs.Gathered.{left_added, none_after, none_at, some_at}
 use Rattle.fg_repair.proofs.batches.gathering.Gathering.fill.Goals as goal
 
 pub loop-tail-init : goal.loop-tail-init
@@ -60,7 +60,7 @@ loop-tail-preserved g c = record {
       ((first : Option (List ℕ)) (records batch : List Record) → HasGathered c.args.plan.now first (g.S.Source.left c.loop-tail.input) c.loop-tail.reader records batch c.loop-tail.self
       → (longer : List Record) × HasGathered c.args.plan.now first (g.S.Source.left c.take_next.new.input) c.take_next.new.reader records longer c.take_next.new.self)
       c.in_ok-tail.field-0 c.in_default.is c.in_ok-tail.ensures.more first records come.0 come.1;
-  none = is_none c.take_next.new.self.next (sym c.is_some.ensures ∙ c.if-is_some.false);
+  none = search rules;
   far = λ first h. c.in_ok-tail.ensures.far first (c.loop-tail.invariant.far first h);
   unkept = none_at (c.take_next.new.reader.kept ≡ None) c.in_ok-tail.field-0 c.in_default.is c.in_ok-tail.ensures.open;
   max = c.in_ok-tail.ensures.max ∙ c.loop-tail.invariant.max;

@@ -18,7 +18,7 @@ take-requires-clause-few g c =
 pub returns-in-Ok-Datagram-clause-more : goal.returns-in-Ok-Datagram-clause-more
 returns-in-Ok-Datagram-clause-more g c = λ first records batch h.
     gathered_on c.args.plan.now first _ _ c.args.reader.now c.next.new.self records batch c.args.self.now c.take.new.self c.next.result c.in-Ok-Datagram.time c.in-Ok-Datagram.port c.in-Ok-Datagram.field-0-2 c.payload.result.now
-    c.requires.none (c.in-Ok-Datagram.is ∙ ap Ok c.in-Ok-Datagram.field-0-is) c.payload.ensures (c.next.ensures.walks first) c.take.ensures h
+    c.requires.none (c.in-Ok-Datagram.is ∙ ap Ok c.in-Ok-Datagram.field-0-is) c.payload.ensures (c.next.ensures.walks first) c.take.ensures.keeps h
 
 pub returns-in-Ok-End-clause-ends : goal.returns-in-Ok-End-clause-ends
 returns-in-Ok-End-clause-ends g c = λ first records batch h.
