@@ -26,6 +26,7 @@ use Rattle.fg_run.specs.Request.{Asks}
 use Rattle.fg_run.specs.Run.{CaptureComesBack, ComesBack, EndsTrace, Reads, ReadsAll, StopsAt}
 use Rattle.fg_run.specs.Stopping.{StopsLanes}
 use Rattle.fg_run.proofs.Completing.{told}
+use Rattle.fg_run.proofs.Counting.{untouched_counts}
 use Rattle.fg_run.proofs.Stopping.{drill_stops_first, stops_first}
 use Rattle.fg_run.proofs.Untouched.{untouched}
 
@@ -126,6 +127,7 @@ not_begun none request left input_faults input lanes_of lane_faults lanes writte
   part = λ fault. untouched none request (left input) (lanes_of lanes) written out;
   stops = λ fault. stops_not request (left input) (lanes_of lanes);
   no_report = λ last e. refl;
+  counts = untouched_counts (λ e. let a = e in cc) (λ e. let a = e in cc);
   nothing_read = λ h. refl;
   nothing_written = λ h. refl;
   no_lane = λ h. refl;

@@ -30,9 +30,9 @@ use Rattle.fg_run.specs.Endings.{why_of_finish}
 use Rattle.fg_run.specs.Reading.{ReadsCapture, ReadsStream, ReadsToSpell, ReadsTrace}
 use Rattle.fg_run.specs.Run.{CaptureComesBack, EndsTrace, Inspects, IsCaptureAnswer, IsNoCapture, IsNoTrace, IsSpellingAnswer, IsTraceAnswer, MonitorsFor, SpellsFor, ConvertsFor}
 use Rattle.fg_run.proofs.Completing.{complete_told, none_wrong}
+use Rattle.fg_run.proofs.Counting.{no_input, no_lane, read_of, sample_counts, untouched_counts, write_of}
 use Rattle.fg_run.proofs.Drilled.{why_stops}
 use Rattle.fg_run.proofs.Reading.{also, stays}
-use Rattle.fg_run.proofs.Repaired.{read_of, write_of}
 use Rattle.fg_run.proofs.Stopping.{fault_of, is_fault, unless_fault}
 
 -- A command with one sink and no lane counts its faults there.
@@ -58,6 +58,7 @@ encoding_answered settings max answer whole is ends reads part counts = record {
   part = λ fault. (refl, part fault);
   stops = λ fault. refl;
   no_report = λ last e. absurd last;
+  counts = no_lane counts;
   nothing_read = λ h. absurd h;
   nothing_written = λ h. absurd h;
   no_lane = λ h. refl;
@@ -85,6 +86,7 @@ monitoring_answered max answer whole is ends reads part counts = record {
   part = λ fault. (refl, part fault);
   stops = λ fault. refl;
   no_report = λ last e. absurd last;
+  counts = no_lane counts;
   nothing_read = λ h. absurd h;
   nothing_written = λ h. absurd h;
   no_lane = λ h. refl;
@@ -113,6 +115,7 @@ inspection_answered table max answer whole is ends reads refused part counts = r
   part = λ fault. (refl, part fault);
   stops = λ fault. refl;
   no_report = λ last e. absurd last;
+  counts = no_lane counts;
   nothing_read = λ h. absurd h;
   nothing_written = λ h. absurd h;
   no_lane = λ h. refl;
@@ -141,6 +144,7 @@ capture_answered max answer whole is ends reads refused part counts = record {
   part = λ fault. (refl, part fault);
   stops = λ fault. refl;
   no_report = λ last e. absurd last;
+  counts = no_lane counts;
   nothing_read = λ h. absurd h;
   nothing_written = λ h. absurd h;
   no_lane = λ h. refl;
@@ -170,6 +174,7 @@ spelling_answered max answer whole is ends reads refused back part counts = reco
   part = λ fault. (refl, part fault);
   stops = λ fault. refl;
   no_report = λ last e. absurd last;
+  counts = no_lane counts;
   nothing_read = λ h. absurd h;
   nothing_written = λ h. absurd h;
   no_lane = λ h. refl;
@@ -209,6 +214,7 @@ sample_answered seed datagrams loss plan answer whole part stopped back no_read 
       part = λ fault. part (fault_of answer fault);
       stops = λ fault. why_stops plan (Ok answer) _ _ _ (stopped (fault_of answer fault));
       no_report = λ last e. absurd last;
+      counts = sample_counts answer counts;
       nothing_read = λ h. refl;
       nothing_written = λ h. absurd h;
       no_lane = λ h. absurd h;
@@ -235,6 +241,7 @@ question_answered question answer whole part counts =
       part = λ fault. (refl, part fault);
       stops = λ fault. refl;
       no_report = λ last e. absurd last;
+      counts = no_lane (no_input counts);
       nothing_read = λ h. refl;
       nothing_written = λ h. absurd h;
       no_lane = λ h. refl;
@@ -266,6 +273,7 @@ refusal_answered fault = record {
   part = λ h. absurd h;
   stops = λ h. absurd h;
   no_report = λ last e. refl;
+  counts = untouched_counts (λ e. let a = e in cc) (λ e. let a = e in cc);
   nothing_read = λ h. refl;
   nothing_written = λ h. refl;
   no_lane = λ h. refl;

@@ -1,7 +1,6 @@
 -- The answer of a drill, as the program's.
 use Rattle.std.proofs.Common.{◌≡◌, ◌⊎◌, inl, inr, ℕ, Option, None, Some, IfSome, Ok, Err, List, [], ◌∷◌, refl, sym, ap, ◌∙◌, subst}
 use Rattle.std.specs.Io.KnownBytes.{IsAtEnd}
-use Rattle.fg_io.specs.Faults.{CountsFaults}
 use Rattle.fg_io.specs.Outlet.{Lanes}
 use Rattle.fg_ts.specs.declared.TsFault.TheVariants as packets
 use Rattle.fg_shape.specs.declared.encoding.Losses.{Losses}
@@ -12,6 +11,7 @@ use Rattle.fg_flows.specs.declared.Plan.{Plan}
 use Rattle.fg_encode.specs.declared.stream.StreamFault.TheVariants.{NotTransport, TooLong}
 use Rattle.fg_encode.specs.Reading.{IsStreamReadFor}
 use Rattle.fg_encode.specs.Stream.{LeavesNothing, StreamEnding, IsCut}
+use Rattle.fg_results.specs.Stops.{Growth, ByRecord, ByBatch, growth_of}
 use Rattle.fg_drill.specs.Drill.{Answer, Drills, DrillsPart, IsFault as IsDrillFault, StopsLanes as DrillStops, StreamComesBack, answer_to, ending_of, records_sent}
 use Rattle.fg_drill.proofs.DrillReading.{told_none, told_of}
 use Rattle.fg_cli.specs.declared.Order.TheVariants.{Drill}
@@ -19,6 +19,7 @@ use Rattle.fg_run.specs.declared.ended.Why.{Why}
 use Rattle.fg_run.specs.declared.ended.Why.TheVariants as why
 use Rattle.fg_run.specs.declared.request.Request.TheVariants.{Ordered}
 use Rattle.fg_run.specs.Answered.{RequestAnswered}
+use Rattle.fg_run.specs.Counted.{DrillCounts, DrillMayHaveFailed, MayHaveFailedBeside, RequestCounts}
 use Rattle.fg_run.specs.Encode.{EndsStream, IsStreamAnswer}
 use Rattle.fg_run.specs.Ended.{IsFault}
 use Rattle.fg_run.specs.Endings.{why_of_drill, why_of_stream}
@@ -26,6 +27,7 @@ use Rattle.fg_run.specs.Reading.{ReadsStream}
 use Rattle.fg_run.specs.Run.{DrillComesBack, DrillsFor}
 use Rattle.fg_run.specs.Stopping.{StopsLanes}
 use Rattle.fg_run.proofs.Completing.{complete_told, none_wrong}
+use Rattle.fg_run.proofs.Counting.{counts_as}
 use Rattle.fg_run.proofs.Stopping.{fault_of, is_fault}
 
 -- a fault's answer is that of a fault
@@ -135,16 +137,13 @@ write_of (Ok finish.Memory) e = absurd (let a = e in cc)
 write_of (Err (TooLong n)) e = absurd (let a = e in cc)
 write_of (Err (NotTransport fault)) e = absurd (let a = e in cc)
 
-pub faults : (answer : Answer) (sources sinks : List (ℕ × ℕ)) → CountsFaults (answer ≡ Ok finish.ReadFault) (answer ≡ Ok finish.WriteFault) sources sinks
-    → CountsFaults (why_of_drill answer ≡ why.ReadFault) (why_of_drill answer ≡ why.WriteFault) sources sinks
-faults answer sources sinks h = record {
-  read = λ e. h.read (read_of answer e);
-  write = λ e. h.write (write_of answer e);
-  no_read = λ no. h.no_read (λ e. no (ap why_of_drill e));
-  no_write = λ no. h.no_write (λ e. no (ap why_of_drill e));
-  rise = h.rise;
-  sinks_rise = h.sinks_rise;
-}
+drill_failed : (growth : Growth) (answer : Answer) → DrillMayHaveFailed growth answer → MayHaveFailedBeside growth (why_of_drill answer)
+drill_failed ByRecord answer e = ap why_of_drill e
+drill_failed ByBatch answer fault = is_drill_fault answer fault
+
+drill_counts : {sources sinks : List (ℕ × ℕ)} → (settings : Settings) (plan : Plan) (losses : Losses) (max : ℕ) (answer : Answer) → DrillCounts (growth_of plan) answer sources sinks
+    → RequestCounts (Ordered (Drill settings plan losses max)) (why_of_drill answer) sources sinks
+drill_counts settings plan losses max answer h = counts_as (drill_failed (growth_of plan) answer) (read_of answer) (ap why_of_drill) (write_of answer) h
 
 pub drill_answered : {S O K : Type 0} {left : S → Option (List ℕ)} {input_faults : S → ℕ} {input input' : S}
     {lanes_of : O → Option Lanes} {lane_faults : O → ℕ} {lanes lanes' : O} {written : K → Option (List ℕ)} {out_faults : K → ℕ} {out out' : K}
@@ -157,7 +156,7 @@ pub drill_answered : {S O K : Type 0} {left : S → Option (List ℕ)} {input_fa
     → (IsDrillFault answer → IfSome (left input) (λ bytes. (payloads : List (List ℕ)) (end : StreamEnding) → IsCut settings.packets max bytes payloads end
     → DrillStops plan answer (records_sent settings losses payloads) (lanes_of lanes) (lanes_of lanes')))
     → IfSome (left input) (λ bytes. IsDrillFault answer ⊎ StreamComesBack settings plan losses max answer bytes (lanes_of lanes) (lanes_of lanes'))
-    → CountsFaults (answer ≡ Ok finish.ReadFault) (answer ≡ Ok finish.WriteFault) ((input_faults input, input_faults input') ∷ [])
+    → DrillCounts (growth_of plan) answer ((input_faults input, input_faults input') ∷ [])
     ((out_faults out, out_faults out') ∷ (lane_faults lanes, lane_faults lanes') ∷ [])
     → RequestAnswered (Ordered (Drill settings plan losses max)) (why_of_drill answer) left input_faults input input' lanes_of lane_faults lanes lanes' written out_faults out out'
 drill_answered settings plan losses max answer whole is ends read part stopped back counts =
@@ -170,6 +169,7 @@ drill_answered settings plan losses max answer whole is ends read part stopped b
       part = λ fault. part (drill_fault_of answer fault);
       stops = λ fault. stops settings plan losses max answer _ _ _ (stopped (drill_fault_of answer fault));
       no_report = λ last e. absurd last;
+      counts = drill_counts settings plan losses max answer counts;
       nothing_read = λ h. absurd h;
       nothing_written = λ h. absurd h;
       no_lane = λ h. absurd h;

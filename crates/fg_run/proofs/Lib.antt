@@ -1,6 +1,7 @@
 pub mod Asked
 pub mod Commands
 pub mod Completing
+pub mod Counting
 pub mod Drilled
 pub mod Encoded
 pub mod Lines

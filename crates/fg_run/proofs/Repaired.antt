@@ -1,6 +1,5 @@
 -- A repair is what a request for it is answered with.
 use Rattle.std.proofs.Common.{◌≡◌, ◌⊎◌, inl, inr, ℕ, Option, None, Some, IfSome, List, [], ◌∷◌, refl, sym, ap, ◌∙◌}
-use Rattle.fg_io.specs.Faults.{CountsFaults}
 use Rattle.fg_io.specs.Outlet.{Lanes}
 use Rattle.fg_trace.specs.declared.step.Finish.{Finish}
 use Rattle.fg_trace.specs.declared.step.Finish.TheVariants as finish
@@ -8,19 +7,20 @@ use Rattle.fg_trace.specs.Finish.{IsFault as IsFinishFault, ReadsAll as FinishRe
 use Rattle.fg_trace.specs.Trace.{Record, Ending, Ended, NotTrace, Cut, TooLong, IsTrace}
 use Rattle.fg_flows.specs.declared.Plan.{Plan}
 use Rattle.fg_results.specs.Contract.{IsRepair}
+use Rattle.fg_results.specs.Counted.{RepairCounts}
 use Rattle.fg_results.specs.Stops.{growth_of}
 use Rattle.fg_results.specs.Repair.{Finishes}
 use Rattle.fg_cli.specs.declared.Order.TheVariants.{Repair}
 use Rattle.fg_drill.specs.DrillLaws.{RepairsComeBack}
 use Rattle.fg_drill.proofs.Repairs.{finishes_back}
 use Rattle.fg_run.specs.declared.ended.Why.{Why}
-use Rattle.fg_run.specs.declared.ended.Why.TheVariants as why
 use Rattle.fg_run.specs.declared.request.Request.TheVariants.{Ordered}
 use Rattle.fg_run.specs.Answered.{RequestAnswered}
 use Rattle.fg_run.specs.Ended.{IsFault}
 use Rattle.fg_run.specs.Endings.{why_of_ending, why_of_finish}
 use Rattle.fg_run.specs.Run.{Answers, EndsTrace, IsNoTrace, IsTraceAnswer}
 use Rattle.fg_run.proofs.Completing.{complete_told}
+use Rattle.fg_run.proofs.Counting.{read_of, repair_counts, write_of}
 use Rattle.fg_run.proofs.Reading.{reads_trace}
 use Rattle.fg_run.proofs.Stopping.{fault_of, finish_stops, is_fault, told_unless_fault}
 
@@ -69,30 +69,12 @@ refused : (max : ℕ) (input : Option (List ℕ)) (P : Type 0) → IfSome input 
 refused max None P h = tt
 refused max (Some bytes) P h = λ no. h no.0 no.1
 
--- how faults are counted
-pub read_of : (answer : Finish) → why_of_finish answer ≡ why.ReadFault → answer ≡ finish.ReadFault
-read_of finish.Done e = absurd (let a = e in cc)
-read_of finish.ReadFault e = refl
-read_of finish.WriteFault e = absurd (let a = e in cc)
-read_of (finish.NotTrace n) e = absurd (let a = e in cc)
-read_of (finish.Cut n) e = absurd (let a = e in cc)
-read_of (finish.TooLong n) e = absurd (let a = e in cc)
-read_of finish.Memory e = absurd (let a = e in cc)
-
-pub write_of : (answer : Finish) → why_of_finish answer ≡ why.WriteFault → answer ≡ finish.WriteFault
-write_of finish.Done e = absurd (let a = e in cc)
-write_of finish.ReadFault e = absurd (let a = e in cc)
-write_of finish.WriteFault e = refl
-write_of (finish.NotTrace n) e = absurd (let a = e in cc)
-write_of (finish.Cut n) e = absurd (let a = e in cc)
-write_of (finish.TooLong n) e = absurd (let a = e in cc)
-write_of finish.Memory e = absurd (let a = e in cc)
-
+-- a repair
 pub repair_answered : {S O K : Type 0} {left : S → Option (List ℕ)} {input_faults : S → ℕ} {input input' : S}
     {lanes_of : O → Option Lanes} {lane_faults : O → ℕ} {lanes lanes' : O} {written : K → Option (List ℕ)} {out_faults : K → ℕ} {out out' : K}
     → RepairsComeBack → (plan : Plan) (answer : Finish)
     → IsRepair (growth_of plan) plan answer (left input) (left input') lanes_of lanes lanes' written out out'
-    → CountsFaults (answer ≡ finish.ReadFault) (answer ≡ finish.WriteFault) ((input_faults input, input_faults input') ∷ [])
+    → RepairCounts (growth_of plan) answer ((input_faults input, input_faults input') ∷ [])
     ((out_faults out, out_faults out') ∷ (lane_faults lanes, lane_faults lanes') ∷ [])
     → RequestAnswered (Ordered (Repair plan)) (why_of_finish answer) left input_faults input input' lanes_of lane_faults lanes lanes' written out_faults out out'
 repair_answered law plan answer r counts =
@@ -105,6 +87,7 @@ repair_answered law plan answer r counts =
       part = λ fault. r.part (fault_of answer fault);
       stops = finish_stops plan answer _ _ _ r.stops;
       no_report = λ last e. r.no_report (read_of answer e);
+      counts = repair_counts plan answer counts;
       nothing_read = λ h. absurd h;
       nothing_written = λ h. absurd h;
       no_lane = λ h. absurd h;

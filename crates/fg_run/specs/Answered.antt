@@ -1,6 +1,6 @@
 -- What a call of the program does: how its answer, what it reads, its lanes and what it writes follow from what is asked for and
 -- from the input. This project's own. Threads are no part of it.
-use Rattle.std.specs.Prelude.{◌≡◌, ◌⊎◌, ℕ, List, Option, IfSome}
+use Rattle.std.specs.Prelude.{◌≡◌, ◌⊎◌, ℕ, List, [], ◌∷◌, Option, IfSome}
 use Rattle.std.specs.Io.KnownBytes.{IsAtEnd}
 use Rattle.fg_io.specs.Faults.{CountsFault}
 use Rattle.fg_io.specs.Outlet.{Lanes}
@@ -9,6 +9,7 @@ use Rattle.fg_run.specs.declared.ended.Why.{Why}
 use Rattle.fg_run.specs.declared.ended.Why.TheVariants as why
 use Rattle.fg_run.specs.declared.request.Request.{Request}
 use Rattle.fg_run.specs.declared.request.Request.TheVariants.{Refused}
+use Rattle.fg_run.specs.Counted.{RequestCounts}
 use Rattle.fg_run.specs.Ended.{IsFault}
 use Rattle.fg_run.specs.Request.{Asks}
 use Rattle.fg_run.specs.Run.{Answers, AnswersPart, ComesBack, IsAnswer, IsNoInput, MakesNoLane, Reads, ReadsAll, ReadsNothing, StopsAt, WritesLast, WritesNothing}
@@ -41,6 +42,11 @@ pub record RequestAnswered {S O K : Type 0}
   pub part : IsFault answer → AnswersPart request (left input) (lanes_of lanes) (lanes_of lanes') written out out'
   pub stops : IsFault answer → StopsAt request answer (left input) (lanes_of lanes) (lanes_of lanes')
   pub no_report : WritesLast request → answer ≡ why.ReadFault → out' ≡ out
+  -- A fault of the outside is answered only where it was counted in this call. With every other answer no fault of writing was,
+  -- and none of reading but where the request may have read on. No count falls.
+  pub counts : RequestCounts request answer
+      ((input_faults input, input_faults input') ∷ [])
+      ((out_faults out, out_faults out') ∷ (lane_faults lanes, lane_faults lanes') ∷ [])
   -- What a request has no business with is left alone, whatever the answer. An input that isn't what the request reads
   -- makes nothing. What it reads is read as far as the answer needs, and at most a byte past the limit.
   pub nothing_read : ReadsNothing request → input' ≡ input

@@ -1,4 +1,5 @@
 pub mod Answered
+pub mod Counted
 pub mod Encode
 pub mod Ended
 pub mod Endings

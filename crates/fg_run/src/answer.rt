@@ -47,9 +47,6 @@ pub fn answer<
     ensures answered { RequestAnswered request result S.left S.faults input.old input.new
         O.lanes O.faults lanes.old lanes.new K.written K.faults out.old out.new }
     ensures words { (fault : AnyWordFault) → result ≡ Why.Words fault → request ≡ Request.Refused fault }
-    ensures faults { CountsFaults (result ≡ Why.ReadFault) (result ≡ Why.WriteFault)
-        ((S.faults input.old, S.faults input.new) ∷ [])
-        ((K.faults out.old, K.faults out.new) ∷ (O.faults lanes.old, O.faults lanes.new) ∷ []) }
 {
     match request {
         Request::Asked(question) => answer_question(alloc, question, out),

@@ -8,9 +8,11 @@ ghost use Rattle.fg_encode.specs.Reading.{IsStreamReadFor};
 ghost use Rattle.fg_encode.specs.Stream.{LeavesNothing, StreamEnding as AnyEnding, IsCut};
 ghost use Rattle.fg_flows.specs.Plan.{PlanFits};
 ghost use Rattle.fg_results.specs.Repair.{OutputsPart};
+ghost use Rattle.fg_results.specs.Stops.{growth_of};
 ghost use Rattle.fg_drill.specs.Drill.{Drills, DrillsPart, IsFault, StopsLanes, StreamComesBack, answer_to, ending_of, records_sent};
 ghost use Rattle.fg_drill.specs.DrillSteps.{DrillsTrace, IsEndingsAnswer, StopsTrace, TellsAll, TellsEnding};
 ghost use Rattle.fg_thin.specs.ThinnedSource.{fixed_of, trace_left};
+ghost use Rattle.fg_run.specs.Counted.{DrillCounts};
 
 use fg_crew::Gate;
 use fg_drill::laws::drills::{drills_come_back, repairs_are_drills};
@@ -81,7 +83,7 @@ pub(crate) fn drill<
     // With no fault the stream comes back.
     ensures comes_back { IfSome (S.left input.old) (λ bytes. IsFault result
         ⊎ StreamComesBack settings plan.now losses max result bytes (O.lanes lanes.old) (O.lanes lanes.new)) }
-    ensures faults { CountsFaults (result ≡ Ok Finish.ReadFault) (result ≡ Ok Finish.WriteFault)
+    ensures faults { DrillCounts (growth_of plan.now) result
         ((S.faults input.old, S.faults input.new) ∷ [])
         ((K.faults out.old, K.faults out.new) ∷ (O.faults lanes.old, O.faults lanes.new) ∷ []) }
 {
@@ -128,7 +130,7 @@ fn repair_sent<
         (O.lanes lanes.old) (O.lanes lanes.new) }
     ensures tells { TellsAll plan.now (trace_left source.old) result source.new.told source.new.fault }
     ensures same { fixed_of S.fixed source.new ≡ fixed_of S.fixed source.old }
-    ensures faults { CountsFaults (result ≡ Ok Finish.ReadFault) (result ≡ Ok Finish.WriteFault)
+    ensures faults { DrillCounts (growth_of plan.now) result
         ((S.faults source.old.inner, S.faults source.new.inner) ∷ [])
         ((K.faults out.old, K.faults out.new) ∷ (O.faults lanes.old, O.faults lanes.new) ∷ []) }
     ensures fixed { S.fixed source.new.inner ≡ S.fixed source.old.inner }

@@ -1,6 +1,5 @@
 //! The drill of a stream.
 ghost use Rattle.std.specs.Prelude.{◌≡◌, ◌≤◌, ◌^◌, ◌∷◌, []};
-ghost use Rattle.fg_io.specs.Faults.{CountsFaults};
 ghost use Rattle.fg_shape.specs.Losses.{MayLose};
 ghost use Rattle.fg_shape.specs.Settings.{CanEncode};
 ghost use Rattle.fg_flows.specs.Plan.{PlanFits};
@@ -46,11 +45,8 @@ pub(crate) fn run_drill<
     requires inner { plan.now.max ≡ 2 ^ 42 }
     requires losses { MayLose losses }
     requires max { (8 ≤ max) × (max ≤ 2 ^ 40) }
-    ensures answered { RequestAnswered (Ordered (Drill settings plan.now losses max)) result S.left S.faults input.old input.new
+    ensures { RequestAnswered (Ordered (Drill settings plan.now losses max)) result S.left S.faults input.old input.new
         O.lanes O.faults lanes.old lanes.new K.written K.faults out.old out.new }
-    ensures faults { CountsFaults (result ≡ Why.ReadFault) (result ≡ Why.WriteFault)
-        ((S.faults input.old, S.faults input.new) ∷ [])
-        ((K.faults out.old, K.faults out.new) ∷ (O.faults lanes.old, O.faults lanes.new) ∷ []) }
 {
     let answer = drill(
         rt, alloc, settings, plan, losses, max, input, out, lanes, gate,

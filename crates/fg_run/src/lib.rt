@@ -2,9 +2,9 @@
 #![tactic(auto)]
 
 ghost use Rattle.std.specs.Prelude.{◌≡◌, ◌≤◌, ◌∷◌, [], map, string_bytes};
-ghost use Rattle.fg_io.specs.Faults.{CountsFaults};
+ghost use Rattle.fg_results.specs.Counted.{CountsAhead};
 ghost use Rattle.fg_run.specs.Answered.{WordsAnswered};
-ghost use Rattle.fg_run.specs.Ended.{TellsFault, status_of};
+ghost use Rattle.fg_run.specs.Ended.{IsFault, TellsFault, status_of};
 
 mod answer;
 mod capturing;
@@ -68,9 +68,9 @@ pub fn run<
     ensures answered { WordsAnswered (map string_bytes words.now) result.why S.left S.faults input.old input.new
         O.lanes O.faults lanes.old lanes.new K.written K.faults out.old out.new }
 
-    // A fault of the outside is answered only where it was counted in this call, and with every other answer none was.
-    // No count falls.
-    ensures faults { CountsFaults (result.why ≡ Why.ReadFault) (result.why ≡ Why.WriteFault)
+    // A fault of the outside is answered only where it was counted in this call. With every other answer no fault of writing was,
+    // and none of reading where the answer is neither a fault nor want of memory. No count falls.
+    ensures faults { CountsAhead (IsFault result.why) (result.why ≡ Why.ReadFault) (result.why ≡ Why.WriteFault)
         ((S.faults input.old, S.faults input.new) ∷ [])
         ((K.faults out.old, K.faults out.new) ∷ (O.faults lanes.old, O.faults lanes.new) ∷ []) }
     ensures err_faults { E.faults err.old ≤ E.faults err.new }

@@ -1,6 +1,4 @@
 //! The repair of a trace.
-ghost use Rattle.std.specs.Prelude.{◌≡◌, ◌∷◌, []};
-ghost use Rattle.fg_io.specs.Faults.{CountsFaults};
 ghost use Rattle.fg_flows.specs.Plan.{PlanFits};
 ghost use Rattle.fg_cli.specs.declared.Order.TheVariants.{Repair};
 ghost use Rattle.fg_run.specs.declared.request.Request.TheVariants.{Ordered};
@@ -25,11 +23,8 @@ pub(crate) fn repair<
     G: Gate,
 >(rt: &W, alloc: Global, plan: &Plan, input: &mut S, out: &mut K, lanes: &mut O, gate: &G) -> Why
     requires { PlanFits plan.now }
-    ensures answered { RequestAnswered (Ordered (Repair plan.now)) result S.left S.faults input.old input.new
+    ensures { RequestAnswered (Ordered (Repair plan.now)) result S.left S.faults input.old input.new
         O.lanes O.faults lanes.old lanes.new K.written K.faults out.old out.new }
-    ensures faults { CountsFaults (result ≡ Why.ReadFault) (result ≡ Why.WriteFault)
-        ((S.faults input.old, S.faults input.new) ∷ [])
-        ((K.faults out.old, K.faults out.new) ∷ (O.faults lanes.old, O.faults lanes.new) ∷ []) }
 {
     repairs_come_back();
     let finish = repair_as_planned(rt, alloc, plan, input, out, lanes, gate);

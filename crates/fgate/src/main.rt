@@ -6,9 +6,9 @@ ghost use Rattle.std.specs.IoError.{error_kind};
 ghost use Rattle.std.specs.Process.{exit_status};
 ghost use Rattle.std.specs.Str.{IsUtf8};
 ghost use Rattle.std.specs.Vec.Iter.{into_iter_items};
-ghost use Rattle.fg_io.specs.Faults.{CountsFaults};
+ghost use Rattle.fg_results.specs.Counted.{CountsAhead};
 ghost use Rattle.fg_run.specs.Answered.{WordsAnswered};
-ghost use Rattle.fg_run.specs.Ended.{TellsFault, status_of};
+ghost use Rattle.fg_run.specs.Ended.{IsFault, TellsFault, status_of};
 
 use fg_crew::NoGate;
 use fg_io::{
@@ -64,7 +64,7 @@ fn run_words<W: Threads + Wait + Sync, S: Source + Send, K: Sink + Send, E: Sink
         S.left S.faults input.old input.new O.lanes O.faults lanes.old lanes.new K.written K.faults out.old out.new) }
 
     // How faults are counted, whatever the words.
-    ensures faults { CountsFaults (result.why ≡ Why.ReadFault) (result.why ≡ Why.WriteFault)
+    ensures faults { CountsAhead (IsFault result.why) (result.why ≡ Why.ReadFault) (result.why ≡ Why.WriteFault)
         ((S.faults input.old, S.faults input.new) ∷ [])
         ((K.faults out.old, K.faults out.new) ∷ (O.faults lanes.old, O.faults lanes.new) ∷ []) }
     ensures err_faults { E.faults err.old ≤ E.faults err.new }

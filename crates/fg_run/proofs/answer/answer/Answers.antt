@@ -7,7 +7,7 @@ returns-in-Asked-clause-answered g c =
     rw c.in-Asked.is (question_answered _ c.answer_question.result a.whole a.part a.faults)
 
 pub returns-in-Ordered-Repair-clause-answered : goal.returns-in-Ordered-Repair-clause-answered
-returns-in-Ordered-Repair-clause-answered g c = rw (c.in-Ordered-Repair.is, c.in-Ordered-Repair.field-0-is) c.repair.ensures.answered
+returns-in-Ordered-Repair-clause-answered g c = rw (c.in-Ordered-Repair.is, c.in-Ordered-Repair.field-0-is) c.repair.ensures
 
 pub returns-in-Ordered-Encode-clause-answered : goal.returns-in-Ordered-Encode-clause-answered
 returns-in-Ordered-Encode-clause-answered g c =
@@ -15,7 +15,7 @@ returns-in-Ordered-Encode-clause-answered g c =
     rw (c.in-Ordered-Encode.is, c.in-Ordered-Encode.field-0-is) (encoding_answered _ _ _ e.whole e.exactly e.all_read e.reads e.part e.faults)
 
 pub returns-in-Ordered-Drill-clause-answered : goal.returns-in-Ordered-Drill-clause-answered
-returns-in-Ordered-Drill-clause-answered g c = rw (c.in-Ordered-Drill.is, c.in-Ordered-Drill.field-0-is) c.run_drill.ensures.answered
+returns-in-Ordered-Drill-clause-answered g c = rw (c.in-Ordered-Drill.is, c.in-Ordered-Drill.field-0-is) c.run_drill.ensures
 
 pub returns-in-Ordered-Inspect-clause-answered : goal.returns-in-Ordered-Inspect-clause-answered
 returns-in-Ordered-Inspect-clause-answered g c =
