@@ -1,8 +1,7 @@
 -- How a batch is gathered, record after record.
-use Rattle.std.proofs.Common.{◌≡◌, inl, inr, ℕ, ◌+◌, ◌<◌, ◌≤◌, ◌^◌, not, Option, Some, None, IfSome, IfNone, Ok, List, [], ◌∷◌, ◌++◌, length, refl, sym, ap, ◌∙◌, subst, arith, append_assoc, append-nil}
+use Rattle.std.proofs.Common.{◌≡◌, inl, inr, ℕ, ◌+◌, ◌<◌, ◌^◌, not, Option, Some, None, IfSome, IfNone, Ok, List, [], ◌∷◌, ◌++◌, length, refl, sym, ap, ◌∙◌, subst, arith, append_assoc, append-nil}
 use Rattle.std.specs.List.{list_any}
 use Rattle.std.proofs.lemmas.List.Sums.{count_by-le-length}
-use Rattle.std.proofs.lemmas.List.Folds.{sum_by-replicate}
 use Rattle.fg_trace.specs.declared.step.Step.TheVariants.{Datagram}
 use Rattle.fg_trace.specs.Reader.{Answer, ReaderState, StandsAfter, Walks}
 use Rattle.fg_trace.specs.Trace.{Record, Ending, IsTrace}
@@ -11,35 +10,25 @@ use Rattle.fg_flows.specs.declared.Plan.{Plan}
 use Rattle.fg_flows.specs.Plan.{PlanFits}
 use Rattle.fg_flows.specs.Flows.{IsPortOf, IsTable}
 use Rattle.fg_flows.specs.Laws.{OneFlowHasAPort}
-use Rattle.fg_flows.specs.Sheaf.{HasRoom, Item, SheafState, no_items, payload_bytes}
+use Rattle.fg_flows.specs.Sheaf.{SheafState, no_items}
 use Rattle.fg_report.specs.declared.tail.Tail.{Tail}
 use Rattle.fg_results.specs.Flow.{is_of}
 use Rattle.fg_results.specs.Repair.{others_of}
 use Rattle.fg_results.proofs.Zips.{zip_length}
 use Rattle.fg_engine.specs.Engine.{TellsTail}
 use Rattle.fg_engine.proofs.Standing.{others_of_flow, others_of_none, IsOfNone}
-use Rattle.fg_engine.proofs.Walking.{few_records}
+use Rattle.fg_engine.proofs.Walking.{ended, few_records}
 use Rattle.fg_repair.specs.declared.batches.gathering.Gathering.{Gathering}
 use Rattle.fg_repair.specs.declared.batches.gathering.Heading.{Heading}
 use Rattle.fg_repair.specs.Batches.{AreItemsOf, HoldsBatch}
 use Rattle.fg_repair.specs.Gathering.{GathersLast, HasAdded, HasGathered, HasKept, IsLeft, with_record}
 use Rattle.fg_repair.proofs.Gathering.{holds_none, holds_one, holds_other}
 
--- Where nothing is in the sheaf, there is room for any record.
-pub room_in_none : (flows : ℕ) (payload : List ℕ) → length payload ≤ 65535 → HasRoom (no_items flows) payload
-room_in_none flows payload size =
-    let count = sum_by-replicate (length {A = Item}) flows [] in
-    let bytes = sum_by-replicate payload_bytes flows [] in
-    record { records = omega (arith, count); bytes = omega (arith, bytes, size) }
-
 -- There are as many lists in the sheaf as flows.
-pub kept_long : (plan : Plan) (datagram : List ℕ) (records batch left : List Record) (gathering : Gathering) → HasKept plan datagram records batch left gathering → length gathering.sheaf.items ≡ length plan.table
-kept_long plan datagram records batch left gathering h = zip_length (AreItemsOf batch) plan.table gathering.sheaf.items h.holds
-
 pub gathered_long :
     (plan : Plan) (first now : Option (List ℕ)) (reader : ReaderState) (records batch : List Record) (gathering : Gathering)
     → HasGathered plan first now reader records batch gathering → length gathering.sheaf.items ≡ length plan.table
-gathered_long plan first now reader records batch gathering h = kept_long plan reader.payload records batch h.left gathering h.kept
+gathered_long plan first now reader records batch gathering h = zip_length (AreItemsOf batch) plan.table gathering.sheaf.items h.kept.holds
 
 -- There are few of no flow.
 pub few_others :
@@ -224,9 +213,6 @@ pub none_after :
 none_after old new datagram added none = left_none old new datagram old.next refl added none
 
 -- The end
-
-ended : (plan : Plan) (first : Option (List ℕ)) (reader : ReaderState) (records : List Record) (end : Ending) → reader.max ≡ plan.max → IfSome first (λ bytes. IsTrace bytes reader.max records end) → IfSome first (λ bytes. IsTrace bytes plan.max records end)
-ended plan first reader records end max h = subst (λ n. IfSome first (λ bytes. IsTrace bytes n records end)) max h
 
 pub gathers_last :
     (plan : Plan) → PlanFits plan → (first left now : Option (List ℕ)) (reader next : ReaderState) (records batch : List Record) (old : Gathering) (end : Ending) (told : Tail)
