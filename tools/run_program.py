@@ -99,16 +99,29 @@ def peak_now(pid):
     return int(sizes[0]) * 1024 if sizes else None
 
 
+class Pieces(NamedTuple):
+    """How data goes into a pipe: in pieces of this size, and whether each is waited for until it is read."""
+    size: int
+    waits: bool
+
+
+def await_reading(child, ends):
+    """Waits until the child has read all that is in its pipe, has ended, or the time is over."""
+    left = array.array("i", [1])
+    while left[0] and time.monotonic() < ends and child.poll() is None:
+        fcntl.ioctl(child.stdin.fileno(), termios.FIONREAD, left)
+        time.sleep(0.0003)
+
+
 def feed(child, data, pieces, seconds):
-    """Writes the data to the child in these pieces. It gives the child's peak once all is read, while it waits for more."""
-    pipe, ends = child.stdin.fileno(), time.monotonic() + seconds
+    """Writes the data to the child in pieces. It gives the child's peak once all is read, while it waits for more."""
+    ends = time.monotonic() + seconds
     try:
-        for piece in pieces(data):
-            os.write(pipe, piece)
-        left = array.array("i", [1])
-        while left[0] and time.monotonic() < ends and child.poll() is None:
-            fcntl.ioctl(pipe, termios.FIONREAD, left)
-            time.sleep(0.0003)
+        for at in range(0, len(data), pieces.size):
+            os.write(child.stdin.fileno(), data[at:at + pieces.size])
+            if pieces.waits:
+                await_reading(child, ends)
+        await_reading(child, ends)
         return peak_now(child.pid)
     except BrokenPipeError:
         return None
@@ -139,7 +152,7 @@ class Place:
 
     def start(self, program, words, data, lanes, pieces=None):
         """Starts the program with these words (bytes each), where of all files only these lanes are there. The data is a file,
-        or where `pieces` cuts it a pipe, into which `end` puts it."""
+        or where there are `pieces` a pipe, into which `end` puts it."""
         clear(self.folder)
         for port, lane in lanes.items():
             with open(os.path.join(self.folder, f"{port}.ts"), "wb") as file:
