@@ -150,6 +150,14 @@ class Equation:
         self.base, self.shape, self.word = base, (base, offset, na), word
         self.last = base + (na - 1) * offset
         self.slots = frozenset(range(base, self.last + 1, offset))
+        self.summed, self.holds = None, False
+
+    def comes_out(self, words):
+        """Whether the words at its slots sum to its own. It isn't summed again for the same words."""
+        here = [words[slot] for slot in self.slots]
+        if here != self.summed:
+            self.summed, self.holds = here, sum_of(here) == self.word
+        return self.holds
 
 
 class Play(NamedTuple):
@@ -239,13 +247,10 @@ class Desk:
         """Whether all found words are media words, and each equation comes out whose slots all have words."""
         found = words.keys() - self.given().keys()
         return (all(is_media(words[at]) for at in found)
-                and all(sum_of(words[slot] for slot in equation.slots) == equation.word
-                        for equation in self.equations.values() if not equation.slots.difference(words)))
+                and all(equation.comes_out(words) for equation in self.equations.values()
+                        if not equation.slots.difference(words)))
 
     def play(self, count):
-        if self.is_empty():
-            self.mark += count
-            return Play([None] * count, 0, True)
         words = self.peeled()
         consistent = self.is_solution(words)
         source = words if consistent else self.media
@@ -266,8 +271,13 @@ class Desk:
         self.equations = {shape: equation for shape, equation in self.equations.items()
                           if consistent and equation.last >= self.mark and self.reaches_back(equation)}
 
-    def is_empty(self):
-        return not (self.kept or self.media or self.equations)
+    def plays(self, count):
+        """So many plays of whole windows. Once nothing is known, each shows nothing and moves the mark."""
+        while count and (self.kept or self.media or self.equations):
+            yield self.play(self.window)
+            count -= 1
+        self.mark += count * self.window
+        yield from [Play([None] * self.window, 0, True)] * count
 
     def flush(self):
         """The plays at the end: each window ends behind the closure's highest position at the latest."""
@@ -297,7 +307,7 @@ def run_of(records, port, window, depth):
         if isinstance(read, int):
             reply = "bad"
         elif kind == "media":
-            plays += [desk.play(window) for _ in range(desk.due(read[0]))]
+            plays += desk.plays(desk.due(read[0]))
             reply = desk.admit_media(*read)
         else:
             reply = desk.admit_parity(*read)
@@ -438,7 +448,7 @@ SAMPLED = {"columns": 10, "rows": 10, "fec": "both", "layout": "block", "packets
            "ssrc": 0, "stamp": 0}
 
 
-@functools.lru_cache(maxsize=32)
+@functools.lru_cache(maxsize=64)
 def sampled_stream(seed, datagrams):
     packets = draws(seed, 54)
     return b"".join(bytes([0x47, 1, 0, 0x10 + packet % 16]) + struct.pack("<46I", *itertools.islice(packets, 46))
