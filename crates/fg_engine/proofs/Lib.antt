@@ -2,6 +2,7 @@ pub mod Admitting
 pub mod Answering
 pub mod Breaking
 pub mod Counting
+pub mod Driving
 pub mod Faults
 pub mod Filling
 pub mod Finishing

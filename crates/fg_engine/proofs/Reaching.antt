@@ -13,6 +13,8 @@ use Rattle.fg_trace.specs.Trace.{IsTrace, NotTrace}
 use Rattle.fg_trace.specs.Reading.{most_held, HasReached, IsReadFor}
 use Rattle.fg_io.specs.declared.fault.Fault.{Fault}
 use Rattle.fg_io.specs.declared.fault.Fault.TheVariants.{Read, Write, Memory}
+use Rattle.fg_flows.specs.declared.Plan.{Plan}
+use Rattle.fg_engine.specs.Driver.{HasMagic}
 use Rattle.fg_engine.specs.Engine.{HasRead, told_finish, answer_of}
 
 -- At an answer
@@ -75,3 +77,8 @@ reached_end (finish.TooLong n) reader now reached all = absurd all
 reached_end finish.ReadFault reader now reached all = absurd all
 reached_end finish.WriteFault reader now reached all = absurd all
 reached_end finish.Memory reader now reached all = absurd all
+
+-- What has the magic is no trace to be refused.
+pub magic_refuses : (P : Type 0) (plan : Plan) (first : Option (List ℕ)) → HasMagic plan first → IfSome first (λ bytes. (place : ℕ) → IsTrace bytes plan.max [] (NotTrace place) → P)
+magic_refuses P plan None magic = tt
+magic_refuses P plan (Some bytes) magic = λ place trace. absurd (magic place trace)

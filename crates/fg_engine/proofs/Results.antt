@@ -21,3 +21,9 @@ pub read_only : (fault : Fault) → finish_after fault ≡ finish.ReadFault → 
 read_only Read e = refl
 read_only Write e = absurd cc
 read_only Memory e = absurd cc
+
+-- and what is answered as a write fault
+pub write_only : (fault : Fault) → finish_after fault ≡ finish.WriteFault → fault ≡ Write
+write_only Read e = absurd cc
+write_only Write e = refl
+write_only Memory e = absurd cc

@@ -1,11 +1,13 @@
 -- How the lanes of a trace are written, from its magic on.
-use Rattle.std.proofs.Common.{◌≡◌, ℕ, Option, Some, None, IfSome, List, [], sym, ◌∙◌, subst, arith}
+use Rattle.std.proofs.Common.{◌≡◌, ℕ, Option, Some, None, IfSome, Result, Ok, Err, IfErr, List, [], sym, ◌∙◌, subst, arith}
+use Rattle.fg_io.specs.declared.fault.Fault.{Fault}
 use Rattle.fg_io.specs.Outlet.{Lanes}
 use Rattle.fg_flows.specs.declared.Plan.{Plan}
 use Rattle.fg_flows.specs.Plan.{PlanFits}
 use Rattle.fg_report.specs.declared.tail.Tail.{Tail}
 use Rattle.fg_trace.specs.declared.step.Finish.{Finish}
 use Rattle.fg_trace.specs.declared.step.Finish.TheVariants as finish
+use Rattle.fg_trace.specs.Finish.{finish_after}
 use Rattle.fg_trace.specs.Laws.{OneTrace}
 use Rattle.fg_trace.specs.Reader.{ReaderState, StandsAfter}
 use Rattle.fg_trace.specs.Trace.{Record, Ending, IsTrace}
@@ -39,6 +41,15 @@ none_there (Some told) = λ port c. absurd (omega (arith, c.1))
 pub none_stops : (growth : Growth) (plan : Plan) (answer : Finish) (first : Option (List ℕ)) (lanes : Option Lanes) → LanesStop growth plan answer first lanes lanes
 none_stops growth plan answer first lanes =
     making_lanes_stops growth plan answer first lanes lanes (grow_none lanes plan.table) (record { count = 0; grow = grow_none lanes []; there = none_there lanes })
+
+-- whatever fault a call answers that has made no lane, or the first of them
+pub none_stop_any : {T : Type 0} → (r : Result T Fault) (plan : Plan) (lanes : Option Lanes) → IfErr r (λ fault. (growth : Growth) (first : Option (List ℕ)) → LanesStop growth plan (finish_after fault) first lanes lanes)
+none_stop_any (Ok x) plan lanes = tt
+none_stop_any (Err fault) plan lanes = λ growth first. none_stops growth plan (finish_after fault) first lanes
+
+pub making_stop_any : {T : Type 0} → (r : Result T Fault) (plan : Plan) (before after : Option Lanes) → GrowAll before plan.table (λ _. []) after → MakesFirst plan.table before after → IfErr r (λ fault. (growth : Growth) (first : Option (List ℕ)) → LanesStop growth plan (finish_after fault) first before after)
+making_stop_any (Ok x) plan before after grow makes = tt
+making_stop_any (Err fault) plan before after grow makes = λ growth first. making_lanes_stops growth plan (finish_after fault) first before after grow makes
 
 pub begun : {D : Type 0} → (plan : Plan) (first left : Option (List ℕ)) (reader : ReaderState) (engine : Engine D) (before now : Option Lanes) → EngineStands plan [] engine (λ _. []) → GrowAll before plan.table (λ _. []) now → AreThere plan.table now → StandsAfter reader first left [] → HasWalked plan first left reader engine before now
 begun plan first left reader engine before now new grow there stands = record {

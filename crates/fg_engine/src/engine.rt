@@ -26,6 +26,7 @@ use std::alloc::{AllocError, Global};
 /// The flows in the order of the plan, and what they share.
 #[derive(Drop)]
 pub struct Engine<D: WindowState> {
+    /// In the order of the plan.
     pub flows: Vec<Flow<D>>,
     /// Writes the plays of all flows.
     pub writer: LaneWriter,
@@ -137,7 +138,7 @@ impl<D: WindowState> Engine<D> {
     }
 
     /// Takes all records that are left, and answers how the trace ends.
-    fn take_all<S: Source, O: Outlet>(
+    pub(crate) fn take_all<S: Source, O: Outlet>(
         &mut self,
         alloc: Global,
         plan: &Plan,
@@ -168,40 +169,6 @@ impl<D: WindowState> Engine<D> {
                 return Ok(tail);
             }
         }
-    }
-
-    /// Writes the lanes of a trace, whose magic the reader has found, and answers how the trace ends.
-    pub(crate) fn write_lanes<S: Source, O: Outlet>(
-        &mut self,
-        alloc: Global,
-        plan: &Plan,
-        reader: &mut Reader,
-        input: &mut S,
-        lanes: &mut O,
-    ) -> Result<Tail, Fault>
-        requires fits { PlanFits plan.now }
-        requires new { EngineStands plan.now [] self.old (λ _. []) }
-        requires begun { (first : Option (List ℕ)) × StandsAfter reader.old first (S.left input.old) [] }
-        requires open { reader.old.kept ≡ None }
-        requires max { reader.old.max ≡ plan.now.max }
-        ensures whole { IfOk result (λ tail. (first : Option (List ℕ))
-            → StandsAfter reader.old first (S.left input.old) []
-            → LanesWhole plan.now first self.new tail (O.lanes lanes.old) (O.lanes lanes.new)) }
-        ensures stops { IfErr result (λ fault. (first : Option (List ℕ))
-            → StandsAfter reader.old first (S.left input.old) []
-            → LanesStop ByRecord plan.now (finish_after fault) first (O.lanes lanes.old) (O.lanes lanes.new)) }
-        ensures far { (first : Option (List ℕ)) → HasRead plan.now.max reader.old first (S.left input.old)
-            → HasRead plan.now.max reader.new first (S.left input.new) }
-        ensures reaches { IfOk result (λ tail. HasReached (told_finish tail) reader.new (S.left input.new)) }
-        ensures faults { Counts result ((S.faults input.old, S.faults input.new) ∷ [])
-            ((O.faults lanes.old, O.faults lanes.new) ∷ []) }
-        ensures fixed { S.fixed input.new ≡ S.fixed input.old }
-    {
-        one_trace();
-        make_lanes(&plan.table, lanes)?;
-        let tail = self.take_all(alloc, plan, reader, input, lanes)?;
-        flush(&mut self.flows, &mut self.writer, lanes)?;
-        Ok(tail)
     }
 }
 

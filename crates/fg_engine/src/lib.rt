@@ -17,6 +17,6 @@ pub use alone::repair_alone;
 pub use engine::{Engine, flush, make_lanes};
 pub use flow::Flow;
 pub use player::{LaneWriter, Player, ShelfFiller};
-pub use records::{finish_at, give_up, repair_windows, report};
+pub use records::{Begun, begin, end, finish_at, give_up, repair_windows, report};
 pub use shelved::Shelved;
 pub use window::WindowState;

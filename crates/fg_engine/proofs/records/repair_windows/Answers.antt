@@ -1,21 +1,35 @@
-use Rattle.std.proofs.Common.{sym, subst}
-use Rattle.fg_trace.specs.declared.step.Finish.{Finish}
-use Rattle.fg_trace.specs.Finish.{IsFault}
-use Rattle.fg_results.specs.Contract.{IsRepair}
 use Rattle.fg_results.specs.Stops.{ByRecord}
+use Rattle.fg_engine.proofs.Driving.{taken_all, taken_counts}
+use Rattle.fg_engine.proofs.Faults.{counts_alone}
 use Rattle.fg_engine.proofs.records.repair_windows.Goals as goal
 
+pub end-requires-clause-taken : goal.end-requires-clause-taken
+end-requires-clause-taken g c =
+    let took = c.take_all-taken in
+    let first = g.S.Source.left c.args.input.now in
+    let before = g.O.Outlet.lanes c.args.lanes.now in (
+      ByRecord,
+      first,
+      g.S.Source.left took.new.input,
+      before,
+      taken_all ByRecord c.args.plan.now first _ _ c.in-Ok.begun took.new.self took.new.reader before _ _ took.result
+          c.in-Ok.ensures.begun took.ensures.whole took.ensures.stops took.ensures.far took.ensures.reaches,
+    )
+
+pub returns-in-Ok-clause-repairs : goal.returns-in-Ok-clause-repairs
+returns-in-Ok-clause-repairs g c =
+    let took = c.take_all-taken in
+    let first = g.S.Source.left c.args.input.now in
+    let before = g.O.Outlet.lanes c.args.lanes.now in
+    c.end.ensures.repairs ByRecord first _ c.args.lanes.now
+    (taken_all ByRecord c.args.plan.now first _ _ c.in-Ok.begun took.new.self took.new.reader before _ _ took.result
+    c.in-Ok.ensures.begun took.ensures.whole took.ensures.stops took.ensures.far took.ensures.reaches)
+
 pub returns-in-Ok-clause-faults : goal.returns-in-Ok-clause-faults
-returns-in-Ok-clause-faults g c = record {
-  read = λ is. absurd (c.in-Ok.ensures.ending (subst IsFault (sym is) tt));
-  write = λ is. absurd (c.in-Ok.ensures.ending (subst IsFault (sym is) tt));
-  no_read = λ _. c.in-Ok.ensures.faults.no_read (λ e. e);
-  no_write = λ _. c.in-Ok.ensures.faults.no_write (λ e. e);
-  rise = c.in-Ok.ensures.faults.rise;
-  sinks_rise = c.in-Ok.ensures.faults.sinks_rise;
-}
+returns-in-Ok-clause-faults g c =
+    let took = c.take_all-taken in
+    counts_alone c.end.result _ _ (c.end.ensures.faults ByRecord _ _
+    (taken_counts ByRecord took.result _ _ _ _ _ _ c.in-Ok.ensures.still.0 c.in-Ok.ensures.still.1 took.ensures.faults))
 
 pub returns-in-Err-clause-repairs : goal.returns-in-Err-clause-repairs
-returns-in-Err-clause-repairs g c =
-    subst (λ (answer : Finish). IsRepair ByRecord c.args.plan.now answer (g.S.Source.left c.args.input.now) (g.S.Source.left c.repair.new.input) g.O.Outlet.lanes c.args.lanes.now c.repair.new.lanes g.K.Sink.written c.args.out.now c.repair.new.out)
-    (sym c.into.ensures) c.in-Err.ensures.repairs
+returns-in-Err-clause-repairs g c = c.in-Err.ensures.ends ByRecord
