@@ -1,6 +1,6 @@
 //! Which positions of a flow have a word.
 
-use crate::crewed::bits::Bits;
+use crate::crewed::bits::{Bits, mask};
 use std::alloc::{AllocError, Global};
 
 /// How many words of 64 bits a flow's arrivals take: one bit for each sequence number.
@@ -37,13 +37,17 @@ fn bit_of(position: u64) -> usize {
     (position % (64 * WORDS as u64)) as usize
 }
 
-/// How far the caller has come with a flow's media datagrams.
+/// How far the caller has come with a flow's datagrams, and what it has not told of them yet.
 #[derive(Clone, Copy)]
 pub(crate) struct Progress {
     /// The sequence number of the first one that was admitted, whose position is 0.
     first: Option<u16>,
-    /// The word of the map in which the last one was marked.
+    /// The word of the map in which the last one stands.
     word: usize,
+    /// The bits of that word that are to be set.
+    bits: u64,
+    /// How many datagrams were admitted since the caller told of them last.
+    untold: u32,
 }
 
 impl Progress {
@@ -52,18 +56,48 @@ impl Progress {
         Progress {
             first: None,
             word: 0,
+            bits: 0,
+            untold: 0,
         }
     }
 
-    /// Marks a media datagram that was admitted. Where that goes into another word of the map than the last one, the word half
-    /// the map ahead is cleared: what stands there is of an earlier lap.
-    pub(crate) fn mark(&mut self, arrivals: &Arrivals, seq: u16) {
-        let position = seq.wrapping_sub(self.first_or(seq));
-        arrivals.mark(u64::from(position));
-        let word = usize::from(position) / 64;
+    /// Adds a media datagram that was admitted. Where that goes into another word of the map than the last one, what stands in that
+    /// one is marked, and the word half the map ahead is cleared: what stands there is of an earlier lap.
+    pub(crate) fn add_media(&mut self, arrivals: &Arrivals, seq: u16) {
+        let position = usize::from(seq.wrapping_sub(self.first_or(seq)));
+        let word = position / 64;
         if word != self.word {
+            self.mark(arrivals);
             self.word = word;
             arrivals.bits.clear_word((word + WORDS / 2) % WORDS);
+        }
+        self.bits |= mask(position);
+        self.add();
+    }
+
+    /// Adds a datagram that was admitted.
+    pub(crate) fn add(&mut self) {
+        self.untold = self.untold.saturating_add(1);
+    }
+
+    /// How many datagrams were added since the last call of `tell`.
+    pub(crate) fn untold(&self) -> u32 {
+        self.untold
+    }
+
+    /// Marks all media datagrams that were added. Answers whether any datagram was added since the last call.
+    pub(crate) fn tell(&mut self, arrivals: &Arrivals) -> bool {
+        self.mark(arrivals);
+        let some = self.untold > 0;
+        self.untold = 0;
+        some
+    }
+
+    /// Marks what stands in the last word.
+    fn mark(&mut self, arrivals: &Arrivals) {
+        if self.bits != 0 {
+            arrivals.bits.set_in(self.word, self.bits);
+            self.bits = 0;
         }
     }
 

@@ -27,10 +27,23 @@ impl Bits {
         }
     }
 
+    /// The 64 bits of a word. Past the end none is set.
+    pub(crate) fn word(&self, word: usize) -> u64 {
+        match self.words.as_slice().get(word) {
+            Some(word) => word.load(Ordering::SeqCst),
+            None => 0,
+        }
+    }
+
     /// Sets a bit, where there is one.
     pub(crate) fn set(&self, bit: usize) {
-        if let Some(word) = self.words.as_slice().get(bit / 64) {
-            word.fetch_or(mask(bit), Ordering::SeqCst);
+        self.set_in(bit / 64, mask(bit));
+    }
+
+    /// Sets these bits of a word, where there is one.
+    pub(crate) fn set_in(&self, word: usize, bits: u64) {
+        if let Some(word) = self.words.as_slice().get(word) {
+            word.fetch_or(bits, Ordering::SeqCst);
         }
     }
 
@@ -50,6 +63,6 @@ impl Bits {
 }
 
 /// A bit in its word.
-fn mask(bit: usize) -> u64 {
+pub(crate) fn mask(bit: usize) -> u64 {
     1u64 << (bit % 64)
 }

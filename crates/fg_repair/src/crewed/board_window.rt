@@ -13,7 +13,11 @@ use fg_shape::Shape;
 use fg_words::{Shared, Word};
 use std::sync::Wait;
 
-/// A flow's windows on its board. Its workers are told and hinted of each datagram that is admitted.
+/// After how many admitted datagrams at most the workers are told. To tell takes two atomic steps that lock a word of memory.
+const TOLD_TOGETHER: u32 = 16;
+
+/// A flow's windows on its board. Its workers are told and hinted of what is admitted: at each parity datagram, before what plays,
+/// and in between after so many media datagrams.
 #[derive(Drop)]
 pub(crate) struct BoardWindow<'a, W: Wait, G: Hears> {
     pub(crate) wait: &'a W,
@@ -29,15 +33,6 @@ pub(crate) struct BoardWindow<'a, W: Wait, G: Hears> {
     pub(crate) tray: Tray,
     ghost of_board: { admitter.seat.turn ≡ board.now.name },
     ghost holds_a_window: { admitter.playout.window ≤ tray.window },
-}
-
-impl<'a, W: Wait, G: Hears> BoardWindow<'a, W, G> {
-    /// Hints the workers, where a datagram was admitted.
-    fn hint_after(&self, reply: Reply) {
-        if let Reply::Admitted = reply {
-            self.signal.tell_change(self.wait, self.hints, self.flow);
-        }
-    }
 }
 
 impl<'a, W: Wait, G: Hears> WindowState for BoardWindow<'a, W, G> {
@@ -58,9 +53,12 @@ impl<'a, W: Wait, G: Hears> WindowState for BoardWindow<'a, W, G> {
     fn admit_media(&mut self, seq: u16, share: Shared) -> Reply {
         let reply = self.admitter.admit_media(self.wait, self.board, seq, share);
         if let Reply::Admitted = reply {
-            self.progress.mark(&self.signal.arrivals, seq);
+            self.progress.add_media(&self.signal.arrivals, seq);
+            if self.progress.untold() >= TOLD_TOGETHER {
+                self.signal
+                    .tell_progress(&mut self.progress, self.wait, self.hints, self.flow);
+            }
         }
-        self.hint_after(reply);
         reply
     }
 
@@ -74,18 +72,24 @@ impl<'a, W: Wait, G: Hears> WindowState for BoardWindow<'a, W, G> {
                 base: self.progress.position(base),
                 shape,
             });
+            self.progress.add();
+            self.signal
+                .tell_progress(&mut self.progress, self.wait, self.hints, self.flow);
         }
-        self.hint_after(reply);
         reply
     }
 
     fn play(&mut self) -> Played {
         prove!(self.admitter.room());
+        self.signal
+            .tell_progress(&mut self.progress, self.wait, self.hints, self.flow);
         self.gate.hear(CALLER, PLAYING);
         self.admitter.play(self.wait, self.board, &mut self.tray)
     }
 
     fn flush_step(&mut self) -> Option<Played> {
+        self.signal
+            .tell_progress(&mut self.progress, self.wait, self.hints, self.flow);
         self.gate.hear(CALLER, PLAYING);
         self.admitter
             .flush_step(self.wait, self.board, &mut self.tray)

@@ -31,7 +31,6 @@ impl Waiting {
 #[derive(Drop)]
 struct Told {
     serial: AtomicU64,
-    epoch: AtomicU64,
     base: AtomicU16,
     offset: AtomicU8,
     count: AtomicU8,
@@ -44,6 +43,8 @@ struct Told {
 pub(crate) struct HeldPlaces {
     bits: Bits,
     told: Vec<Told>,
+    /// The epoch of the key that was told last, which all keys are taken to have.
+    epoch: AtomicU64,
 }
 
 impl HeldPlaces {
@@ -53,7 +54,6 @@ impl HeldPlaces {
         for _ in 0..PLACES {
             told.push(Told {
                 serial: AtomicU64::new(0),
-                epoch: AtomicU64::new(0),
                 base: AtomicU16::new(0),
                 offset: AtomicU8::new(0),
                 count: AtomicU8::new(0),
@@ -62,6 +62,7 @@ impl HeldPlaces {
         Ok(HeldPlaces {
             bits: Bits::new(alloc, PLACES as usize / 64)?,
             told,
+            epoch: AtomicU64::new(0),
         })
     }
 
@@ -70,15 +71,23 @@ impl HeldPlaces {
         self.bits.has(place as usize)
     }
 
-    /// Tells of an equation that was admitted, and marks its place.
+    /// Which of 64 places are marked: bit `i` is that of the place `64 * word + i`.
+    pub(crate) fn word(&self, word: u32) -> u64 {
+        self.bits.word(word as usize)
+    }
+
+    /// Tells of an equation that was admitted, and marks its place. What already stands there isn't stored again, since a store
+    /// costs more than a look.
     pub(crate) fn tell(&self, waiting: Waiting) {
         let place = waiting.key.place as usize;
         if let Some(told) = self.told.get(place) {
             told.serial.store(waiting.key.serial, Ordering::SeqCst);
-            told.epoch.store(waiting.key.epoch, Ordering::SeqCst);
             told.base.store(waiting.base, Ordering::SeqCst);
-            told.offset.store(waiting.shape.offset, Ordering::SeqCst);
-            told.count.store(waiting.shape.na, Ordering::SeqCst);
+            put(&told.offset, waiting.shape.offset);
+            put(&told.count, waiting.shape.na);
+            if self.epoch.load(Ordering::SeqCst) != waiting.key.epoch {
+                self.epoch.store(waiting.key.epoch, Ordering::SeqCst);
+            }
             self.bits.set(place);
         }
     }
@@ -92,7 +101,7 @@ impl HeldPlaces {
             key: Key {
                 place,
                 serial: told.serial.load(Ordering::SeqCst),
-                epoch: told.epoch.load(Ordering::SeqCst),
+                epoch: self.epoch.load(Ordering::SeqCst),
             },
             base: told.base.load(Ordering::SeqCst),
             shape: Shape {
@@ -111,5 +120,12 @@ impl HeldPlaces {
                 self.bits.set(key.place as usize);
             }
         }
+    }
+}
+
+/// Has a number stand in a word.
+fn put(word: &AtomicU8, number: u8) {
+    if word.load(Ordering::SeqCst) != number {
+        word.store(number, Ordering::SeqCst);
     }
 }

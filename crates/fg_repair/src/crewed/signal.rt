@@ -1,6 +1,6 @@
 //! What the caller and the workers tell each other of a flow.
 
-use crate::crewed::arrivals::Arrivals;
+use crate::crewed::arrivals::{Arrivals, Progress};
 use crate::crewed::held_places::HeldPlaces;
 use fg_crew::Hints;
 use std::alloc::{AllocError, Global};
@@ -12,7 +12,7 @@ use std::sync::atomic::{AtomicBool, AtomicU64, Ordering};
 pub(crate) struct Signal {
     /// A hint for the flow waits, so a further one would tell nothing new.
     hinted: AtomicBool,
-    /// How many datagrams were admitted and words found, modulo 2^64.
+    /// How often something changed, modulo 2^64: datagrams were admitted or a word was found.
     changes: AtomicU64,
     pub(crate) held: HeldPlaces,
     pub(crate) arrivals: Arrivals,
@@ -29,7 +29,20 @@ impl Signal {
         })
     }
 
-    /// Tells that a datagram was admitted or a word found, and hints the flow.
+    /// Tells of what the caller has admitted since it told last, and hints the flow. Does nothing where that is nothing.
+    pub(crate) fn tell_progress<W: Wait>(
+        &self,
+        progress: &mut Progress,
+        wait: &W,
+        hints: &Hints,
+        flow: u32,
+    ) {
+        if progress.tell(&self.arrivals) {
+            self.tell_change(wait, hints, flow);
+        }
+    }
+
+    /// Tells that datagrams were admitted or a word found, and hints the flow.
     pub(crate) fn tell_change<W: Wait>(&self, wait: &W, hints: &Hints, flow: u32) {
         self.changes.fetch_add(1, Ordering::SeqCst);
         self.hint(wait, hints, flow);

@@ -1,5 +1,5 @@
 //! One visit of a worker to a flow: a walk over the places whose equations wait.
-ghost use Rattle.std.specs.Prelude.{◌<◌};
+ghost use Rattle.std.specs.Prelude.{◌<◌, ◌≤◌, ◌+◌};
 ghost use Rattle.fg_playout.specs.Admission.{live_limit};
 
 use crate::crewed::held_places::PLACES;
@@ -57,17 +57,35 @@ impl<'a, W: Wait, G: Hears, P: Places> Visit<'a, W, G, P> {
     /// Goes over the held places in their order. Answers whether it went over all and settled nothing.
     fn walk(&self) -> bool {
         let mut left = SETTLES_A_VISIT;
-        for place in 0..PLACES {
-            match self.help(place) {
-                Help::Nothing => {}
-                Help::Settled => left = left.saturating_sub(1),
-                Help::NoMemory => left = 0,
-            }
+        for word in 0..PLACES / 64 {
+            left = self.walk_over(64 * word, self.signal.held.word(word), left);
             if left == 0 {
                 return false;
             }
         }
         left == SETTLES_A_VISIT
+    }
+
+    /// Goes over those of the 64 places from a first one on whose bits are set, in their order, until so many equations were
+    /// settled. Answers how many more may be.
+    fn walk_over(&self, first: u32, marked: u64, left: u32) -> u32
+        requires { first + 64 ≤ live_limit }
+    {
+        let mut left = left;
+        let mut marked = marked;
+        for _ in 0..64 {
+            let bit = marked.trailing_zeros();
+            if left == 0 || bit == 64 {
+                break;
+            }
+            marked &= !(1 << bit);
+            match self.help(first + bit) {
+                Help::Nothing => {}
+                Help::Settled => left = left.saturating_sub(1),
+                Help::NoMemory => left = 0,
+            }
+        }
+        left
     }
 
     /// Folds what arrived of the equation at a place, and settles it where at most one slot is missing then.
