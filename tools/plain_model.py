@@ -222,14 +222,10 @@ class Desk:
         """Whether all slots before the mark are kept."""
         return equation.base >= self.mark or all(slot in self.kept for slot in equation.slots if slot < self.mark)
 
-    def given(self):
-        """The words that are there before a peeling."""
-        return {**self.kept, **self.media}
-
     def peeled(self):
-        """A word for each position of the closure: while an equation has one unknown slot, at the mark or past it, that slot
-        gets the sum of the parity word and the other slots' words."""
-        known = self.given()
+        """A word for each position of the closure, and which positions were found: while an equation has one unknown slot, at
+        the mark or past it, that slot gets the sum of the parity word and the other slots' words."""
+        known, found = {**self.kept, **self.media}, []
         waiting, grows = list(self.equations.values()), True
         while grows:
             equations, waiting, grows = waiting, [], False
@@ -238,21 +234,21 @@ class Desk:
                 if len(unknown) == 1 and min(unknown) >= self.mark:
                     others = equation.slots - unknown
                     known[min(unknown)] = sum_of([equation.word, *(known[slot] for slot in others)])
+                    found.append(min(unknown))
                     grows = True
                 elif unknown:
                     waiting.append(equation)
-        return known
+        return known, found
 
-    def is_solution(self, words):
+    def is_solution(self, words, found):
         """Whether all found words are media words, and each equation comes out whose slots all have words."""
-        found = words.keys() - self.given().keys()
         return (all(is_media(words[at]) for at in found)
                 and all(equation.comes_out(words) for equation in self.equations.values()
                         if not equation.slots.difference(words)))
 
-    def play(self, count):
-        words = self.peeled()
-        consistent = self.is_solution(words)
+    def play(self, words, found, count):
+        """The play of a window of so many positions, by a closure's words and what was found of them."""
+        consistent = self.is_solution(words, found)
         source = words if consistent else self.media
         window = range(self.mark, self.mark + count)
         shown = [source.get(at) for at in window]
@@ -274,7 +270,7 @@ class Desk:
     def plays(self, count):
         """So many plays of whole windows. Once nothing is known, each shows nothing and moves the mark."""
         while count and (self.kept or self.media or self.equations):
-            yield self.play(self.window)
+            yield self.play(*self.peeled(), self.window)
             count -= 1
         self.mark += count * self.window
         yield from [Play([None] * self.window, 0, True)] * count
@@ -282,10 +278,11 @@ class Desk:
     def flush(self):
         """The plays at the end: each window ends behind the closure's highest position at the latest."""
         while True:
-            highest = max(self.peeled(), default=-1)
+            words, found = self.peeled()
+            highest = max(words, default=-1)
             if highest < self.mark:
                 return
-            yield self.play(min(self.window, highest + 1 - self.mark))
+            yield self.play(words, found, min(self.window, highest + 1 - self.mark))
 
 
 # ---- A repair ----
@@ -295,14 +292,11 @@ PARITY_COUNTS = ["admitted", "duplicate", "conflict", "late", "notstarted", "bef
 KINDS = {0: "media", 2: "column", 4: "row"}
 
 
-def run_of(records, port, window, depth):
-    """A flow's run over the records (time, port, datagram): its plays, and how often each kind got each reply."""
+def run_of(records, window, depth):
+    """A flow's run over its records (kind, datagram): its plays, and how often each kind got each reply."""
     desk, plays = Desk(window, depth), []
     counts = {kind: dict.fromkeys(PARITY_COUNTS, 0) for kind in KINDS.values()}
-    for _, at, datagram in records:
-        kind = KINDS.get(at - port)
-        if kind is None:
-            continue
+    for kind, datagram in records:
         read = (read_media if kind == "media" else read_parity)(datagram)
         if isinstance(read, int):
             reply = "bad"
@@ -327,10 +321,15 @@ def counted(kind, port, counts, names):
 
 def repair(records, ports, window, depth):
     """The lanes by port, and the report without a tail."""
-    lanes, lines, taken = {}, [], set()
+    lanes, lines = {}, []
+    owners = {port + kind: (port, name) for port in ports for kind, name in KINDS.items()}
+    own = {port: [] for port in ports}
+    for _, at, datagram in records:
+        if at in owners:
+            port, kind = owners[at]
+            own[port].append((kind, datagram))
     for port in ports:
-        plays, counts = run_of(records, port, window, depth)
-        taken |= {port + kind for kind in KINDS}
+        plays, counts = run_of(own[port], window, depth)
         shown = [word for play in plays for word in play.shown]
         lanes[port] = b"".join(payload_of(word) for word in shown if word is not None)
         missing = shown.count(None)
@@ -341,7 +340,7 @@ def repair(records, ports, window, depth):
         lines.append(counted("media", port, counts["media"], MEDIA_COUNTS))
         lines += [counted(kind, port, counts[kind], PARITY_COUNTS) for kind in ("column", "row")]
         lines += [f"gap {port} {first} {length}" for first, length in gaps_of(shown)]
-    lines.append(f"other {sum(port not in taken for _, port, _ in records)}")
+    lines.append(f"other {len(records) - sum(map(len, own.values()))}")
     return lanes, "".join(line + "\n" for line in lines)
 
 
