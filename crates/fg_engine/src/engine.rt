@@ -1,5 +1,5 @@
 //! All flows of a repair, from the first record to the end of the lanes.
-ghost use Rattle.std.specs.Prelude.{◌≡◌, ◌≤◌, ◌<◌, ◌++◌, ℕ, Option, List, [], ◌∷◌, length, All, None, IfOk, IfErr, IfSome, IfNone, OnOk, OnErr};
+ghost use Rattle.std.specs.Prelude.{◌≡◌, ◌≤◌, ◌<◌, ◌++◌, ℕ, Option, List, [], ◌∷◌, length, map, All, None, IfOk, IfErr, IfSome, IfNone, OnOk, OnErr};
 ghost use Rattle.fg_io.specs.Faults.{Counts};
 ghost use Rattle.fg_io.specs.Outlet.{Lanes};
 ghost use Rattle.fg_trace.specs.Finish.{finish_after};
@@ -199,6 +199,8 @@ pub fn flush<D: WindowState, O: Outlet>(
     ensures breaks { OnErr result ((plan : Plan) (records : List Record) (before : Option Lanes) → PlanFits plan
         → IsFlushing plan records 0 flows.old before (O.lanes lanes.old)
         → BreaksAtFlush plan records before (O.lanes lanes.new)) }
+    ensures ports { map (λ flow. flow.sum.port) flows.new ≡ map (λ flow. flow.sum.port) flows.old }
+    ensures writer { writer.new ≡ writer.old }
     ensures faults { Counts result [] ((O.faults lanes.old, O.faults lanes.new) ∷ []) }
 {
     one_flow_has_a_port();

@@ -108,6 +108,7 @@ impl<D: WindowState> Flow<D> {
             (P.lanes lanes.old) (P.lanes lanes.new)) }
         ensures port { self.new.sum.port ≡ self.old.sum.port }
         ensures still { P.takes lanes.new self.old.sum.port }
+        ensures player { player.new ≡ player.old }
         ensures playout { self.new.state.playout ≡ self.old.state.playout }
         ensures faults { Counts result [] ((P.faults lanes.old, P.faults lanes.new) ∷ []) }
     {
@@ -150,6 +151,7 @@ impl<D: WindowState> Flow<D> {
             (P.lanes lanes.old) (P.lanes lanes.new)) }
         ensures port { self.new.sum.port ≡ self.old.sum.port }
         ensures still { P.takes lanes.new self.old.sum.port }
+        ensures player { player.new ≡ player.old }
         ensures faults { Counts result [] ((P.faults lanes.old, P.faults lanes.new) ∷ []) }
     {
         // A flush ends the run, stays within the limits, and its steps are the run's next plays.
@@ -181,6 +183,7 @@ impl<D: WindowState> Flow<D> {
             (P.lanes lanes.old) (P.lanes lanes.new)) }
         ensures port { self.new.sum.port ≡ self.old.sum.port }
         ensures still { P.takes lanes.new self.old.sum.port }
+        ensures player { player.new ≡ player.old }
         ensures playout { self.new.state.playout ≡ self.old.state.playout }
         ensures faults { Counts result [] ((P.faults lanes.old, P.faults lanes.new) ∷ []) }
     {
@@ -215,6 +218,7 @@ impl<D: WindowState> Flow<D> {
             (P.lanes lanes.old) (P.lanes lanes.new)) }
         ensures port { self.new.sum.port ≡ self.old.sum.port }
         ensures still { P.takes lanes.new self.old.sum.port }
+        ensures player { player.new ≡ player.old }
         ensures playout { self.new.state.playout ≡ self.old.state.playout }
         ensures faults { Counts result [] ((P.faults lanes.old, P.faults lanes.new) ∷ []) }
     {
@@ -237,6 +241,7 @@ impl<D: WindowState> Flow<D> {
             (P.lanes lanes.old) (P.lanes lanes.new)) }
         ensures port { self.new.sum.port ≡ self.old.sum.port }
         ensures still { P.takes lanes.new self.old.sum.port }
+        ensures player { player.new ≡ player.old }
         ensures faults { Counts result [] ((P.faults lanes.old, P.faults lanes.new) ∷ []) }
     {
         flushes_end();

@@ -14,8 +14,9 @@ use fg_io::{Fault, Outlet, put};
 use fg_report::FlowSum;
 use fg_words::PAYLOAD_LIMIT;
 use std::alloc::{AllocError, Global};
+use std::marker::Model;
 
-/// Takes what the plays of a flow show to where the flow's lane is kept, which is an `L`.
+/// Takes what the plays of a flow show to where the flow's lane is kept, which is an `L`. It keeps nothing of a play.
 pub trait Player<L> {
     /// The lanes, where they are told.
     ghost lanes: { L → Option Lanes };
@@ -51,6 +52,7 @@ pub trait Player<L> {
             (lane_of (played_as played (D.shows window.now played) ∷ [])) (lanes to.new)) }
         ensures port { sum.new.port ≡ sum.old.port }
         ensures still { takes to.new sum.old.port }
+        ensures player { self.new ≡ self.old }
         ensures faults { Counts result [] ((faults to.old, faults to.new) ∷ []) };
 }
 
@@ -59,6 +61,13 @@ pub trait Player<L> {
 pub struct LaneWriter {
     /// The bytes that a play adds to a lane. It is filled again and again.
     piece: Vec<u8>,
+}
+
+/// The piece is scratch: nothing of it is seen.
+impl Model for LaneWriter {
+    ghost Value = { Unit {0} };
+
+    ghost view = { λ _. tt };
 }
 
 impl LaneWriter {

@@ -1,4 +1,5 @@
-use Rattle.std.proofs.Common.{◌<◌, ◌∙◌, Option, List, length, arith, slice_index_or}
+use Rattle.std.proofs.Common.{◌≡◌, ℕ, ◌<◌, ◌∙◌, Option, List, length, map, set, get_or, arith, slice_index_or}
+use Rattle.std.proofs.Math.Seq.{map-set_same}
 use Rattle.std.proofs.lemmas.List.{get_or_default}
 use Rattle.fg_flows.specs.declared.Plan.{Plan}
 use Rattle.fg_flows.specs.Plan.{PlanFits}
@@ -9,6 +10,10 @@ use Rattle.fg_engine.proofs.Flushing.{flushing_more, flushing_stops, flushing_al
 use Rattle.fg_io.proofs.FaultLemmas.{on_err}
 use Rattle.fg_engine.specs.View.{FlowView}
 use Rattle.fg_engine.proofs.engine.flush.Goals as goal
+
+-- a flow that keeps its port leaves the ports as they are
+same_ports : (flows : List FlowView) (i : ℕ) (old new : FlowView) → new.sum.port ≡ (get_or flows i old).sum.port → map (λ (flow : FlowView). flow.sum.port) (set flows i new) ≡ map (λ (flow : FlowView). flow.sum.port) flows
+same_ports flows i old new same = map-set_same (λ (flow : FlowView). flow.sum.port) flows i new old same
 
 pub flush-requires : goal.flush-requires
 flush-requires g c =
@@ -42,9 +47,15 @@ loop-flow-preserved g c =
       flushing = λ plan records before fits h.
           flushing_more c.one_flow_has_a_port.ensures plan fits.table records i c.loop-flow.flows before _ _ old c.flush.new.self short (get_or_default c.loop-flow.flows i c.flow-item.result old short) c.in_ok-flush.ensures.ends
           (c.loop-flow.invariant.flushing plan records before fits h);
+      ports = same_ports c.loop-flow.flows i c.flow-item.result c.flush.new.self c.flush.ensures.port ∙ c.loop-flow.invariant.ports;
       writes = c.in_ok-flush.ensures.faults.no_write (λ e. e) ∙ c.loop-flow.invariant.writes;
     }
 
 pub returns-clause-ends : goal.returns-clause-ends
 returns-clause-ends g c = λ plan records before fits h.
     flushing_all plan records c.loop-flow.flow-index c.loop-flow.flows before _ (omega arith) (c.loop-flow.invariant.flushing plan records before fits h)
+
+pub returns-in_err-flush-clause-ports : goal.returns-in_err-flush-clause-ports
+returns-in_err-flush-clause-ports g c =
+    let i = c.loop-flow.flow-index in
+    same_ports c.loop-flow.flows i c.flow-item.result c.flush.new.self c.flush.ensures.port ∙ c.loop-flow.invariant.ports

@@ -30,6 +30,7 @@ loop-self-preserved g c =
       counts = within_one_more from.playout.window from to now.self-inside.sum c.put_play.new.sum play
           now.invariant.counts c.play-played.ensures.play holds.window.0 c.in_ok-put_play.ensures.counts;
       port = c.in_ok-put_play.ensures.port ∙ now.invariant.port;
+      player = c.put_play.ensures.player ∙ now.invariant.player;
       still = subst (g.P.Player.takes c.put_play.new.to) now.invariant.port c.put_play.ensures.still;
       playout = keeps_playout from.playout.window from play to c.play-played.ensures.play ∙ now.invariant.playout;
       faults = c.in_ok-put_play.ensures.faults.no_write (λ e. e) ∙ now.invariant.faults;

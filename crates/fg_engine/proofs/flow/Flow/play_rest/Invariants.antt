@@ -10,6 +10,7 @@ invariant-loop-played g l = record {
       (g.D.WindowState.state l.self-inside.window) l.self-inside.sum (g.P.Player.lanes l.lanes);
   counts : CountsWithin l.self-inside.sum (g.D.WindowState.state l.self-inside.window).mark;
   port : l.self-inside.sum.port ≡ l.fn.self.sum.port;
+  player : l.player ≡ l.fn.player;
   still : g.P.Player.takes l.lanes l.fn.self.sum.port;
   playout : (g.D.WindowState.state l.self-inside.window).playout ≡ l.fn.self.state.playout;
   faults : g.P.Player.faults l.lanes ≡ g.P.Player.faults l.fn.lanes;
