@@ -1,14 +1,15 @@
 //! The repair with workers beside the caller.
 //!
-//! Each flow's desk stands on a board. The caller's thread reads the trace in batches, and the flows run their records of a
-//! batch side by side: they admit the datagrams and play the windows. Each equation that is admitted is held by a tally; the
-//! workers fold into it meanwhile what arrived, and bring the word of the one slot that is missing. Whatever they do, the
-//! replies and the plays are those of desks that each flow has to itself.
+//! Each flow's desk stands on a board. The caller's thread takes the records batch by batch: its flows run those of a batch side
+//! by side, admit the datagrams and play the windows, and beside that another thread puts what they have shown of the batch before
+//! to the lanes and reads the batch after it. A lone flow takes its records one by one instead, in the caller's thread. The workers
+//! start tallies for the equations that are held, fold into them meanwhile what has arrived, and bring the word of the one slot that
+//! is missing. Whatever they do, the replies and the plays are those of desks that each flow has to itself.
 ghost use Rattle.std.specs.Prelude.{◌≡◌, [], ◌∷◌, length, All, IsOk, IfOk, OnErr};
 ghost use Rattle.std.specs.Thread.{IsSync};
-ghost use Rattle.fg_io.specs.Faults.{CountsFaults};
 ghost use Rattle.fg_flows.specs.Plan.{PlanFits};
 ghost use Rattle.fg_results.specs.Contract.{IsRepair};
+ghost use Rattle.fg_results.specs.Counted.{RepairCounts};
 ghost use Rattle.fg_results.specs.Stops.{ByBatch};
 ghost use Rattle.fg_repair.specs.Crewed.{CanBegin, IsCrew};
 
@@ -60,10 +61,10 @@ pub fn repair<
     ensures repairs { IsRepair ByBatch plan.now result (S.left input.old) (S.left input.new) O.lanes lanes.old lanes.new
         K.written out.old out.new }
 
-    // A fault of the outside is answered only where it was counted in this call, and with every other answer none was. No
-    // count falls.
-    ensures faults { CountsFaults (result ≡ Finish.ReadFault) (result ≡ Finish.WriteFault)
-        ((S.faults input.old, S.faults input.new) ∷ [])
+    // A fault of the outside is answered only where it was counted in this call, and a call that ends whole has counted none. Since
+    // a batch is read while another is written, one that breaks off may have counted a fault of reading beside the one that it
+    // answers. No count falls.
+    ensures faults { RepairCounts ByBatch result ((S.faults input.old, S.faults input.new) ∷ [])
         ((K.faults out.old, K.faults out.new) ∷ (O.faults lanes.old, O.faults lanes.new) ∷ []) }
     ensures fixed { S.fixed input.new ≡ S.fixed input.old }
 {
@@ -94,8 +95,7 @@ fn repair_with<
     requires made { IsCrew plan.now (length plan.now.table) made }
     ensures repairs { IsRepair ByBatch plan.now result (S.left input.old) (S.left input.new) O.lanes lanes.old lanes.new
         K.written out.old out.new }
-    ensures faults { CountsFaults (result ≡ Finish.ReadFault) (result ≡ Finish.WriteFault)
-        ((S.faults input.old, S.faults input.new) ∷ [])
+    ensures faults { RepairCounts ByBatch result ((S.faults input.old, S.faults input.new) ∷ [])
         ((K.faults out.old, K.faults out.new) ∷ (O.faults lanes.old, O.faults lanes.new) ∷ []) }
     ensures fixed { S.fixed input.new ≡ S.fixed input.old }
 {
@@ -148,8 +148,7 @@ fn repair_beside<
     requires begins { CanBegin plan.now posts.now hosts.items }
     ensures repairs { IsRepair ByBatch plan.now result (S.left input.old) (S.left input.new) O.lanes lanes.old lanes.new
         K.written out.old out.new }
-    ensures faults { CountsFaults (result ≡ Finish.ReadFault) (result ≡ Finish.WriteFault)
-        ((S.faults input.old, S.faults input.new) ∷ [])
+    ensures faults { RepairCounts ByBatch result ((S.faults input.old, S.faults input.new) ∷ [])
         ((K.faults out.old, K.faults out.new) ∷ (O.faults lanes.old, O.faults lanes.new) ∷ []) }
     ensures fixed { S.fixed input.new ≡ S.fixed input.old }
 {
@@ -198,8 +197,7 @@ fn repair_with_crew<
     requires fit { All (C.fits chore.now) owns.old }
     ensures repairs { IfOk result (λ finish. IsRepair ByBatch plan.now finish (S.left input.old) (S.left input.new)
         O.lanes lanes.old lanes.new K.written out.old out.new) }
-    ensures faults { IfOk result (λ finish. CountsFaults (finish ≡ Finish.ReadFault) (finish ≡ Finish.WriteFault)
-        ((S.faults input.old, S.faults input.new) ∷ [])
+    ensures faults { IfOk result (λ finish. RepairCounts ByBatch finish ((S.faults input.old, S.faults input.new) ∷ [])
         ((K.faults out.old, K.faults out.new) ∷ (O.faults lanes.old, O.faults lanes.new) ∷ [])) }
     ensures fixed { IsOk result → S.fixed input.new ≡ S.fixed input.old }
     ensures refused { OnErr result ((input.new ≡ input.old) × (out.new ≡ out.old) × (lanes.new ≡ lanes.old)) }
@@ -218,8 +216,7 @@ fn repair_with_crew<
             requires gated { IsSync G.row }
             ensures repairs { IsRepair ByBatch plan.entry.now result (S.left input.entry.now) (S.left input.exit.now)
                 O.lanes lanes.entry.now lanes.exit.now K.written out.entry.now out.exit.now }
-            ensures faults { CountsFaults (result ≡ Finish.ReadFault) (result ≡ Finish.WriteFault)
-                ((S.faults input.entry.now, S.faults input.exit.now) ∷ [])
+            ensures faults { RepairCounts ByBatch result ((S.faults input.entry.now, S.faults input.exit.now) ∷ [])
                 ((K.faults out.entry.now, K.faults out.exit.now)
                 ∷ (O.faults lanes.entry.now, O.faults lanes.exit.now) ∷ []) }
             ensures fixed { S.fixed input.exit.now ≡ S.fixed input.entry.now }

@@ -1,12 +1,12 @@
 //! The repair of a trace in batches, over the windows of its flows.
 ghost use Rattle.std.specs.Prelude.{◌≡◌, ◌+◌, ◌≤◌, ℕ, Option, None, List, [], ◌∷◌, length, All, IfOk, IfErr};
-ghost use Rattle.fg_io.specs.Faults.{Counts, CountsFaults};
 ghost use Rattle.fg_trace.specs.Reader.{StandsAfter};
 ghost use Rattle.fg_trace.specs.Reading.{HasReached};
 ghost use Rattle.fg_trace.specs.Finish.{IsFault, finish_after};
 ghost use Rattle.fg_flows.specs.Plan.{PlanFits, playout_of};
 ghost use Rattle.fg_playout.specs.State.{opening};
 ghost use Rattle.fg_results.specs.Contract.{IsRepair};
+ghost use Rattle.fg_results.specs.Counted.{CountsBeside, RepairCounts};
 ghost use Rattle.fg_results.specs.Stops.{ByBatch};
 ghost use Rattle.fg_engine.specs.Engine.{EngineStands, HasRead, LanesStop, LanesWhole, answer_of, told_finish};
 
@@ -26,9 +26,9 @@ use std::thread::Threads;
 pub(crate) fn repair_in_batches<
     W: Threads + Sync,
     D: WindowState + Send,
-    S: Source,
+    S: Source + Send,
     K: Sink,
-    O: Outlet,
+    O: Outlet + Send,
 >(
     rt: &W,
     alloc: Global,
@@ -45,10 +45,10 @@ pub(crate) fn repair_in_batches<
     ensures repairs { IsRepair ByBatch plan.now result (S.left input.old) (S.left input.new) O.lanes lanes.old lanes.new
         K.written out.old out.new }
 
-    // A fault of the outside is answered only where it was counted in this call, and with every other answer none was. No
-    // count falls.
-    ensures faults { CountsFaults (result ≡ Finish.ReadFault) (result ≡ Finish.WriteFault)
-        ((S.faults input.old, S.faults input.new) ∷ [])
+    // A fault of the outside is answered only where it was counted in this call, and a call that ends whole has counted none. Since
+    // a batch is read while another is written, one that breaks off may have counted a fault of reading beside the one that it
+    // answers. No count falls.
+    ensures faults { RepairCounts ByBatch result ((S.faults input.old, S.faults input.new) ∷ [])
         ((K.faults out.old, K.faults out.new) ∷ (O.faults lanes.old, O.faults lanes.new) ∷ []) }
     ensures fixed { S.fixed input.new ≡ S.fixed input.old }
 {
@@ -59,7 +59,7 @@ pub(crate) fn repair_in_batches<
 }
 
 /// Repairs the flows of a trace. The first fault ends it.
-fn repair<W: Threads + Sync, D: WindowState + Send, S: Source, K: Sink, O: Outlet>(
+fn repair<W: Threads + Sync, D: WindowState + Send, S: Source + Send, K: Sink, O: Outlet + Send>(
     rt: &W,
     alloc: Global,
     plan: &Plan,
@@ -74,7 +74,7 @@ fn repair<W: Threads + Sync, D: WindowState + Send, S: Source, K: Sink, O: Outle
     ensures repairs { IsRepair ByBatch plan.now (answer_of result) (S.left input.old) (S.left input.new) O.lanes lanes.old lanes.new
         K.written out.old out.new }
     ensures ending { IfOk result (λ finish. ¬ IsFault finish) }
-    ensures faults { Counts result ((S.faults input.old, S.faults input.new) ∷ [])
+    ensures faults { CountsBeside result ((S.faults input.old, S.faults input.new) ∷ [])
         ((K.faults out.old, K.faults out.new) ∷ (O.faults lanes.old, O.faults lanes.new) ∷ []) }
     ensures fixed { S.fixed input.new ≡ S.fixed input.old }
 {
@@ -95,7 +95,13 @@ fn repair<W: Threads + Sync, D: WindowState + Send, S: Source, K: Sink, O: Outle
 }
 
 /// Repairs the flows of a trace whose magic the reader has found.
-fn repair_records<W: Threads + Sync, D: WindowState + Send, S: Source, K: Sink, O: Outlet>(
+fn repair_records<
+    W: Threads + Sync,
+    D: WindowState + Send,
+    S: Source + Send,
+    K: Sink,
+    O: Outlet + Send,
+>(
     rt: &W,
     alloc: Global,
     plan: &Plan,
@@ -116,7 +122,7 @@ fn repair_records<W: Threads + Sync, D: WindowState + Send, S: Source, K: Sink, 
         → IsRepair ByBatch plan.now (answer_of result) first (S.left input.new) O.lanes lanes.old lanes.new
         K.written out.old out.new }
     ensures ending { IfOk result (λ finish. ¬ IsFault finish) }
-    ensures faults { Counts result ((S.faults input.old, S.faults input.new) ∷ [])
+    ensures faults { CountsBeside result ((S.faults input.old, S.faults input.new) ∷ [])
         ((K.faults out.old, K.faults out.new) ∷ (O.faults lanes.old, O.faults lanes.new) ∷ []) }
     ensures fixed { S.fixed input.new ≡ S.fixed input.old }
 {
@@ -134,7 +140,7 @@ fn repair_records<W: Threads + Sync, D: WindowState + Send, S: Source, K: Sink, 
 }
 
 /// Writes the lanes of a trace, whose magic the reader has found, and answers how the trace ends.
-fn write_lanes<W: Threads + Sync, D: WindowState + Send, S: Source, O: Outlet>(
+fn write_lanes<W: Threads + Sync, D: WindowState + Send, S: Source + Send, O: Outlet + Send>(
     rt: &W,
     alloc: Global,
     plan: &Plan,
@@ -157,7 +163,7 @@ fn write_lanes<W: Threads + Sync, D: WindowState + Send, S: Source, O: Outlet>(
     ensures far { (first : Option (List ℕ)) → HasRead plan.now.max reader.old first (S.left input.old)
         → HasRead plan.now.max reader.new first (S.left input.new) }
     ensures reaches { IfOk result (λ tail. HasReached (told_finish tail) reader.new (S.left input.new)) }
-    ensures faults { Counts result ((S.faults input.old, S.faults input.new) ∷ [])
+    ensures faults { CountsBeside result ((S.faults input.old, S.faults input.new) ∷ [])
         ((O.faults lanes.old, O.faults lanes.new) ∷ []) }
     ensures fixed { S.fixed input.new ≡ S.fixed input.old }
 {

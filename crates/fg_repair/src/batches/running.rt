@@ -4,7 +4,7 @@ ghost use Rattle.std.specs.Bool.{OnFalse};
 ghost use Rattle.std.specs.List.{list_any};
 ghost use Rattle.fg_flows.specs.Sheaf.{items_of};
 ghost use Rattle.fg_repair.specs.BatchView.{BatchView};
-ghost use Rattle.fg_repair.specs.Batches.{CanRun, HasRun, TwoMayPlay};
+ghost use Rattle.fg_repair.specs.Batches.{CanRun, CanRunAll, HasRun, HaveRun, TwoMayPlay};
 
 use crate::batches::flows::BatchFlow;
 use fg_engine::WindowState;
@@ -12,12 +12,30 @@ use fg_flows::Sheaf;
 use std::alloc::{AllocError, Global};
 use std::thread::{Threads, for_each_mut};
 
+/// Has each flow run its records of a batch, in two threads where at least two flows may play in it, else in one.
+///
+/// # Errors
+///
+/// A flow found no memory.
+pub(crate) fn run_side_by_side<W: Threads + Sync, D: WindowState + Send>(
+    rt: &W,
+    alloc: Global,
+    sheaf: &Sheaf,
+    flows: &mut [BatchFlow<D>],
+) -> Result<(), AllocError>
+    requires { CanRunAll sheaf.now flows.old }
+    ensures { OnOk result (HaveRun sheaf.now flows.old flows.new) }
+{
+    let threads = threads_for(sheaf, flows);
+    run_flows(rt, alloc, threads, sheaf, flows)
+}
+
 /// Has each flow run its records of a batch, in at most so many threads. What the flows' plays show waits for their lanes.
 ///
 /// # Errors
 ///
 /// A flow found no memory.
-pub(crate) fn run_flows<R: Threads + Sync, D: WindowState + Send>(
+fn run_flows<R: Threads + Sync, D: WindowState + Send>(
     rt: &R,
     alloc: Global,
     threads: usize,
@@ -55,7 +73,7 @@ fn is_any_starved<D: WindowState>(flows: &[BatchFlow<D>]) -> bool
 }
 
 /// In how many threads a batch is run: in two where at least two flows may play in it, else in one.
-pub(crate) fn threads_for<D: WindowState>(sheaf: &Sheaf, flows: &[BatchFlow<D>]) -> usize
+fn threads_for<D: WindowState>(sheaf: &Sheaf, flows: &[BatchFlow<D>]) -> usize
     requires { length flows.now ≡ length sheaf.now.items }
     ensures few { (1 ≤ result) × (result ≤ 2) }
     ensures second { (d : BatchView) → (result ≡ 2) ↔ TwoMayPlay flows.now sheaf.now d }

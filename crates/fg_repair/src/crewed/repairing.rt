@@ -1,11 +1,10 @@
 //! What the workers help: the repair in batches.
 ghost use Rattle.std.specs.Prelude.{◌≡◌, ◌<◌, ◌^◌, [], ◌∷◌, length, All, IfOk};
-ghost use Rattle.fg_io.specs.Faults.{CountsFaults};
 ghost use Rattle.fg_shape.specs.Playout.{Playout};
-ghost use Rattle.fg_trace.specs.declared.step.Finish.TheVariants as finish;
 ghost use Rattle.fg_flows.specs.Plan.{PlanFits, playout_of};
 ghost use Rattle.fg_playout.specs.State.{opening};
 ghost use Rattle.fg_results.specs.Contract.{IsRepair};
+ghost use Rattle.fg_results.specs.Counted.{RepairCounts};
 ghost use Rattle.fg_results.specs.Stops.{ByBatch};
 ghost use Rattle.fg_board.specs.Actors.{desk_of};
 ghost use Rattle.fg_repair.specs.Crewed.{HostAll, IsNewHost, CanBegin};
@@ -27,7 +26,13 @@ use std::sync::Wait;
 use std::thread::Threads;
 
 /// Repairs the flows of a trace in this thread, over their boards. The hosts are those of the posts, and none is left of them.
-pub(crate) fn repair_here<W: Threads + Wait + Sync, G: Gate, S: Source, K: Sink, O: Outlet>(
+pub(crate) fn repair_here<
+    W: Threads + Wait + Sync,
+    G: Gate,
+    S: Source + Send,
+    K: Sink,
+    O: Outlet + Send,
+>(
     rt: &W,
     alloc: Global,
     plan: &Plan,
@@ -43,8 +48,7 @@ pub(crate) fn repair_here<W: Threads + Wait + Sync, G: Gate, S: Source, K: Sink,
     requires begins { CanBegin plan.now posts.now hosts.old.items }
     ensures repairs { IsRepair ByBatch plan.now result (S.left input.old) (S.left input.new) O.lanes lanes.old lanes.new
         K.written out.old out.new }
-    ensures faults { CountsFaults (result ≡ finish.ReadFault) (result ≡ finish.WriteFault)
-        ((S.faults input.old, S.faults input.new) ∷ [])
+    ensures faults { RepairCounts ByBatch result ((S.faults input.old, S.faults input.new) ∷ [])
         ((K.faults out.old, K.faults out.new) ∷ (O.faults lanes.old, O.faults lanes.new) ∷ []) }
     ensures fixed { S.fixed input.new ≡ S.fixed input.old }
 {
@@ -57,7 +61,13 @@ pub(crate) fn repair_here<W: Threads + Wait + Sync, G: Gate, S: Source, K: Sink,
 
 /// Repairs the flows of a trace over these windows, which are those of the plan's flows in their order, and empty: batch by batch,
 /// or record by record where there is one flow, beside which no other can run.
-fn repair_over<W: Threads + Sync, D: WindowState + Send, S: Source, K: Sink, O: Outlet>(
+fn repair_over<
+    W: Threads + Sync,
+    D: WindowState + Send,
+    S: Source + Send,
+    K: Sink,
+    O: Outlet + Send,
+>(
     rt: &W,
     alloc: Global,
     plan: &Plan,
@@ -71,8 +81,7 @@ fn repair_over<W: Threads + Sync, D: WindowState + Send, S: Source, K: Sink, O: 
     requires empty { All (λ window. D.state window ≡ opening (playout_of plan.now)) windows.items }
     ensures repairs { IsRepair ByBatch plan.now result (S.left input.old) (S.left input.new) O.lanes lanes.old lanes.new
         K.written out.old out.new }
-    ensures faults { CountsFaults (result ≡ finish.ReadFault) (result ≡ finish.WriteFault)
-        ((S.faults input.old, S.faults input.new) ∷ [])
+    ensures faults { RepairCounts ByBatch result ((S.faults input.old, S.faults input.new) ∷ [])
         ((K.faults out.old, K.faults out.new) ∷ (O.faults lanes.old, O.faults lanes.new) ∷ []) }
     ensures fixed { S.fixed input.new ≡ S.fixed input.old }
 {

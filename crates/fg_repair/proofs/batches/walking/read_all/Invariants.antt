@@ -1,14 +1,16 @@
-use Rattle.std.proofs.Common.{◌≡◌, ℕ, ◌-◌, Option, None, List}
+use Rattle.std.proofs.Common.{◌≡◌, ℕ, ◌-◌, Option, None, List, length}
 use Rattle.fg_io.specs.Outlet.{Lanes}
+use Rattle.fg_flows.specs.Sheaf.{no_items}
 use Rattle.fg_engine.specs.Engine.{HasRead}
-use Rattle.fg_repair.specs.Walking.{HasFilled}
-use Rattle.fg_repair.proofs.batches.filling.Batches.take_all.Given as goal
+use Rattle.fg_repair.specs.Walking.{IsWalking}
+use Rattle.fg_repair.proofs.batches.walking.read_all.Given as goal
 
 abbrev pub invariant-loop-tail : goal.invariant-loop-tail
 invariant-loop-tail g l = record {
   came : (first : Option (List ℕ)) (before : Option Lanes)
-      → HasFilled l.plan first (g.S.Source.left l.fn.input) l.fn.reader l.fn.self before (g.O.Outlet.lanes l.fn.lanes)
-      → HasFilled l.plan first (g.S.Source.left l.input) l.reader l.self before (g.O.Outlet.lanes l.lanes);
+      → IsWalking l.plan first (g.S.Source.left l.fn.input) l.fn.reader l.fn.batches before (g.O.Outlet.lanes l.fn.lanes)
+      → IsWalking l.plan first (g.S.Source.left l.input) l.reader l.batches before (g.O.Outlet.lanes l.lanes);
+  free : l.batches.gathering.sheaf ≡ no_items (length l.plan.table);
   far : (first : Option (List ℕ)) → HasRead l.plan.max l.fn.reader first (g.S.Source.left l.fn.input)
       → HasRead l.plan.max l.reader first (g.S.Source.left l.input);
   unkept : l.reader.kept ≡ None;

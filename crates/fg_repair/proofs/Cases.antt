@@ -1,0 +1,28 @@
+-- What holds of an answer, where it is known which one it is.
+use Rattle.std.proofs.Common.{◌≡◌, Option, Some, None, IfSome, IfNone, Result, Ok, Err, IfOk, IfErr, OnOk, OnErr, refl, subst}
+
+pub ok_at : {T E : Type 0} (P : T → Type 0) (r : Result T E) (x : T) → r ≡ Ok x → IfOk r P → P x
+ok_at {T} {E} P r x is h = subst (λ (q : Result T E). IfOk q P) is h
+
+pub err_at : {T E : Type 0} (P : E → Type 0) (r : Result T E) (e : E) → r ≡ Err e → IfErr r P → P e
+err_at {T} {E} P r e is h = subst (λ (q : Result T E). IfErr q P) is h
+
+pub whole_at : {T E : Type 0} (P : Type 0) (r : Result T E) (x : T) → r ≡ Ok x → OnOk r P → P
+whole_at {T} {E} P r x is h = subst (λ (q : Result T E). OnOk q P) is h
+
+pub broken_at : {T E : Type 0} (P : Type 0) (r : Result T E) (e : E) → r ≡ Err e → OnErr r P → P
+broken_at {T} {E} P r e is h = subst (λ (q : Result T E). OnErr q P) is h
+
+-- What holds of any error holds of the one that there is.
+pub any_err : {T E : Type 0} (P : E → Type 0) (r : Result T E) → ((e : E) → P e) → IfErr r P
+any_err P (Ok x) f = tt
+any_err P (Err e) f = f e
+
+-- What follows there follows wherever there is something, or nothing.
+pub some_then : {T : Type 0} (P Q : T → Type 0) (o : Option T) → ((x : T) → P x → Q x) → IfSome o P → IfSome o Q
+some_then P Q None f h = tt
+some_then P Q (Some x) f h = f x h
+
+pub none_then : {T : Type 0} (P Q : Type 0) (o : Option T) → (P → Q) → IfNone o P → IfNone o Q
+none_then P Q None f h = f h
+none_then P Q (Some x) f h = tt
