@@ -1,13 +1,18 @@
 -- What came of taking the records of a repair that has begun, by what the taking promises.
-use Rattle.std.proofs.Common.{◌≡◌, ℕ, Option, Result, Ok, Err, IfOk, IfErr, List, [], ◌∷◌, subst}
+use Rattle.std.proofs.Common.{◌≡◌, inr, ℕ, Option, Result, Ok, Err, IfOk, IfErr, List, [], ◌∷◌, refl, subst, arith}
 use Rattle.fg_io.specs.declared.fault.Fault.{Fault}
+use Rattle.fg_io.specs.Faults.{CountsFaults}
 use Rattle.fg_io.specs.Outlet.{Lanes}
+use Rattle.fg_trace.specs.declared.step.Finish.{Finish}
+use Rattle.fg_trace.specs.declared.step.Finish.TheVariants as finish
 use Rattle.fg_trace.specs.Finish.{finish_after}
 use Rattle.fg_trace.specs.Reader.{ReaderState}
 use Rattle.fg_trace.specs.Reading.{HasReached}
 use Rattle.fg_flows.specs.declared.Plan.{Plan}
 use Rattle.fg_report.specs.declared.tail.Tail.{Tail}
+use Rattle.fg_results.specs.Counted.{RepairCounts}
 use Rattle.fg_results.specs.Stops.{Growth}
+use Rattle.fg_results.proofs.CountLemmas.{by_record_counts_in_any_way}
 use Rattle.fg_engine.specs.declared.engine.Engine.{Engine}
 use Rattle.fg_engine.specs.declared.records.Begun.{Begun}
 use Rattle.fg_engine.specs.Driver.{PartCounts, HasBegun, HasTakenAll}
@@ -54,3 +59,18 @@ pub taken_counts :
 taken_counts growth taken s s' s'' k k' k'' reads writes h =
     subst (λ n. PartCounts growth taken ((s, s'') ∷ []) ((n, k'') ∷ [])) writes
     (subst (λ n. PartCounts growth taken ((n, s'') ∷ []) ((k', k'') ∷ [])) reads h)
+
+-- Where it has ended before its lanes were made, the sink of the report has counted nothing.
+pub ended_counts :
+    (growth : Growth) (answer : Finish) (s s' report k k' : ℕ)
+    → CountsFaults (answer ≡ finish.ReadFault) (answer ≡ finish.WriteFault) ((s, s') ∷ []) ((k, k') ∷ [])
+    → RepairCounts growth answer ((s, s') ∷ []) ((report, report) ∷ (k, k') ∷ [])
+ended_counts growth answer s s' report k k' h = by_record_counts_in_any_way growth answer ((s, s') ∷ []) ((report, report) ∷ (k, k') ∷ [])
+    (record {
+      read = h.read;
+      write = λ is. inr (h.write is);
+      no_read = h.no_read;
+      no_write = λ none. (refl, h.no_write none);
+      rise = h.rise;
+      sinks_rise = (omega arith, h.sinks_rise);
+    })
