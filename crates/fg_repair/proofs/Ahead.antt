@@ -1,8 +1,7 @@
 -- How far the flows are ahead of the lanes, from one batch to the next.
-use Rattle.std.proofs.Common.{◌≡◌, ◌⊎◌, inl, inr, ℕ, zero, suc, ◌+◌, ◌<◌, ◌≤◌, ◌^◌, Bool, true, false, cond, nat_eq, Option, Some, None, List, [], ◌∷◌, ◌++◌, length, map, get_or, slice_index, refl, sym, ap, ◌∙◌, subst, arith, append_assoc, append-nil, length-append}
-use Rattle.std.specs.List.{AllZip, Contains, slice_index_or}
-use Rattle.std.proofs.lemmas.Bool.Decides.{nat_tests}
-use Rattle.std.proofs.lemmas.List.{get_or_default, get_or-map, length-map}
+use Rattle.std.proofs.Common.{◌≡◌, ℕ, ◌<◌, ◌^◌, Option, List, [], ◌∷◌, ◌++◌, length, map, slice_index, refl, sym, ap, ◌∙◌, subst, arith, append-nil}
+use Rattle.std.specs.List.{Contains, slice_index_or}
+use Rattle.std.proofs.lemmas.List.{get_or_default}
 use Rattle.fg_io.specs.Outlet.{Lanes}
 use Rattle.fg_trace.specs.Trace.{Record}
 use Rattle.fg_flows.specs.declared.Plan.{Plan}
@@ -14,9 +13,8 @@ use Rattle.fg_results.specs.Stops.{HasShown}
 use Rattle.fg_results.proofs.Zips.{zip_length}
 use Rattle.fg_engine.specs.View.{FlowView}
 use Rattle.fg_engine.specs.declared.shelved.Shelved.{Shelved}
-use Rattle.fg_engine.specs.Engine.{FlowStands, GrowAll, AreThere}
+use Rattle.fg_engine.specs.Engine.{FlowStands, GrowAll}
 use Rattle.fg_engine.proofs.Breaking.{shown_of}
-use Rattle.fg_engine.proofs.Standing.{ports_differ}
 use Rattle.fg_repair.specs.BatchView.{BatchView}
 use Rattle.fg_repair.specs.Batches.{AreItemsOf, CanRunAll, HaveRun, HoldsBatch, HaveExchanged, WaitFor, emptied, waiting}
 use Rattle.fg_repair.specs.Walking.{AreAhead}

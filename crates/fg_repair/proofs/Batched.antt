@@ -1,32 +1,23 @@
 -- What the flows and their lanes come to when a batch is run.
-use Rattle.std.proofs.Common.{◌≡◌, inl, inr, ℕ, zero, suc, ◌<◌, ◌^◌, Bool, true, false, cond, nat_eq, Option, Some, None, List, [], ◌∷◌, ◌++◌, length, map, get_or, slice_index, refl, sym, ap, ◌∙◌, subst, arith, append_assoc, append-nil, length-append}
-use Rattle.std.specs.List.{AllZip, Contains, filter, slice_index_or}
-use Rattle.std.proofs.lemmas.Bool.Decides.{nat_tests}
-use Rattle.std.proofs.lemmas.List.{get_or_default, get_or-map, length-map}
+use Rattle.std.proofs.Common.{◌≡◌, ℕ, ◌<◌, ◌^◌, Bool, true, false, cond, List, [], ◌∷◌, ◌++◌, length, slice_index, refl, sym, ap, ◌∙◌, subst, arith, length-append}
+use Rattle.std.specs.List.{AllZip, filter}
 use Rattle.std.proofs.lemmas.List.Elements.{filter-append}
 use Rattle.std.proofs.lemmas.List.Sums.{length-filter, count_by-le-length}
-use Rattle.fg_io.specs.Outlet.{Lanes, lane_bytes}
 use Rattle.fg_trace.specs.Trace.{Record}
 use Rattle.fg_shape.specs.Playout.{Playout, PlayoutFits}
 use Rattle.fg_flows.specs.declared.Plan.{Plan}
 use Rattle.fg_flows.specs.Plan.{PlanFits, playout_of}
-use Rattle.fg_flows.specs.Flows.{IsTable}
-use Rattle.fg_flows.specs.Laws.{OneFlowHasAPort}
-use Rattle.fg_flows.specs.Sheaf.{Item, SheafState, items_of, no_items}
+use Rattle.fg_flows.specs.Sheaf.{Item, SheafState, items_of}
 use Rattle.fg_playout.specs.State.{State}
 use Rattle.fg_report.specs.declared.flow_sum.FlowSum.{FlowSum}
 use Rattle.fg_results.specs.Flow.{is_of, records_of, Arrives}
-use Rattle.fg_results.specs.Repair.{others_of}
-use Rattle.fg_results.specs.Stops.{HasShown}
 use Rattle.fg_results.proofs.Zips.{zip_length}
-use Rattle.fg_engine.specs.Engine.{FlowStands, LanesGrow, GrowAll, AreThere}
+use Rattle.fg_engine.specs.Engine.{FlowStands}
 use Rattle.fg_engine.specs.Steps.{HasTaken}
-use Rattle.fg_engine.proofs.Breaking.{shown_of}
-use Rattle.fg_engine.proofs.Lanes.{told_then}
-use Rattle.fg_engine.proofs.Standing.{moved, flow_taken, ports_differ}
+use Rattle.fg_engine.proofs.Standing.{moved, flow_taken}
 use Rattle.fg_repair.specs.BatchView.{BatchView}
 use Rattle.fg_repair.specs.Batches.{IsItemOf, AreItemsOf, CanRun, HasRun, HoldsBatch}
-use Rattle.fg_repair.proofs.Gathering.{zip_place, holds_none}
+use Rattle.fg_repair.proofs.Gathering.{zip_place}
 
 -- A flow's own records, and all
 

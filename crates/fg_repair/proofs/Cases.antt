@@ -1,5 +1,5 @@
 -- What holds of an answer, where it is known which one it is.
-use Rattle.std.proofs.Common.{◌≡◌, Option, Some, None, IfSome, IfNone, Result, Ok, Err, IfOk, IfErr, OnOk, OnErr, refl, subst}
+use Rattle.std.proofs.Common.{◌≡◌, Option, Some, None, IfSome, IfNone, Result, Ok, Err, IfOk, IfErr, OnOk, OnErr, subst}
 
 pub ok_at : {T E : Type 0} (P : T → Type 0) (r : Result T E) (x : T) → r ≡ Ok x → IfOk r P → P x
 ok_at {T} {E} P r x is h = subst (λ (q : Result T E). IfOk q P) is h

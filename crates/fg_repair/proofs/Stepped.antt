@@ -1,11 +1,11 @@
 -- What a step from one batch to the next comes to.
-use Rattle.std.proofs.Common.{◌≡◌, ℕ, ◌<◌, ◌^◌, Option, None, IfSome, List, [], ◌∷◌, ◌++◌, length, map, refl, sym, ap, ◌∙◌, subst, arith, append-nil, length-append}
+use Rattle.std.proofs.Common.{◌≡◌, ℕ, Option, List, [], ◌++◌, length, sym, ap, ◌∙◌, subst, arith, append-nil, length-append}
 use Rattle.fg_io.specs.Outlet.{Lanes}
 use Rattle.fg_trace.specs.declared.step.Finish.{Finish}
 use Rattle.fg_trace.specs.declared.step.Finish.TheVariants as finish
 use Rattle.fg_trace.specs.Laws.{WalksTheFront, OneTrace}
 use Rattle.fg_trace.specs.Reader.{ReaderState, StandsAfter}
-use Rattle.fg_trace.specs.Trace.{Record, IsTrace}
+use Rattle.fg_trace.specs.Trace.{Record}
 use Rattle.fg_flows.specs.declared.Plan.{Plan}
 use Rattle.fg_flows.specs.Plan.{PlanFits}
 use Rattle.fg_flows.specs.Flows.{IsTable}
@@ -20,7 +20,7 @@ use Rattle.fg_engine.specs.declared.shelved.Shelved.{Shelved}
 use Rattle.fg_engine.specs.Engine.{LanesStop}
 use Rattle.fg_engine.proofs.Walking.{few_records}
 use Rattle.fg_repair.specs.BatchView.{BatchView}
-use Rattle.fg_repair.specs.Batches.{AreItemsOf, BreaksEmptying, CanRunAll, HaveExchanged, HaveRun, HoldsBatch, WaitFor, emptied, waiting}
+use Rattle.fg_repair.specs.Batches.{AreItemsOf, BreaksEmptying, CanRunAll, HaveExchanged, HaveRun, HoldsBatch, WaitFor, waiting}
 use Rattle.fg_repair.specs.declared.batches.gathering.Gathering.{Gathering}
 use Rattle.fg_repair.specs.declared.batches.stepping.Batches.{Batches}
 use Rattle.fg_repair.specs.Gathering.{HasGathered, GathersLast}
@@ -99,10 +99,10 @@ walking_front law plan first now reader batches before after max h =
     shorter_front plan first records [] (shorter_front plan first (records ++ []) h.gathered.left
     (front_standing law plan first now reader ((records ++ []) ++ h.gathered.left) max h.gathered.stands))
 
-pub walking_few :
+pub walking_can_run :
     {D : Type 0} → (plan : Plan) → PlanFits plan → (first now : Option (List ℕ)) (reader : ReaderState) (batches : Batches D) (before after : Option Lanes) → reader.max ≡ plan.max
     → (h : IsWalking plan first now reader batches before after) → CanRunAll batches.sheaf batches.flows.items
-walking_few plan fits first now reader batches before after max h =
+walking_can_run plan fits first now reader batches before after max h =
     let records = (h.put ++ h.ran) ++ h.batch in
     let few = few_records plan fits first now reader ((records ++ []) ++ h.gathered.left) max h.gathered.stands in
     let one = length-append (records ++ []) h.gathered.left in

@@ -1,5 +1,5 @@
 -- Where a repair in batches stops, in the trace of its input.
-use Rattle.std.proofs.Common.{◌≡◌, ◌⊎◌, inl, inr, ℕ, ◌+◌, ◌<◌, ◌≤◌, Option, Some, None, IfSome, List, ◌++◌, length, take, drop, slice_index, refl, sym, ap, ◌∙◌, subst, arith, append_assoc, append-nil, length-append}
+use Rattle.std.proofs.Common.{◌≡◌, ◌⊎◌, inl, inr, ℕ, ◌+◌, ◌≤◌, Option, Some, None, IfSome, List, ◌++◌, length, take, drop, refl, sym, ap, ◌∙◌, subst, arith, append_assoc, length-append}
 use Rattle.std.specs.List.{Contains}
 use Rattle.std.proofs.Math.Seq.{take-append_seam}
 use Rattle.std.proofs.lemmas.List.{take_all, take-append-drop}
@@ -11,7 +11,7 @@ use Rattle.fg_trace.specs.Reader.{ReaderState, StandsAfter}
 use Rattle.fg_trace.specs.Trace.{Record, Ending, IsTrace}
 use Rattle.fg_flows.specs.declared.Plan.{Plan}
 use Rattle.fg_flows.specs.Plan.{playout_of}
-use Rattle.fg_results.specs.Stops.{ByBatch, Stops, StopsIn, Taking, Emptying, HasGained, HasGainedPart, HasShown, LiesBetween}
+use Rattle.fg_results.specs.Stops.{ByBatch, StopsIn, Taking, Emptying, HasGained, HasGainedPart, HasShown, LiesBetween}
 use Rattle.fg_engine.specs.Engine.{GrowAll, AreThere, LanesStop}
 use Rattle.fg_engine.proofs.Stopping.{stops_at}
 use Rattle.fg_engine.proofs.Walking.{others_told}

@@ -1,6 +1,6 @@
 -- How a walk in batches begins at the engine, and ends there.
 use Rattle.std.proofs.Common.{◌≡◌, ℕ, ◌<◌, Option, None, List, [], ◌++◌, length, map, slice_index, refl, sym, ap, ◌∙◌, subst, append-nil}
-use Rattle.std.specs.List.{Contains, slice_index_or}
+use Rattle.std.specs.List.{slice_index_or}
 use Rattle.std.proofs.lemmas.List.{get_or-map, length-map}
 use Rattle.fg_io.specs.Outlet.{Lanes}
 use Rattle.fg_trace.specs.declared.step.Finish.{Finish}
@@ -8,11 +8,10 @@ use Rattle.fg_trace.specs.Laws.{WalksTheFront, OneTrace}
 use Rattle.fg_trace.specs.Reader.{ReaderState, StandsAfter}
 use Rattle.fg_trace.specs.Trace.{Record}
 use Rattle.fg_flows.specs.declared.Plan.{Plan}
-use Rattle.fg_flows.specs.Plan.{playout_of}
 use Rattle.fg_flows.specs.Sheaf.{SheafState, no_items}
 use Rattle.fg_report.specs.declared.tail.Tail.{Tail}
 use Rattle.fg_results.specs.Repair.{others_of}
-use Rattle.fg_results.specs.Stops.{ByBatch, HasShown}
+use Rattle.fg_results.specs.Stops.{ByBatch}
 use Rattle.fg_engine.specs.declared.engine.Engine.{Engine}
 use Rattle.fg_engine.specs.declared.shelved.Shelved.{Shelved}
 use Rattle.fg_engine.specs.View.{FlowView}

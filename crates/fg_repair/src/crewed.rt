@@ -44,7 +44,8 @@ use std::thread::Threads;
 /// Repairs the flows of a trace, with workers beside the caller.
 ///
 /// What it reads, writes and answers is what [`crate::repair_alone`] does, whatever the workers do. But lanes grow batch by
-/// batch: after a fault those of the first flows may have what a batch of records shows, and those of the others not yet.
+/// batch: after a put that failed those of the first flows may have what a batch of records shows, and those of the others not yet.
+/// Of several flows the source is read and the lanes are put to in another thread, where one can be made.
 ///
 /// The gate hears of the points that the threads pass: 1 where at most one slot of a held equation isn't folded and the worker
 /// hasn't settled it yet, with no lock, 3 where a board has taken a word, 4 where a settle found no memory, and 5 before each play
@@ -61,9 +62,9 @@ pub fn repair<
     ensures repairs { IsRepair ByBatch plan.now result (S.left input.old) (S.left input.new) O.lanes lanes.old lanes.new
         K.written out.old out.new }
 
-    // A fault of the outside is answered only where it was counted in this call, and a call that ends whole has counted none. Since
-    // a batch is read while another is written, one that breaks off may have counted a fault of reading beside the one that it
-    // answers. No count falls.
+    // A fault of the outside is answered only where it was counted in this call, and with no other answer was one of it counted, but
+    // for this: since a batch is read while another is written, a call that breaks off may have counted a fault of reading beside the
+    // one that it answers. No count falls.
     ensures faults { RepairCounts ByBatch result ((S.faults input.old, S.faults input.new) ∷ [])
         ((K.faults out.old, K.faults out.new) ∷ (O.faults lanes.old, O.faults lanes.new) ∷ []) }
     ensures fixed { S.fixed input.new ≡ S.fixed input.old }

@@ -28,9 +28,9 @@ pub fn repair_as_planned<
     ensures repairs { IsRepair (growth_of plan.now) plan.now result (S.left input.old) (S.left input.new) O.lanes lanes.old lanes.new
         K.written out.old out.new }
 
-    // A fault of the outside is answered only where it was counted in this call, and a call that ends whole has counted none.
-    // Without workers no other call has counted one either. With workers a batch is read while another is written, and a call that
-    // breaks off may have counted a fault of reading beside the one that it answers. No count falls.
+    // A fault of the outside is answered only where it was counted in this call, and with no other answer was one of it counted, but
+    // for this: with workers a batch is read while another is written, so a call that breaks off may have counted a fault of reading
+    // beside the one that it answers. No count falls.
     ensures faults { RepairCounts (growth_of plan.now) result ((S.faults input.old, S.faults input.new) ∷ [])
         ((K.faults out.old, K.faults out.new) ∷ (O.faults lanes.old, O.faults lanes.new) ∷ []) }
     ensures fixed { S.fixed input.new ≡ S.fixed input.old }

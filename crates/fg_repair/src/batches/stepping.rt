@@ -1,4 +1,5 @@
-//! A step from one batch to the next: one is run, while what the last has shown is put to the lanes and the next is read.
+//! A step from one batch to the next: one is run, while what the one before has shown is put to the lanes and the one after it is
+//! read.
 ghost use Rattle.std.specs.Prelude.{◌≡◌, ◌<◌, ◌≤◌, ℕ, Option, None, List, [], ◌∷◌, ◌++◌, length, map, IfOk, IfErr, IfSome, IfNone, OnOk, OnErr};
 ghost use Rattle.std.specs.Thread.{IsSync};
 ghost use Rattle.fg_io.specs.Faults.{Counts};
@@ -31,7 +32,8 @@ use std::alloc::{AllocError, Global};
 use std::mem;
 use std::thread::{Threads, join_mut};
 
-/// The three batches of a repair that are under way at once. Flows and shelves are those of the plan, in its order.
+/// The batches of a repair that are under way: what one has shown waits, the next is run, and the one after it is read. Flows and
+/// shelves are those of the plan, in its order.
 #[derive(Drop)]
 pub(crate) struct Batches<D: WindowState> {
     pub(crate) flows: Vec<BatchFlow<D>>,
@@ -66,7 +68,7 @@ impl<D: WindowState> Batches<D> {
         })
     }
 
-    /// Makes the batch that was read the one that is run next. The room of the last one is free then.
+    /// Makes the batch that was read last the one that is run next. The sheaf of the one that was run is free then.
     fn take_up_next(&mut self)
         ensures sheaf { self.new.sheaf ≡ self.old.gathering.sheaf }
         ensures gathering { self.new.gathering
@@ -106,13 +108,15 @@ pub(crate) fn flows_alone<D: WindowState>(
     Ok(left)
 }
 
-/// Has the flows run the batch that is read, while what waits is put to the lanes and the next batch is read. Then what the
-/// flows have shown waits, and the next batch is the one that is read; or it answers how the trace ends, and the last is.
+/// Has the flows run the batch that they are to run next, while what waits is put to the lanes and the batch after it is read.
+/// What they have shown waits then, and the batch that was read is the one that they are to run next. Where it is the last, it is
+/// answered how the trace ends.
 ///
 /// # Errors
 ///
-/// Of several the one that comes first in the trace: a put failed, or a flow found no memory, or a read failed. After the last
-/// of these what the flows have shown is put too, and where that fails, it is answered.
+/// Of several faults the one that comes first in the trace: [`Fault::Write`], a put failed; [`Fault::Memory`], a flow found no
+/// memory; [`Fault::Read`], a read failed. Where only a read failed, what the flows have shown is put too, and where that fails,
+/// it is [`Fault::Write`].
 pub(crate) fn step<W: Threads + Sync, D: WindowState + Send, S: Source + Send, O: Outlet + Send>(
     rt: &W,
     alloc: Global,
@@ -169,8 +173,8 @@ pub(crate) fn step<W: Threads + Sync, D: WindowState + Send, S: Source + Send, O
     }
 }
 
-/// Has the flows run the batch that is read. In another thread, where one can be made, what waits is put to the lanes, and then
-/// the next batch is read.
+/// Has the flows run a batch. In another thread, where one can be made, what waits is put to the lanes, and then the next batch is
+/// read. Answers what [`put_and_read`] does, and whether each flow found memory.
 fn run_beside_reading<W: Threads + Sync, D: WindowState + Send, S: Source + Send, O: Outlet + Send>(
     rt: &W,
     alloc: Global,
@@ -242,11 +246,11 @@ fn run_beside_reading<W: Threads + Sync, D: WindowState + Send, S: Source + Send
     )
 }
 
-/// Puts what waits to the lanes, and then reads the next batch. What it answers of the reading is `Ok` of that.
+/// Puts what waits to the lanes, and then reads the next batch, and answers what the reading does.
 ///
 /// # Errors
 ///
-/// A put failed. Nothing is read then.
+/// [`Fault::Write`]: a put failed. Nothing is read then.
 fn put_and_read<S: Source, O: Outlet>(
     plan: &Plan,
     gathering: &mut Gathering,

@@ -59,8 +59,7 @@ pub(crate) fn take_in_batches<
         → HasRead plan.now.max reader.new first (S.left input.new) }
     ensures reaches { IfOk result (λ tail. HasReached (told_finish tail) reader.new (S.left input.new)) }
 
-    // A fault is answered only where it was counted in this call. A call that ends whole counts none. One that breaks off may
-    // have counted a fault of reading too, since it reads ahead of what it writes.
+    // A fault of the outside is answered only where it was counted, and one of reading may have been counted with any fault.
     ensures faults { CountsBeside result ((S.faults input.old, S.faults input.new) ∷ [])
         ((O.faults lanes.old, O.faults lanes.new) ∷ []) }
     ensures fixed { S.fixed input.new ≡ S.fixed input.old }

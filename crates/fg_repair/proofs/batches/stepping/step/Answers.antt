@@ -18,13 +18,13 @@ use Rattle.fg_repair.specs.declared.batches.gathering.Gathering.{Gathering}
 use Rattle.fg_repair.specs.Gathering.{HasGathered, GathersLast}
 use Rattle.fg_repair.specs.Walking.{HasLast, HavePut, IsWalking, ReadsOn}
 use Rattle.fg_repair.proofs.Cases.{ok_at, err_at, whole_at, broken_at, any_err, some_then, none_then}
-use Rattle.fg_repair.proofs.Stepped.{ahead_as, has_last, long_sheaf, put_fails, step_ahead, stops_after_put, walking_few, walking_front, walks_on}
+use Rattle.fg_repair.proofs.Stepped.{ahead_as, has_last, long_sheaf, put_fails, step_ahead, stops_after_put, walking_can_run, walking_front, walks_on}
 use Rattle.fg_repair.proofs.Stopped.{shorter_front}
 use Rattle.fg_repair.proofs.batches.stepping.step.Goals as goal
 
 pub run_beside_reading-put-requires-clause-can : goal.run_beside_reading-put-requires-clause-can
 run_beside_reading-put-requires-clause-can g c κs within =
-    walking_few c.args.plan.now c.requires.fits c.requires.underway.0 (g.S.Source.left c.args.input.now) c.args.reader.now c.args.batches.now
+    walking_can_run c.args.plan.now c.requires.fits c.requires.underway.0 (g.S.Source.left c.args.input.now) c.args.reader.now c.args.batches.now
     c.requires.underway.1 (g.O.Outlet.lanes c.args.lanes.now) c.requires.max c.requires.underway.2
 
 -- A put failed
