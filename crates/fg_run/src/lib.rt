@@ -39,8 +39,8 @@ use std::thread::Threads;
 ///
 /// `--help` and `--version`, each as the only word, write their text to `out`. `repair` repairs the flows of the trace in the
 /// input: each flow's lane gains its repaired stream, and `out` the report. Workers, where the words ask for some, are threads
-/// that recover words beside the caller's, for a drill and a sample too; the gate hears of their steps, and nothing that is
-/// promised depends on them. `encode` writes the trace of the stream's encoding to `out`, and `inspect` a line for each record
+/// that recover words beside the caller's, for a drill and a sample too; the gate hears of their steps. Only what a fault leaves,
+/// and what is counted then, depends on whether there are any. `encode` writes the trace of the stream's encoding to `out`, and `inspect` a line for each record
 /// of the trace. `drill` encodes the stream, leaves records out, and repairs the rest; `sample` does so with a stream that it
 /// makes, and reads nothing. `fromcap` writes the trace of a capture's datagrams to `out`, `tocap` a capture of a trace's
 /// records, and `monitor` a line for each break of a stream's continuity. Words that break a rule are refused: then nothing is read, written or made. The line that says
