@@ -213,20 +213,47 @@ fn a_put_that_fails_leaves_the_first_flows_ahead(rt: HostRuntime) -> Result<(), 
     Ok(())
 }
 
-// The first 256 records are run when the next one is read. Of those that were read after it nothing is run.
+/// Whether the source's call that is to fail was made: none of those that are left does.
+fn has_failed(input: &mut MemSource) -> bool {
+    for _ in 0..1_000 {
+        match input.read(&mut [0; 1_000]) {
+            Ok(0) => return true,
+            Ok(_) => {}
+            Err(_) => return false,
+        }
+    }
+    false
+}
+
+/// What comes of three batches of which the third can't be read, by the puts that fail: the status, how many datagrams the lane
+/// has, and whether the third was read at all.
+const THIRD_BATCH: [(&[u64], u8, u16, bool); 3] = [
+    // It is read beside the run of the second, which is put all the same.
+    (&[], 2, 508, true),
+    // Where that can't be put both have failed, and of the two it is the first in the trace.
+    (&[3], 3, 252, true),
+    // Before that what the first has shown is put, and where it can't be nothing is read.
+    (&[2], 3, 0, false),
+];
+
+// A batch has 256 records here. The third is not run.
 #[test]
-fn the_batch_of_a_failed_read_is_not_run(rt: HostRuntime) -> Result<(), Fail> {
+fn a_read_that_fails_beside_a_run(rt: HostRuntime) -> Result<(), Fail> {
     let alloc = rt.alloc();
-    let bytes = in_turn(alloc, &PORTS[..1], &numbers(alloc, 300)?)?;
-    let setting = Setting {
-        lane: 400_000,
-        // Each record has 1,340 bytes, and a read gives 1,000.
-        reads: &[395],
-        ..ROOMY
-    };
+    let bytes = in_turn(alloc, &PORTS[..1], &numbers(alloc, 600)?)?;
     let line = "repair flow=5000 flow=5010 window=4 depth=4 workers=1";
-    let (ended, outside) = run_line(&rt, alloc, &setting, line, &bytes)?;
-    assert_eq!(rt; ended.status, 2);
-    outside.check_lane(&rt, alloc, 5000, Some(numbers(alloc, 252)?.as_slice()))?;
+    for (puts, status, count, is_read) in &THIRD_BATCH {
+        let setting = Setting {
+            lane: 800_000,
+            // Each record has 1,340 bytes, and a read gives 1,000.
+            reads: &[700],
+            puts,
+            ..ROOMY
+        };
+        let (ended, mut outside) = run_line(&rt, alloc, &setting, line, &bytes)?;
+        assert_eq!(rt; ended.status, *status);
+        outside.check_lane(&rt, alloc, 5000, Some(numbers(alloc, *count)?.as_slice()))?;
+        assert_eq!(rt; has_failed(&mut outside.input), *is_read);
+    }
     Ok(())
 }
