@@ -1,6 +1,7 @@
 """Runs a built program in a folder of its own and gathers all that it leaves, for tools/fuzz, tools/fail_calls and
 tools/under_limits. It isn't run on its own."""
 import array
+import contextlib
 import fcntl
 import os
 import random
@@ -70,23 +71,31 @@ def command_line(program, words):
     return " ".join([shlex.quote(program), *map(quoted, words)])
 
 
-def wait_for(child, seconds):
-    """The child's status as `Ended` has it, and its usage. It is killed after so many seconds."""
-    late = []
+@contextlib.contextmanager
+def time_limit(child, seconds):
+    """Kills the child once so many seconds are over, and gives a list that then has as many ticks. They are counted one by one, so
+    those in which this script is stopped itself don't count."""
+    ticks = []
 
-    def end(*_):
-        late.append(True)
-        child.kill()
+    def tick(*_):
+        ticks.append(None)
+        if len(ticks) == seconds and child.returncode is None:
+            os.kill(child.pid, signal.SIGKILL)
 
-    old = signal.signal(signal.SIGALRM, end)
-    signal.setitimer(signal.ITIMER_REAL, seconds)
+    old = signal.signal(signal.SIGALRM, tick)
+    signal.setitimer(signal.ITIMER_REAL, 1, 1)
     try:
-        _, status, usage = os.wait4(child.pid, 0)
+        yield ticks
     finally:
         signal.setitimer(signal.ITIMER_REAL, 0)
         signal.signal(signal.SIGALRM, old)
-    child.returncode = os.waitstatus_to_exitcode(status)
-    return None if late else child.returncode, usage
+
+
+def wait_for(child, seconds):
+    """The child's status as `Ended` has it. It is killed after so many seconds."""
+    with time_limit(child, seconds) as ticks:
+        child.wait()
+    return None if len(ticks) >= seconds else child.returncode
 
 
 def peak_now(pid):
@@ -105,23 +114,28 @@ class Pieces(NamedTuple):
     waits: bool
 
 
-def await_reading(child, ends):
-    """Waits until the child has read all that is in its pipe, has ended, or the time is over."""
+def await_reading(child):
+    """Waits until the child has read all that is in its pipe, or has ended."""
     left = array.array("i", [1])
-    while left[0] and time.monotonic() < ends and child.poll() is None:
+    while left[0] and child.poll() is None:
         fcntl.ioctl(child.stdin.fileno(), termios.FIONREAD, left)
         time.sleep(0.0003)
 
 
-def feed(child, data, pieces, seconds):
+def put(pipe, data):
+    left = memoryview(data)
+    while left:
+        left = left[os.write(pipe, left):]
+
+
+def feed(child, data, pieces):
     """Writes the data to the child in pieces. It gives the child's peak once all is read, while it waits for more."""
-    ends = time.monotonic() + seconds
     try:
         for at in range(0, len(data), pieces.size):
-            os.write(child.stdin.fileno(), data[at:at + pieces.size])
+            put(child.stdin.fileno(), data[at:at + pieces.size])
             if pieces.waits:
-                await_reading(child, ends)
-        await_reading(child, ends)
+                await_reading(child)
+        await_reading(child)
         return peak_now(child.pid)
     except BrokenPipeError:
         return None
@@ -167,18 +181,11 @@ class Place:
 
     def end(self, seconds=SECONDS):
         """What the run left that was started last."""
-        child, peak = self.child, None
-        if self.pieces:
-            # What writes may wait for a program that hangs: it is killed then, and the write fails.
-            old = signal.signal(signal.SIGALRM, lambda *_: child.kill())
-            signal.setitimer(signal.ITIMER_REAL, seconds)
-            peak = feed(child, self.data, self.pieces, seconds)
-            signal.setitimer(signal.ITIMER_REAL, 0)
-            signal.signal(signal.SIGALRM, old)
-        if child.returncode is None:
-            status, _ = wait_for(child, seconds)
-        else:
-            status, peak = child.returncode, None
+        with time_limit(self.child, seconds) as ticks:
+            # What writes may wait for a program that hangs. Once that is killed, the write fails.
+            peak = feed(self.child, self.data, self.pieces) if self.pieces else None
+            self.child.wait()
+        status = None if len(ticks) >= seconds else self.child.returncode
         return Ended(status, contents_of(self.err), contents_of(self.out), *lanes_of(self.folder), peak)
 
 
@@ -251,7 +258,7 @@ class Calls:
 
     def end(self, child, out=None):
         """What the run left; `out` is standard output where it was no file."""
-        status, _ = wait_for(child, SECONDS)
+        status = wait_for(child, SECONDS)
         told = read_file(self.path("stdout")) if out is None else out
         lanes, others = lanes_of(self.folder) if os.path.isdir(self.folder) else ({}, [])
         return Ended(status, read_file(self.path("stderr")), told, lanes, others, None)
