@@ -3,7 +3,6 @@ use Rattle.std.proofs.Common.{◌≡◌, ◌⊎◌, inl, inr, ℕ, zero, suc, �
 use Rattle.std.specs.List.{AllZip}
 use Rattle.std.proofs.lemmas.Bool.{cases_eq}
 use Rattle.std.proofs.lemmas.List.{get_or-set_same, get_or-set_other, get_or-replicate, length-set, length-replicate}
-use Rattle.std.proofs.lemmas.List.Elements.{filter-append}
 use Rattle.fg_trace.specs.Trace.{Record}
 use Rattle.fg_shape.specs.declared.kind.Kind.{Kind}
 use Rattle.fg_shape.specs.Kind.{port_of}
@@ -13,7 +12,7 @@ use Rattle.fg_flows.specs.Sheaf.{Item}
 use Rattle.fg_results.specs.Flow.{is_of, records_of}
 use Rattle.fg_results.proofs.ArrivalLemmas.{one_more_record}
 use Rattle.fg_results.proofs.Zips.{zip_push, zip_length}
-use Rattle.fg_engine.proofs.Standing.{is_of_no, IsOfNone}
+use Rattle.fg_engine.proofs.Standing.{is_of_no, not_of, IsOfNone}
 use Rattle.fg_repair.specs.Batches.{IsItemOf, AreItemsOf}
 
 -- Two lists, place by place
@@ -32,12 +31,6 @@ module _ {A B : Type 0} (R : A → B → Type 0) (d : A) (e : B) where
   zip_places (x ∷ xs) (y ∷ ys) same each = (each zero (omega arith), zip_places xs ys (omega (arith, same)) (λ k below. each (suc k) (omega (arith, below))))
 
 -- One record more
-
-not_of : (port : ℕ) (records : List Record) (r : Record) → is_of port r ≡ false → records_of port (records ++ r ∷ []) ≡ records_of port records
-not_of port records r e =
-    filter-append (is_of port) records (r ∷ [])
-    ∙ ap (λ b. records_of port records ++ cond b (r ∷ []) []) e
-    ∙ append-nil (records_of port records)
 
 -- another flow has the items that it had
 others_hold : (port : ℕ) (batch : List Record) (r : Record) (items : List Item) → is_of port r ≡ false → AreItemsOf batch port items → AreItemsOf (batch ++ r ∷ []) port items
