@@ -5,6 +5,7 @@ mod Events
 mod Filled
 mod Follows
 mod Growing
+mod Holding
 mod Inputs
 mod Known
 mod Noting

@@ -24,14 +24,20 @@ use fg_words::Shared;
 use std::alloc::{AllocError, Global};
 use std::marker::Model;
 
-/// What a board's turn guards. It is two handles, so that it moves cheaply.
+/// What a flow's state holds.
+#[derive(Drop)]
+struct Held {
+    desk: Desk,
+    notes: Notes,
+}
+
+/// What a board's turn guards. It is one handle, so that it moves cheaply: each turn takes it out and puts it back.
 ///
 /// Contracts see the desk with what was solved between its plays, and the serial numbers of the equations that were
 /// vouched for and of those that are handed out.
 #[derive(Drop)]
 pub struct Flow {
-    desk: Box<Desk>,
-    notes: Notes,
+    held: Box<Held>,
 }
 
 impl Model for Flow {
@@ -43,9 +49,9 @@ impl Model for Flow {
 
     ghost coded = { board_code };
 
-    ghost view = { λ f. board_of f.desk.value f.notes };
+    ghost view = { λ f. board_of f.held.value.desk f.held.value.notes };
 
-    ghost invariant = { λ f. AreKept f.desk.value f.notes };
+    ghost invariant = { λ f. AreKept f.held.value.desk f.held.value.notes };
 }
 
 /// Whether a key's equation is live and no solved word was withdrawn since the key was given.
@@ -67,9 +73,12 @@ impl Flow {
         requires depth { (window ≤ depth) × (depth ≤ 1000) }
         ensures { IfOk result (λ flow. flow ≡ opened_board (record { window = window; depth = depth })) }
     {
-        Ok(Flow {
-            desk: Box::new(alloc, Desk::new(alloc, window, depth)?)?,
+        let held = Held {
+            desk: Desk::new(alloc, window, depth)?,
             notes: Notes::new(alloc)?,
+        };
+        Ok(Flow {
+            held: Box::new(alloc, held)?,
         })
     }
 
@@ -77,14 +86,14 @@ impl Flow {
     pub fn top(&self) -> Option<(u64, u16)>
         ensures { option_map (λ top. record { position = top.0; seq = top.1 }) result ≡ self.now.desk.state.top }
     {
-        self.desk.top()
+        self.held.desk.top()
     }
 
     /// The first position that isn't played yet.
     pub fn mark(&self) -> u64
         ensures { result ≡ self.now.desk.state.mark }
     {
-        self.desk.mark()
+        self.held.desk.mark()
     }
 
     /// A share that the desk let go, where it has one, for the payload of the next datagram. Somebody else may have a share
@@ -92,7 +101,7 @@ impl Flow {
     pub fn spare(&mut self) -> Option<Shared>
         ensures { self.new ≡ self.old }
     {
-        self.desk.spare()
+        self.held.desk.spare()
     }
 
     /// Admits a media datagram, or says why not.
@@ -102,7 +111,7 @@ impl Flow {
         requires media { IsMedia share }
         ensures { AdmitsMediaOn self.old seq share result self.new }
     {
-        self.desk.admit_media(seq, share)
+        self.held.desk.admit_media(seq, share)
     }
 
     /// Admits a parity datagram's equation, with a key to it, or says why not.
@@ -113,10 +122,10 @@ impl Flow {
             (record { base = base; offset = shape.offset; count = shape.na; word = share })
             result.0 result.1 self.new }
     {
-        facts(&self.desk);
-        let serial = self.desk.admitted();
-        let (reply, place) = self.desk.admit_placed(base, shape, share);
-        let epoch = self.desk.epoch();
+        facts(&self.held.desk);
+        let serial = self.held.desk.admitted();
+        let (reply, place) = self.held.desk.admit_placed(base, shape, share);
+        let epoch = self.held.desk.epoch();
         match place {
             Some(place) => {
                 let key = Key {
@@ -139,7 +148,7 @@ impl Flow {
         ensures count { result.count ≡ length tray.new.shown }
         ensures tray { tray.new.window ≡ tray.old.window }
     {
-        self.desk.play(tray)
+        self.held.desk.play(tray)
     }
 
     /// Makes a flush step, where one is defined.
@@ -151,7 +160,7 @@ impl Flow {
         ensures none { IfNone result (tray.new ≡ tray.old) }
         ensures tray { tray.new.window ≡ tray.old.window }
     {
-        self.desk.flush_step(tray)
+        self.held.desk.flush_step(tray)
     }
 
     /// Hands out the open equation of the least serial number, with a share of each word known at its slots. Want of
@@ -161,10 +170,10 @@ impl Flow {
         ensures taken { IfOk result (λ job. Takes self.old job self.new) }
         ensures none { IfErr result (λ _. self.new ≡ self.old) }
     {
-        let Some(key) = next_open(&self.desk, &self.notes) else {
+        let Some(key) = next_open(&self.held.desk, &self.held.notes) else {
             return Ok(None);
         };
-        let work = work_of(alloc, &self.desk, key)?;
+        let work = work_of(alloc, &self.held.desk, key)?;
         self.hand(key, true);
         Ok(Some(work))
     }
@@ -178,10 +187,10 @@ impl Flow {
         if !self.holds(key) {
             return self.gone();
         }
-        if self.desk.word(slot).is_some() {
+        if self.held.desk.word(slot).is_some() {
             return Fate::Beaten(slot);
         }
-        self.desk.fill(key.place, slot, share);
+        self.held.desk.fill(key.place, slot, share);
         Fate::Done
     }
 
@@ -252,11 +261,11 @@ impl Flow {
     {
         if !self.holds(key) {
             return Look::Gone {
-                mark: self.desk.mark(),
-                epoch: self.desk.epoch(),
+                mark: self.held.desk.mark(),
+                epoch: self.held.desk.epoch(),
             };
         }
-        match self.desk.word(slot) {
+        match self.held.desk.word(slot) {
             Some(word) => Look::Known(*word),
             None => Look::Unknown,
         }
@@ -269,18 +278,18 @@ impl Flow {
     {
         if !self.holds(key) {
             return Asked::Gone {
-                mark: self.desk.mark(),
-                epoch: self.desk.epoch(),
+                mark: self.held.desk.mark(),
+                epoch: self.held.desk.epoch(),
             };
         }
-        equation_at(&self.desk, key)
+        equation_at(&self.held.desk, key)
     }
 
     /// Whether a key's equation is live and no solved word was withdrawn since the key was given.
     fn holds(&self, key: Key) -> bool
         ensures { IsTrue result ↔ IsHeld self.now key }
     {
-        is_held(&self.desk, key)
+        is_held(&self.held.desk, key)
     }
 
     /// Tells that a key's equation is gone.
@@ -288,8 +297,8 @@ impl Flow {
         ensures { result ≡ Fate.Gone self.now.desk.state.mark self.now.desk.epoch }
     {
         Fate::Gone {
-            mark: self.desk.mark(),
-            epoch: self.desk.epoch(),
+            mark: self.held.desk.mark(),
+            epoch: self.held.desk.epoch(),
         }
     }
 
@@ -298,11 +307,11 @@ impl Flow {
         requires { (live : Live) × IsCurrent self.old key live × IsSettled (known_in self.old.desk) live.equation }
         ensures { self.new ≡ with_vouched self.old key.serial }
     {
-        facts(&self.desk);
-        self.desk.vouch(key.place);
-        let mut note = note_of(&self.notes, key);
+        facts(&self.held.desk);
+        self.held.desk.vouch(key.place);
+        let mut note = note_of(&self.held.notes, key);
         note.vouched = true;
-        self.notes.put(key.place, note);
+        self.held.notes.put(key.place, note);
     }
 
     /// Notes an equation as handed out, or as handed out no more.
@@ -310,9 +319,9 @@ impl Flow {
         requires { IsHeld self.old key }
         ensures { self.new ≡ with_handed self.old key.serial out }
     {
-        facts(&self.desk);
-        let mut note = note_of(&self.notes, key);
+        facts(&self.held.desk);
+        let mut note = note_of(&self.held.notes, key);
         note.handed_out = out;
-        self.notes.put(key.place, note);
+        self.held.notes.put(key.place, note);
     }
 }

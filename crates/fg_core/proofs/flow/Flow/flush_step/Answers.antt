@@ -1,11 +1,13 @@
-use Rattle.std.proofs.Common.{◌≡◌, length, Option, Some, None, IfSome, IfNone, option_map, subst}
+use Rattle.std.proofs.Common.{◌≡◌, List, sym, length, Option, Some, None, IfSome, IfNone, option_map, subst}
 use Rattle.fg_desk.specs.declared.desk.Played.{Played}
 use Rattle.fg_desk.specs.Contents.{Contents, ChangesInPlay}
 use Rattle.fg_playout.specs.Play.{Flushes}
 use Rattle.fg_core.specs.Board.{BoardState, FlushesOn}
 use Rattle.fg_core.specs.Core.{play_of}
 use Rattle.fg_core.specs.Flow.{board_of}
+use Rattle.fg_core.specs.declared.notes.Note.{Note}
 use Rattle.fg_core.proofs.Calling.{flushes_on}
+use Rattle.fg_core.proofs.Holding.{desk_of, notes_of}
 use Rattle.fg_core.proofs.flow.Flow.flush_step.Goals as goal
 
 first_of : (P Q : Type 0) (result : Option Played) → IfNone result (P × Q) → IfNone result P
@@ -15,15 +17,17 @@ first_of P Q (Some played) both = both
 pub returns-clause-flushes : goal.returns-clause-flushes
 returns-clause-flushes c =
     let f = c.self.inside in
-    let old : Contents = f.desk.value in
+    let old : Contents = f.held.value.desk in
     let new : Contents = c.flush_step.new.self in
     let shown = c.flush_step.new.tray.shown in
-    let value = c.deref_mut.ensures.value in
+    let value = desk_of c.deref_mut.ensures.value in
     let result = c.flush_step.result in
     let e = c.flush_step.ensures in
-    subst (λ (b : BoardState). FlushesOn b (option_map (λ played. play_of played shown) result) (board_of new f.notes)) c.self.view_is
-    (flushes_on old new f.notes c.self.invariant result shown
+    subst (λ (notes : List Note). FlushesOn c.args.self.now (option_map (λ played. play_of played shown) result) (board_of new notes))
+    (sym (notes_of c.deref_mut.ensures.value))
+    (subst (λ (b : BoardState). FlushesOn b (option_map (λ played. play_of played shown) result) (board_of new f.held.value.notes)) c.self.view_is
+    (flushes_on old new f.held.value.notes c.self.invariant result shown
     (subst (λ (d : Contents). Flushes d.state (option_map (λ played. play_of played shown) result) new.state) value e.flushes)
     (subst (λ (d : Contents). IfSome result (λ played. (played.count ≡ length shown) × ChangesInPlay played.verdict d new)) value e.some)
     (subst (λ (d : Contents). IfNone result (new ≡ record d { state = new.state })) value
-    (first_of (new ≡ record c.deref_mut.result.now { state = new.state }) (c.flush_step.new.tray ≡ c.args.tray.now) result e.none)))
+    (first_of (new ≡ record c.deref_mut.result.now.desk { state = new.state }) (c.flush_step.new.tray ≡ c.args.tray.now) result e.none))))

@@ -6,21 +6,23 @@ use Rattle.fg_core.specs.Board.{BoardState, JobState, IsOpen, IsJobOf, VouchedAr
 use Rattle.fg_core.specs.Flow.{board_of, IsKeyOfOpen, IsReady}
 use Rattle.fg_core.specs.declared.key.Key.{Key}
 use Rattle.fg_core.proofs.Opening.{ready_of, job_on}
+use Rattle.fg_core.proofs.Holding.{desk_of, notes_of}
 use Rattle.fg_core.proofs.flow.Flow.take.Goals as goal
 
 pub next_open-requires-clause-vouched : goal.next_open-requires-clause-vouched
 next_open-requires-clause-vouched c =
-    let f = c.self.inside in
-    subst VouchedAreComplete (sym (ap (λ (d : Contents). board_of d f.notes) c.deref.ensures ∙ c.self.view_is)) c.requires
+    subst VouchedAreComplete
+    (sym ((λ i. board_of (desk_of c.deref.ensures i) (notes_of c.deref-2.ensures i)) ∙ c.self.view_is)) c.requires
 
 pub returns-clause-taken : goal.returns-clause-taken
 returns-clause-taken c =
-    let f = c.self.inside in
     let now : BoardState = c.args.self.now in
     let key : Key = c.in-Some.key in
     let work : JobState = c.in_ok-work.work in
-    let board_is : board_of c.deref.result.now f.notes ≡ now = ap (λ (d : Contents). board_of d f.notes) c.deref.ensures ∙ c.self.view_is in
-    let desk_is : c.deref-2.result.now ≡ now.desk = c.deref-2.ensures ∙ ap (λ (b : BoardState). b.desk) c.self.view_is in
+    let board_is : board_of c.deref.result.now.desk c.deref-2.result.now.notes ≡ now =
+    (λ i. board_of (desk_of c.deref.ensures i) (notes_of c.deref-2.ensures i)) ∙ c.self.view_is in
+    let desk_is : c.deref-3.result.now.desk ≡ now.desk =
+    desk_of c.deref-3.ensures ∙ ap (λ (b : BoardState). b.desk) c.self.view_is in
     let opened : IsKeyOfOpen now key = subst (λ (b : BoardState). IsKeyOfOpen b key) board_is c.in-Some.ensures.open in
     let least : (serial : ℕ) (live : Live) → IsOpen now serial live → key.serial ≤ serial =
     subst (λ (b : BoardState). (serial : ℕ) (live : Live) → IsOpen b serial live → key.serial ≤ serial) board_is c.in-Some.ensures.least in
