@@ -7,10 +7,9 @@ use Rattle.fg_trace.specs.declared.step.Finish.TheVariants as finish
 use Rattle.fg_trace.specs.Finish.{IsFault, finish_after}
 use Rattle.fg_results.specs.Counted.{RepairCounts, CountsBeside}
 use Rattle.fg_results.specs.Stops.{Growth, ByRecord, ByBatch}
-use Rattle.fg_results.proofs.CountLemmas.{broken_counts, whole_counts}
+use Rattle.fg_results.proofs.CountLemmas.{broken_counts, whole_counts, read_only, write_only}
 use Rattle.fg_engine.specs.Driver.{PartCounts}
 use Rattle.fg_engine.specs.Engine.{answer_of}
-use Rattle.fg_engine.proofs.Results.{read_only, write_only}
 
 -- Batch by batch
 

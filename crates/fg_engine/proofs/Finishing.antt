@@ -25,8 +25,8 @@ use Rattle.fg_results.specs.Repair.{Gain, Finishes, lanes_of, tail_of, report_te
 use Rattle.fg_io.specs.declared.fault.Fault.{Fault}
 use Rattle.fg_io.specs.declared.fault.Fault.TheVariants.{Read, Write, Memory}
 use Rattle.fg_results.proofs.RepairLemmas.{PutsPartOfReport, stopped_repair, stopped_report}
+use Rattle.fg_results.proofs.CountLemmas.{read_only}
 use Rattle.fg_engine.proofs.Reaching.{none_made}
-use Rattle.fg_engine.proofs.Results.{read_only}
 use Rattle.fg_engine.proofs.Writing.{none_stops}
 
 -- The report

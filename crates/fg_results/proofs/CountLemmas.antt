@@ -46,15 +46,15 @@ counts_beside (Err fault) sources sinks h = record {
 }
 
 -- The answer tells a fault of reading, or of writing, where the fault is one.
-after_read : (fault : Fault) → finish_after fault ≡ finish.ReadFault → fault ≡ Read
-after_read Read is = refl
-after_read Write is = absurd (cc is)
-after_read Memory is = absurd (cc is)
+pub read_only : (fault : Fault) → finish_after fault ≡ finish.ReadFault → fault ≡ Read
+read_only Read is = refl
+read_only Write is = absurd (cc is)
+read_only Memory is = absurd (cc is)
 
-after_write : (fault : Fault) → finish_after fault ≡ finish.WriteFault → fault ≡ Write
-after_write Read is = absurd (cc is)
-after_write Write is = refl
-after_write Memory is = absurd (cc is)
+pub write_only : (fault : Fault) → finish_after fault ≡ finish.WriteFault → fault ≡ Write
+write_only Read is = absurd (cc is)
+write_only Write is = refl
+write_only Memory is = absurd (cc is)
 
 breaks_off : (fault : Fault) → IsFault (finish_after fault)
 breaks_off Read = tt
@@ -69,8 +69,8 @@ broken_counts (Ok x) fault sources sinks is h = absurd (cc is)
 broken_counts (Err other) fault sources sinks is h =
     let same : other ≡ fault = cc is in
     record {
-      read = λ told. h.read (same ∙ after_read fault told);
-      write = λ told. h.write (same ∙ after_write fault told);
+      read = λ told. h.read (same ∙ read_only fault told);
+      write = λ told. h.write (same ∙ write_only fault told);
       no_read = λ none. absurd (none (breaks_off fault));
       no_write = λ none. h.no_write (λ told. none (ap finish_after (sym same ∙ told)));
       rise = h.rise;

@@ -7,8 +7,9 @@ use Rattle.fg_report.specs.declared.tail.Tail.{Tail}
 use Rattle.fg_trace.specs.Finish.{finish_after}
 use Rattle.fg_trace.specs.Reading.{HasReached}
 use Rattle.fg_results.proofs.RepairLemmas.{whole_repair}
+use Rattle.fg_results.proofs.CountLemmas.{read_only}
 use Rattle.fg_engine.specs.Engine.{LanesStop, TookAll, told_finish, answer_of}
-use Rattle.fg_engine.proofs.Results.{same_cause, passed_on, read_only}
+use Rattle.fg_engine.proofs.Results.{same_cause, passed_on}
 use Rattle.fg_engine.proofs.Reaching.{told_ends, read_for, fault_reached, reached_end, magic_refuses}
 use Rattle.fg_engine.proofs.Finishing.{stopped, stopped_in_report, finished}
 use Rattle.fg_engine.proofs.Writing.{ready, took_flushing, flush_stops, all_whole}

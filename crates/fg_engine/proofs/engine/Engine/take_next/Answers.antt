@@ -6,8 +6,9 @@ use Rattle.fg_io.specs.Outlet.{Lanes}
 use Rattle.fg_io.specs.declared.fault.Fault.{Fault}
 use Rattle.fg_trace.specs.Finish.{finish_after}
 use Rattle.fg_results.specs.Stops.{ByRecord}
+use Rattle.fg_results.proofs.CountLemmas.{read_only}
 use Rattle.fg_engine.specs.Engine.{HasWalked, LanesStop}
-use Rattle.fg_engine.proofs.Results.{passed_on, read_only}
+use Rattle.fg_engine.proofs.Results.{passed_on}
 use Rattle.fg_engine.proofs.Walking.{running, stop_at_record, stop_at_fault, took_all}
 use Rattle.fg_engine.proofs.engine.Engine.take_next.Goals as goal
 
