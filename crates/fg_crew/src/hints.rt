@@ -1,11 +1,11 @@
 //! Hints to workers, and how workers rest.
 ghost use Rattle.std.specs.Prelude.{◌<◌, ◌^◌};
 
-use crate::pace::Pace;
 use crossbeam_queue::ArrayQueue;
 use std::alloc::{AllocError, Global};
 use std::sync::Wait;
 use std::sync::atomic::{AtomicU64, Ordering};
+use std::time::Duration;
 
 /// How many hints can wait. A hint that finds no room is lost, which changes no result.
 pub const HINTS_LIMIT: usize = 1_024;
@@ -66,9 +66,8 @@ impl Hints {
         self.stopped.load(Ordering::SeqCst) > 0
     }
 
-    /// Rests for a while, or until the workers are to stop.
-    pub(crate) fn rest<W: Wait>(&self, wait: &W, pace: &mut Pace) {
-        let long = pace.next(self.found());
+    /// Rests so long, or until the workers are to stop.
+    pub(crate) fn rest<W: Wait>(&self, wait: &W, long: Duration) {
         self.stopped.park_timeout(wait, 0, long);
     }
 }

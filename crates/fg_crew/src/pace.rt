@@ -4,10 +4,10 @@ ghost use Rattle.std.specs.Prelude.{◌≡◌, ◌≢◌, ◌≤◌, ◌*◌, �
 use std::time::Duration;
 
 /// The shortest rest, in microseconds.
-const SHORTEST: u64 = 500;
+const SHORTEST: u64 = 1_000;
 
 /// The longest rest, in microseconds.
-const LONGEST: u64 = 2_000;
+const LONGEST: u64 = 8_000;
 
 /// The rests of one worker: each is twice as long as the one before, up to the longest, until a word is found.
 #[derive(Drop)]
@@ -16,7 +16,7 @@ pub(crate) struct Pace {
     micros: u64,
     /// How many words were found before it.
     found: u64,
-    ghost bounded: { micros ≤ 2000 },
+    ghost bounded: { micros ≤ 8000 },
 }
 
 impl Pace {
@@ -30,11 +30,9 @@ impl Pace {
         }
     }
 
-    /// That of a worker which is not needed now, up to its next word: its rests are the longest.
-    pub(crate) fn slow(&mut self)
-        ensures { self.new.micros ≡ LONGEST }
-    {
-        self.micros = LONGEST;
+    /// How long a worker rests that is not needed now.
+    pub(crate) fn longest() -> Duration {
+        Duration::from_micros(LONGEST)
     }
 
     /// How long to rest now, where so many words are found.

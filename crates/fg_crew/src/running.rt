@@ -151,12 +151,13 @@ fn help<W: Wait, C: Chore, G: Gate>(
         if hints.is_stopped() {
             return;
         }
-        if worker <= needed || hints.count(wait) >= BACKLOG {
+        let long = if worker <= needed || hints.count(wait) >= BACKLOG {
             do_round(wait, own, chore, worker, hints);
+            pace.next(hints.found())
         } else {
-            pace.slow();
-        }
-        hints.rest(wait, &mut pace);
+            Pace::longest()
+        };
+        hints.rest(wait, long);
     }
     unreachable!()
 }

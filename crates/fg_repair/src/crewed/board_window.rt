@@ -13,11 +13,8 @@ use fg_shape::Shape;
 use fg_words::{Shared, Word};
 use std::sync::Wait;
 
-/// After how many admitted datagrams at most the workers are told. To tell takes two atomic steps that lock a word of memory.
-const TOLD_TOGETHER: u32 = 16;
-
-/// A flow's windows on its board. Its workers are told and hinted of what is admitted: at each parity datagram, before what plays,
-/// and in between after so many media datagrams.
+/// A flow's windows on its board. Its workers are told and hinted of what is admitted: before what plays, and in between after so
+/// many datagrams.
 #[derive(Drop)]
 pub(crate) struct BoardWindow<'a, W: Wait, G: Hears> {
     pub(crate) wait: &'a W,
@@ -54,10 +51,8 @@ impl<'a, W: Wait, G: Hears> WindowState for BoardWindow<'a, W, G> {
         let reply = self.admitter.admit_media(self.wait, self.board, seq, share);
         if let Reply::Admitted = reply {
             self.progress.add_media(&self.signal.arrivals, seq);
-            if self.progress.untold() >= TOLD_TOGETHER {
-                self.signal
-                    .tell_progress(&mut self.progress, self.wait, self.hints, self.flow);
-            }
+            self.signal
+                .tell_much(&mut self.progress, self.wait, self.hints, self.flow);
         }
         reply
     }
@@ -74,7 +69,7 @@ impl<'a, W: Wait, G: Hears> WindowState for BoardWindow<'a, W, G> {
             });
             self.progress.add();
             self.signal
-                .tell_progress(&mut self.progress, self.wait, self.hints, self.flow);
+                .tell_much(&mut self.progress, self.wait, self.hints, self.flow);
         }
         reply
     }

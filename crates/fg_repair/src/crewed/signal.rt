@@ -7,6 +7,9 @@ use std::alloc::{AllocError, Global};
 use std::sync::Wait;
 use std::sync::atomic::{AtomicBool, AtomicU64, Ordering};
 
+/// How many admitted datagrams are told together. To tell takes two atomic steps that lock a word of memory.
+const TOLD_TOGETHER: u32 = 16;
+
 /// What is told of a flow beside its board and its tallies. It only saves visits and looks: nothing rests on it.
 #[derive(Drop)]
 pub(crate) struct Signal {
@@ -39,6 +42,19 @@ impl Signal {
     ) {
         if progress.tell(&self.arrivals) {
             self.tell_change(wait, hints, flow);
+        }
+    }
+
+    /// As `tell_progress`, once so many datagrams were admitted.
+    pub(crate) fn tell_much<W: Wait>(
+        &self,
+        progress: &mut Progress,
+        wait: &W,
+        hints: &Hints,
+        flow: u32,
+    ) {
+        if progress.untold() >= TOLD_TOGETHER {
+            self.tell_progress(progress, wait, hints, flow);
         }
     }
 
