@@ -4,7 +4,7 @@ ghost use Rattle.std.specs.Prelude.{◌≡◌, ◌≢◌, ◌≤◌, ◌*◌, �
 use std::time::Duration;
 
 /// The shortest rest, in microseconds.
-const SHORTEST: u64 = 1_000;
+const SHORTEST: u64 = 2_000;
 
 /// The longest rest, in microseconds.
 const LONGEST: u64 = 8_000;
