@@ -1,17 +1,3 @@
-pub mod Ahead
-pub mod Batched
-pub mod Cases
-pub mod Counting
 pub mod Crewing
 pub mod Crossing
-pub mod Emptied
-pub mod Emptying
-pub mod Exchanged
-pub mod Gathered
-pub mod Gathering
-pub mod Playing
-pub mod Runs
 pub mod Slots
-pub mod Stepped
-pub mod Stopped
-pub mod Walked

@@ -1,6 +1,2 @@
 -- The definitions that the contracts of this crate cite.
-pub mod BatchView
-pub mod Batches
 pub mod Crewed
-pub mod Gathering
-pub mod Walking

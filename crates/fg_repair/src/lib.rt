@@ -1,7 +1,6 @@
 //! The repair of a trace with workers: one repaired stream for each flow, and a report.
 #![tactic(auto)]
 
-mod batches;
 mod crewed;
 mod planned;
 

@@ -9,11 +9,11 @@ ghost use Rattle.fg_results.specs.Stops.{ByBatch};
 ghost use Rattle.fg_board.specs.Actors.{desk_of};
 ghost use Rattle.fg_repair.specs.Crewed.{HostAll, IsNewHost, CanBegin};
 
-use crate::batches::repair_in_batches;
 use crate::crewed::arrivals::Progress;
 use crate::crewed::board_window::BoardWindow;
 use crate::crewed::points::Hears;
 use crate::crewed::post::{Host, Post};
+use fg_batches::repair_in_batches;
 use fg_crew::{Gate, Hints};
 use fg_engine::{WindowState, give_up, repair_windows};
 use fg_flows::Plan;

@@ -1,0 +1,14 @@
+pub mod Ahead
+pub mod Batched
+pub mod Cases
+pub mod Counting
+pub mod Emptied
+pub mod Exchanged
+pub mod Gathered
+pub mod HeldRecords
+pub mod Playing
+pub mod PutShelves
+pub mod Runs
+pub mod Stepped
+pub mod Stopped
+pub mod Walked

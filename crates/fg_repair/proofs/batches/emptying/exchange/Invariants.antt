@@ -1,5 +1,0 @@
-use Rattle.fg_repair.proofs.Exchanged.{FirstExchanged}
-use Rattle.fg_repair.proofs.batches.emptying.exchange.Given as goal
-
-abbrev pub invariant-loop-k : goal.invariant-loop-k
-invariant-loop-k g l = FirstExchanged l.k l.fn.flows l.flows l.fn.shelves l.shelves
