@@ -16,7 +16,13 @@ use std::thread::Threads;
 
 /// Repairs the flows of a trace over these windows, which are those of the plan's flows in their order, and empty. Their
 /// records are taken batch by batch, and the flows run those of a batch side by side.
-pub fn repair_in_batches<W: Threads + Sync, D: WindowState + Send, S: Source, K: Sink, O: Outlet>(
+pub fn repair_in_batches<
+    W: Threads + Sync,
+    D: WindowState + Send,
+    S: Source + Send,
+    K: Sink,
+    O: Outlet + Send,
+>(
     rt: &W,
     alloc: Global,
     plan: &Plan,

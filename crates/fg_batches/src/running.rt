@@ -29,7 +29,7 @@ pub(crate) fn run_side_by_side<W: Threads + Sync, D: WindowState + Send>(
     run_both(rt, alloc, sheaf, others, own, here)
 }
 
-/// Has some flows run their records of a batch in another thread, where one can be made, and those from `own` on in this one.
+/// Has some flows run their records of a batch in this thread, and those from `own` on in another one, where one can be made.
 ///
 /// # Errors
 ///
@@ -56,7 +56,7 @@ fn run_both<W: Threads + Sync, D: WindowState + Send>(
         requires { CanRunFrom sheaf.now own here.now }
         ensures { OnOk result (HaveRunFrom sheaf.entry.now own here.entry.now here.exit.now) }
     { run_flows(alloc_here, sheaf, own, here) };
-    let (ran, ran_here) = join_mut(rt, &mut run_others, &mut run_here);
+    let (ran_here, ran) = join_mut(rt, &mut run_here, &mut run_others);
     ran?;
     ran_here
 }

@@ -116,7 +116,7 @@ pub(crate) fn flows_alone<D: WindowState>(
 /// Of several faults the one that comes first in the trace: [`Fault::Write`], a put failed; [`Fault::Memory`], a flow found no
 /// memory; [`Fault::Read`], a read failed. Where only a read failed, what the flows have shown is put too, and where that fails,
 /// it is [`Fault::Write`].
-pub(crate) fn step<W: Threads + Sync, D: WindowState + Send, S: Source, O: Outlet>(
+pub(crate) fn step<W: Threads + Sync, D: WindowState + Send, S: Source + Send, O: Outlet + Send>(
     rt: &W,
     alloc: Global,
     plan: &Plan,
@@ -172,10 +172,9 @@ pub(crate) fn step<W: Threads + Sync, D: WindowState + Send, S: Source, O: Outle
     }
 }
 
-/// Has the flows run a batch, in another thread where one can be made. In this one what waits is put to the lanes, then the next batch
-/// is read, and then those flows run that are to run beside the others. Answers what [`put_and_read`] does, and whether each flow found
-/// memory.
-fn run_beside_reading<W: Threads + Sync, D: WindowState + Send, S: Source, O: Outlet>(
+/// Has the flows run a batch. In another thread, where one can be made, what waits is put to the lanes, then the next batch is read, and
+/// then those flows run that are to run beside the others. Answers what [`put_and_read`] does, and whether each flow found memory.
+fn run_beside_reading<W: Threads + Sync, D: WindowState + Send, S: Source + Send, O: Outlet + Send>(
     rt: &W,
     alloc: Global,
     plan: &Plan,
@@ -225,7 +224,7 @@ fn run_beside_reading<W: Threads + Sync, D: WindowState + Send, S: Source, O: Ou
 }
 
 /// As [`run_beside_reading`], of the parts of the batches.
-fn run_and_read<W: Threads + Sync, D: WindowState + Send, S: Source, O: Outlet>(
+fn run_and_read<W: Threads + Sync, D: WindowState + Send, S: Source + Send, O: Outlet + Send>(
     rt: &W,
     alloc: Global,
     plan: &Plan,
@@ -268,9 +267,9 @@ fn run_and_read<W: Threads + Sync, D: WindowState + Send, S: Source, O: Outlet>(
     )
 }
 
-/// Has some flows run their records of a batch in another thread, where one can be made. In this one what waits is put to the lanes,
-/// then the next batch is read, and then the flows from `own` on run.
-fn run_both_and_read<W: Threads + Sync, D: WindowState + Send, S: Source, O: Outlet>(
+/// Has some flows run their records of a batch. In another thread, where one can be made, what waits is put to the lanes, then the
+/// next batch is read, and then the flows from `own` on run: so most flows stay with one processor from batch to batch.
+fn run_both_and_read<W: Threads + Sync, D: WindowState + Send, S: Source + Send, O: Outlet + Send>(
     rt: &W,
     alloc: Global,
     plan: &Plan,
@@ -345,7 +344,7 @@ fn run_both_and_read<W: Threads + Sync, D: WindowState + Send, S: Source, O: Out
         let put = put_and_read(plan, gathering, reader, input, lanes, shelves);
         (put, run_flows(alloc_here, sheaf, own, here))
     };
-    let (ran, (put, ran_here)) = join_mut(rt, &mut run_others, &mut read_and_run);
+    let ((put, ran_here), ran) = join_mut(rt, &mut read_and_run, &mut run_others);
     (put, both(ran, ran_here))
 }
 

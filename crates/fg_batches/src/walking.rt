@@ -30,7 +30,12 @@ use std::thread::Threads;
 /// Takes all records that are left, batch by batch, and answers how the trace ends. The flows run their records of a batch side
 /// by side, and beside that what they have shown of the batch before goes to the lanes, and the batch after it is read. All memory
 /// for the records is taken first.
-pub(crate) fn take_in_batches<W: Threads + Sync, D: WindowState + Send, S: Source, O: Outlet>(
+pub(crate) fn take_in_batches<
+    W: Threads + Sync,
+    D: WindowState + Send,
+    S: Source + Send,
+    O: Outlet + Send,
+>(
     rt: &W,
     alloc: Global,
     plan: &Plan,
@@ -78,7 +83,7 @@ pub(crate) fn take_in_batches<W: Threads + Sync, D: WindowState + Send, S: Sourc
 }
 
 /// Reads all records that are left, and answers how the trace ends. All batches but the last are run.
-fn read_all<W: Threads + Sync, D: WindowState + Send, S: Source, O: Outlet>(
+fn read_all<W: Threads + Sync, D: WindowState + Send, S: Source + Send, O: Outlet + Send>(
     rt: &W,
     alloc: Global,
     plan: &Plan,
