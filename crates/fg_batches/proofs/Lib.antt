@@ -1,6 +1,5 @@
 pub mod Ahead
 pub mod Batched
-pub mod Beside
 pub mod Cases
 pub mod Counting
 pub mod Emptied

@@ -1,7 +1,7 @@
 -- Which flows may play.
-use Rattle.std.proofs.Common.{◌≡◌, ◌⊎◌, inl, inr, ℕ, ◌+◌, ◌<◌, ◌≤◌, Option, Some, None, IfSome, IfNone, List, length, sym, ◌∙◌, subst, arith, slice_index_or}
+use Rattle.std.proofs.Common.{◌≡◌, ◌⊎◌, inl, inr, ℕ, zero, suc, ◌+◌, ◌<◌, ◌≤◌, Option, Some, None, IfSome, IfNone, List, length, sym, ◌∙◌, subst, arith, slice_index_or}
 use Rattle.std.specs.List.{slice_get}
-use Rattle.std.proofs.lemmas.Bool.{cases_eq, cases_lt}
+use Rattle.std.proofs.lemmas.Bool.{cases_eq}
 use Rattle.fg_flows.specs.Sheaf.{Item, SheafState, items_of}
 use Rattle.fg_batches.specs.BatchView.{BatchView}
 use Rattle.fg_batches.specs.Batches.{HasNumber, HaveNoNumber, IsLastNumber, MayPlay, TwoMayPlay}
@@ -51,96 +51,84 @@ found_still items k item (Some seq) at never h = record {
 }
 found_still items k item None at never h = none_more items 0 k item at never h
 
--- Which flows may play
+-- How many flows may play
 
-module _ (flows : List BatchView) (sheaf : SheafState) where
-  abbrev pub May : ℕ → BatchView → Type 0
-  May k d = MayPlay (slice_index_or flows k d).flow (items_of sheaf k)
+abbrev pub May : List BatchView → SheafState → BatchView → ℕ → Type 0
+May flows sheaf d k = MayPlay (slice_index_or flows k d).flow (items_of sheaf k)
 
-  -- None of these may.
-  abbrev pub NoneMay : ℕ → ℕ → Type 0
-  NoneMay first end = (k : ℕ) (d : BatchView) → first ≤ k → k < end → May k d → ⊥
+-- of the first flows: none, one, or two at least
+abbrev pub Playing : List BatchView → SheafState → BatchView → ℕ → ℕ → Type 0
+Playing flows sheaf d end zero = (k : ℕ) → k < end → May flows sheaf d k → ⊥
+Playing flows sheaf d end (suc zero) = (one : ℕ) × (one < end) × May flows sheaf d one × ((k : ℕ) → k < end → (k ≡ one → ⊥) → May flows sheaf d k → ⊥)
+Playing flows sheaf d end (suc (suc n)) = TwoMayPlay flows sheaf d
 
-  -- The last of the first flows that may play
-  pub record IsLast (end last : ℕ) : Type 0 where
-    pub before : last < end
-    pub may : (d : BatchView) → May last d
-    pub later : NoneMay (last + 1) end
+module _ (flows : List BatchView) (sheaf : SheafState) (d : BatchView) where
+  pub playing_none : Playing flows sheaf d 0 0
+  playing_none = λ k below. absurd (omega arith)
 
-  abbrev pub LastPlaying : ℕ → Option ℕ → Type 0
-  LastPlaying end (Some last) = IsLast end last
-  LastPlaying end None = NoneMay 0 end
+  but_here : (end : ℕ) → ((k : ℕ) → k < end → May flows sheaf d k → ⊥) → (k : ℕ) → k < end + 1 → (k ≡ end → ⊥) → May flows sheaf d k → ⊥
+  but_here end none k below ne may = none k (omega arith) may
 
-  pub playing_none : LastPlaying 0 None
-  playing_none = λ k d past below. absurd (omega arith)
-
-  pub playing_here : (end : ℕ) → ((d : BatchView) → May end d) → LastPlaying (end + 1) (Some end)
-  playing_here end may = record { before = omega arith; may = may; later = λ k d past below. absurd (omega arith) }
-
-  but_one :
-      (first end k : ℕ) (d : BatchView) → ((d : BatchView) → May end d → ⊥) → NoneMay first end → first ≤ k → k < end + 1 → May k d
-      → (k ≡ end) ⊎ (k ≡ end → ⊥) → ⊥
-  but_one first end k d never none past below may (inl e) = never d (subst (λ j. May j d) e may)
-  but_one first end k d never none past below may (inr ne) = none k d past (omega arith) may
-
-  pub playing_still : (end : ℕ) (last : Option ℕ) → ((d : BatchView) → May end d → ⊥) → LastPlaying end last → LastPlaying (end + 1) last
-  playing_still end (Some last) never h = record {
-    before = (let before : last < end = h.before in omega arith);
-    may = h.may;
-    later = λ k d past below may. but_one (last + 1) end k d never h.later past below may (cases_eq k end);
-  }
-  playing_still end None never none = λ k d past below may. but_one 0 end k d never none past below may (cases_eq k end)
-
-  -- What was found of the first flows
-
-  pub last_before : (end k : ℕ) (last : Option ℕ) → k ≤ end → LastPlaying k last → IfSome last (λ i. i < end)
-  last_before end k (Some last) within h = (let before : last < k = h.before in omega arith)
-  last_before end k None within h = tt
-
-  pub last_may : (k : ℕ) (last : Option ℕ) → LastPlaying k last → IfSome last (λ i. (d : BatchView) → May i d)
-  last_may k (Some last) h = h.may
-  last_may k None h = tt
-
-  pub last_later : (end k : ℕ) (last : Option ℕ) → end ≤ k → LastPlaying k last
-      → IfSome last (λ i. (j : ℕ) (d : BatchView) → i < j → j < end → May j d → ⊥)
-  last_later end k (Some last) all h = λ j d past below. h.later j d (omega arith) (omega arith)
-  last_later end k None all h = tt
-
-  pub last_none : (end k : ℕ) (last : Option ℕ) → end ≤ k → LastPlaying k last
-      → IfNone last ((j : ℕ) (d : BatchView) → j < end → May j d → ⊥)
-  last_none end k (Some last) all h = tt
-  last_none end k None all h = λ j d below. h j d (omega arith) (omega arith)
-
-  -- Whether two may
-
-  pub two_may :
-      (last one : ℕ) (d : BatchView) → last < length flows → ((d : BatchView) → May last d) → one < last → ((d : BatchView) → May one d)
-      → TwoMayPlay flows sheaf d
-  two_may last one d within may before may' = record {
-    one = one;
-    other = last;
-    apart = before;
+  -- one more may play
+  pub playing_more : (end n : ℕ) → n < 2 → end < length flows → May flows sheaf d end → Playing flows sheaf d end n → Playing flows sheaf d (end + 1) (n + 1)
+  playing_more end zero few within may none = (end, omega arith, may, but_here end none)
+  playing_more end (suc zero) few within may one = record {
+    one = one.0;
+    other = end;
+    apart = one.1;
     within = within;
-    one_may = may' d;
-    other_may = may d;
+    one_may = one.2;
+    other_may = may;
   }
+  playing_more end (suc (suc n)) few within may two = absurd (omega (arith, few))
 
-  pub none_may : (d : BatchView) → ((k : ℕ) (d : BatchView) → k < length flows → May k d → ⊥) → TwoMayPlay flows sheaf d → ⊥
-  none_may d none two =
+  none_still : (end : ℕ) → (May flows sheaf d end → ⊥) → ((k : ℕ) → k < end → May flows sheaf d k → ⊥) → (k : ℕ) → k < end + 1 → May flows sheaf d k → (k ≡ end) ⊎ (k ≡ end → ⊥) → ⊥
+  none_still end never none k below may (inl e) = never (subst (May flows sheaf d) e may)
+  none_still end never none k below may (inr ne) = none k (omega arith) may
+
+  one_still : (end one : ℕ) → (May flows sheaf d end → ⊥) → ((k : ℕ) → k < end → (k ≡ one → ⊥) → May flows sheaf d k → ⊥) → (k : ℕ) → k < end + 1 → (k ≡ one → ⊥) → May flows sheaf d k → (k ≡ end) ⊎ (k ≡ end → ⊥) → ⊥
+  one_still end one never others k below ne may (inl e) = never (subst (May flows sheaf d) e may)
+  one_still end one never others k below ne may (inr past) = others k (omega arith) ne may
+
+  -- one more may not
+  pub playing_still : (end n : ℕ) → (May flows sheaf d end → ⊥) → Playing flows sheaf d end n → Playing flows sheaf d (end + 1) n
+  playing_still end zero never none = λ k below may. none_still end never none k below may (cases_eq k end)
+  playing_still end (suc zero) never one = (
+    one.0,
+    (let below : one.0 < end = one.1 in omega arith),
+    one.2,
+    λ k below ne may. one_still end one.0 never one.3 k below ne may (cases_eq k end),
+  )
+  playing_still end (suc (suc n)) never two = two
+
+  -- two may already
+  pub playing_enough : (end n : ℕ) → 2 ≤ n → Playing flows sheaf d end n → Playing flows sheaf d (end + 1) n
+  playing_enough end zero enough h = absurd (omega (arith, enough))
+  playing_enough end (suc zero) enough h = absurd (omega (arith, enough))
+  playing_enough end (suc (suc n)) enough two = two
+
+  pub two_may : (end n : ℕ) → 2 ≤ n → Playing flows sheaf d end n → TwoMayPlay flows sheaf d
+  two_may end zero enough h = absurd (omega (arith, enough))
+  two_may end (suc zero) enough h = absurd (omega (arith, enough))
+  two_may end (suc (suc n)) enough two = two
+
+  one_is_not_two : (end one : ℕ) → length flows ≤ end → ((k : ℕ) → k < end → (k ≡ one → ⊥) → May flows sheaf d k → ⊥) → (two : TwoMayPlay flows sheaf d) → (two.one ≡ one) ⊎ (two.one ≡ one → ⊥) → ⊥
+  one_is_not_two end one all others two (inl e) =
       let apart : two.one < two.other = two.apart in
       let within : two.other < length flows = two.within in
-      none two.one d (omega arith) two.one_may
+      others two.other (omega arith) (λ same. absurd (omega (arith, same, e))) two.other_may
+  one_is_not_two end one all others two (inr ne) =
+      let apart : two.one < two.other = two.apart in
+      let within : two.other < length flows = two.within in
+      others two.one (omega arith) ne two.one_may
 
-  module _ (d : BatchView) (last : ℕ) (before : (k : ℕ) (d : BatchView) → k < last → May k d → ⊥)
-      (later : (k : ℕ) (d : BatchView) → last < k → k < length flows → May k d → ⊥) where
-    other_is : (two : TwoMayPlay flows sheaf d) → (last < two.other) ⊎ (two.other ≤ last) → ⊥
-    other_is two (inl past) = later two.other d past two.within two.other_may
-    other_is two (inr far) =
-        let apart : two.one < two.other = two.apart in
-        before two.one d (omega arith) two.one_may
-
-    pub one_may : TwoMayPlay flows sheaf d → ⊥
-    one_may two = other_is two (cases_lt last two.other)
+  pub fewer_may : (end n : ℕ) → n < 2 → length flows ≤ end → Playing flows sheaf d end n → TwoMayPlay flows sheaf d → ⊥
+  fewer_may end zero few all none two =
+      let apart : two.one < two.other = two.apart in
+      let within : two.other < length flows = two.within in
+      none two.one (omega arith) two.one_may
+  fewer_may end (suc zero) few all one two = one_is_not_two end one.0 all one.3 two (cases_eq two.one one.0)
+  fewer_may end (suc (suc n)) few all h two = absurd (omega (arith, few))
 
 -- All items were looked at.
 pub found_some : (items : List Item) (end : ℕ) (last : Option ℕ) → end ≡ length items → Found items end last → IfSome last (λ seq. IsLastNumber items (length items) seq)

@@ -1,9 +1,11 @@
 -- What a flow comes to that runs items, one after another.
-use Rattle.std.proofs.Common.{◌≡◌, ℕ, ◌+◌, ◌≤◌, ◌<◌, ◌^◌, Some, List, [], ◌∷◌, ◌++◌, length, map, take, refl, sym, ap, subst, ◌∙◌, arith, append_assoc, append-nil, add-one, length-append, Result, Ok, Err, OnOk}
-use Rattle.std.specs.List.{AllZip, slice_get}
+use Rattle.std.proofs.Common.{◌≡◌, ℕ, ◌+◌, ◌≤◌, ◌<◌, ◌^◌, Bool, true, false, Some, List, [], ◌∷◌, ◌++◌, length, map, take, refl, sym, ap, subst, ◌∙◌, arith, append_assoc, append-nil, add-one, length-append, slice_index_or, Result, Ok, Err, OnOk}
+use Rattle.std.specs.List.{AllZip, list_any, slice_get}
+use Rattle.std.specs.Result.{is_err}
 use Rattle.std.proofs.Math.Seq.{take-suc}
 use Rattle.std.proofs.lemmas.Bool.Decides.{nat_tests}
 use Rattle.std.proofs.lemmas.List.{length-map}
+use Rattle.std.proofs.lemmas.List.Folds.{list_any_at}
 use Rattle.std.proofs.lemmas.Option.{get_or_from_slice_get, slice_get_within}
 use Rattle.fg_io.specs.Outlet.{lane_bytes}
 use Rattle.fg_trace.specs.Trace.{Record}
@@ -97,6 +99,10 @@ ran_more items k item old mid new at ran one =
     in
     subst (λ (some : List Item). HasRun some old new) (sym more) (ran_then (take k items) (item ∷ []) old mid new ran one)
 
+-- Whether there was memory is no part of it.
+pub ran_marked : (items : List Item) (old new : BatchView) (starved : Bool) → HasRun items old new → HasRun items old (record new { starved = starved })
+ran_marked items old new starved h = record { port = h.port; playout = h.playout; run = h.run }
+
 -- A flow may go on
 
 abbrev record_of : ℕ → Item → Record
@@ -157,14 +163,24 @@ takes_one item old new before after here still takes records (r ∷ []) lane tak
 takes_one item old new before after here still takes records (r ∷ other ∷ more) lane taken zip = absurd zip.1
 
 pub ran_one :
-    (item : Item) (old new : FlowView) (before after : Shelved) → before.port ≡ old.sum.port → after.port ≡ old.sum.port
+    (item : Item) (old new : FlowView) (before after : Shelved) (starved starved' : Bool) → before.port ≡ old.sum.port → after.port ≡ old.sum.port
     → new.sum.port ≡ old.sum.port → new.state.playout ≡ old.state.playout → Takes old new item.kind item.payload before after
-    → HasRun (item ∷ []) (record { flow = old; shelf = before.shelf }) (record { flow = new; shelf = after.shelf })
-ran_one item old new before after here still port playout takes = record {
+    → HasRun (item ∷ []) (record { flow = old; shelf = before.shelf; starved = starved }) (record { flow = new; shelf = after.shelf; starved = starved' })
+ran_one item old new before after starved starved' here still port playout takes = record {
   port = port;
   playout = playout;
   run = takes_one item old new before after here still takes;
 }
+
+-- No flow is starved
+
+is_false : (b : Bool) → (b ≡ true → ⊥) → b ≡ false
+is_false true never = absurd (never refl)
+is_false false never = refl
+
+pub not_starved : (flows : List BatchView) (k : ℕ) (d : BatchView) → list_any (λ flow. flow.starved) flows ≡ false → k < length flows → (slice_index_or flows k d).starved ≡ false
+not_starved flows k d none within =
+    is_false (slice_index_or flows k d).starved (λ e. let found = list_any_at (λ (flow : BatchView). flow.starved) flows k d within e in absurd (cc (found, none)))
 
 -- What an answer says
 
@@ -175,3 +191,7 @@ on_ok (Err e) P p = tt
 pub on_no_ok : {T E : Type 0} (r : Result T E) (P : Type 0) (fault : E) → r ≡ Err fault → OnOk r P
 on_no_ok (Ok x) P fault is = absurd (cc)
 on_no_ok (Err e) P fault is = tt
+
+pub where_ok : {T E : Type 0} (r : Result T E) (P : Type 0) → is_err r ≡ false → OnOk r P → P
+where_ok (Ok x) P good h = h
+where_ok (Err e) P good h = absurd (cc)

@@ -139,16 +139,3 @@ pub record CanRunAll (sheaf : SheafState) (flows : List BatchView) : Type 0 wher
 pub record HaveRun (sheaf : SheafState) (old new : List BatchView) : Type 0 where
   pub count : length new ≡ length old
   pub each : (k : ℕ) (d : BatchView) → k < length old → HasRun (items_of sheaf k) (slice_index_or old k d) (slice_index_or new k d)
-
--- These flows are those of the sheaf from one on, and each may run its records.
-pub record CanRunFrom (sheaf : SheafState) (first : ℕ) (flows : List BatchView) : Type 0 where
-  pub within : first + length flows ≤ length sheaf.items
-  pub few : first + length flows < 2 ^ 64
-  pub each : (k : ℕ) (d : BatchView) → k < length flows
-      → CanRun (slice_index_or flows k d).flow (length (items_of sheaf (first + k)))
-
--- Each of them has run its records.
-pub record HaveRunFrom (sheaf : SheafState) (first : ℕ) (old new : List BatchView) : Type 0 where
-  pub count : length new ≡ length old
-  pub each : (k : ℕ) (d : BatchView) → k < length old
-      → HasRun (items_of sheaf (first + k)) (slice_index_or old k d) (slice_index_or new k d)

@@ -1,5 +1,5 @@
 -- How a trace is walked batch by batch. No public contract cites what stands here.
-use Rattle.std.specs.Prelude.{◌≡◌, ◌+◌, ◌<◌, ◌≤◌, ◌^◌, ◌⊎◌, ◌++◌, ℕ, Option, None, Some, IfSome, IfNone, Result, IfOk, IfErr, List, [], ◌∷◌, length, map, slice_index, take}
+use Rattle.std.specs.Prelude.{◌≡◌, ◌+◌, ◌<◌, ◌≤◌, ◌^◌, ◌⊎◌, ◌++◌, ℕ, false, Option, None, Some, IfSome, IfNone, Result, IfOk, IfErr, List, [], ◌∷◌, length, map, slice_index, take}
 use Rattle.std.specs.List.{Contains, slice_index_or}
 use Rattle.fg_io.specs.declared.fault.Fault.{Fault}
 use Rattle.fg_io.specs.declared.fault.Fault.TheVariants.{Read}
@@ -24,7 +24,7 @@ use Rattle.fg_batches.specs.Gathering.{HasGathered, GathersLast}
 
 -- The flow, for whose lane nothing waits.
 abbrev pub unshelved : FlowView → BatchView
-unshelved flow = record { flow = flow; shelf = [] }
+unshelved flow = record { flow = flow; shelf = []; starved = false }
 
 -- The lane, for which nothing waits.
 abbrev pub nothing_waits : ℕ → Shelved

@@ -1,5 +1,6 @@
 //! A flow of a repair in batches.
-ghost use Rattle.std.specs.Prelude.{◌≡◌, ◌<◌, ◌↔◌, ℕ, [], ◌∷◌, length, IfSome, IfNone, IsTrue, OnOk};
+ghost use Rattle.std.specs.Prelude.{◌≡◌, ◌<◌, ◌↔◌, ℕ, [], ◌∷◌, false, length, IfSome, IfNone, IsTrue, OnOk};
+ghost use Rattle.std.specs.Bool.{OnFalse};
 ghost use Rattle.fg_flows.specs.Sheaf.{items_of};
 ghost use Rattle.fg_batches.specs.Batches.{CanRun, HasRun, HasNumber, HaveNoNumber, IsLastNumber, MayPlay};
 
@@ -16,6 +17,8 @@ use std::mem;
 pub(crate) struct BatchFlow<D: WindowState> {
     flow: Flow<D>,
     shelved: Shelved,
+    // Whether it found no memory for the records that it ran last.
+    starved: bool,
 }
 
 impl<D: WindowState> Model for BatchFlow<D> {
@@ -26,7 +29,7 @@ impl<D: WindowState> Model for BatchFlow<D> {
 
     ghost coded = { batch_code };
 
-    ghost view = { λ a. record { flow = a.flow; shelf = a.shelved.shelf } };
+    ghost view = { λ a. record { flow = a.flow; shelf = a.shelved.shelf; starved = a.starved } };
 
     // What waits is the flow's.
     ghost invariant = { λ a. a.shelved.port ≡ a.flow.sum.port };
@@ -35,7 +38,7 @@ impl<D: WindowState> Model for BatchFlow<D> {
 impl<D: WindowState> BatchFlow<D> {
     /// The flow, for whose lane nothing waits.
     pub(crate) fn new(alloc: Global, flow: Flow<D>) -> BatchFlow<D>
-        ensures { result ≡ record { flow = flow; shelf = [] } }
+        ensures { result ≡ record { flow = flow; shelf = []; starved = false } }
     {
         let port = flow.sum.port;
         BatchFlow {
@@ -44,6 +47,7 @@ impl<D: WindowState> BatchFlow<D> {
                 port,
                 shelf: Shelf::new(alloc),
             },
+            starved: false,
         }
     }
 
@@ -52,6 +56,13 @@ impl<D: WindowState> BatchFlow<D> {
         ensures { result ≡ self.flow }
     {
         self.flow
+    }
+
+    /// Whether it found no memory for the records that it ran last.
+    pub(crate) fn is_starved(&self) -> bool
+        ensures { result ≡ self.now.starved }
+    {
+        self.starved
     }
 
     /// Whether it may play while it runs its records of the batch: it has admitted no media datagram yet, or a play is due
@@ -66,14 +77,19 @@ impl<D: WindowState> BatchFlow<D> {
         }
     }
 
-    /// Runs the flow's records of a batch, in their order. What its plays show waits for its lane then. The first record for which
-    /// there is no memory ends it.
-    pub(crate) fn run(
-        &mut self,
-        alloc: Global,
-        sheaf: &Sheaf,
-        index: usize,
-    ) -> Result<(), AllocError>
+    /// Runs the flow's records of a batch, in their order. What its plays show waits for its lane then.
+    ///
+    /// Where there was no memory for one, [`BatchFlow::is_starved`] tells it, and the records after that one are not taken.
+    pub(crate) fn run(&mut self, alloc: Global, sheaf: &Sheaf, index: usize)
+        requires within { index < length sheaf.now.items }
+        requires can { CanRun self.old.flow (length (items_of sheaf.now index)) }
+        ensures { OnFalse self.new.starved (HasRun (items_of sheaf.now index) self.old self.new) }
+    {
+        self.starved = self.run_items(alloc, sheaf, index).is_err();
+    }
+
+    /// Runs the flow's records of a batch. The first for which there is no memory ends it.
+    fn run_items(&mut self, alloc: Global, sheaf: &Sheaf, index: usize) -> Result<(), AllocError>
         requires within { index < length sheaf.now.items }
         requires can { CanRun self.old.flow (length (items_of sheaf.now index)) }
         ensures { OnOk result (HasRun (items_of sheaf.now index) self.old self.new) }

@@ -1,6 +1,7 @@
 //! A step from one batch to the next: one is run, while what the one before has shown is put to the lanes and the one after it is
 //! read.
-ghost use Rattle.std.specs.Prelude.{◌≡◌, ◌<◌, ◌≤◌, ℕ, Option, None, List, [], ◌∷◌, ◌++◌, length, map, IfOk, IfErr, IfSome, IfNone, IsOk, OnOk, OnErr};
+ghost use Rattle.std.specs.Prelude.{◌≡◌, ◌<◌, ◌≤◌, ℕ, Option, None, List, [], ◌∷◌, ◌++◌, length, map, IfOk, IfErr, IfSome, IfNone, OnOk, OnErr};
+ghost use Rattle.std.specs.Thread.{IsSync};
 ghost use Rattle.fg_io.specs.Faults.{Counts};
 ghost use Rattle.fg_io.specs.Outlet.{Lanes};
 ghost use Rattle.fg_trace.specs.Finish.{finish_after};
@@ -11,14 +12,14 @@ ghost use Rattle.fg_flows.specs.Sheaf.{no_items};
 ghost use Rattle.fg_results.specs.Counted.{CountsBeside};
 ghost use Rattle.fg_results.specs.Stops.{ByBatch};
 ghost use Rattle.fg_engine.specs.Engine.{HasRead, LanesStop, told_finish};
-ghost use Rattle.fg_batches.specs.Batches.{BreaksEmptying, CanRunAll, CanRunFrom, HaveRun, HaveRunFrom, WaitFor};
+ghost use Rattle.fg_batches.specs.Batches.{BreaksEmptying, CanRunAll, HaveRun, WaitFor};
 ghost use Rattle.fg_batches.specs.Gathering.{HasGathered};
 ghost use Rattle.fg_batches.specs.Walking.{HasLast, HavePut, IsWalking, ReadsOn, nothing_waits, unshelved};
 
 use crate::emptying::{empty_shelves, exchange, shelves_for};
 use crate::flows::BatchFlow;
 use crate::gathering::Gathering;
-use crate::running::{first_beside, run_flows};
+use crate::running::run_side_by_side;
 use fg_engine::{Flow, Shelved, WindowState};
 use fg_flows::laws::one_flow_has_a_port;
 use fg_flows::{Plan, Sheaf};
@@ -172,8 +173,8 @@ pub(crate) fn step<W: Threads + Sync, D: WindowState + Send, S: Source + Send, O
     }
 }
 
-/// Has the flows run a batch. In another thread, where one can be made, what waits is put to the lanes, then the next batch is read, and
-/// then those flows run that are to run beside the others. Answers what [`put_and_read`] does, and whether each flow found memory.
+/// Has the flows run a batch. In another thread, where one can be made, what waits is put to the lanes, and then the next batch is
+/// read. Answers what [`put_and_read`] does, and whether each flow found memory.
 fn run_beside_reading<W: Threads + Sync, D: WindowState + Send, S: Source + Send, O: Outlet + Send>(
     rt: &W,
     alloc: Global,
@@ -209,151 +210,40 @@ fn run_beside_reading<W: Threads + Sync, D: WindowState + Send, S: Source + Send
     ensures rise { S.faults input.old ≤ S.faults input.new }
     ensures fixed { S.fixed input.new ≡ S.fixed input.old }
 {
-    run_and_read(
+    let sheaf = &batches.sheaf;
+    let gathering = &mut batches.gathering;
+    let flows = batches.flows.as_mut_slice();
+    let shelves = batches.shelves.as_mut_slice();
+    join_mut(
         rt,
-        alloc,
-        plan,
-        &batches.sheaf,
-        &mut batches.flows,
-        &mut batches.gathering,
-        reader,
-        input,
-        lanes,
-        &mut batches.shelves,
+        &mut || -> Result<Result<Option<Tail>, Fault>, Fault>
+            requires fits { PlanFits plan.now }
+            requires free { gathering.now.sheaf ≡ no_items (length plan.now.table) }
+            requires underway { (first : Option (List ℕ)) × (records : List Record)
+                × HasGathered plan.now first (S.left input.now) reader.now records [] gathering.now }
+            requires open { reader.now.kept ≡ None }
+            requires max { reader.now.max ≡ plan.now.max }
+            ensures put { OnOk result (HavePut plan.entry.now shelves.entry.now shelves.exit.now
+                (O.lanes lanes.entry.now) (O.lanes lanes.exit.now)) }
+            ensures part { OnErr result (WaitFor plan.entry.now.table shelves.entry.now
+                → BreaksEmptying plan.entry.now.table shelves.entry.now (O.lanes lanes.entry.now) (O.lanes lanes.exit.now)) }
+            ensures fault { IfErr result (λ fault. fault ≡ Fault.Write) }
+            ensures reads { IfOk result (λ read. ReadsOn plan.entry.now (S.left input.entry.now) (S.left input.exit.now)
+                (S.faults input.entry.now, S.faults input.exit.now) reader.entry.now reader.exit.now
+                gathering.entry.now gathering.exit.now read) }
+            ensures far { (first : Option (List ℕ)) → HasRead plan.entry.now.max reader.entry.now first (S.left input.entry.now)
+                → HasRead plan.entry.now.max reader.exit.now first (S.left input.exit.now) }
+            ensures max { reader.exit.now.max ≡ reader.entry.now.max }
+            ensures writes { Counts result [] ((O.faults lanes.entry.now, O.faults lanes.exit.now) ∷ []) }
+            ensures rise { S.faults input.entry.now ≤ S.faults input.exit.now }
+            ensures fixed { S.fixed input.exit.now ≡ S.fixed input.entry.now }
+        { put_and_read(plan, gathering, reader, input, lanes, shelves) },
+        &mut || -> Result<(), AllocError>
+            requires can { CanRunAll sheaf.now flows.now }
+            requires shared { IsSync W.row }
+            ensures { OnOk result (HaveRun sheaf.entry.now flows.entry.now flows.exit.now) }
+        { run_side_by_side(rt, alloc, sheaf, flows) },
     )
-}
-
-/// As [`run_beside_reading`], of the parts of the batches.
-fn run_and_read<W: Threads + Sync, D: WindowState + Send, S: Source + Send, O: Outlet + Send>(
-    rt: &W,
-    alloc: Global,
-    plan: &Plan,
-    sheaf: &Sheaf,
-    flows: &mut [BatchFlow<D>],
-    gathering: &mut Gathering,
-    reader: &mut Reader,
-    input: &mut S,
-    lanes: &mut O,
-    shelves: &mut [Shelved],
-) -> (
-    Result<Result<Option<Tail>, Fault>, Fault>,
-    Result<(), AllocError>,
-)
-    requires fits { PlanFits plan.now }
-    requires can { CanRunAll sheaf.now flows.old }
-    requires free { gathering.old.sheaf ≡ no_items (length plan.now.table) }
-    requires underway { (first : Option (List ℕ)) × (records : List Record)
-        × HasGathered plan.now first (S.left input.old) reader.old records [] gathering.old }
-    requires open { reader.old.kept ≡ None }
-    requires max { reader.old.max ≡ plan.now.max }
-    ensures put { OnOk result.0 (HavePut plan.now shelves.old shelves.new (O.lanes lanes.old) (O.lanes lanes.new)) }
-    ensures part { OnErr result.0 (WaitFor plan.now.table shelves.old
-        → BreaksEmptying plan.now.table shelves.old (O.lanes lanes.old) (O.lanes lanes.new)) }
-    ensures fault { IfErr result.0 (λ fault. fault ≡ Fault.Write) }
-    ensures reads { IfOk result.0 (λ read. ReadsOn plan.now (S.left input.old) (S.left input.new)
-        (S.faults input.old, S.faults input.new) reader.old reader.new gathering.old gathering.new read) }
-    ensures ran { OnOk result.1 (HaveRun sheaf.now flows.old flows.new) }
-    ensures far { (first : Option (List ℕ)) → HasRead plan.now.max reader.old first (S.left input.old)
-        → HasRead plan.now.max reader.new first (S.left input.new) }
-    ensures max { reader.new.max ≡ reader.old.max }
-    ensures writes { Counts result.0 [] ((O.faults lanes.old, O.faults lanes.new) ∷ []) }
-    ensures rise { S.faults input.old ≤ S.faults input.new }
-    ensures fixed { S.fixed input.new ≡ S.fixed input.old }
-{
-    let own = first_beside(sheaf, flows);
-    let (others, here) = flows.split_at_mut(own);
-    run_both_and_read(
-        rt, alloc, plan, sheaf, others, own, here, gathering, reader, input, lanes, shelves,
-    )
-}
-
-/// Has some flows run their records of a batch. In another thread, where one can be made, what waits is put to the lanes, then the
-/// next batch is read, and then the flows from `own` on run: so most flows stay with one processor from batch to batch.
-fn run_both_and_read<W: Threads + Sync, D: WindowState + Send, S: Source + Send, O: Outlet + Send>(
-    rt: &W,
-    alloc: Global,
-    plan: &Plan,
-    sheaf: &Sheaf,
-    others: &mut [BatchFlow<D>],
-    own: usize,
-    here: &mut [BatchFlow<D>],
-    gathering: &mut Gathering,
-    reader: &mut Reader,
-    input: &mut S,
-    lanes: &mut O,
-    shelves: &mut [Shelved],
-) -> (
-    Result<Result<Option<Tail>, Fault>, Fault>,
-    Result<(), AllocError>,
-)
-    requires fits { PlanFits plan.now }
-    requires others { CanRunFrom sheaf.now 0 others.old }
-    requires here { CanRunFrom sheaf.now own here.old }
-    requires free { gathering.old.sheaf ≡ no_items (length plan.now.table) }
-    requires underway { (first : Option (List ℕ)) × (records : List Record)
-        × HasGathered plan.now first (S.left input.old) reader.old records [] gathering.old }
-    requires open { reader.old.kept ≡ None }
-    requires max { reader.old.max ≡ plan.now.max }
-    ensures put { OnOk result.0 (HavePut plan.now shelves.old shelves.new (O.lanes lanes.old) (O.lanes lanes.new)) }
-    ensures part { OnErr result.0 (WaitFor plan.now.table shelves.old
-        → BreaksEmptying plan.now.table shelves.old (O.lanes lanes.old) (O.lanes lanes.new)) }
-    ensures fault { IfErr result.0 (λ fault. fault ≡ Fault.Write) }
-    ensures reads { IfOk result.0 (λ read. ReadsOn plan.now (S.left input.old) (S.left input.new)
-        (S.faults input.old, S.faults input.new) reader.old reader.new gathering.old gathering.new read) }
-    ensures others { OnOk result.1 (HaveRunFrom sheaf.now 0 others.old others.new) }
-    ensures here { OnOk result.1 (HaveRunFrom sheaf.now own here.old here.new) }
-    ensures far { (first : Option (List ℕ)) → HasRead plan.now.max reader.old first (S.left input.old)
-        → HasRead plan.now.max reader.new first (S.left input.new) }
-    ensures max { reader.new.max ≡ reader.old.max }
-    ensures writes { Counts result.0 [] ((O.faults lanes.old, O.faults lanes.new) ∷ []) }
-    ensures rise { S.faults input.old ≤ S.faults input.new }
-    ensures fixed { S.fixed input.new ≡ S.fixed input.old }
-{
-    let alloc_here = alloc;
-    let mut run_others = || -> Result<(), AllocError>
-        requires { CanRunFrom sheaf.now 0 others.now }
-        ensures { OnOk result (HaveRunFrom sheaf.entry.now 0 others.entry.now others.exit.now) }
-    { run_flows(alloc, sheaf, 0, others) };
-    let mut read_and_run = || -> (
-        Result<Result<Option<Tail>, Fault>, Fault>,
-        Result<(), AllocError>,
-    )
-        requires fits { PlanFits plan.now }
-        requires free { gathering.now.sheaf ≡ no_items (length plan.now.table) }
-        requires underway { (first : Option (List ℕ)) × (records : List Record)
-            × HasGathered plan.now first (S.left input.now) reader.now records [] gathering.now }
-        requires open { reader.now.kept ≡ None }
-        requires max { reader.now.max ≡ plan.now.max }
-        requires here { CanRunFrom sheaf.now own here.now }
-        ensures put { OnOk result.0 (HavePut plan.entry.now shelves.entry.now shelves.exit.now
-            (O.lanes lanes.entry.now) (O.lanes lanes.exit.now)) }
-        ensures part { OnErr result.0 (WaitFor plan.entry.now.table shelves.entry.now
-            → BreaksEmptying plan.entry.now.table shelves.entry.now (O.lanes lanes.entry.now) (O.lanes lanes.exit.now)) }
-        ensures fault { IfErr result.0 (λ fault. fault ≡ Fault.Write) }
-        ensures reads { IfOk result.0 (λ read. ReadsOn plan.entry.now (S.left input.entry.now) (S.left input.exit.now)
-            (S.faults input.entry.now, S.faults input.exit.now) reader.entry.now reader.exit.now
-            gathering.entry.now gathering.exit.now read) }
-        ensures here { OnOk result.1 (HaveRunFrom sheaf.entry.now own here.entry.now here.exit.now) }
-        ensures far { (first : Option (List ℕ)) → HasRead plan.entry.now.max reader.entry.now first (S.left input.entry.now)
-            → HasRead plan.entry.now.max reader.exit.now first (S.left input.exit.now) }
-        ensures max { reader.exit.now.max ≡ reader.entry.now.max }
-        ensures writes { Counts result.0 [] ((O.faults lanes.entry.now, O.faults lanes.exit.now) ∷ []) }
-        ensures rise { S.faults input.entry.now ≤ S.faults input.exit.now }
-        ensures fixed { S.fixed input.exit.now ≡ S.fixed input.entry.now }
-    {
-        let put = put_and_read(plan, gathering, reader, input, lanes, shelves);
-        (put, run_flows(alloc_here, sheaf, own, here))
-    };
-    let ((put, ran_here), ran) = join_mut(rt, &mut read_and_run, &mut run_others);
-    (put, both(ran, ran_here))
-}
-
-/// Whether both found memory.
-fn both(one: Result<(), AllocError>, other: Result<(), AllocError>) -> Result<(), AllocError>
-    ensures { OnOk result (IsOk one × IsOk other) }
-{
-    one?;
-    other
 }
 
 /// Puts what waits to the lanes, and then reads the next batch, and answers what the reading does.

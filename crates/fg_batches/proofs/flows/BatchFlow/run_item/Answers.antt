@@ -8,14 +8,14 @@ use Rattle.fg_batches.proofs.flows.BatchFlow.run_item.Goals as goal
 
 pub returns : goal.returns
 returns g c =
-    let new : BatchView = record { flow = c.take.new.self; shelf = c.take.new.lanes.shelf } in
+    let new : BatchView = record { flow = c.take.new.self; shelf = c.take.new.lanes.shelf; starved = c.self.inside.starved } in
     elim c.match-take.branch [
       | in-Ok w ↦
           let ran : (time : ℕ) → HasRun (record { kind = c.args.kind; time = time; payload = c.args.payload.now } ∷ []) c.args.self.now new =
           λ (time : ℕ).
           let item : Item = record { kind = c.args.kind; time = time; payload = c.args.payload.now } in
           subst (λ (old : BatchView). HasRun (item ∷ []) old new) c.self.view_is
-          (ran_one item c.self.inside.flow c.take.new.self c.self.inside.shelved c.take.new.lanes
+          (ran_one item c.self.inside.flow c.take.new.self c.self.inside.shelved c.take.new.lanes c.self.inside.starved c.self.inside.starved
           c.self.invariant c.take.ensures.still c.take.ensures.port c.take.ensures.playout w.in-Ok.ensures.takes)
           in
           on_ok _ _ ran
