@@ -1,5 +1,5 @@
 -- What a flow has played so far is how its run begins.
-use Rattle.std.proofs.Common.{◌≡◌, ◌+◌, ◌-◌, ◌++◌, ℕ, min, List, [], ◌∷◌, Option, Some, None, sym, ap, subst, ◌∙◌, append_assoc}
+use Rattle.std.proofs.Common.{◌≡◌, ◌+◌, ◌-◌, ◌++◌, ℕ, min, List, [], ◌∷◌, Option, Some, None, sym, ap, subst, ◌∙◌, ⊎_elim, append_assoc}
 use Rattle.std.specs.List.{All}
 use Rattle.fg_words.specs.declared.Word.{Word}
 use Rattle.fg_shape.specs.Playout.{Playout}
@@ -7,8 +7,8 @@ use Rattle.fg_peel.specs.Laws.{Uniqueness}
 use Rattle.fg_playout.specs.declared.reply.Reply.{Reply}
 use Rattle.fg_playout.specs.State.{State, opening}
 use Rattle.fg_playout.specs.Play.{Play}
-use Rattle.fg_playout.specs.Run.{Arrival, carries, ArePlaysDue, TakesAll, IsFlush}
-use Rattle.fg_playout.specs.Laws.{IsRead, HavePlayed, AreFlushSteps, OneTaking, TakenPlaysComeFirst, DuePlaysComeNext, FlushStepsComeNext}
+use Rattle.fg_playout.specs.Run.{Arrival, carries, ArePlaysDue, ArePlaysBefore, by_flush, by_due, TakesAll, IsFlush}
+use Rattle.fg_playout.specs.Laws.{IsRead, HavePlayed, HavePlayedBefore, AreFlushSteps, OneTaking, TakenPlaysComeFirst, DuePlaysComeNext, FlushStepsComeNext}
 use Rattle.fg_playout.proofs.Orderly.{IsOrderly, orderly_opening}
 use Rattle.fg_playout.proofs.Plays.{orderly_after_play}
 use Rattle.fg_playout.proofs.OnePlay.{one_play, one_state_after, one_flush_step, one_state_after_step}
@@ -28,15 +28,15 @@ append_more plays some other rest is begin =
 
 module _ (unique : Uniqueness) where
   due_begin :
-      (old : State) (seq : ℕ) (due plays : List Play) (now new : State) → IsOrderly old → HavePlayed old seq due now
-      → ArePlaysDue old seq plays new → BeginWith plays due
-  due_begin old seq [] plays now new orderly a b = (plays, λ i. plays)
-  due_begin old seq (play ∷ due) [] now new orderly a b = absurd (b.0 a.0)
-  due_begin old seq (play ∷ due) (play' ∷ plays) now new orderly a b =
+      (old : State) (seq ssrc : ℕ) (due plays : List Play) (now new : State) → IsOrderly old → HavePlayed old seq ssrc due now
+      → ArePlaysDue old seq ssrc plays new → BeginWith plays due
+  due_begin old seq ssrc [] plays now new orderly a b = (plays, λ i. plays)
+  due_begin old seq ssrc (play ∷ due) [] now new orderly a b = absurd (b.0 a.0)
+  due_begin old seq ssrc (play ∷ due) (play' ∷ plays) now new orderly a b =
       let state : b.1.0 ≡ a.1.0 = one_state_after unique old.playout.window old orderly play' play b.1.0 a.1.0 b.1.1 a.1.1 in
       one_more play play' plays due (one_play unique old.playout.window old orderly play' play b.1.0 a.1.0 b.1.1 a.1.1)
-      (due_begin a.1.0 seq due plays now new (orderly_after_play old.playout.window old play a.1.0 a.1.1 orderly) a.1.2
-      (subst (λ (s : State). ArePlaysDue s seq plays new) state b.1.2))
+      (due_begin a.1.0 seq ssrc due plays now new (orderly_after_play old.playout.window old play a.1.0 a.1.1 orderly) a.1.2
+      (subst (λ (s : State). ArePlaysDue s seq ssrc plays new) state b.1.2))
 
   steps_begin :
       (old : State) (flushed plays : List Play) (now empty : State) → IsOrderly old → AreFlushSteps old flushed now
@@ -48,6 +48,19 @@ module _ (unique : Uniqueness) where
       one_more play play' plays flushed (one_flush_step unique old orderly play' play b.0 a.0 b.1 a.1)
       (steps_begin a.0 flushed plays now empty (orderly_after_play (min old.playout.window (a.1.highest + 1 - old.mark)) old play a.0 a.1.plays orderly)
       a.2 (subst (λ (s : State). IsFlush s plays empty) state b.2))
+
+  -- What is played before a datagram begins with what was played so far.
+  before_begin :
+      (old : State) (seq ssrc : ℕ) (so_far plays : List Play) (now new : State) → IsOrderly old
+      → HavePlayedBefore old seq ssrc so_far now → ArePlaysBefore old seq ssrc plays new → BeginWith plays so_far
+  before_begin old seq ssrc so_far plays now new orderly a (by_flush empty fresh flush counts) = ⊎_elim
+      (λ steps. steps_begin old so_far plays now empty orderly steps.1 flush)
+      (λ played. absurd (played.0 fresh))
+      a
+  before_begin old seq ssrc so_far plays now new orderly a (by_due stale due) = ⊎_elim
+      (λ steps. absurd (stale steps.0))
+      (λ played. due_begin old seq ssrc so_far plays now new orderly played.1 due)
+      a
 
   pub one_taking : OneTaking
   one_taking playout arrivals plays plays' replies replies' new new' read a b =
@@ -89,21 +102,21 @@ module _ (unique : Uniqueness) where
 
   -- The plays before the next datagram begin with those that were played.
   next_begins :
-      (taken now filled : State) (seq : ℕ) (word : Word) (later : List Arrival) (due after : List Play)
-      (second : List (Option Reply)) → IsOrderly taken → HavePlayed taken seq due now
-      → TakesAll taken (carries seq word ∷ later) after second filled → BeginWith after due
-  next_begins taken now filled seq word later due after [] orderly played takes = absurd takes
-  next_begins taken now filled seq word later due after (None ∷ second) orderly played takes = absurd takes.4
-  next_begins taken now filled seq word later due after (Some reply ∷ second) orderly played takes =
-      let begin = due_begin taken seq due takes.0 now takes.4.0 orderly played takes.4.1 in (
+      (taken now filled : State) (seq ssrc : ℕ) (word : Word) (later : List Arrival) (due after : List Play)
+      (second : List (Option Reply)) → IsOrderly taken → HavePlayedBefore taken seq ssrc due now
+      → TakesAll taken (carries seq ssrc word ∷ later) after second filled → BeginWith after due
+  next_begins taken now filled seq ssrc word later due after [] orderly played takes = absurd takes
+  next_begins taken now filled seq ssrc word later due after (None ∷ second) orderly played takes = absurd takes.4
+  next_begins taken now filled seq ssrc word later due after (Some reply ∷ second) orderly played takes =
+      let begin = before_begin taken seq ssrc due takes.0 now takes.4.0 orderly played takes.4.1 in (
         begin.0 ++ takes.1,
         takes.3 ∙ ap (λ (ps : List Play). ps ++ takes.1) begin.1 ∙ append_assoc due begin.0 takes.1,
       )
 
   pub due_plays_come_next : DuePlaysComeNext
-  due_plays_come_next playout seq word earlier later before due plays first replies taken now read a played run =
-      let rest = goes_on playout earlier (carries seq word ∷ later) before run.taken first replies taken run.filled read a run.takes in
-      let begin = next_begins taken now run.filled seq word later due rest.after rest.second rest.orderly played rest.takes in (
+  due_plays_come_next playout seq ssrc word earlier later before due plays first replies taken now read a played run =
+      let rest = goes_on playout earlier (carries seq ssrc word ∷ later) before run.taken first replies taken run.filled read a run.takes in
+      let begin = next_begins taken now run.filled seq ssrc word later due rest.after rest.second rest.orderly played rest.takes in (
         begin.0 ++ run.flushed,
         run.plays_are
             ∙ ap (λ (ps : List Play). ps ++ run.flushed) rest.is

@@ -10,26 +10,30 @@ use Rattle.fg_playout.specs.declared.reply.Reply.{Reply}
 use Rattle.fg_playout.specs.declared.reply.Reply.TheVariants.{Admitted}
 use Rattle.fg_playout.specs.State.{State, Top, opening}
 use Rattle.fg_playout.specs.Room.{HasRoom}
-use Rattle.fg_playout.specs.Admission.{Parity, IsDue, IsLeastFree, IsAfterMedia, IsAfterParity, position_on, farther, with_media, with_equation, equation_at, counted}
+use Rattle.fg_playout.specs.Admission.{Parity, IsDue, IsLeastFree, IsAfterMedia, IsAfterParity, Sender, former, own, another, sender_of, begun, run_by, run_on, position_by, position_on, base_on, farther, with_media, with_equation, equation_at, counted}
 use Rattle.fg_playout.specs.Play.{Play, IsPlay}
-use Rattle.fg_playout.proofs.Opened.{position_at_first, position_after}
+use Rattle.fg_playout.proofs.Senders.{SaysOf, says_of}
 use Rattle.fg_playout.proofs.Parities.{position_most}
 
--- A datagram lies at most 32,767 past the top, so `most` of them bring the top this far. The mark has passed what was
--- due before `due` of them. A play moves the mark, so the calls are no more than datagrams and positions played.
+-- A datagram lies at most 32,767 past the top, and a flush moves the mark at most 1,100 positions on, so `most` of them bring the
+-- top this far. The mark has passed what was played before `due` of them. A play moves the mark, and a flush ends with one
+-- call more, so the calls are no more than two a datagram and one a position played.
 pub record Within (deep most due : ℕ) (desk : State) : Type 0 where
   pub window : 1 ≤ desk.playout.window
   pub fits : desk.playout.window ≤ desk.playout.depth
   pub depth_is : desk.playout.depth ≡ deep
-  pub top : (t : Top) → desk.top ≡ Some t → t.position ≤ 32767 * most
-  pub mark : desk.mark ≤ 32767 * due
-  pub calls : desk.calls ≤ most + desk.mark
+  pub shallow : deep ≤ 1000
+  pub top : (t : Top) → desk.top ≡ Some t → t.position ≤ 40000 * most
+  pub mark : desk.mark ≤ 40000 * due
+  pub calls : desk.calls ≤ most + due + desk.mark
 
-pub within_opening : (playout : Playout) → 1 ≤ playout.window → playout.window ≤ playout.depth → Within playout.depth 0 0 (opening playout)
-within_opening playout some fits = record {
+pub within_opening : (playout : Playout) → 1 ≤ playout.window → playout.window ≤ playout.depth → playout.depth ≤ 1000
+    → Within playout.depth 0 0 (opening playout)
+within_opening playout some fits shallow = record {
   window = some;
   fits = fits;
   depth_is = refl;
+  shallow = shallow;
   top = λ t is. absurd (none-some t is);
   mark = omega arith;
   calls = omega arith;
@@ -40,31 +44,32 @@ within_next deep most desk w = record {
   window = w.window;
   fits = w.fits;
   depth_is = w.depth_is;
+  shallow = w.shallow;
   top = w.top;
   mark = (let m = w.mark in omega (arith, m));
-  calls = w.calls;
+  calls = (let c = w.calls in omega (arith, c));
 }
 
 -- What a due position is at most.
 pub due_at_most :
-    (deep most : ℕ) (old : State) (seq : ℕ) → Within deep most (most + 1) old → IsDue old seq
-    → old.mark + old.playout.depth ≤ 32767 * (most + 1)
-due_at_most deep most old seq w due =
+    (deep most : ℕ) (old : State) (seq ssrc : ℕ) → Within deep most (most + 1) old → IsDue old seq ssrc
+    → old.mark + old.playout.depth ≤ 40000 * (most + 1)
+due_at_most deep most old seq ssrc w due =
     let t = some_and old.top _ due in
-    let p = some_and (position_of t.0.position t.0.seq seq) _ t.2 in
+    let p = some_and (position_of t.0.position t.0.seq seq) _ t.2.1 in
     let limit = w.top t.0 t.1 in
     let far = p.2 in
     let near = position_most t.0.position t.0.seq seq p.0 p.1 in
     omega (arith, limit, far, near)
 
 pub within_play :
-    (deep most : ℕ) (old : State) (seq : ℕ) (play : Play) (next : State) → Within deep most (most + 1) old → IsDue old seq
+    (deep most : ℕ) (old : State) (seq ssrc : ℕ) (play : Play) (next : State) → Within deep most (most + 1) old → IsDue old seq ssrc
     → IsPlay old.playout.window old play next → Within deep most (most + 1) next
-within_play deep most old seq play next w due plays =
+within_play deep most old seq ssrc play next w due plays =
     let some = w.window in
     let fits = w.fits in
     let calls = w.calls in
-    let limit = due_at_most deep most old seq w due in
+    let limit = due_at_most deep most old seq ssrc w due in
     let mark = plays.mark in
     let window : next.playout.window ≡ old.playout.window = ap (λ (s : State). s.playout.window) plays.rest in
     let depth : next.playout.depth ≡ old.playout.depth = ap (λ (s : State). s.playout.depth) plays.rest in
@@ -74,6 +79,7 @@ within_play deep most old seq play next w due plays =
       window = omega (arith, some, window);
       fits = omega (arith, fits, window, depth);
       depth_is = depth ∙ w.depth_is;
+      shallow = w.shallow;
       top = λ t is. w.top t (sym top ∙ is);
       mark = omega (arith, mark, limit, fits);
       calls = omega (arith, count, calls, mark, some);
@@ -90,59 +96,81 @@ farther_limit (Some top) new limit at most t is = go (ltb top.position new.posit
     go true e = subst (λ (s : Top). s.position ≤ limit) (same_Some new t e) at
     go false e = subst (λ (s : Top). s.position ≤ limit) (same_Some top t e) (most top refl)
 
-position_limit :
-    (deep most due : ℕ) (old : State) (seq position : ℕ) → Within deep most due old → position_on old seq ≡ Some position
-    → position ≤ 32767 * (most + 1)
-position_limit deep most due old seq position w on = ⊎_elim
-    (λ none.
-    let zero : 0 ≡ position = same_Some 0 position (sym (position_at_first old seq none) ∙ on) in
-    omega (arith, zero))
-    (λ some.
-    let limit = w.top some.0 some.1 in
-    let near = position_most some.0.position some.0.seq seq position (sym (position_after old seq some.0 some.1) ∙ on) in
-    omega (arith, limit, near))
-    (none_or_some old.top)
-
 within_counted : (deep most due : ℕ) (old : State) → Within deep most due old → Within deep (most + 1) due (counted old)
 within_counted deep most due old w = record {
   window = w.window;
   fits = w.fits;
   depth_is = w.depth_is;
+  shallow = w.shallow;
   top = λ t is. (let limit = w.top t is in omega (arith, limit));
   mark = w.mark;
   calls = (let calls = w.calls in omega (arith, calls));
 }
 
+-- The desk in a run, and where its next datagram may lie.
+record IsWithinReach (deep most position : ℕ) (old : State) : Type 0 where
+  within : Within deep most (most + 1) old
+  at : position ≤ 40000 * (most + 1)
+
+within_begun : (deep most : ℕ) (old : State) → Within deep most (most + 1) old → Within deep most (most + 1) (begun old)
+within_begun deep most old w = record {
+  window = w.window;
+  fits = w.fits;
+  depth_is = w.depth_is;
+  shallow = w.shallow;
+  top = λ t is. absurd (none-some t is);
+  mark = w.mark;
+  calls = w.calls;
+}
+
+within_run :
+    (deep most : ℕ) (old : State) (seq ssrc : ℕ) (sender : Sender) (position : ℕ) → SaysOf old ssrc sender
+    → position_by old seq sender ≡ Some position → Within deep most (most + 1) old
+    → IsWithinReach deep most position (run_by old sender)
+within_run deep most old seq ssrc former position says at w = absurd (none-some position at)
+within_run deep most old seq ssrc (own top) position says at w =
+    let limit = w.top top says.1 in
+    let near = position_most top.position top.seq seq position at in
+    record { within = w; at = omega (arith, limit, near) }
+within_run deep most old seq ssrc another position says at w =
+    let same : old.mark ≡ position = same_Some old.mark position at in
+    let limit = w.mark in
+    record { within = within_begun deep most old w; at = omega (arith, limit, same) }
+
 pub within_media :
-    (deep most due : ℕ) (old new : State) (seq : ℕ) (word : Word) (reply : Reply) → Within deep most due old
-    → IsAfterMedia old seq word reply new → Within deep (most + 1) due new
-within_media deep most due old new seq word Admitted w after =
-    let a = some_and (position_on old seq) (λ p. new ≡ with_media old seq p word) after in
-    let limit = position_limit deep most due old seq a.0 w a.1 in
-    let calls = w.calls in
-    subst (Within deep (most + 1) due) (sym a.2) (record {
-      window = w.window;
-      fits = w.fits;
-      depth_is = w.depth_is;
-      top = farther_limit old.top (record { position = a.0; seq = seq }) (32767 * (most + 1)) limit
-          (λ t is. (let below = w.top t is in omega (arith, below)));
-      mark = w.mark;
+    (deep most : ℕ) (old new : State) (seq ssrc : ℕ) (word : Word) (reply : Reply) → Within deep most (most + 1) old
+    → IsAfterMedia old seq ssrc word reply new → Within deep (most + 1) (most + 1) new
+within_media deep most old new seq ssrc word Admitted w after =
+    let a = some_and (position_on old seq ssrc) (λ p. new ≡ with_media (run_on old ssrc) seq ssrc p word) after in
+    let run = run_on old ssrc in
+    let r = within_run deep most old seq ssrc (sender_of old ssrc) a.0 (says_of old ssrc) a.1 w in
+    let at = r.at in
+    let calls = r.within.calls in
+    subst (Within deep (most + 1) (most + 1)) (sym a.2) (record {
+      window = r.within.window;
+      fits = r.within.fits;
+      depth_is = r.within.depth_is;
+      shallow = r.within.shallow;
+      top = farther_limit run.top (record { position = a.0; seq = seq; ssrc = ssrc }) (40000 * (most + 1)) at
+          (λ t is. (let below = r.within.top t is in omega (arith, below)));
+      mark = r.within.mark;
       calls = omega (arith, calls);
     })
-within_media deep most due old new seq word reply w after =
-    subst (Within deep (most + 1) due) (sym after) (within_counted deep most due old w)
+within_media deep most old new seq ssrc word reply w after =
+    subst (Within deep (most + 1) (most + 1)) (sym after) (within_counted deep most (most + 1) old w)
 
 pub within_parity :
     (deep most due : ℕ) (old new : State) (parity : Parity) (reply : Reply) → Within deep most due old
     → IsAfterParity old parity reply new → Within deep (most + 1) due new
 within_parity deep most due old new parity Admitted w after =
-    let a = some_and (position_on old parity.base)
+    let a = some_and (base_on old parity.base)
     (λ position. (place : ℕ) × IsLeastFree old.equations place × (new ≡ with_equation old place (equation_at position parity))) after in
     let calls = w.calls in
     subst (Within deep (most + 1) due) (sym a.2.2) (record {
       window = w.window;
       fits = w.fits;
       depth_is = w.depth_is;
+      shallow = w.shallow;
       top = λ t is. (let limit = w.top t is in omega (arith, limit));
       mark = w.mark;
       calls = omega (arith, calls);
@@ -167,6 +195,15 @@ room_within deep most desk few w =
     let mark = w.mark in
     let calls = w.calls in
     room_below desk
+    (omega (arith, mark, few))
+    (λ t is. (let limit = w.top t is in omega (arith, limit, few)))
+    (omega (arith, mark, calls, few))
+
+pub counted_room_within : (deep most : ℕ) (desk : State) → most < 2 ^ 44 → Within deep most (most + 1) desk → HasRoom (counted desk)
+counted_room_within deep most desk few w =
+    let mark = w.mark in
+    let calls = w.calls in
+    room_below (counted desk)
     (omega (arith, mark, few))
     (λ t is. (let limit = w.top t is in omega (arith, limit, few)))
     (omega (arith, mark, calls, few))

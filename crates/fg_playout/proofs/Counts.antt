@@ -1,14 +1,12 @@
 -- How the replies of a run are counted.
-use Rattle.std.proofs.Common.{◌≡◌, ◌+◌, ◌<◌, ◌≤◌, ◌++◌, ◌==◌, ℕ, zero, suc, min, Bool, true, false, cond, List, [], ◌∷◌, map, take, length, get_or, Option, Some, None, refl, sym, ap, ◌∙◌, arith, length-take}
-use Rattle.std.proofs.lemmas.List.{length-map, map-append, take_more}
+use Rattle.std.proofs.Common.{◌≡◌, ◌≤◌, ◌==◌, ℕ, Bool, true, false, cond, [], ◌∷◌, get_or, Option, Some, None, refl, sym, ap, ◌∙◌, arith}
 use Rattle.std.proofs.lemmas.Bool.{and_parts, and_from}
 use Rattle.std.proofs.lemmas.Bool.Decides.{Decides-eqb}
-use Rattle.std.specs.Int.{from_bool}
 use Rattle.fg_playout.specs.declared.reply.Reply.{Reply}
-use Rattle.fg_playout.specs.declared.reply.Reply.TheVariants.{Admitted, Duplicate, Conflict, Late, NotStarted, BeforeStart, Ahead, Crowded}
+use Rattle.fg_playout.specs.declared.reply.Reply.TheVariants.{Admitted, Duplicate, Conflict, Late, NotStarted, BeforeStart, Ahead, Crowded, Foreign}
 use Rattle.fg_shape.specs.declared.kind.Kind.{Kind}
 use Rattle.fg_shape.specs.declared.kind.Kind.TheVariants.{Media, Column, Row}
-use Rattle.fg_playout.specs.Run.{Arrival, came_by, kind_number, reply_number, is_counted, count_of}
+use Rattle.fg_playout.specs.Run.{came_by, kind_number, reply_number, is_counted}
 use Rattle.fg_playout.specs.Laws.{CountsAreOfReplies, CountsAdd, CountsStayWithin}
 
 stream_at : ℕ → Kind
@@ -23,7 +21,7 @@ stream_is Row = refl
 reply_at : ℕ → Option Reply
 reply_at n =
     get_or
-    (Some Admitted ∷ Some Duplicate ∷ Some Conflict ∷ Some Late ∷ Some NotStarted ∷ Some BeforeStart ∷ Some Ahead ∷ Some Crowded ∷ [])
+    (Some Admitted ∷ Some Duplicate ∷ Some Conflict ∷ Some Late ∷ Some NotStarted ∷ Some BeforeStart ∷ Some Ahead ∷ Some Crowded ∷ Some Foreign ∷ [])
     n None
 
 reply_is : (reply : Option Reply) → reply_at (reply_number reply) ≡ reply
@@ -36,6 +34,7 @@ reply_is (Some NotStarted) = refl
 reply_is (Some BeforeStart) = refl
 reply_is (Some Ahead) = refl
 reply_is (Some Crowded) = refl
+reply_is (Some Foreign) = refl
 reply_is None = refl
 
 pub counts_are_of_replies : CountsAreOfReplies

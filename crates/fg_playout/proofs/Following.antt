@@ -5,9 +5,9 @@ use Rattle.fg_peel.proofs.Options.{some_and}
 use Rattle.fg_playout.specs.declared.reply.Reply.{Reply}
 use Rattle.fg_playout.specs.declared.reply.Reply.TheVariants.{Admitted}
 use Rattle.fg_playout.specs.State.{State, opening}
-use Rattle.fg_playout.specs.Admission.{Parity, IsAfterMedia, IsAfterParity, IsLeastFree, position_on, with_media, with_equation, equation_at}
+use Rattle.fg_playout.specs.Admission.{Parity, IsAfterMedia, IsAfterParity, IsLeastFree, Sender, former, own, another, sender_of, run_by, run_on, position_on, base_on, with_media, with_equation, equation_at}
 use Rattle.fg_playout.specs.Play.{Play, IsPlay}
-use Rattle.fg_playout.specs.Run.{Arrival, carries, protects, refused, ArePlaysDue, Takes, TakesAll, IsFlush}
+use Rattle.fg_playout.specs.Run.{Arrival, carries, protects, refused, ArePlaysDue, ArePlaysBefore, by_flush, by_due, Takes, TakesAll, IsFlush}
 use Rattle.fg_playout.specs.Laws.{LaterChangesNothing, AreInSuccession, PlaysFollow}
 
 pub later_changes_nothing : LaterChangesNothing
@@ -54,28 +54,45 @@ spans_append first middle last (play ∷ one) other a b =
     let rest = spans_append (first + length play.shown) middle last one other (record { follow = a.follow.1; ends = a.ends }) b in
     record { follow = (a.follow.0, rest.follow); ends = rest.ends }
 
-due_spans : (old : State) (seq : ℕ) (plays : List Play) (new : State) → ArePlaysDue old seq plays new → Spans old.mark plays new.mark
-due_spans old seq [] new is = spans_none old.mark new.mark (ap (λ (s : State). s.mark) is.1)
-due_spans old seq (play ∷ plays) new is =
-    spans_play old.playout.window old play is.1.0 plays new.mark is.1.1 (due_spans is.1.0 seq plays new is.1.2)
+due_spans : (old : State) (seq ssrc : ℕ) (plays : List Play) (new : State) → ArePlaysDue old seq ssrc plays new → Spans old.mark plays new.mark
+due_spans old seq ssrc [] new is = spans_none old.mark new.mark (ap (λ (s : State). s.mark) is.1)
+due_spans old seq ssrc (play ∷ plays) new is =
+    spans_play old.playout.window old play is.1.0 plays new.mark is.1.1 (due_spans is.1.0 seq ssrc plays new is.1.2)
 
-pub media_keeps_mark : (old new : State) (seq : ℕ) (word : Word) (reply : Reply) → IsAfterMedia old seq word reply new → new.mark ≡ old.mark
-media_keeps_mark old new seq word Admitted after =
-    let a = some_and (position_on old seq) (λ p. new ≡ with_media old seq p word) after in ap (λ (s : State). s.mark) a.2
-media_keeps_mark old new seq word reply after = ap (λ (s : State). s.mark) after
+run_keeps_mark : (old : State) (sender : Sender) → (run_by old sender).mark ≡ old.mark
+run_keeps_mark old former = refl
+run_keeps_mark old (own top) = refl
+run_keeps_mark old another = refl
+
+pub media_keeps_mark : (old new : State) (seq ssrc : ℕ) (word : Word) (reply : Reply) → IsAfterMedia old seq ssrc word reply new → new.mark ≡ old.mark
+media_keeps_mark old new seq ssrc word Admitted after =
+    let a = some_and (position_on old seq ssrc) (λ p. new ≡ with_media (run_on old ssrc) seq ssrc p word) after in
+    ap (λ (s : State). s.mark) a.2 ∙ run_keeps_mark old (sender_of old ssrc)
+media_keeps_mark old new seq ssrc word reply after = ap (λ (s : State). s.mark) after
 
 pub parity_keeps_mark : (old new : State) (parity : Parity) (reply : Reply) → IsAfterParity old parity reply new → new.mark ≡ old.mark
 parity_keeps_mark old new parity Admitted after =
-    let a = some_and (position_on old parity.base)
+    let a = some_and (base_on old parity.base)
     (λ position. (place : ℕ) × IsLeastFree old.equations place × (new ≡ with_equation old place (equation_at position parity))) after in
     ap (λ (s : State). s.mark) a.2.2
 parity_keeps_mark old new parity reply after = ap (λ (s : State). s.mark) after
 
+flush_spans : (old : State) (plays : List Play) (new : State) → IsFlush old plays new → Spans old.mark plays new.mark
+flush_spans old [] new is = spans_none old.mark new.mark (ap (λ (s : State). s.mark) is.1)
+flush_spans old (play ∷ plays) new is = spans_play _ old play is.0 plays new.mark is.1.plays (flush_spans is.0 plays new is.2)
+
+before_spans :
+    (old : State) (seq ssrc : ℕ) (plays : List Play) (new : State) → ArePlaysBefore old seq ssrc plays new
+    → Spans old.mark plays new.mark
+before_spans old seq ssrc plays new (by_flush empty fresh flush counts) =
+    subst (λ (n : ℕ). Spans old.mark plays n) (sym (ap (λ (s : State). s.mark) counts)) (flush_spans old plays empty flush)
+before_spans old seq ssrc plays new (by_due stale due) = due_spans old seq ssrc plays new due
+
 takes_spans : (old : State) (arrival : Arrival) (plays : List Play) (reply : Option Reply) (new : State) → Takes old arrival plays reply new → Spans old.mark plays new.mark
-takes_spans old (carries seq word) plays None new takes = absurd takes
-takes_spans old (carries seq word) plays (Some reply) new takes =
-    let same : new.mark ≡ takes.0.mark = media_keeps_mark takes.0 new seq word reply takes.2.after in
-    subst (λ (n : ℕ). Spans old.mark plays n) (sym same) (due_spans old seq plays takes.0 takes.1)
+takes_spans old (carries seq ssrc word) plays None new takes = absurd takes
+takes_spans old (carries seq ssrc word) plays (Some reply) new takes =
+    let same : new.mark ≡ takes.0.mark = media_keeps_mark takes.0 new seq ssrc word reply takes.2.after in
+    subst (λ (n : ℕ). Spans old.mark plays n) (sym same) (before_spans old seq ssrc plays takes.0 takes.1)
 takes_spans old (protects stream parity) plays None new takes = absurd takes
 takes_spans old (protects stream parity) plays (Some reply) new takes =
     subst (λ (ps : List Play). Spans old.mark ps new.mark) (sym takes.0)
@@ -95,10 +112,6 @@ all_spans old (arrival ∷ arrivals) plays (reply ∷ replies) new takes =
     (spans_append old.mark takes.2.mark new.mark takes.0 takes.1
     (takes_spans old arrival takes.0 reply takes.2 takes.4)
     (all_spans takes.2 arrivals takes.1 replies new takes.5))
-
-flush_spans : (old : State) (plays : List Play) (new : State) → IsFlush old plays new → Spans old.mark plays new.mark
-flush_spans old [] new is = spans_none old.mark new.mark (ap (λ (s : State). s.mark) is.1)
-flush_spans old (play ∷ plays) new is = spans_play _ old play is.0 plays new.mark is.1.plays (flush_spans is.0 plays new is.2)
 
 pub plays_follow : PlaysFollow
 plays_follow playout arrivals plays replies run =

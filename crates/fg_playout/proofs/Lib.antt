@@ -10,6 +10,7 @@ pub mod Flushing
 pub mod Following
 pub mod Joining
 pub mod MadeMaps
+pub mod NothingLeft
 pub mod OneOutcome
 pub mod OnePlay
 pub mod OneRun
@@ -26,5 +27,7 @@ pub mod Reaching
 pub mod Replies
 pub mod ReplyOutcomes
 pub mod RunFacts
+pub mod RunsBegin
 pub mod RunsExist
+pub mod Senders
 pub mod StaysPeeled

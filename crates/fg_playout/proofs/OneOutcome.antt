@@ -11,11 +11,11 @@ use Rattle.fg_playout.proofs.OnePlay.{one_play, one_state_after, one_flush_step,
 use Rattle.fg_playout.proofs.OneRun.{one_after_media, one_after_parity}
 
 pub media_is_one : MediaIsOne
-media_is_one old one other seq word reply reply' a b =
-    let same : reply ≡ reply' = one_media_reply old seq word reply reply' a.reply_is b.reply_is in (
+media_is_one old one other seq ssrc word reply reply' a b =
+    let same : reply ≡ reply' = one_media_reply old seq ssrc word reply reply' a.reply_is b.reply_is in (
       same,
-      one_after_media old seq word reply one other a.after
-          (subst (λ (r : Reply). IsAfterMedia old seq word r other) (sym same) b.after),
+      one_after_media old seq ssrc word reply one other a.after
+          (subst (λ (r : Reply). IsAfterMedia old seq ssrc word r other) (sym same) b.after),
     )
 
 pub parity_is_one : ParityIsOne

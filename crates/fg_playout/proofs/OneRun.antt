@@ -8,27 +8,27 @@ use Rattle.fg_peel.specs.Laws.{Uniqueness}
 use Rattle.fg_playout.specs.declared.reply.Reply.{Reply}
 use Rattle.fg_playout.specs.declared.reply.Reply.TheVariants.{Admitted}
 use Rattle.fg_playout.specs.State.{State, opening}
-use Rattle.fg_playout.specs.Admission.{Parity, IsLeastFree, IsAfterMedia, IsAfterParity, AdmitsMedia, AdmitsParity, position_on, with_media, with_equation, equation_at}
+use Rattle.fg_playout.specs.Admission.{Parity, IsLeastFree, IsAfterMedia, IsAfterParity, AdmitsMedia, AdmitsParity, position_on, base_on, run_on, counted, with_media, with_equation, equation_at}
 use Rattle.fg_playout.specs.Play.{Play}
-use Rattle.fg_playout.specs.Run.{Arrival, carries, protects, refused, ArePlaysDue, Takes, TakesAll, IsFlush}
+use Rattle.fg_playout.specs.Run.{Arrival, carries, protects, refused, ArePlaysDue, ArePlaysBefore, by_flush, by_due, Takes, TakesAll, IsFlush}
 use Rattle.fg_playout.specs.Laws.{IsRead, OneRun}
 use Rattle.fg_playout.proofs.Orderly.{IsOrderly, orderly_opening}
-use Rattle.fg_playout.proofs.OrderlyAdmissions.{orderly_after_media, orderly_after_parity}
+use Rattle.fg_playout.proofs.OrderlyAdmissions.{orderly_counted, orderly_after_media, orderly_after_parity}
 use Rattle.fg_playout.proofs.Plays.{orderly_after_play}
 use Rattle.fg_playout.proofs.Replies.{one_media_reply, one_parity_reply}
 use Rattle.fg_playout.proofs.OnePlay.{one_play, one_state_after, one_flush_step, one_state_after_step}
 
 pub one_after_media :
-    (old : State) (seq : ℕ) (word : Word) (reply : Reply) (new new' : State)
-    → IsAfterMedia old seq word reply new → IsAfterMedia old seq word reply new' → new ≡ new'
-one_after_media old seq word Admitted new new' a b = at (position_on old seq) a b
+    (old : State) (seq ssrc : ℕ) (word : Word) (reply : Reply) (new new' : State)
+    → IsAfterMedia old seq ssrc word reply new → IsAfterMedia old seq ssrc word reply new' → new ≡ new'
+one_after_media old seq ssrc word Admitted new new' a b = at (position_on old seq ssrc) a b
   where
     at :
-        (o : Option ℕ) → IsSomeAnd o (λ p. new ≡ with_media old seq p word) → IsSomeAnd o (λ p. new' ≡ with_media old seq p word)
-        → new ≡ new'
+        (o : Option ℕ) → IsSomeAnd o (λ p. new ≡ with_media (run_on old ssrc) seq ssrc p word)
+        → IsSomeAnd o (λ p. new' ≡ with_media (run_on old ssrc) seq ssrc p word) → new ≡ new'
     at None a b = absurd a
     at (Some p) a b = a ∙ sym b
-one_after_media old seq word reply new new' a b = a ∙ sym b
+one_after_media old seq ssrc word reply new new' a b = a ∙ sym b
 
 least_is_one : (old : State) (one other : ℕ) → IsLeastFree old.equations one → IsLeastFree old.equations other → one ≡ other
 least_is_one old one other a b =
@@ -39,7 +39,7 @@ least_is_one old one other a b =
 pub one_after_parity :
     (old : State) (parity : Parity) (reply : Reply) (new new' : State)
     → IsAfterParity old parity reply new → IsAfterParity old parity reply new' → new ≡ new'
-one_after_parity old parity Admitted new new' a b = at (position_on old parity.base) a b
+one_after_parity old parity Admitted new new' a b = at (base_on old parity.base) a b
   where
     at :
         (o : Option ℕ)
@@ -70,35 +70,67 @@ same_cons play play' plays plays' p q = λ i. p i ∷ q i
 
 module _ (unique : Uniqueness) where
   one_due :
-      (old : State) (seq : ℕ) (plays plays' : List Play) (new new' : State) → IsOrderly old
-      → ArePlaysDue old seq plays new → ArePlaysDue old seq plays' new' → SamePlays plays plays' new new'
-  one_due old seq [] [] new new' orderly a b =
+      (old : State) (seq ssrc : ℕ) (plays plays' : List Play) (new new' : State) → IsOrderly old
+      → ArePlaysDue old seq ssrc plays new → ArePlaysDue old seq ssrc plays' new' → SamePlays plays plays' new new'
+  one_due old seq ssrc [] [] new new' orderly a b =
       record { play = refl; state = a.1 ∙ sym b.1; orderly = subst IsOrderly (sym a.1) orderly }
-  one_due old seq [] (play' ∷ plays') new new' orderly a b = absurd (a.0 b.0)
-  one_due old seq (play ∷ plays) [] new new' orderly a b = absurd (b.0 a.0)
-  one_due old seq (play ∷ plays) (play' ∷ plays') new new' orderly a b =
+  one_due old seq ssrc [] (play' ∷ plays') new new' orderly a b = absurd (a.0 b.0)
+  one_due old seq ssrc (play ∷ plays) [] new new' orderly a b = absurd (b.0 a.0)
+  one_due old seq ssrc (play ∷ plays) (play' ∷ plays') new new' orderly a b =
       let next = a.1.0 in
       let state : next ≡ b.1.0 = one_state_after unique old.playout.window old orderly play play' next b.1.0 a.1.1 b.1.1 in
       let rest : SamePlays plays plays' new new' =
-      one_due next seq plays plays' new new' (orderly_after_play old.playout.window old play next a.1.1 orderly) a.1.2
-      (subst (λ (s : State). ArePlaysDue s seq plays' new') (sym state) b.1.2) in
+      one_due next seq ssrc plays plays' new new' (orderly_after_play old.playout.window old play next a.1.1 orderly) a.1.2
+      (subst (λ (s : State). ArePlaysDue s seq ssrc plays' new') (sym state) b.1.2) in
       record {
         play = same_cons play play' plays plays' (one_play unique old.playout.window old orderly play play' next b.1.0 a.1.1 b.1.1) rest.play;
         state = rest.state;
         orderly = rest.orderly;
       }
 
+  one_flush :
+      (old : State) (plays plays' : List Play) (new new' : State) → IsOrderly old → IsFlush old plays new → IsFlush old plays' new'
+      → SamePlays plays plays' new new'
+  one_flush old [] [] new new' orderly a b =
+      record { play = refl; state = a.1 ∙ sym b.1; orderly = subst IsOrderly (sym a.1) orderly }
+  one_flush old [] (play' ∷ plays') new new' orderly a b = absurd (a.0 (b.1.highest, b.1.highest_is.inside, b.1.more))
+  one_flush old (play ∷ plays) [] new new' orderly a b = absurd (b.0 (a.1.highest, a.1.highest_is.inside, a.1.more))
+  one_flush old (play ∷ plays) (play' ∷ plays') new new' orderly a b =
+      let state : a.0 ≡ b.0 = one_state_after_step unique old orderly play play' a.0 b.0 a.1 b.1 in
+      let rest : SamePlays plays plays' new new' =
+      one_flush a.0 plays plays' new new' (orderly_after_play _ old play a.0 a.1.plays orderly) a.2
+      (subst (λ (s : State). IsFlush s plays' new') (sym state) b.2) in
+      record {
+        play = same_cons play play' plays plays' (one_flush_step unique old orderly play play' a.0 b.0 a.1 b.1) rest.play;
+        state = rest.state;
+        orderly = rest.orderly;
+      }
+
+  one_before :
+      (old : State) (seq ssrc : ℕ) (plays plays' : List Play) (new new' : State) → IsOrderly old
+      → ArePlaysBefore old seq ssrc plays new → ArePlaysBefore old seq ssrc plays' new' → SamePlays plays plays' new new'
+  one_before old seq ssrc plays plays' new new' orderly (by_flush empty fresh a counts) (by_flush empty' fresh' b counts') =
+      let same = one_flush old plays plays' empty empty' orderly a b in
+      record {
+        play = same.play;
+        state = counts ∙ ap counted same.state ∙ sym counts';
+        orderly = subst IsOrderly (sym counts) (orderly_counted empty same.orderly);
+      }
+  one_before old seq ssrc plays plays' new new' orderly (by_flush empty fresh a counts) (by_due stale b) = absurd (stale fresh)
+  one_before old seq ssrc plays plays' new new' orderly (by_due stale a) (by_flush empty fresh b counts) = absurd (stale fresh)
+  one_before old seq ssrc plays plays' new new' orderly (by_due stale a) (by_due stale' b) = one_due old seq ssrc plays plays' new new' orderly a b
+
   one_media :
-      (old : State) (seq : ℕ) (word : Word) (reply reply' : Reply) (new new' : State) → IsOrderly old → IsMedia word
-      → AdmitsMedia old seq word reply new → AdmitsMedia old seq word reply' new' → SameStep [] [] (Some reply) (Some reply') new new'
-  one_media old seq word reply reply' new new' orderly media a b =
-      let same : reply ≡ reply' = one_media_reply old seq word reply reply' a.reply_is b.reply_is in
+      (old : State) (seq ssrc : ℕ) (word : Word) (reply reply' : Reply) (new new' : State) → IsOrderly old → IsMedia word
+      → AdmitsMedia old seq ssrc word reply new → AdmitsMedia old seq ssrc word reply' new' → SameStep [] [] (Some reply) (Some reply') new new'
+  one_media old seq ssrc word reply reply' new new' orderly media a b =
+      let same : reply ≡ reply' = one_media_reply old seq ssrc word reply reply' a.reply_is b.reply_is in
       record {
         play = refl;
         answer = ap Some same;
-        state = one_after_media old seq word reply new new' a.after
-            (subst (λ (r : Reply). IsAfterMedia old seq word r new') (sym same) b.after);
-        orderly = orderly_after_media old new seq word reply orderly media a.after;
+        state = one_after_media old seq ssrc word reply new new' a.after
+            (subst (λ (r : Reply). IsAfterMedia old seq ssrc word r new') (sym same) b.after);
+        orderly = orderly_after_media old new seq ssrc word reply orderly media a.after;
       }
 
   one_parity :
@@ -118,12 +150,12 @@ module _ (unique : Uniqueness) where
       (old : State) (arrival : Arrival) (plays plays' : List Play) (reply reply' : Option Reply) (new new' : State) → IsOrderly old
       → IsRead arrival → Takes old arrival plays reply new → Takes old arrival plays' reply' new'
       → SameStep plays plays' reply reply' new new'
-  one_taking old (carries seq word) plays plays' None reply' new new' orderly read a b = absurd a
-  one_taking old (carries seq word) plays plays' (Some reply) None new new' orderly read a b = absurd b
-  one_taking old (carries seq word) plays plays' (Some reply) (Some reply') new new' orderly read a b =
-      let due = one_due old seq plays plays' a.0 b.0 orderly a.1 b.1 in
-      let step = one_media a.0 seq word reply reply' new new' due.orderly read.1 a.2
-      (subst (λ (s : State). AdmitsMedia s seq word reply' new') (sym due.state) b.2) in
+  one_taking old (carries seq ssrc word) plays plays' None reply' new new' orderly read a b = absurd a
+  one_taking old (carries seq ssrc word) plays plays' (Some reply) None new new' orderly read a b = absurd b
+  one_taking old (carries seq ssrc word) plays plays' (Some reply) (Some reply') new new' orderly read a b =
+      let due = one_before old seq ssrc plays plays' a.0 b.0 orderly a.1 b.1 in
+      let step = one_media a.0 seq ssrc word reply reply' new new' due.orderly read.2 a.2
+      (subst (λ (s : State). AdmitsMedia s seq ssrc word reply' new') (sym due.state) b.2) in
       record { play = due.play; answer = step.answer; state = step.state; orderly = step.orderly }
   one_taking old (protects stream parity) plays plays' None reply' new new' orderly read a b = absurd a
   one_taking old (protects stream parity) plays plays' (Some reply) None new new' orderly read a b = absurd b
@@ -165,21 +197,10 @@ module _ (unique : Uniqueness) where
         orderly = rest.orderly;
       }
 
-  one_flush :
-      (old : State) (plays plays' : List Play) (new new' : State) → IsOrderly old → IsFlush old plays new → IsFlush old plays' new' → plays ≡ plays'
-  one_flush old [] [] new new' orderly a b = refl
-  one_flush old [] (play' ∷ plays') new new' orderly a b = absurd (a.0 (b.1.highest, b.1.highest_is.inside, b.1.more))
-  one_flush old (play ∷ plays) [] new new' orderly a b = absurd (b.0 (a.1.highest, a.1.highest_is.inside, a.1.more))
-  one_flush old (play ∷ plays) (play' ∷ plays') new new' orderly a b =
-      let state : a.0 ≡ b.0 = one_state_after_step unique old orderly play play' a.0 b.0 a.1 b.1 in
-      same_cons play play' plays plays' (one_flush_step unique old orderly play play' a.0 b.0 a.1 b.1)
-      (one_flush a.0 plays plays' new new' (orderly_after_play _ old play a.0 a.1.plays orderly) a.2
-      (subst (λ (s : State). IsFlush s plays' new') (sym state) b.2))
-
   pub one_run : OneRun
   one_run playout arrivals plays plays' replies replies' read a b =
       let taken = one_taking_all (opening playout) arrivals a.taken b.taken replies replies' a.filled b.filled
       (orderly_opening playout) read a.takes b.takes in
-      let flushed : a.flushed ≡ b.flushed = one_flush a.filled a.flushed b.flushed a.empty b.empty taken.orderly a.flush
+      let flushed = one_flush a.filled a.flushed b.flushed a.empty b.empty taken.orderly a.flush
       (subst (λ (s : State). IsFlush s b.flushed b.empty) (sym taken.state) b.flush) in
-      (a.plays_are ∙ (λ i. taken.play i ++ flushed i) ∙ sym b.plays_are, taken.answers)
+      (a.plays_are ∙ (λ i. taken.play i ++ flushed.play i) ∙ sym b.plays_are, taken.answers, taken.state)

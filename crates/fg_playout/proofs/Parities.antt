@@ -1,5 +1,5 @@
 -- Parity datagrams keep the facts.
-use Rattle.std.proofs.Common.{◌≡◌, ◌≢◌, ◌+◌, ◌-◌, ◌%◌, ◌^◌, ◌<◌, ◌≤◌, ℕ, Option, Some, None, IsSome, MatchOption, inl, inr, leb, mod-lt, sym, subst, ◌∙◌, ⊎_elim, arith}
+use Rattle.std.proofs.Common.{◌≡◌, ◌≢◌, ◌+◌, ◌-◌, ◌%◌, ◌^◌, ◌<◌, ◌≤◌, ℕ, Option, Some, None, IsSome, MatchOption, inl, inr, leb, ltb, ltb-false, mod-lt, refl, sym, ap, subst, ◌∙◌, ⊎_elim, arith}
 use Rattle.std.specs.Bool.{⊤}
 use Rattle.std.proofs.lemmas.Bool.{cases_lt}
 use Rattle.std.proofs.lemmas.Option.{none-some, same_Some}
@@ -8,16 +8,16 @@ use Rattle.std.specs.FinMap.{get}
 use Rattle.fg_shape.specs.Shape.{IsShape}
 use Rattle.fg_unwrap.specs.Position.{position_of}
 use Rattle.fg_peel.specs.Equation.{Equation, slots}
-use Rattle.fg_peel.proofs.Options.{none_or_some, some_and, chosen, has_value}
+use Rattle.fg_peel.proofs.Options.{none_or_some, some_and, chosen, has_value, passed_over}
 use Rattle.fg_playout.specs.declared.reply.Reply.{Reply}
 use Rattle.fg_playout.specs.declared.reply.Reply.TheVariants.{Admitted, NotStarted, BeforeStart}
 use Rattle.fg_playout.specs.State.{State, Top, Live, last_slot}
 use Rattle.fg_playout.specs.Room.{HasRoom}
-use Rattle.fg_playout.specs.Admission.{Parity, IsLate, IsAhead, IsTimely, HasTwin, IsFree, IsLeastFree, IsEquationReply, IsParityReply, IsAfterParity, position_on, equation_at, with_equation, live_limit, kept_count}
+use Rattle.fg_playout.specs.Admission.{Parity, IsLate, IsAhead, IsTimely, HasTwin, IsFree, IsLeastFree, IsEquationReply, IsParityReply, IsAfterParity, base_on, not_before, equation_at, with_equation, live_limit, kept_count}
 use Rattle.fg_playout.specs.Facts.{Holds, IsLive, AreApart}
 use Rattle.fg_playout.specs.Laws.{ParityKeeps}
 use Rattle.fg_playout.proofs.Added.{added, added_or_old, apart_with_added, flip_slots, no_twin_apart}
-use Rattle.fg_playout.proofs.Opened.{counted_holds, position_after}
+use Rattle.fg_playout.proofs.Opened.{counted_holds}
 use Rattle.fg_peel.proofs.Places.{free_place}
 
 -- A position is at most 32,767 past the top's.
@@ -96,8 +96,8 @@ module _ (old : State) (place : ℕ) (equation : Equation) (holds : Holds old) (
     slots = no_twin_apart old equation is_new.no_twin serial live is;
   }
 
-  pub with_equation_holds : old.top ≢ None → Holds (with_equation old place equation)
-  with_equation_holds opened = record {
+  pub with_equation_holds : old.top ≢ None → old.origin ≤ equation.base → Holds (with_equation old place equation)
+  with_equation_holds opened from = record {
     window = holds.window;
     depth = holds.depth;
     kept = λ p w is. (let k = holds.kept p w is in record { media = k.media; below = k.below; near = k.near });
@@ -107,46 +107,68 @@ module _ (old : State) (place : ℕ) (equation : Equation) (holds : Holds old) (
         (λ was. stays_live s l (holds.live s l was));
     apart = apart_with_added old place equation AreApart apart_from_added
         (λ s l is. flip_apart l (added place equation) (apart_from_added s l is)) holds.apart;
+    origin = holds.origin;
+    based = λ s l is. added_or_old old place equation (λ (v : Live). old.origin ≤ v.equation.base) s l is
+        (λ here. from) (holds.based s l);
     unopened = λ none. absurd (opened none);
+    opened = holds.opened;
+    senders = holds.senders;
   }
 
--- What an admitted parity datagram says: there is a top, and its base has a position, with the equation's reply.
+-- What is not before a position is there, and at it or past it.
+pub not_before_is :
+    (origin : ℕ) (o : Option ℕ) (position : ℕ) → not_before origin o ≡ Some position → (o ≡ Some position) × (origin ≤ position)
+not_before_is origin None position is = absurd (none-some position is)
+not_before_is origin (Some other) position is =
+    let c = passed_over (ltb other origin) (Some other) position is in
+    let same : other ≡ position = same_Some other position c.1 in
+    let past = ltb-false other origin c.0 in
+    (ap Some same, omega (arith, same, past))
+
+-- A base that has a position.
+pub base_is :
+    (old : State) (base position : ℕ) → base_on old base ≡ Some position
+    → (top : Top) × (old.top ≡ Some top) × (position_of top.position top.seq base ≡ Some position) × (old.origin ≤ position)
+base_is old base position on = go old.top on
+  where
+    go :
+        (o : Option Top)
+        → elim o as (λ _. Option ℕ) [
+          | None ↦ None
+          | Some top ↦ not_before old.origin (position_of top.position top.seq base)
+        ] ≡ Some position
+        → (top : Top) × (o ≡ Some top) × (position_of top.position top.seq base ≡ Some position) × (old.origin ≤ position)
+    go None e = absurd (none-some position e)
+    go (Some top) e =
+        let r = not_before_is old.origin (position_of top.position top.seq base) position e in
+        (top, refl, r.0, r.1)
+
+-- What an admitted parity datagram says: there is a top, and its base has a position in the run, with the equation's reply.
 pub record IsAdmitted (old : State) (parity : Parity) (position : ℕ) : Type 0 where
   pub top : Top
   pub top_is : old.top ≡ Some top
   pub at : position_of top.position top.seq parity.base ≡ Some position
+  pub from : old.origin ≤ position
   pub replies : IsEquationReply old (equation_at position parity) Admitted
 
-reply_at_top :
-    (old : State) (parity : Parity) (top : Top) → old.top ≡ Some top → IsParityReply old parity Admitted
-    → MatchOption (position_of top.position top.seq parity.base) (Admitted ≡ BeforeStart)
-    (λ position. IsEquationReply old (equation_at position parity) Admitted)
-reply_at_top old parity top is replies = subst (λ (t : Option Top).
-    MatchOption t (Admitted ≡ NotStarted) (λ top.
-    MatchOption (position_of top.position top.seq parity.base) (Admitted ≡ BeforeStart)
-    (λ position. IsEquationReply old (equation_at position parity) Admitted))) is replies
-
 pub is_admitted :
-    (old : State) (parity : Parity) (position : ℕ) → IsParityReply old parity Admitted → position_on old parity.base ≡ Some position
+    (old : State) (parity : Parity) (position : ℕ) → IsParityReply old parity Admitted → base_on old parity.base ≡ Some position
     → IsAdmitted old parity position
-is_admitted old parity position replies on = ⊎_elim
-    (λ none.
-    let never : Admitted ≡ NotStarted = subst (λ (t : Option Top).
-    MatchOption t (Admitted ≡ NotStarted) (λ top.
-    MatchOption (position_of top.position top.seq parity.base) (Admitted ≡ BeforeStart)
-    (λ position. IsEquationReply old (equation_at position parity) Admitted))) none replies in
-    absurd (cc))
-    (λ some.
-    let at : position_of some.0.position some.0.seq parity.base ≡ Some position = sym (position_after old parity.base some.0 some.1) ∙ on in
+is_admitted old parity position replies on =
+    let base = base_is old parity.base position on in
+    let at_base : MatchOption (base_on old parity.base) (Admitted ≡ BeforeStart) (λ p. IsEquationReply old (equation_at p parity) Admitted) =
+    subst (λ (t : Option Top).
+    MatchOption t (Admitted ≡ NotStarted) (λ _.
+    MatchOption (base_on old parity.base) (Admitted ≡ BeforeStart) (λ p. IsEquationReply old (equation_at p parity) Admitted)))
+    base.1 replies in
     record {
-      top = some.0;
-      top_is = some.1;
-      at = at;
+      top = base.0;
+      top_is = base.1;
+      at = base.2;
+      from = base.3;
       replies = subst (λ (o : Option ℕ).
-          MatchOption o (Admitted ≡ BeforeStart) (λ position. IsEquationReply old (equation_at position parity) Admitted))
-          at (reply_at_top old parity some.0 some.1 replies);
-    })
-    (none_or_some old.top)
+          MatchOption o (Admitted ≡ BeforeStart) (λ p. IsEquationReply old (equation_at p parity) Admitted)) on at_base;
+    }
 
 top_limit : (old : State) (top : Top) → HasRoom old → old.top ≡ Some top → top.position < 2 ^ 61
 top_limit old top room is = subst (λ (t : Option Top). MatchOption t ⊤ (λ top. top.position < 2 ^ 61)) is room.top
@@ -155,7 +177,7 @@ admitted_holds :
     (old new : State) (parity : Parity) → Holds old → HasRoom old → IsShape parity.offset parity.count
     → IsParityReply old parity Admitted → IsAfterParity old parity Admitted new → Holds new
 admitted_holds old new parity holds room shape replies after =
-    let a = some_and (position_on old parity.base)
+    let a = some_and (base_on old parity.base)
     (λ position. (place : ℕ) × IsLeastFree old.equations place × (new ≡ with_equation old place (equation_at position parity))) after in
     let is = is_admitted old parity a.0 replies a.1 in
     let equation : Equation = equation_at a.0 parity in
@@ -172,7 +194,7 @@ admitted_holds old new parity holds room shape replies after =
       placed = omega (arith, least, below);
       free = a.2.1.0;
     } in
-    subst Holds (sym a.2.2) (with_equation_holds old a.2.0 equation holds is_new (λ none. none-some is.top (sym none ∙ is.top_is)))
+    subst Holds (sym a.2.2) (with_equation_holds old a.2.0 equation holds is_new (λ none. none-some is.top (sym none ∙ is.top_is)) is.from)
 
 pub parity_keeps : ParityKeeps
 parity_keeps old new parity reply holds room shape admits = go reply admits.reply_is admits.after

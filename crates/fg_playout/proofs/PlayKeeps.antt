@@ -27,6 +27,15 @@ module _ (count : ℕ) (old : State) (play : Play) (new : State) (plays : IsPlay
   same_top : new.top ≡ old.top
   same_top = ap (λ (s : State). s.top) plays.rest
 
+  same_origin : new.origin ≡ old.origin
+  same_origin = ap (λ (s : State). s.origin) plays.rest
+
+  same_previous : new.previous ≡ old.previous
+  same_previous = ap (λ (s : State). s.previous) plays.rest
+
+  same_runs : new.runs ≡ old.runs
+  same_runs = ap (λ (s : State). s.runs) plays.rest
+
   same_admitted : new.admitted ≡ old.admitted
   same_admitted = ap (λ (s : State). s.admitted) plays.rest
 
@@ -68,7 +77,11 @@ module _ (count : ℕ) (old : State) (play : Play) (new : State) (plays : IsPlay
     media = is_received;
     live = is_live;
     apart = λ s t one other is is'. holds.apart s t one other ((plays.equations s one).0 is).0 ((plays.equations t other).0 is').0;
+    origin = (let o = holds.origin in let rises = mark_rises count old play new plays in omega (arith, o, rises, same_origin));
+    based = λ s l is. (let b = holds.based s l ((plays.equations s l).0 is).0 in omega (arith, b, same_origin));
     unopened = λ none. absurd (opened (sym same_top ∙ none));
+    opened = λ some. (let r = holds.opened opened in omega (arith, r, same_runs));
+    senders = λ top is before. holds.senders top (sym same_top ∙ is) (sym same_previous ∙ before);
   }
 
 pub play_keeps : PlayKeeps

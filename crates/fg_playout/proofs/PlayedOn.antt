@@ -6,11 +6,11 @@ use Rattle.std.specs.List.{All}
 use Rattle.fg_peel.specs.Laws.{Uniqueness}
 use Rattle.fg_playout.specs.declared.reply.Reply.{Reply}
 use Rattle.fg_playout.specs.State.{State, opening}
-use Rattle.fg_playout.specs.Admission.{IsDue}
+use Rattle.fg_playout.specs.Admission.{IsDue, IsFresh}
 use Rattle.fg_playout.specs.Play.{Play, IsPlay, IsFlushStep}
-use Rattle.fg_playout.specs.Run.{Arrival, carries, protects, refused, ArePlaysDue, Takes, TakesAll, IsFlush}
+use Rattle.fg_playout.specs.Run.{Arrival, carries, protects, refused, ArePlaysDue, ArePlaysBefore, by_flush, by_due, Takes, TakesAll, IsFlush}
 use Rattle.fg_playout.specs.Laws.{IsRead}
-use Rattle.fg_playout.specs.PlayedOn.{PlayOn, due_on, taken_on, all_taken_on, flushed_on, PlaysAreTheRuns, DesksMakeThePlays, OneListOfDesks}
+use Rattle.fg_playout.specs.PlayedOn.{PlayOn, due_on, before_on, taken_on, all_taken_on, flushed_on, PlaysAreTheRuns, DesksMakeThePlays, OneListOfDesks}
 use Rattle.fg_playout.proofs.Orderly.{IsOrderly, orderly_opening}
 use Rattle.fg_playout.proofs.Plays.{orderly_after_play}
 use Rattle.fg_playout.proofs.OnePlay.{one_play, one_state_after, one_flush_step, one_state_after_step}
@@ -21,15 +21,25 @@ use Rattle.fg_playout.proofs.OneRun.{one_taking, one_taking_all}
 abbrev plays_of : List PlayOn → List Play
 plays_of = map (λ (made : PlayOn). made.play)
 
-due_plays : (old : State) (seq : ℕ) (plays : List Play) (new : State) (due : ArePlaysDue old seq plays new) → plays_of (due_on old seq plays new due) ≡ plays
-due_plays old seq [] new due = refl
-due_plays old seq (play ∷ plays) new due = ap (λ (ps : List Play). play ∷ ps) (due_plays due.1.0 seq plays new due.1.2)
+due_plays : (old : State) (seq ssrc : ℕ) (plays : List Play) (new : State) (due : ArePlaysDue old seq ssrc plays new) → plays_of (due_on old seq ssrc plays new due) ≡ plays
+due_plays old seq ssrc [] new due = refl
+due_plays old seq ssrc (play ∷ plays) new due = ap (λ (ps : List Play). play ∷ ps) (due_plays due.1.0 seq ssrc plays new due.1.2)
+
+flushed_plays : (old : State) (plays : List Play) (new : State) (flush : IsFlush old plays new) → plays_of (flushed_on old plays new flush) ≡ plays
+flushed_plays old [] new flush = refl
+flushed_plays old (play ∷ plays) new flush = ap (λ (ps : List Play). play ∷ ps) (flushed_plays flush.0 plays new flush.2)
+
+before_plays :
+    (old : State) (seq ssrc : ℕ) (plays : List Play) (new : State) (before : ArePlaysBefore old seq ssrc plays new)
+    → plays_of (before_on old seq ssrc plays new before) ≡ plays
+before_plays old seq ssrc plays new (by_flush empty fresh flush counts) = flushed_plays old plays empty flush
+before_plays old seq ssrc plays new (by_due stale due) = due_plays old seq ssrc plays new due
 
 taken_plays :
     (old : State) (arrival : Arrival) (plays : List Play) (reply : Option Reply) (new : State) (takes : Takes old arrival plays reply new)
     → plays_of (taken_on old arrival plays reply new takes) ≡ plays
-taken_plays old (carries seq word) plays None new takes = absurd takes
-taken_plays old (carries seq word) plays (Some reply) new takes = due_plays old seq plays takes.0 takes.1
+taken_plays old (carries seq ssrc word) plays None new takes = absurd takes
+taken_plays old (carries seq ssrc word) plays (Some reply) new takes = before_plays old seq ssrc plays takes.0 takes.1
 taken_plays old (protects stream parity) plays None new takes = absurd takes
 taken_plays old (protects stream parity) plays (Some reply) new takes = sym takes.0
 taken_plays old (refused stream) plays None new takes = sym takes.0
@@ -47,10 +57,6 @@ all_taken_plays old (arrival ∷ arrivals) plays (reply ∷ replies) new takes =
     (all_taken_on takes.2 arrivals takes.1 replies new takes.5)
     ∙ (λ i. first i ++ rest i) ∙ sym takes.3
 
-flushed_plays : (old : State) (plays : List Play) (new : State) (flush : IsFlush old plays new) → plays_of (flushed_on old plays new flush) ≡ plays
-flushed_plays old [] new flush = refl
-flushed_plays old (play ∷ plays) new flush = ap (λ (ps : List Play). play ∷ ps) (flushed_plays flush.0 plays new flush.2)
-
 pub plays_are_the_runs : PlaysAreTheRuns
 plays_are_the_runs playout arrivals plays replies run =
     let taken = all_taken_plays (opening playout) arrivals run.taken replies run.filled run.takes in
@@ -64,17 +70,29 @@ plays_are_the_runs playout arrivals plays replies run =
 abbrev IsMade : PlayOn → Type 0
 IsMade made = (count : ℕ) × (next : State) × IsPlay count made.desk made.play next
 
-due_made : (old : State) (seq : ℕ) (plays : List Play) (new : State) (due : ArePlaysDue old seq plays new) → All IsMade (due_on old seq plays new due)
-due_made old seq [] new due = All-nil IsMade
-due_made old seq (play ∷ plays) new due =
-    All-cons IsMade (record { desk = old; play = play }) (due_on due.1.0 seq plays new due.1.2)
-    (old.playout.window, due.1.0, due.1.1) (due_made due.1.0 seq plays new due.1.2)
+due_made : (old : State) (seq ssrc : ℕ) (plays : List Play) (new : State) (due : ArePlaysDue old seq ssrc plays new) → All IsMade (due_on old seq ssrc plays new due)
+due_made old seq ssrc [] new due = All-nil IsMade
+due_made old seq ssrc (play ∷ plays) new due =
+    All-cons IsMade (record { desk = old; play = play }) (due_on due.1.0 seq ssrc plays new due.1.2)
+    (old.playout.window, due.1.0, due.1.1) (due_made due.1.0 seq ssrc plays new due.1.2)
+
+flushed_made : (old : State) (plays : List Play) (new : State) (flush : IsFlush old plays new) → All IsMade (flushed_on old plays new flush)
+flushed_made old [] new flush = All-nil IsMade
+flushed_made old (play ∷ plays) new flush =
+    All-cons IsMade (record { desk = old; play = play }) (flushed_on flush.0 plays new flush.2)
+    (_, flush.0, flush.1.plays) (flushed_made flush.0 plays new flush.2)
+
+before_made :
+    (old : State) (seq ssrc : ℕ) (plays : List Play) (new : State) (before : ArePlaysBefore old seq ssrc plays new)
+    → All IsMade (before_on old seq ssrc plays new before)
+before_made old seq ssrc plays new (by_flush empty fresh flush counts) = flushed_made old plays empty flush
+before_made old seq ssrc plays new (by_due stale due) = due_made old seq ssrc plays new due
 
 taken_made :
     (old : State) (arrival : Arrival) (plays : List Play) (reply : Option Reply) (new : State) (takes : Takes old arrival plays reply new)
     → All IsMade (taken_on old arrival plays reply new takes)
-taken_made old (carries seq word) plays None new takes = absurd takes
-taken_made old (carries seq word) plays (Some reply) new takes = due_made old seq plays takes.0 takes.1
+taken_made old (carries seq ssrc word) plays None new takes = absurd takes
+taken_made old (carries seq ssrc word) plays (Some reply) new takes = before_made old seq ssrc plays takes.0 takes.1
 taken_made old (protects stream parity) plays reply new takes = All-nil IsMade
 taken_made old (refused stream) plays reply new takes = All-nil IsMade
 
@@ -87,12 +105,6 @@ all_taken_made old (arrival ∷ arrivals) plays (reply ∷ replies) new takes =
     All-append IsMade (taken_on old arrival takes.0 reply takes.2 takes.4)
     (all_taken_on takes.2 arrivals takes.1 replies new takes.5)
     (taken_made old arrival takes.0 reply takes.2 takes.4) (all_taken_made takes.2 arrivals takes.1 replies new takes.5)
-
-flushed_made : (old : State) (plays : List Play) (new : State) (flush : IsFlush old plays new) → All IsMade (flushed_on old plays new flush)
-flushed_made old [] new flush = All-nil IsMade
-flushed_made old (play ∷ plays) new flush =
-    All-cons IsMade (record { desk = old; play = play }) (flushed_on flush.0 plays new flush.2)
-    (_, flush.0, flush.1.plays) (flushed_made flush.0 plays new flush.2)
 
 pub desks_make_the_plays : DesksMakeThePlays
 desks_make_the_plays playout arrivals plays replies run =
@@ -110,31 +122,61 @@ same_made desk desk' play play' rest rest' d p r = λ i. record { desk = d i; pl
 
 module _ (unique : Uniqueness) where
   one_due_on :
-      (old old' : State) (seq : ℕ) (plays plays' : List Play) (new new' : State) → old ≡ old' → IsOrderly old
-      → (a : ArePlaysDue old seq plays new) (b : ArePlaysDue old' seq plays' new')
-      → due_on old seq plays new a ≡ due_on old' seq plays' new' b
-  one_due_on old old' seq [] [] new new' same orderly a b = refl
-  one_due_on old old' seq [] (play' ∷ plays') new new' same orderly a b =
-      absurd (a.0 (subst (λ (s : State). IsDue s seq) (sym same) b.0))
-  one_due_on old old' seq (play ∷ plays) [] new new' same orderly a b =
-      absurd (b.0 (subst (λ (s : State). IsDue s seq) same a.0))
-  one_due_on old old' seq (play ∷ plays) (play' ∷ plays') new new' same orderly a b =
+      (old old' : State) (seq ssrc : ℕ) (plays plays' : List Play) (new new' : State) → old ≡ old' → IsOrderly old
+      → (a : ArePlaysDue old seq ssrc plays new) (b : ArePlaysDue old' seq ssrc plays' new')
+      → due_on old seq ssrc plays new a ≡ due_on old' seq ssrc plays' new' b
+  one_due_on old old' seq ssrc [] [] new new' same orderly a b = refl
+  one_due_on old old' seq ssrc [] (play' ∷ plays') new new' same orderly a b =
+      absurd (a.0 (subst (λ (s : State). IsDue s seq ssrc) (sym same) b.0))
+  one_due_on old old' seq ssrc (play ∷ plays) [] new new' same orderly a b =
+      absurd (b.0 (subst (λ (s : State). IsDue s seq ssrc) same a.0))
+  one_due_on old old' seq ssrc (play ∷ plays) (play' ∷ plays') new new' same orderly a b =
       let is : IsPlay old.playout.window old play' b.1.0 =
       subst (λ (s : State). IsPlay s.playout.window s play' b.1.0) (sym same) b.1.1 in
-      same_made old old' play play' (due_on a.1.0 seq plays new a.1.2) (due_on b.1.0 seq plays' new' b.1.2) same
+      same_made old old' play play' (due_on a.1.0 seq ssrc plays new a.1.2) (due_on b.1.0 seq ssrc plays' new' b.1.2) same
       (one_play unique old.playout.window old orderly play play' a.1.0 b.1.0 a.1.1 is)
-      (one_due_on a.1.0 b.1.0 seq plays plays' new new'
+      (one_due_on a.1.0 b.1.0 seq ssrc plays plays' new new'
       (one_state_after unique old.playout.window old orderly play play' a.1.0 b.1.0 a.1.1 is)
       (orderly_after_play old.playout.window old play a.1.0 a.1.1 orderly) a.1.2 b.1.2)
+
+  one_flushed_on :
+      (old old' : State) (plays plays' : List Play) (new new' : State) → old ≡ old' → IsOrderly old
+      → (a : IsFlush old plays new) (b : IsFlush old' plays' new') → flushed_on old plays new a ≡ flushed_on old' plays' new' b
+  one_flushed_on old old' [] [] new new' same orderly a b = refl
+  one_flushed_on old old' [] (play' ∷ plays') new new' same orderly a b =
+      let step = subst (λ (s : State). IsFlushStep s play' b.0) (sym same) b.1 in
+      absurd (a.0 (step.highest, step.highest_is.inside, step.more))
+  one_flushed_on old old' (play ∷ plays) [] new new' same orderly a b =
+      let step = subst (λ (s : State). IsFlushStep s play a.0) same a.1 in
+      absurd (b.0 (step.highest, step.highest_is.inside, step.more))
+  one_flushed_on old old' (play ∷ plays) (play' ∷ plays') new new' same orderly a b =
+      let step = subst (λ (s : State). IsFlushStep s play' b.0) (sym same) b.1 in
+      same_made old old' play play' (flushed_on a.0 plays new a.2) (flushed_on b.0 plays' new' b.2) same
+      (one_flush_step unique old orderly play play' a.0 b.0 a.1 step)
+      (one_flushed_on a.0 b.0 plays plays' new new' (one_state_after_step unique old orderly play play' a.0 b.0 a.1 step)
+      (orderly_after_play _ old play a.0 a.1.plays orderly) a.2 b.2)
+
+  one_before_on :
+      (old old' : State) (seq ssrc : ℕ) (plays plays' : List Play) (new new' : State) → old ≡ old' → IsOrderly old
+      → (a : ArePlaysBefore old seq ssrc plays new) (b : ArePlaysBefore old' seq ssrc plays' new')
+      → before_on old seq ssrc plays new a ≡ before_on old' seq ssrc plays' new' b
+  one_before_on old old' seq ssrc plays plays' new new' same orderly (by_flush empty fresh a counts) (by_flush empty' fresh' b counts') =
+      one_flushed_on old old' plays plays' empty empty' same orderly a b
+  one_before_on old old' seq ssrc plays plays' new new' same orderly (by_flush empty fresh a counts) (by_due stale b) =
+      absurd (stale (subst (λ (s : State). IsFresh s ssrc) same fresh))
+  one_before_on old old' seq ssrc plays plays' new new' same orderly (by_due stale a) (by_flush empty fresh b counts) =
+      absurd (stale (subst (λ (s : State). IsFresh s ssrc) (sym same) fresh))
+  one_before_on old old' seq ssrc plays plays' new new' same orderly (by_due stale a) (by_due stale' b) =
+      one_due_on old old' seq ssrc plays plays' new new' same orderly a b
 
   one_taken_on :
       (old old' : State) (arrival : Arrival) (plays plays' : List Play) (reply reply' : Option Reply) (new new' : State)
       → old ≡ old' → IsOrderly old → (a : Takes old arrival plays reply new) (b : Takes old' arrival plays' reply' new')
       → taken_on old arrival plays reply new a ≡ taken_on old' arrival plays' reply' new' b
-  one_taken_on old old' (carries seq word) plays plays' None reply' new new' same orderly a b = absurd a
-  one_taken_on old old' (carries seq word) plays plays' (Some reply) None new new' same orderly a b = absurd b
-  one_taken_on old old' (carries seq word) plays plays' (Some reply) (Some reply') new new' same orderly a b =
-      one_due_on old old' seq plays plays' a.0 b.0 same orderly a.1 b.1
+  one_taken_on old old' (carries seq ssrc word) plays plays' None reply' new new' same orderly a b = absurd a
+  one_taken_on old old' (carries seq ssrc word) plays plays' (Some reply) None new new' same orderly a b = absurd b
+  one_taken_on old old' (carries seq ssrc word) plays plays' (Some reply) (Some reply') new new' same orderly a b =
+      one_before_on old old' seq ssrc plays plays' a.0 b.0 same orderly a.1 b.1
   one_taken_on old old' (protects stream parity) plays plays' reply reply' new new' same orderly a b = refl
   one_taken_on old old' (refused stream) plays plays' reply reply' new new' same orderly a b = refl
 
@@ -153,23 +195,6 @@ module _ (unique : Uniqueness) where
       let rest = one_all_taken_on a.2 b.2 arrivals a.1 b.1 replies replies' new new' step.state step.orderly
       (All-tail IsRead arrival arrivals read) a.5 b.5 in
       λ i. first i ++ rest i
-
-  one_flushed_on :
-      (old old' : State) (plays plays' : List Play) (new new' : State) → old ≡ old' → IsOrderly old
-      → (a : IsFlush old plays new) (b : IsFlush old' plays' new') → flushed_on old plays new a ≡ flushed_on old' plays' new' b
-  one_flushed_on old old' [] [] new new' same orderly a b = refl
-  one_flushed_on old old' [] (play' ∷ plays') new new' same orderly a b =
-      let step = subst (λ (s : State). IsFlushStep s play' b.0) (sym same) b.1 in
-      absurd (a.0 (step.highest, step.highest_is.inside, step.more))
-  one_flushed_on old old' (play ∷ plays) [] new new' same orderly a b =
-      let step = subst (λ (s : State). IsFlushStep s play a.0) same a.1 in
-      absurd (b.0 (step.highest, step.highest_is.inside, step.more))
-  one_flushed_on old old' (play ∷ plays) (play' ∷ plays') new new' same orderly a b =
-      let step = subst (λ (s : State). IsFlushStep s play' b.0) (sym same) b.1 in
-      same_made old old' play play' (flushed_on a.0 plays new a.2) (flushed_on b.0 plays' new' b.2) same
-      (one_flush_step unique old orderly play play' a.0 b.0 a.1 step)
-      (one_flushed_on a.0 b.0 plays plays' new new' (one_state_after_step unique old orderly play play' a.0 b.0 a.1 step)
-      (orderly_after_play _ old play a.0 a.1.plays orderly) a.2 b.2)
 
   pub one_list_of_desks : OneListOfDesks
   one_list_of_desks playout arrivals plays plays' replies replies' one other read =

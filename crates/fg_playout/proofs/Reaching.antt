@@ -1,17 +1,17 @@
 -- Plays move the mark by as many positions as they show.
-use Rattle.std.proofs.Common.{◌≡◌, ◌+◌, ◌-◌, ◌≤◌, ◌++◌, ℕ, min, List, [], ◌∷◌, length, Option, Some, None, sym, ap, subst, ◌∙◌, arith}
+use Rattle.std.proofs.Common.{◌≡◌, ◌+◌, ◌-◌, ◌≤◌, ◌++◌, ℕ, min, List, [], ◌∷◌, length, Option, Some, None, refl, sym, ap, subst, ◌∙◌, arith}
 use Rattle.std.proofs.lemmas.List.Elements.{All-nil, All-cons, All-append}
 use Rattle.fg_words.specs.declared.Word.{Word}
 use Rattle.fg_peel.proofs.Options.{some_and}
 use Rattle.fg_playout.specs.declared.reply.Reply.{Reply}
 use Rattle.fg_playout.specs.declared.reply.Reply.TheVariants.{Admitted}
 use Rattle.fg_playout.specs.State.{State}
-use Rattle.fg_playout.specs.Admission.{Parity, IsAfterMedia, IsAfterParity, IsLeastFree, position_on, with_media, with_equation, equation_at}
+use Rattle.fg_playout.specs.Admission.{Parity, IsAfterMedia, IsAfterParity, IsLeastFree, Sender, former, own, another, sender_of, run_by, run_on, position_on, base_on, with_media, with_equation, equation_at}
 use Rattle.fg_playout.specs.Play.{Play, IsPlay}
-use Rattle.fg_playout.specs.Run.{Arrival, carries, protects, refused, Takes}
-use Rattle.fg_playout.specs.Laws.{HavePlayed, Reach, played_count, PlaysReachTheMark, DuePlaysReachTheMark, FlushStepsReachTheMark, EachGetsAReply}
+use Rattle.fg_playout.specs.Run.{Arrival, carries, protects, refused, ArePlaysBefore, by_flush, by_due, Takes}
+use Rattle.fg_playout.specs.Laws.{HavePlayed, AreFlushSteps, Reach, played_count, PlaysReachTheMark, DuePlaysReachTheMark, FlushStepsReachTheMark, EachGetsAReply}
 use Rattle.fg_playout.proofs.Following.{media_keeps_mark, parity_keeps_mark}
-use Rattle.fg_playout.proofs.Joining.{plays_due_end}
+use Rattle.fg_playout.proofs.Joining.{plays_due_end, flush_steps_end}
 
 abbrev ShowsSome : Play → Type 0
 ShowsSome play = 1 ≤ length play.shown
@@ -50,11 +50,11 @@ pub play_keeps_window : (count : ℕ) (old : State) (play : Play) (new : State) 
 play_keeps_window count old play new is = ap (λ (s : State). s.playout.window) is.rest
 
 pub due_reach : DuePlaysReachTheMark
-due_reach old new seq [] some played = reach_none old new (ap (λ (s : State). s.mark) played)
-due_reach old new seq (play ∷ plays) some played =
+due_reach old new seq ssrc [] some played = reach_none old new (ap (λ (s : State). s.mark) played)
+due_reach old new seq ssrc (play ∷ plays) some played =
     let window = play_keeps_window old.playout.window old play played.1.0 played.1.1 in
     reach_play old.playout.window old play played.1.0 plays new some played.1.1
-    (due_reach played.1.0 new seq plays (omega (arith, some, window)) played.1.2)
+    (due_reach played.1.0 new seq ssrc plays (omega (arith, some, window)) played.1.2)
 
 pub steps_reach : FlushStepsReachTheMark
 steps_reach old new [] some steps = reach_none old new (ap (λ (s : State). s.mark) steps)
@@ -65,32 +65,57 @@ steps_reach old new (play ∷ plays) some steps =
     reach_play (min old.playout.window (step.highest + 1 - old.mark)) old play steps.0 plays new (omega (arith, some, more)) step.plays
     (steps_reach steps.0 new plays (omega (arith, some, window)) steps.2)
 
-pub media_keeps_window : (old new : State) (seq : ℕ) (word : Word) (reply : Reply) → IsAfterMedia old seq word reply new → new.playout.window ≡ old.playout.window
-media_keeps_window old new seq word Admitted after =
-    let a = some_and (position_on old seq) (λ p. new ≡ with_media old seq p word) after in ap (λ (s : State). s.playout.window) a.2
-media_keeps_window old new seq word reply after = ap (λ (s : State). s.playout.window) after
+run_keeps_window : (old : State) (sender : Sender) → (run_by old sender).playout.window ≡ old.playout.window
+run_keeps_window old former = refl
+run_keeps_window old (own top) = refl
+run_keeps_window old another = refl
+
+pub media_keeps_window : (old new : State) (seq ssrc : ℕ) (word : Word) (reply : Reply) → IsAfterMedia old seq ssrc word reply new → new.playout.window ≡ old.playout.window
+media_keeps_window old new seq ssrc word Admitted after =
+    let a = some_and (position_on old seq ssrc) (λ p. new ≡ with_media (run_on old ssrc) seq ssrc p word) after in
+    ap (λ (s : State). s.playout.window) a.2 ∙ run_keeps_window old (sender_of old ssrc)
+media_keeps_window old new seq ssrc word reply after = ap (λ (s : State). s.playout.window) after
 
 pub parity_keeps_window : (old new : State) (parity : Parity) (reply : Reply) → IsAfterParity old parity reply new → new.playout.window ≡ old.playout.window
 parity_keeps_window old new parity Admitted after =
-    let a = some_and (position_on old parity.base)
+    let a = some_and (base_on old parity.base)
     (λ position. (place : ℕ) × IsLeastFree old.equations place × (new ≡ with_equation old place (equation_at position parity))) after in
     ap (λ (s : State). s.playout.window) a.2.2
 parity_keeps_window old new parity reply after = ap (λ (s : State). s.playout.window) after
 
-pub due_keep_window : (old : State) (seq : ℕ) (plays : List Play) (new : State) → HavePlayed old seq plays new → new.playout.window ≡ old.playout.window
-due_keep_window old seq [] new played = ap (λ (s : State). s.playout.window) played
-due_keep_window old seq (play ∷ plays) new played =
-    due_keep_window played.1.0 seq plays new played.1.2 ∙ play_keeps_window old.playout.window old play played.1.0 played.1.1
+pub due_keep_window : (old : State) (seq ssrc : ℕ) (plays : List Play) (new : State) → HavePlayed old seq ssrc plays new → new.playout.window ≡ old.playout.window
+due_keep_window old seq ssrc [] new played = ap (λ (s : State). s.playout.window) played
+due_keep_window old seq ssrc (play ∷ plays) new played =
+    due_keep_window played.1.0 seq ssrc plays new played.1.2 ∙ play_keeps_window old.playout.window old play played.1.0 played.1.1
+
+steps_keep_window : (old : State) (plays : List Play) (new : State) → AreFlushSteps old plays new → new.playout.window ≡ old.playout.window
+steps_keep_window old [] new steps = ap (λ (s : State). s.playout.window) steps
+steps_keep_window old (play ∷ plays) new steps =
+    steps_keep_window steps.0 plays new steps.2
+    ∙ play_keeps_window (min old.playout.window (steps.1.highest + 1 - old.mark)) old play steps.0 steps.1.plays
+
+-- What is played before a media datagram reaches the mark, too.
+before_reaches :
+    (old : State) (seq ssrc : ℕ) (plays : List Play) (new : State) → 1 ≤ old.playout.window
+    → ArePlaysBefore old seq ssrc plays new → Reach old plays new × (new.playout.window ≡ old.playout.window)
+before_reaches old seq ssrc plays new some (by_flush empty fresh flush counts) =
+    let steps = ((flush_steps_end old empty plays).0 flush).0 in (
+      reach_same old empty new plays (ap (λ (s : State). s.mark) counts) (steps_reach old empty plays some steps),
+      ap (λ (s : State). s.playout.window) counts ∙ steps_keep_window old plays empty steps,
+    )
+before_reaches old seq ssrc plays new some (by_due stale due) =
+    let played = ((plays_due_end old new seq ssrc plays).0 due).0 in
+    (due_reach old new seq ssrc plays some played, due_keep_window old seq ssrc plays new played)
 
 taking_reaches :
     (old : State) (arrival : Arrival) (plays : List Play) (reply : Option Reply) (new : State) → 1 ≤ old.playout.window
     → Takes old arrival plays reply new → Reach old plays new × (new.playout.window ≡ old.playout.window)
-taking_reaches old (carries seq word) plays None new some takes = absurd takes
-taking_reaches old (carries seq word) plays (Some reply) new some takes =
-    let due = takes.0 in
-    let played = ((plays_due_end old due seq plays).0 takes.1).0 in (
-      reach_same old due new plays (media_keeps_mark due new seq word reply takes.2.after) (due_reach old due seq plays some played),
-      media_keeps_window due new seq word reply takes.2.after ∙ due_keep_window old seq plays due played,
+taking_reaches old (carries seq ssrc word) plays None new some takes = absurd takes
+taking_reaches old (carries seq ssrc word) plays (Some reply) new some takes =
+    let ready = takes.0 in
+    let before = before_reaches old seq ssrc plays ready some takes.1 in (
+      reach_same old ready new plays (media_keeps_mark ready new seq ssrc word reply takes.2.after) before.0,
+      media_keeps_window ready new seq ssrc word reply takes.2.after ∙ before.1,
     )
 taking_reaches old (protects stream parity) plays None new some takes = absurd takes
 taking_reaches old (protects stream parity) plays (Some reply) new some takes = (

@@ -8,20 +8,20 @@ use Rattle.fg_unwrap.specs.Position.{position_of}
 use Rattle.fg_peel.specs.Equation.{Equation}
 use Rattle.fg_peel.proofs.Options.{some_and}
 use Rattle.fg_playout.specs.declared.reply.Reply.{Reply}
-use Rattle.fg_playout.specs.declared.reply.Reply.TheVariants.{Admitted, Duplicate, Conflict, Late, NotStarted, BeforeStart, Ahead, Crowded}
+use Rattle.fg_playout.specs.declared.reply.Reply.TheVariants.{Admitted, Duplicate, Conflict, Late, NotStarted, BeforeStart, Ahead, Crowded, Foreign}
 use Rattle.fg_playout.specs.State.{State, Top, Live}
-use Rattle.fg_playout.specs.Admission.{Parity, IsReplyAt, IsMediaReply, IsEquationReply, IsParityReply, HasTwin, equation_at}
+use Rattle.fg_playout.specs.Admission.{Parity, Sender, former, own, another, sender_of, IsReplyAt, IsReplyBy, IsMediaReply, IsEquationReply, IsParityReply, HasTwin, base_on, equation_at}
 use Rattle.fg_playout.proofs.Orderly.{IsOrderly}
 
 module _ (desk : State) (position : ℕ) (word : Word) where
-  same_and_another : get desk.media position ≡ Some word → IsSomeAnd (get desk.media position) (λ other. other ≢ word) → ⊥
-  same_and_another same another =
-      let r = some_and (get desk.media position) (λ other. other ≢ word) another in
+  same_and_other : get desk.media position ≡ Some word → IsSomeAnd (get desk.media position) (λ other. other ≢ word) → ⊥
+  same_and_other same differs =
+      let r = some_and (get desk.media position) (λ other. other ≢ word) differs in
       r.2 (same_Some r.0 word (sym r.1 ∙ same))
 
-  none_and_another : get desk.media position ≡ None → IsSomeAnd (get desk.media position) (λ other. other ≢ word) → ⊥
-  none_and_another none another =
-      let r = some_and (get desk.media position) (λ other. other ≢ word) another in
+  none_and_other : get desk.media position ≡ None → IsSomeAnd (get desk.media position) (λ other. other ≢ word) → ⊥
+  none_and_other none differs =
+      let r = some_and (get desk.media position) (λ other. other ≢ word) differs in
       none-some r.0 (sym none ∙ r.1)
 
   one_reply_at : (one other : Reply) → IsReplyAt desk position word one → IsReplyAt desk position word other → one ≡ other
@@ -29,26 +29,29 @@ module _ (desk : State) (position : ℕ) (word : Word) where
   one_reply_at BeforeStart other a b = absurd a
   one_reply_at Ahead other a b = absurd a
   one_reply_at Crowded other a b = absurd a
+  one_reply_at Foreign other a b = absurd a
   one_reply_at Late Late a b = refl
   one_reply_at Late Duplicate a b = absurd (omega (arith, a, b.0))
   one_reply_at Late Conflict a b = absurd (omega (arith, a, b.0))
   one_reply_at Late Admitted a b = absurd (omega (arith, a, b.0))
   one_reply_at Duplicate Late a b = absurd (omega (arith, a.0, b))
   one_reply_at Duplicate Duplicate a b = refl
-  one_reply_at Duplicate Conflict a b = absurd (same_and_another a.1 b.1)
+  one_reply_at Duplicate Conflict a b = absurd (same_and_other a.1 b.1)
   one_reply_at Duplicate Admitted a b = absurd (none-some word (sym b.1 ∙ a.1))
   one_reply_at Conflict Late a b = absurd (omega (arith, a.0, b))
-  one_reply_at Conflict Duplicate a b = absurd (same_and_another b.1 a.1)
+  one_reply_at Conflict Duplicate a b = absurd (same_and_other b.1 a.1)
   one_reply_at Conflict Conflict a b = refl
-  one_reply_at Conflict Admitted a b = absurd (none_and_another b.1 a.1)
+  one_reply_at Conflict Admitted a b = absurd (none_and_other b.1 a.1)
   one_reply_at Admitted Late a b = absurd (omega (arith, a.0, b))
   one_reply_at Admitted Duplicate a b = absurd (none-some word (sym a.1 ∙ b.1))
-  one_reply_at Admitted Conflict a b = absurd (none_and_another a.1 b.1)
+  one_reply_at Admitted Conflict a b = absurd (none_and_other a.1 b.1)
   one_reply_at Admitted Admitted a b = refl
   one_reply_at one other a b = absurd b
 
-pub one_media_reply : (desk : State) (seq : ℕ) (word : Word) (one other : Reply) → IsMediaReply desk seq word one → IsMediaReply desk seq word other → one ≡ other
-one_media_reply desk seq word one other a b = at_top desk.top a b
+pub one_media_reply :
+    (desk : State) (seq ssrc : ℕ) (word : Word) (one other : Reply) → IsMediaReply desk seq ssrc word one
+    → IsMediaReply desk seq ssrc word other → one ≡ other
+one_media_reply desk seq ssrc word one other a b = go (sender_of desk ssrc) a b
   where
     at_position :
         (o : Option ℕ) → MatchOption o (one ≡ Late) (λ position. IsReplyAt desk position word one)
@@ -56,13 +59,10 @@ one_media_reply desk seq word one other a b = at_top desk.top a b
     at_position None a b = a ∙ sym b
     at_position (Some position) a b = one_reply_at desk position word one other a b
 
-    at_top :
-        (o : Option Top)
-        → MatchOption o (one ≡ Admitted) (λ top. MatchOption (position_of top.position top.seq seq) (one ≡ Late) (λ position. IsReplyAt desk position word one))
-        → MatchOption o (other ≡ Admitted) (λ top. MatchOption (position_of top.position top.seq seq) (other ≡ Late) (λ position. IsReplyAt desk position word other))
-        → one ≡ other
-    at_top None a b = a ∙ sym b
-    at_top (Some top) a b = at_position (position_of top.position top.seq seq) a b
+    go : (sender : Sender) → IsReplyBy desk seq word one sender → IsReplyBy desk seq word other sender → one ≡ other
+    go former a b = a ∙ sym b
+    go (own top) a b = at_position (position_of top.position top.seq seq) a b
+    go another a b = a ∙ sym b
 
 module _ (desk : State) (orderly : IsOrderly desk) (equation : Equation) where
   -- All live equations of these slots are one.
@@ -81,6 +81,7 @@ module _ (desk : State) (orderly : IsOrderly desk) (equation : Equation) where
   one_equation_reply : (one other : Reply) → IsEquationReply desk equation one → IsEquationReply desk equation other → one ≡ other
   one_equation_reply NotStarted other a b = absurd a
   one_equation_reply BeforeStart other a b = absurd a
+  one_equation_reply Foreign other a b = absurd a
   one_equation_reply Late Late a b = refl
   one_equation_reply Late Ahead a b = absurd (b.0 a)
   one_equation_reply Late Duplicate a b = absurd (b.0.0 a)
@@ -119,6 +120,10 @@ module _ (desk : State) (orderly : IsOrderly desk) (equation : Equation) where
   one_equation_reply Admitted Admitted a b = refl
   one_equation_reply one other a b = absurd b
 
+abbrev AtBase : State → Parity → Reply → Type 0
+AtBase desk parity reply =
+    MatchOption (base_on desk parity.base) (reply ≡ BeforeStart) (λ position. IsEquationReply desk (equation_at position parity) reply)
+
 pub one_parity_reply :
     (desk : State) → IsOrderly desk → (parity : Parity) (one other : Reply) → IsParityReply desk parity one → IsParityReply desk parity other → one ≡ other
 one_parity_reply desk orderly parity one other a b = at_top desk.top a b
@@ -130,9 +135,7 @@ one_parity_reply desk orderly parity one other a b = at_top desk.top a b
     at_position (Some position) a b = one_equation_reply desk orderly (equation_at position parity) one other a b
 
     at_top :
-        (o : Option Top)
-        → MatchOption o (one ≡ NotStarted) (λ top. MatchOption (position_of top.position top.seq parity.base) (one ≡ BeforeStart) (λ position. IsEquationReply desk (equation_at position parity) one))
-        → MatchOption o (other ≡ NotStarted) (λ top. MatchOption (position_of top.position top.seq parity.base) (other ≡ BeforeStart) (λ position. IsEquationReply desk (equation_at position parity) other))
+        (o : Option Top) → MatchOption o (one ≡ NotStarted) (λ _. AtBase desk parity one) → MatchOption o (other ≡ NotStarted) (λ _. AtBase desk parity other)
         → one ≡ other
     at_top None a b = a ∙ sym b
-    at_top (Some top) a b = at_position (position_of top.position top.seq parity.base) a b
+    at_top (Some top) a b = at_position (base_on desk parity.base) a b

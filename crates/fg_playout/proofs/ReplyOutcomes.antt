@@ -11,21 +11,20 @@ use Rattle.fg_peel.specs.Equation.{Equation, slots}
 use Rattle.fg_peel.proofs.Options.{none_or_some, some_and_from, none_has_no_value, has_value}
 use Rattle.fg_peel.proofs.Maps.{get_of_entry, entry_of_get}
 use Rattle.fg_playout.specs.declared.reply.Reply.{Reply}
-use Rattle.fg_playout.specs.declared.reply.Reply.TheVariants.{Admitted, Duplicate, Conflict, Late, NotStarted, BeforeStart, Ahead, Crowded}
+use Rattle.fg_playout.specs.declared.reply.Reply.TheVariants.{Admitted, Duplicate, Conflict, Late, NotStarted, BeforeStart, Ahead, Crowded, Foreign}
 use Rattle.fg_playout.specs.State.{State, Top, Live, last_slot}
-use Rattle.fg_playout.specs.Admission.{Parity, IsReplyAt, IsMediaReply, AdmitsMedia, IsLate, IsFree, IsLeastFree, HaveSameSlots, HasTwin, IsEquationReply, IsParityReply, AdmitsParity, counted, position_on, with_media, with_equation, equation_at, live_limit, kept_count}
+use Rattle.fg_playout.specs.Admission.{Parity, Sender, former, own, another, sender_of, run_by, run_on, position_by, base_on, IsReplyAt, IsReplyBy, IsMediaReply, AdmitsMedia, IsLate, IsFree, IsLeastFree, HaveSameSlots, HasTwin, IsEquationReply, IsParityReply, AdmitsParity, counted, position_on, with_media, with_equation, equation_at, live_limit, kept_count}
 use Rattle.fg_playout.specs.Existence.{MediaHasOutcome, ParityHasOutcome}
 use Rattle.fg_peel.proofs.Places.{free_place}
 use Rattle.fg_playout.proofs.Decided.{IsDecided, decided_both, decided_either, decided_as, decided_all, decided_any, least_of, decided_words, decided_less, decided_most}
-use Rattle.fg_playout.proofs.Opened.{position_at_first, position_after}
 
 -- Media datagrams
 
 -- A reply, and a desk that has the window of the one before.
-pub record MediaOutcome (old : State) (seq : ℕ) (word : Word) : Type 0 where
+pub record MediaOutcome (old : State) (seq ssrc : ℕ) (word : Word) : Type 0 where
   pub reply : Reply
   pub new : State
-  pub admits : AdmitsMedia old seq word reply new
+  pub admits : AdmitsMedia old seq ssrc word reply new
   pub window : new.playout.window ≡ old.playout.window
 
 module _ (old : State) (seq : ℕ) (word : Word) where
@@ -41,57 +40,55 @@ module _ (old : State) (seq : ℕ) (word : Word) where
       (none_or_some (get old.media position)))
       (cases_lt position old.mark)
 
-  media_reply : (reply : Reply) × IsMediaReply old seq word reply
-  media_reply = at_top old.top
+  reply_by : (sender : Sender) → (reply : Reply) × IsReplyBy old seq word reply sender
+  reply_by former = (Foreign, refl)
+  reply_by another = (Admitted, refl)
+  reply_by (own top) = at_position (position_of top.position top.seq seq)
     where
       at_position :
           (o : Option ℕ) → (reply : Reply) × MatchOption o (reply ≡ Late) (λ position. IsReplyAt old position word reply)
       at_position None = (Late, refl)
       at_position (Some position) = reply_at position
 
-      at_top :
-          (o : Option Top)
-          → (reply : Reply)
-          × MatchOption o (reply ≡ Admitted) (λ top. MatchOption (position_of top.position top.seq seq) (reply ≡ Late) (λ position. IsReplyAt old position word reply))
-      at_top None = (Admitted, refl)
-      at_top (Some top) = at_position (position_of top.position top.seq seq)
-
   -- An admitted datagram has a position.
-  admitted_at : IsMediaReply old seq word Admitted → (position : ℕ) × (position_on old seq ≡ Some position)
-  admitted_at replies = ⊎_elim
-      (λ none. (0, position_at_first old seq none))
-      (λ top.
-      let at = MatchOption-at_some (Admitted ≡ Admitted)
-      (λ (t : Top). MatchOption (position_of t.position t.seq seq) (Admitted ≡ Late) (λ position. IsReplyAt old position word Admitted))
-      top.0 top.1 replies in
-      ⊎_elim
+  admitted_at :
+      (sender : Sender) → IsReplyBy old seq word Admitted sender → (position : ℕ) × (position_by old seq sender ≡ Some position)
+  admitted_at former replies = absurd (cc)
+  admitted_at another replies = (old.mark, refl)
+  admitted_at (own top) replies = ⊎_elim
       (λ none.
-      let late : Admitted ≡ Late = MatchOption-at_none (Admitted ≡ Late) (λ (position : ℕ). IsReplyAt old position word Admitted) none at in
+      let late : Admitted ≡ Late = MatchOption-at_none (Admitted ≡ Late) (λ (position : ℕ). IsReplyAt old position word Admitted) none replies in
       absurd (cc))
-      (λ some. (some.0, position_after old seq top.0 top.1 ∙ some.1))
-      (none_or_some (position_of top.0.position top.0.seq seq)))
-      (none_or_some old.top)
+      (λ some. some)
+      (none_or_some (position_of top.position top.seq seq))
 
-  after_media : (reply : Reply) → IsMediaReply old seq word reply → MediaOutcome old seq word
+  run_keeps_window : (sender : Sender) → (run_by old sender).playout.window ≡ old.playout.window
+  run_keeps_window former = refl
+  run_keeps_window (own top) = refl
+  run_keeps_window another = refl
+
+module _ (old : State) (seq ssrc : ℕ) (word : Word) where
+  after_media : (reply : Reply) → IsMediaReply old seq ssrc word reply → MediaOutcome old seq ssrc word
   after_media Admitted replies =
-      let p = admitted_at replies in
+      let p = admitted_at old seq word (sender_of old ssrc) replies in
       record {
         reply = Admitted;
-        new = with_media old seq p.0 word;
+        new = with_media (run_on old ssrc) seq ssrc p.0 word;
         admits = record {
           reply_is = replies;
-          after = some_and_from (position_on old seq) (λ (q : ℕ). with_media old seq p.0 word ≡ with_media old seq q word) p.0 p.1 refl;
+          after = some_and_from (position_on old seq ssrc)
+              (λ (q : ℕ). with_media (run_on old ssrc) seq ssrc p.0 word ≡ with_media (run_on old ssrc) seq ssrc q word) p.0 p.1 refl;
         };
-        window = refl;
+        window = run_keeps_window old seq word (sender_of old ssrc);
       }
   after_media other replies =
       record { reply = other; new = counted old; admits = record { reply_is = replies; after = refl }; window = refl }
 
-  pub media_outcome : MediaOutcome old seq word
-  media_outcome = let r = media_reply in after_media r.0 r.1
+  pub media_outcome : MediaOutcome old seq ssrc word
+  media_outcome = let r = reply_by old seq word (sender_of old ssrc) in after_media r.0 r.1
 
 pub media_has_outcome : MediaHasOutcome
-media_has_outcome old seq word = let o = media_outcome old seq word in (o.reply, o.new, o.admits)
+media_has_outcome old seq ssrc word = let o = media_outcome old seq ssrc word in (o.reply, o.new, o.admits)
 
 -- Parity datagrams
 
@@ -173,35 +170,35 @@ least_free old room =
     least_of (IsFree old.equations) (decided_free old) free.0 free.2
 
 module _ (old : State) (parity : Parity) where
-  abbrev AtPosition : Reply → Option ℕ → Type 0
-  AtPosition reply o = MatchOption o (reply ≡ BeforeStart) (λ position. IsEquationReply old (equation_at position parity) reply)
+  abbrev AtBase : Reply → Option ℕ → Type 0
+  AtBase reply o = MatchOption o (reply ≡ BeforeStart) (λ position. IsEquationReply old (equation_at position parity) reply)
 
   abbrev AtTop : Reply → Option Top → Type 0
-  AtTop reply o = MatchOption o (reply ≡ NotStarted) (λ top. AtPosition reply (position_of top.position top.seq parity.base))
+  AtTop reply o = MatchOption o (reply ≡ NotStarted) (λ _. AtBase reply (base_on old parity.base))
 
   parity_reply : (reply : Reply) × IsParityReply old parity reply
   parity_reply = at_top old.top
     where
-      at_position : (o : Option ℕ) → (reply : Reply) × AtPosition reply o
-      at_position None = (BeforeStart, refl)
-      at_position (Some position) = equation_reply old (equation_at position parity)
+      at_base : (o : Option ℕ) → (reply : Reply) × AtBase reply o
+      at_base None = (BeforeStart, refl)
+      at_base (Some position) = equation_reply old (equation_at position parity)
 
       at_top : (o : Option Top) → (reply : Reply) × AtTop reply o
       at_top None = (NotStarted, refl)
-      at_top (Some top) = at_position (position_of top.position top.seq parity.base)
+      at_top (Some top) = at_base (base_on old parity.base)
 
   -- An admitted datagram's base has a position.
   admitted_based :
       IsParityReply old parity Admitted
-      → (position : ℕ) × (position_on old parity.base ≡ Some position) × IsEquationReply old (equation_at position parity) Admitted
+      → (position : ℕ) × (base_on old parity.base ≡ Some position) × IsEquationReply old (equation_at position parity) Admitted
   admitted_based replies = ⊎_elim
       (λ none.
       let never : Admitted ≡ NotStarted = MatchOption-at_none (Admitted ≡ NotStarted)
-      (λ (t : Top). AtPosition Admitted (position_of t.position t.seq parity.base)) none replies in
+      (λ (t : Top). AtBase Admitted (base_on old parity.base)) none replies in
       absurd (cc))
       (λ top.
       let at = MatchOption-at_some (Admitted ≡ NotStarted)
-      (λ (t : Top). AtPosition Admitted (position_of t.position t.seq parity.base)) top.0 top.1 replies in
+      (λ (t : Top). AtBase Admitted (base_on old parity.base)) top.0 top.1 replies in
       ⊎_elim
       (λ none.
       let never : Admitted ≡ BeforeStart = MatchOption-at_none (Admitted ≡ BeforeStart)
@@ -209,11 +206,11 @@ module _ (old : State) (parity : Parity) where
       absurd (cc))
       (λ some. (
         some.0,
-        position_after old parity.base top.0 top.1 ∙ some.1,
+        some.1,
         MatchOption-at_some (Admitted ≡ BeforeStart)
             (λ (position : ℕ). IsEquationReply old (equation_at position parity) Admitted) some.0 some.1 at,
       ))
-      (none_or_some (position_of top.0.position top.0.seq parity.base)))
+      (none_or_some (base_on old parity.base)))
       (none_or_some old.top)
 
   after_parity : (reply : Reply) → IsParityReply old parity reply → ParityOutcome old parity
@@ -226,7 +223,7 @@ module _ (old : State) (parity : Parity) where
         new = new;
         admits = record {
           reply_is = replies;
-          after = some_and_from (position_on old parity.base)
+          after = some_and_from (base_on old parity.base)
               (λ (position : ℕ). (place : ℕ) × IsLeastFree old.equations place × (new ≡ with_equation old place (equation_at position parity)))
               p.0 p.1 (place.0, place.1, refl);
         };

@@ -11,21 +11,21 @@ use Rattle.fg_peel.specs.Equation.{Equation, slots}
 use Rattle.fg_peel.proofs.Options.{value_of, some_and}
 use Rattle.fg_playout.specs.declared.reply.Reply.{Reply}
 use Rattle.fg_playout.specs.State.{State, Top, opening}
-use Rattle.fg_playout.specs.Admission.{IsDue, kept_count}
+use Rattle.fg_playout.specs.Admission.{IsDue, kept_count, counted}
 use Rattle.fg_playout.specs.Solution.{InClosure, given, derived}
 use Rattle.fg_playout.specs.Play.{Play, IsFlushStep}
-use Rattle.fg_playout.specs.Run.{Arrival, carries, protects, refused, Takes, TakesAll}
+use Rattle.fg_playout.specs.Run.{Arrival, carries, protects, refused, ArePlaysBefore, by_flush, by_due, Takes, TakesAll}
 use Rattle.fg_playout.specs.Facts.{Holds}
-use Rattle.fg_playout.specs.Laws.{AreFlushSteps, IsRead, HavePlayed, RunsStayWithin, FlushesStayWithin}
+use Rattle.fg_playout.specs.Laws.{AreFlushSteps, IsRead, HavePlayed, HavePlayedBefore, RunsStayWithin, FlushesStayWithin}
 use Rattle.fg_playout.proofs.Equations.{serial_of}
 use Rattle.fg_playout.proofs.Orderly.{known_ahead}
 use Rattle.fg_peel.proofs.SlotRange.{slot_is_near}
-use Rattle.fg_playout.proofs.Opened.{opening_holds, media_keeps}
+use Rattle.fg_playout.proofs.Opened.{opening_holds, counted_holds, media_keeps}
 use Rattle.fg_playout.proofs.Parities.{parity_keeps}
 use Rattle.fg_playout.proofs.Plays.{followed_before}
 use Rattle.fg_playout.proofs.PlayKeeps.{play_keeps, step_holds}
-use Rattle.fg_playout.proofs.Joining.{plays_due_end}
-use Rattle.fg_playout.proofs.Bounds.{Within, within_opening, within_next, within_play, within_media, within_parity, room_below, room_within}
+use Rattle.fg_playout.proofs.Joining.{plays_due_end, flush_steps_end, ready_after_plays}
+use Rattle.fg_playout.proofs.Bounds.{Within, within_opening, within_next, within_play, within_media, within_parity, room_below, room_within, counted_room_within}
 
 -- A desk after so many datagrams of a run.
 record IsReached (deep most due : ℕ) (desk : State) : Type 0 where
@@ -35,93 +35,21 @@ record IsReached (deep most due : ℕ) (desk : State) : Type 0 where
 reached_next : (deep most : ℕ) (desk : State) → IsReached deep most most desk → IsReached deep most (most + 1) desk
 reached_next deep most desk r = record { holds = r.holds; within = within_next deep most desk r.within }
 
-due_has_top : (desk : State) (seq : ℕ) → IsDue desk seq → desk.top ≢ None
-due_has_top desk seq due none = let t = some_and desk.top _ due in none-some t.0 (sym none ∙ t.1)
+due_has_top : (desk : State) (seq ssrc : ℕ) → IsDue desk seq ssrc → desk.top ≢ None
+due_has_top desk seq ssrc due none = let t = some_and desk.top _ due in none-some t.0 (sym none ∙ t.1)
 
 reached_played :
-    (deep most : ℕ) (old : State) (seq : ℕ) (plays : List Play) (new : State) → IsReached deep most (most + 1) old
-    → HavePlayed old seq plays new → IsReached deep most (most + 1) new
-reached_played deep most old seq [] new r played = subst (IsReached deep most (most + 1)) (sym played) r
-reached_played deep most old seq (play ∷ plays) new r played =
+    (deep most : ℕ) (old : State) (seq ssrc : ℕ) (plays : List Play) (new : State) → IsReached deep most (most + 1) old
+    → HavePlayed old seq ssrc plays new → IsReached deep most (most + 1) new
+reached_played deep most old seq ssrc [] new r played = subst (IsReached deep most (most + 1)) (sym played) r
+reached_played deep most old seq ssrc (play ∷ plays) new r played =
     let next = played.1.0 in
-    reached_played deep most next seq plays new
+    reached_played deep most next seq ssrc plays new
     (record {
-      holds = play_keeps old.playout.window old next play r.holds (due_has_top old seq played.0) played.1.1;
-      within = within_play deep most old seq play next r.within played.0 played.1.1;
+      holds = play_keeps old.playout.window old next play r.holds (due_has_top old seq ssrc played.0) played.1.1;
+      within = within_play deep most old seq ssrc play next r.within played.0 played.1.1;
     })
     played.1.2
-
-reached_taken :
-    (deep most : ℕ) (old : State) (arrival : Arrival) (plays : List Play) (reply : Option Reply) (new : State) → most < 2 ^ 44
-    → IsReached deep most most old → IsRead arrival → Takes old arrival plays reply new → IsReached deep (most + 1) (most + 1) new
-reached_taken deep most old (carries seq word) plays None new few r read takes = absurd takes
-reached_taken deep most old (carries seq word) plays (Some reply) new few r read takes =
-    let played = (plays_due_end old takes.0 seq plays).0 takes.1 in
-    let due = reached_played deep most old seq plays takes.0 (reached_next deep most old r) played.0 in
-    record {
-      holds = media_keeps takes.0 new seq word reply due.holds read.1 played.1 takes.2;
-      within = within_media deep most (most + 1) takes.0 new seq word reply due.within takes.2.after;
-    }
-reached_taken deep most old (protects stream parity) plays None new few r read takes = absurd takes
-reached_taken deep most old (protects stream parity) plays (Some reply) new few r read takes =
-    let next = reached_next deep most old r in
-    record {
-      holds = parity_keeps old new parity reply r.holds (room_within deep most old few next.within) read.1 takes.1;
-      within = within_parity deep most (most + 1) old new parity reply next.within takes.1.after;
-    }
-reached_taken deep most old (refused stream) plays None new few r read takes =
-    let same : new ≡ old = takes.1 in
-    let w = (reached_next deep most old r).within in
-    let calls = w.calls in
-    subst (IsReached deep (most + 1) (most + 1)) (sym same)
-    (record {
-      holds = r.holds;
-      within = record {
-        window = w.window;
-        fits = w.fits;
-        depth_is = w.depth_is;
-        top = λ t is. (let limit = w.top t is in omega (arith, limit));
-        mark = w.mark;
-        calls = omega (arith, calls);
-      };
-    })
-reached_taken deep most old (refused stream) plays (Some reply) new few r read takes = absurd takes
-
--- Where a run has got with at most so many datagrams.
-record IsReachedBelow (deep limit : ℕ) (desk : State) : Type 0 where
-  most : ℕ
-  few : most ≤ limit
-  reached : IsReached deep most most desk
-
-reached_all :
-    (deep limit most : ℕ) (old : State) (arrivals : List Arrival) (plays : List Play) (replies : List (Option Reply)) (new : State)
-    → limit < 2 ^ 44 → most + length arrivals ≤ limit → IsReached deep most most old → All IsRead arrivals
-    → TakesAll old arrivals plays replies new → IsReachedBelow deep limit new
-reached_all deep limit most old [] plays replies new small few r read takes = record {
-  most = most;
-  few = omega (arith, few);
-  reached = subst (IsReached deep most most) (sym takes.2) r;
-}
-reached_all deep limit most old (arrival ∷ arrivals) plays [] new small few r read takes = absurd takes
-reached_all deep limit most old (arrival ∷ arrivals) plays (reply ∷ replies) new small few r read takes =
-    reached_all deep limit (most + 1) takes.2 arrivals takes.1 replies new small (omega (arith, few))
-    (reached_taken deep most old arrival takes.0 reply takes.2 (omega (arith, few, small)) r (All-head IsRead arrival arrivals read) takes.4)
-    (All-tail IsRead arrival arrivals read) takes.5
-
-reached_run :
-    (playout : Playout) (arrivals : List Arrival) (plays : List Play) (replies : List (Option Reply)) (new : State)
-    → 1 ≤ playout.window → playout.window ≤ 100 → playout.window ≤ playout.depth → All IsRead arrivals → length arrivals < 2 ^ 44
-    → TakesAll (opening playout) arrivals plays replies new → IsReachedBelow playout.depth (length arrivals) new
-reached_run playout arrivals plays replies new one most fits read few takes =
-    reached_all playout.depth (length arrivals) 0 (opening playout) arrivals plays replies new few (omega arith)
-    (record { holds = opening_holds playout one most fits; within = within_opening playout one fits }) read takes
-
-pub runs_stay_within : RunsStayWithin
-runs_stay_within playout seq arrivals plays due replies taken new one most fits read few takes played =
-    let b = reached_run playout arrivals plays replies taken one most fits read few takes in
-    let below = b.few in
-    let r = reached_played playout.depth b.most taken seq due new (reached_next playout.depth b.most taken b.reached) played in
-    (r.holds, room_within playout.depth b.most new (omega (arith, below, few)) r.within)
 
 -- What follows lies less than 100 positions past the depth.
 followed_is_near : (desk : State) → Holds desk → (position : ℕ) → InClosure desk position → position < desk.mark + desk.playout.depth + kept_count
@@ -174,14 +102,138 @@ flushing_steps top most end old [] new f steps = subst (IsFlushing top most end)
 flushing_steps top most end old (play ∷ plays) new f steps =
     flushing_steps top most end steps.0 plays new (flushing_step top most end old play steps.0 f steps.1) steps.2
 
+steps_keep_playout : (old : State) (plays : List Play) (new : State) → AreFlushSteps old plays new → new.playout ≡ old.playout
+steps_keep_playout old [] new steps = ap (λ (s : State). s.playout) steps
+steps_keep_playout old (play ∷ plays) new steps =
+    steps_keep_playout steps.0 plays new steps.2 ∙ ap (λ (s : State). s.playout) steps.1.plays.rest
+
+-- A flush brings a desk no farther than what follows, even with one call more.
+reached_flushed :
+    (deep most : ℕ) (old : State) (plays : List Play) (new : State) → IsReached deep most most old
+    → AreFlushSteps old plays new → IsReached deep most (most + 1) new × IsReached deep most (most + 1) (counted new)
+reached_flushed deep most old plays new r steps =
+    let w = r.within in
+    let mark = w.mark in
+    let is = w.depth_is in
+    let shallow = w.shallow in
+    let f = flushing_steps old.top (most + most) (old.mark + old.playout.depth + kept_count) old plays new
+    (record { holds = r.holds; inside = followed_is_near old r.holds; mark = omega arith; top_is = refl; calls = w.calls }) steps in
+    let end = f.mark in
+    let calls = f.calls in
+    let playout : new.playout ≡ old.playout = steps_keep_playout old plays new steps in
+    let reached : (calls' : ℕ) → calls' ≤ most + (most + 1) + new.mark → Within deep most (most + 1) (record new { calls = calls' }) =
+    λ calls' few. record {
+      window = f.holds.window.0;
+      fits = f.holds.depth;
+      depth_is = ap (λ (p : Playout). p.depth) playout ∙ is;
+      shallow = shallow;
+      top = λ t is'. w.top t (sym f.top_is ∙ is');
+      mark = omega (arith, end, mark, is, shallow);
+      calls = few;
+    } in (
+      record { holds = f.holds; within = reached new.calls (omega (arith, calls)) },
+      record { holds = counted_holds new f.holds; within = reached (new.calls + 1) (omega (arith, calls)) },
+    )
+
+reached_before :
+    (deep most : ℕ) (old : State) (seq ssrc : ℕ) (plays : List Play) (new : State) → IsReached deep most most old
+    → HavePlayedBefore old seq ssrc plays new → IsReached deep most (most + 1) new
+reached_before deep most old seq ssrc plays new r played = ⊎_elim
+    (λ flushed. (reached_flushed deep most old plays new r flushed.1).0)
+    (λ due. reached_played deep most old seq ssrc plays new (reached_next deep most old r) due.1)
+    played
+
+reached_ready :
+    (deep most : ℕ) (old : State) (seq ssrc : ℕ) (plays : List Play) (new : State) → IsReached deep most most old
+    → ArePlaysBefore old seq ssrc plays new → IsReached deep most (most + 1) new
+reached_ready deep most old seq ssrc plays new r (by_flush empty fresh flush counts) =
+    subst (IsReached deep most (most + 1)) (sym counts)
+    (reached_flushed deep most old plays empty r ((flush_steps_end old empty plays).0 flush).0).1
+reached_ready deep most old seq ssrc plays new r (by_due stale due) =
+    reached_played deep most old seq ssrc plays new (reached_next deep most old r) ((plays_due_end old new seq ssrc plays).0 due).0
+
+reached_taken :
+    (deep most : ℕ) (old : State) (arrival : Arrival) (plays : List Play) (reply : Option Reply) (new : State) → most < 2 ^ 44
+    → IsReached deep most most old → IsRead arrival → Takes old arrival plays reply new → IsReached deep (most + 1) (most + 1) new
+reached_taken deep most old (carries seq ssrc word) plays None new few r read takes = absurd takes
+reached_taken deep most old (carries seq ssrc word) plays (Some reply) new few r read takes =
+    let ready = reached_ready deep most old seq ssrc plays takes.0 r takes.1 in
+    let not_due = (ready_after_plays old takes.0 seq ssrc plays takes.1).0 in
+    record {
+      holds = media_keeps takes.0 new seq ssrc word reply ready.holds read.2 not_due takes.2;
+      within = within_media deep most takes.0 new seq ssrc word reply ready.within takes.2.after;
+    }
+reached_taken deep most old (protects stream parity) plays None new few r read takes = absurd takes
+reached_taken deep most old (protects stream parity) plays (Some reply) new few r read takes =
+    let next = reached_next deep most old r in
+    record {
+      holds = parity_keeps old new parity reply r.holds (room_within deep most old few next.within) read.1 takes.1;
+      within = within_parity deep most (most + 1) old new parity reply next.within takes.1.after;
+    }
+reached_taken deep most old (refused stream) plays None new few r read takes =
+    let same : new ≡ old = takes.1 in
+    let w = (reached_next deep most old r).within in
+    let calls = w.calls in
+    subst (IsReached deep (most + 1) (most + 1)) (sym same)
+    (record {
+      holds = r.holds;
+      within = record {
+        window = w.window;
+        fits = w.fits;
+        depth_is = w.depth_is;
+        shallow = w.shallow;
+        top = λ t is. (let limit = w.top t is in omega (arith, limit));
+        mark = w.mark;
+        calls = omega (arith, calls);
+      };
+    })
+reached_taken deep most old (refused stream) plays (Some reply) new few r read takes = absurd takes
+
+-- Where a run has got with at most so many datagrams.
+record IsReachedBelow (deep limit : ℕ) (desk : State) : Type 0 where
+  most : ℕ
+  few : most ≤ limit
+  reached : IsReached deep most most desk
+
+reached_all :
+    (deep limit most : ℕ) (old : State) (arrivals : List Arrival) (plays : List Play) (replies : List (Option Reply)) (new : State)
+    → limit < 2 ^ 44 → most + length arrivals ≤ limit → IsReached deep most most old → All IsRead arrivals
+    → TakesAll old arrivals plays replies new → IsReachedBelow deep limit new
+reached_all deep limit most old [] plays replies new small few r read takes = record {
+  most = most;
+  few = omega (arith, few);
+  reached = subst (IsReached deep most most) (sym takes.2) r;
+}
+reached_all deep limit most old (arrival ∷ arrivals) plays [] new small few r read takes = absurd takes
+reached_all deep limit most old (arrival ∷ arrivals) plays (reply ∷ replies) new small few r read takes =
+    reached_all deep limit (most + 1) takes.2 arrivals takes.1 replies new small (omega (arith, few))
+    (reached_taken deep most old arrival takes.0 reply takes.2 (omega (arith, few, small)) r (All-head IsRead arrival arrivals read) takes.4)
+    (All-tail IsRead arrival arrivals read) takes.5
+
+reached_run :
+    (playout : Playout) (arrivals : List Arrival) (plays : List Play) (replies : List (Option Reply)) (new : State)
+    → 1 ≤ playout.window → playout.window ≤ 100 → playout.window ≤ playout.depth → playout.depth ≤ 1000 → All IsRead arrivals
+    → length arrivals < 2 ^ 44 → TakesAll (opening playout) arrivals plays replies new → IsReachedBelow playout.depth (length arrivals) new
+reached_run playout arrivals plays replies new one most fits deep read few takes =
+    reached_all playout.depth (length arrivals) 0 (opening playout) arrivals plays replies new few (omega arith)
+    (record { holds = opening_holds playout one most fits; within = within_opening playout one fits deep }) read takes
+
+pub runs_stay_within : RunsStayWithin
+runs_stay_within playout seq ssrc arrivals plays due replies taken new one most fits deep read few takes played =
+    let b = reached_run playout arrivals plays replies taken one most fits deep read few takes in
+    let below = b.few in
+    let r = reached_before playout.depth b.most taken seq ssrc due new b.reached played in
+    let small : b.most < 2 ^ 44 = omega (arith, below, few) in
+    (r.holds, room_within playout.depth b.most new small r.within, counted_room_within playout.depth b.most new small r.within)
+
 pub flushes_stay_within : FlushesStayWithin
 flushes_stay_within playout arrivals plays flushed replies filled new one most fits deep read few takes steps =
-    let b = reached_run playout arrivals plays replies filled one most fits read few takes in
+    let b = reached_run playout arrivals plays replies filled one most fits deep read few takes in
     let below = b.few in
     let w = b.reached.within in
     let mark = w.mark in
     let is = w.depth_is in
-    let f = flushing_steps filled.top b.most (filled.mark + filled.playout.depth + kept_count) filled flushed new
+    let f = flushing_steps filled.top (b.most + b.most) (filled.mark + filled.playout.depth + kept_count) filled flushed new
     (record {
       holds = b.reached.holds;
       inside = followed_is_near filled b.reached.holds;

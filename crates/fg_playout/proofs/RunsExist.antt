@@ -1,5 +1,6 @@
 -- A flow has a run.
 use Rattle.std.proofs.Common.{◌≡◌, ◌+◌, ◌-◌, ◌<◌, ◌≤◌, ◌++◌, ℕ, zero, suc, min, List, [], ◌∷◌, Option, Some, None, IsSomeAnd, inr, refl, sym, ap, ◌∙◌, ⊎_elim, arith}
+use Rattle.std.proofs.lemmas.Bool.{cases_eq}
 use Rattle.std.proofs.lemmas.Option.{none-some, same_Some}
 use Rattle.std.proofs.lemmas.List.Elements.{All-head, All-tail}
 use Rattle.std.specs.List.{All}
@@ -8,30 +9,32 @@ use Rattle.fg_shape.specs.Playout.{Playout}
 use Rattle.fg_peel.proofs.Options.{none_or_some, some_and}
 use Rattle.fg_playout.specs.declared.reply.Reply.{Reply}
 use Rattle.fg_playout.specs.State.{State, Top, opening}
-use Rattle.fg_playout.specs.Admission.{IsDue}
+use Rattle.fg_playout.specs.Admission.{IsDue, counted}
 use Rattle.fg_playout.specs.Solution.{InClosure}
 use Rattle.fg_playout.specs.Play.{Play, IsPlay}
-use Rattle.fg_playout.specs.Run.{Arrival, carries, protects, refused, ArePlaysDue, Takes, TakesAll, IsFlush}
+use Rattle.fg_playout.specs.Run.{Arrival, carries, protects, refused, ArePlaysDue, ArePlaysBefore, by_flush, by_due, Takes, TakesAll, IsFlush}
 use Rattle.fg_playout.specs.Laws.{IsRead}
 use Rattle.fg_playout.specs.Facts.{Holds}
-use Rattle.fg_playout.specs.Existence.{PeelingLaws, PlaysDueExist, FlushExists, TakingsExist, RunsExist}
-use Rattle.fg_playout.proofs.Decided.{IsDecided, decided_most}
+use Rattle.fg_playout.specs.Existence.{PeelingLaws, PlaysDueExist, PlaysBeforeExist, FlushExists, TakingsExist, RunsExist}
+use Rattle.fg_playout.proofs.Decided.{IsDecided, decided_both, decided_most}
 use Rattle.fg_playout.proofs.DecidedSolutions.{closure_limit}
 use Rattle.fg_playout.proofs.Orderly.{IsOrderly, orderly_from_holds, orderly_opening}
-use Rattle.fg_playout.proofs.OrderlyAdmissions.{orderly_after_media, orderly_after_parity}
+use Rattle.fg_playout.proofs.OrderlyAdmissions.{orderly_counted, orderly_after_media, orderly_after_parity}
 use Rattle.fg_playout.proofs.Plays.{orderly_after_play, followed_before}
 use Rattle.fg_playout.proofs.PlayOutcomes.{play_outcomes, more_or_none}
+use Rattle.fg_playout.proofs.Senders.{fresh_is_decided}
 use Rattle.fg_playout.proofs.ReplyOutcomes.{media_outcome, parity_outcome}
 
 decided_and : {X : Type 0} (o : Option X) (P : X → Type 0) → ((x : X) → IsDecided (P x)) → IsDecided (IsSomeAnd o P)
 decided_and None P each = inr (λ h. h)
 decided_and (Some x) P each = each x
 
-decided_due : (desk : State) (seq : ℕ) → IsDecided (IsDue desk seq)
-decided_due desk seq =
+decided_due : (desk : State) (seq ssrc : ℕ) → IsDecided (IsDue desk seq ssrc)
+decided_due desk seq ssrc =
     let IsFar : ℕ → Type 0 = λ position. desk.mark + desk.playout.depth ≤ position in
-    decided_and desk.top (λ top. IsSomeAnd (position_of top.position top.seq seq) IsFar)
-    (λ top. decided_and (position_of top.position top.seq seq) IsFar (λ position. decided_most (desk.mark + desk.playout.depth) position))
+    decided_and desk.top (λ top. (top.ssrc ≡ ssrc) × IsSomeAnd (position_of top.position top.seq seq) IsFar)
+    (λ top. decided_both (top.ssrc ≡ ssrc) (IsSomeAnd (position_of top.position top.seq seq) IsFar) (cases_eq top.ssrc ssrc)
+    (decided_and (position_of top.position top.seq seq) IsFar (λ position. decided_most (desk.mark + desk.playout.depth) position)))
 
 -- What a run needs of a desk.
 record IsReady (desk : State) : Type 0 where
@@ -68,19 +71,19 @@ distance_of desk seq = ⊎_elim
     (none_or_some (position_of t.0.position t.0.seq seq)))
     (none_or_some desk.top)
 
-not_due_within : (desk : State) (seq : ℕ) → LiesWithin 0 desk seq → ¬ IsDue desk seq
-not_due_within desk seq within due =
+not_due_within : (desk : State) (seq ssrc : ℕ) → LiesWithin 0 desk seq → ¬ IsDue desk seq ssrc
+not_due_within desk seq ssrc within due =
     let top = some_and desk.top _ due in
-    let position = some_and (position_of top.0.position top.0.seq seq) _ top.2 in
+    let position = some_and (position_of top.0.position top.0.seq seq) _ top.2.1 in
     let less = within top.0 position.0 top.1 position.1 in
     let far = position.2 in
     omega (arith, less, far)
 
 -- The plays that are due, and the desk that they leave.
-record Due (old : State) (seq : ℕ) : Type 0 where
+record Due (old : State) (seq ssrc : ℕ) : Type 0 where
   plays : List Play
   new : State
-  are_due : ArePlaysDue old seq plays new
+  are_due : ArePlaysDue old seq ssrc plays new
   ready : IsReady new
 
 -- What a datagram does.
@@ -103,9 +106,17 @@ record Flushed (old : State) : Type 0 where
   plays : List Play
   new : State
   flush : IsFlush old plays new
+  ready : IsReady new
 
-none_due : (old : State) (seq : ℕ) → IsReady old → ¬ IsDue old seq → Due old seq
-none_due old seq ready none = record { plays = []; new = old; are_due = (none, refl); ready = ready }
+-- What is played before a media datagram.
+record Before (old : State) (seq ssrc : ℕ) : Type 0 where
+  plays : List Play
+  new : State
+  before : ArePlaysBefore old seq ssrc plays new
+  ready : IsReady new
+
+none_due : (old : State) (seq ssrc : ℕ) → IsReady old → ¬ IsDue old seq ssrc → Due old seq ssrc
+none_due old seq ssrc ready none = record { plays = []; new = old; are_due = (none, refl); ready = ready }
 
 ready_after_play : (count : ℕ) (old : State) (play : Play) (new : State) → IsPlay count old play new → IsReady old → IsReady new
 ready_after_play count old play new plays ready =
@@ -114,14 +125,14 @@ ready_after_play count old play new plays ready =
     record { orderly = orderly_after_play count old play new plays ready.orderly; window = omega (arith, some, same) }
 
 module _ (laws : PeelingLaws) where
-  due_exist : (distance : ℕ) (old : State) (seq : ℕ) → IsReady old → LiesWithin distance old seq → Due old seq
-  due_exist zero old seq ready within = none_due old seq ready (not_due_within old seq within)
-  due_exist (suc distance) old seq ready within = ⊎_elim
+  due_exist : (distance : ℕ) (old : State) (seq ssrc : ℕ) → IsReady old → LiesWithin distance old seq → Due old seq ssrc
+  due_exist zero old seq ssrc ready within = none_due old seq ssrc ready (not_due_within old seq ssrc within)
+  due_exist (suc distance) old seq ssrc ready within = ⊎_elim
       (λ due.
       let o = play_outcomes laws old ready.orderly old.playout.window in
       let some = ready.window in
       let mark : o.new.mark ≡ old.mark + old.playout.window = o.plays.mark in
-      let rest = due_exist distance o.new seq (ready_after_play old.playout.window old o.play o.new o.plays ready)
+      let rest = due_exist distance o.new seq ssrc (ready_after_play old.playout.window old o.play o.new o.plays ready)
       (λ top position is at.
       let less = within top position (sym (ap (λ (s : State). s.top) o.plays.rest) ∙ is) at in
       omega (arith, less, mark, some)) in
@@ -131,25 +142,71 @@ module _ (laws : PeelingLaws) where
         are_due = (due, (o.new, o.plays, rest.are_due));
         ready = rest.ready;
       })
-      (λ none. none_due old seq ready none)
-      (decided_due old seq)
+      (λ none. none_due old seq ssrc ready none)
+      (decided_due old seq ssrc)
 
-  due_of : (old : State) (seq : ℕ) → IsReady old → Due old seq
-  due_of old seq ready = let d = distance_of old seq in due_exist d.0 old seq ready d.1
+  due_of : (old : State) (seq ssrc : ℕ) → IsReady old → Due old seq ssrc
+  due_of old seq ssrc ready = let d = distance_of old seq in due_exist d.0 old seq ssrc ready d.1
+
+  flush_exist :
+      (left : ℕ) (old : State) → IsReady old → ((position : ℕ) → InClosure old position → position < old.mark + left) → Flushed old
+  flush_exist zero old ready inside = record {
+    plays = [];
+    new = old;
+    flush = (λ more. (let less = inside more.0 more.1 in let least = more.2 in omega (arith, less, least)), refl);
+    ready = ready;
+  }
+  flush_exist (suc left) old ready inside = ⊎_elim
+      (λ s.
+      let step = s.step in
+      let count : ℕ = min old.playout.window (step.highest + 1 - old.mark) in
+      let some = ready.window in
+      let more : old.mark ≤ step.highest = step.more in
+      let mark : s.new.mark ≡ old.mark + min old.playout.window (step.highest + 1 - old.mark) = step.plays.mark in
+      let rest = flush_exist left s.new (ready_after_play count old s.play s.new step.plays ready)
+      (λ p follows.
+      let less = inside p (followed_before count old s.play s.new step.plays p follows) in
+      omega (arith, less, mark, some, more)) in
+      record { plays = s.play ∷ rest.plays; new = rest.new; flush = (s.new, step, rest.flush); ready = rest.ready })
+      (λ none. record { plays = []; new = old; flush = (none, refl); ready = ready })
+      (more_or_none laws old ready.orderly)
+
+  flushed : (old : State) → IsReady old → Flushed old
+  flushed old ready =
+      let limit = closure_limit old in
+      flush_exist limit.0 old ready (λ p follows. (let less = limit.1 p follows in omega (arith, less)))
+
+  ready_counted : (old : State) → IsReady old → IsReady (counted old)
+  ready_counted old ready = record { orderly = orderly_counted old ready.orderly; window = ready.window }
+
+  before_of : (old : State) (seq ssrc : ℕ) → IsReady old → Before old seq ssrc
+  before_of old seq ssrc ready = ⊎_elim
+      (λ fresh.
+      let f = flushed old ready in
+      record {
+        plays = f.plays;
+        new = counted f.new;
+        before = by_flush f.new fresh f.flush refl;
+        ready = ready_counted f.new f.ready;
+      })
+      (λ stale.
+      let due = due_of old seq ssrc ready in
+      record { plays = due.plays; new = due.new; before = by_due stale due.are_due; ready = due.ready })
+      (fresh_is_decided old ssrc)
 
   taken : (old : State) (arrival : Arrival) → IsReady old → IsRead arrival → Taken old arrival
-  taken old (carries seq word) ready read =
-      let due = due_of old seq ready in
-      let o = media_outcome due.new seq word in
+  taken old (carries seq ssrc word) ready read =
+      let due = before_of old seq ssrc ready in
+      let o = media_outcome due.new seq ssrc word in
       let some = due.ready.window in
       let same = o.window in
       record {
         plays = due.plays;
         reply = Some o.reply;
         new = o.new;
-        takes = (due.new, due.are_due, o.admits);
+        takes = (due.new, due.before, o.admits);
         ready = record {
-          orderly = orderly_after_media due.new o.new seq word o.reply due.ready.orderly read.1 o.admits.after;
+          orderly = orderly_after_media due.new o.new seq ssrc word o.reply due.ready.orderly read.2 o.admits.after;
           window = omega (arith, some, same);
         };
       }
@@ -183,33 +240,6 @@ module _ (laws : PeelingLaws) where
         ready = rest.ready;
       }
 
-  flush_exist :
-      (left : ℕ) (old : State) → IsReady old → ((position : ℕ) → InClosure old position → position < old.mark + left) → Flushed old
-  flush_exist zero old ready inside = record {
-    plays = [];
-    new = old;
-    flush = (λ more. (let less = inside more.0 more.1 in let least = more.2 in omega (arith, less, least)), refl);
-  }
-  flush_exist (suc left) old ready inside = ⊎_elim
-      (λ s.
-      let step = s.step in
-      let count : ℕ = min old.playout.window (step.highest + 1 - old.mark) in
-      let some = ready.window in
-      let more : old.mark ≤ step.highest = step.more in
-      let mark : s.new.mark ≡ old.mark + min old.playout.window (step.highest + 1 - old.mark) = step.plays.mark in
-      let rest = flush_exist left s.new (ready_after_play count old s.play s.new step.plays ready)
-      (λ p follows.
-      let less = inside p (followed_before count old s.play s.new step.plays p follows) in
-      omega (arith, less, mark, some, more)) in
-      record { plays = s.play ∷ rest.plays; new = rest.new; flush = (s.new, step, rest.flush) })
-      (λ none. record { plays = []; new = old; flush = (none, refl) })
-      (more_or_none laws old ready.orderly)
-
-  flushed : (old : State) → IsReady old → Flushed old
-  flushed old ready =
-      let limit = closure_limit old in
-      flush_exist limit.0 old ready (λ p follows. (let less = limit.1 p follows in omega (arith, less)))
-
   ready_from_holds : (desk : State) → Holds desk → IsReady desk
   ready_from_holds desk holds = record { orderly = orderly_from_holds desk holds; window = holds.window.0 }
 
@@ -217,8 +247,12 @@ module _ (laws : PeelingLaws) where
   ready_opening playout some = record { orderly = orderly_opening playout; window = some }
 
   pub plays_due_exist : PlaysDueExist
-  plays_due_exist old seq holds =
-      let due = due_of old seq (ready_from_holds old holds) in (due.plays, due.new, due.are_due)
+  plays_due_exist old seq ssrc holds =
+      let due = due_of old seq ssrc (ready_from_holds old holds) in (due.plays, due.new, due.are_due)
+
+  pub plays_before_exist : PlaysBeforeExist
+  plays_before_exist old seq ssrc holds =
+      let b = before_of old seq ssrc (ready_from_holds old holds) in (b.plays, b.new, b.before)
 
   pub flush_exists : FlushExists
   flush_exists old holds = let f = flushed old (ready_from_holds old holds) in (f.plays, f.new, f.flush)

@@ -9,7 +9,7 @@ use Rattle.fg_playout.specs.State.{State, opening}
 use Rattle.fg_playout.specs.Solution.{IsSolution}
 use Rattle.fg_playout.specs.Admission.{Parity, AdmitsMedia, AdmitsParity}
 use Rattle.fg_playout.specs.Play.{Play, IsPlay, Flushes}
-use Rattle.fg_playout.specs.Run.{Arrival, ArePlaysDue, TakesAll, IsFlush, IsRun}
+use Rattle.fg_playout.specs.Run.{Arrival, ArePlaysDue, ArePlaysBefore, TakesAll, IsFlush, IsRun}
 use Rattle.fg_playout.specs.Facts.{Holds}
 use Rattle.fg_playout.specs.Laws.{IsRead}
 
@@ -31,7 +31,8 @@ SolutionsAreDecided =
 
 abbrev pub MediaHasOutcome : Type 0
 MediaHasOutcome =
-    (old : State) (seq : ℕ) (word : Word) → (reply : Reply) × (new : State) × AdmitsMedia old seq word reply new
+    (old : State) (seq ssrc : ℕ) (word : Word)
+    → (reply : Reply) × (new : State) × AdmitsMedia old seq ssrc word reply new
 
 abbrev pub ParityHasOutcome : Type 0
 ParityHasOutcome = (old : State) (parity : Parity) → (reply : Reply) × (new : State) × AdmitsParity old parity reply new
@@ -42,14 +43,18 @@ PlayHasOutcome = (count : ℕ) (old : State) → Holds old → (play : Play) × 
 abbrev pub FlushHasOutcome : Type 0
 FlushHasOutcome = (old : State) → Holds old → (play : Option Play) × (new : State) × Flushes old play new
 
--- Before each datagram only so many windows are due, and a flush ends.
+-- Before each datagram only so many windows are due, and a flush ends. So what is played before a datagram comes to an end.
 
 abbrev pub PlaysDueExist : Type 0
 PlaysDueExist =
-    (old : State) (seq : ℕ) → Holds old → (plays : List Play) × (new : State) × ArePlaysDue old seq plays new
+    (old : State) (seq ssrc : ℕ) → Holds old → (plays : List Play) × (new : State) × ArePlaysDue old seq ssrc plays new
 
 abbrev pub FlushExists : Type 0
 FlushExists = (old : State) → Holds old → (plays : List Play) × (new : State) × IsFlush old plays new
+
+abbrev pub PlaysBeforeExist : Type 0
+PlaysBeforeExist =
+    (old : State) (seq ssrc : ℕ) → Holds old → (plays : List Play) × (new : State) × ArePlaysBefore old seq ssrc plays new
 
 -- Datagrams are taken by a new desk, whatever they are.
 abbrev pub TakingsExist : Type 0

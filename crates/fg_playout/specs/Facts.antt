@@ -1,12 +1,12 @@
 -- What is true of every desk that calls can leave.
-use Rattle.std.specs.Prelude.{◌≡◌, ◌≢◌, ◌+◌, ◌^◌, ◌<◌, ◌≤◌, ℕ, Some, None, IsSome}
+use Rattle.std.specs.Prelude.{◌≡◌, ◌≢◌, ◌+◌, ◌<◌, ◌≤◌, ℕ, Some, None, IsSome}
 use Rattle.std.specs.List.{Contains}
 use Rattle.std.specs.FinMap.{get, empty}
 use Rattle.fg_words.specs.declared.Word.{Word}
 use Rattle.fg_words.specs.Word.{IsMedia}
 use Rattle.fg_shape.specs.Shape.{IsShape, position_limit}
 use Rattle.fg_peel.specs.Equation.{slots}
-use Rattle.fg_playout.specs.State.{State, Live, Words, last_slot}
+use Rattle.fg_playout.specs.State.{State, Top, Live, Words, last_slot}
 use Rattle.fg_playout.specs.Admission.{kept_count, live_limit, HaveSameSlots}
 
 -- A word that is kept: a media word, at one of the 100 positions before the mark.
@@ -52,6 +52,15 @@ pub record Holds (desk : State) : Type 0 where
   pub apart :
       (serial serial' : ℕ) (one other : Live) → get desk.equations serial ≡ Some one
       → get desk.equations serial' ≡ Some other → serial ≢ serial' → AreApart one other
-  -- Before the first media datagram nothing is there.
+  -- The current run began at the mark or before it, and each live equation lies in it.
+  pub origin : desk.origin ≤ desk.mark
+  pub based :
+      (serial : ℕ) (live : Live) → get desk.equations serial ≡ Some live → desk.origin ≤ live.equation.base
+  -- Before the first media datagram nothing is there, and no run was begun.
   pub unopened :
-      desk.top ≡ None → (desk.mark ≡ 0) × (desk.media ≡ empty) × (desk.kept ≡ empty) × (desk.equations ≡ empty)
+      desk.top ≡ None
+      → (desk.mark ≡ 0) × (desk.media ≡ empty) × (desk.kept ≡ empty) × (desk.equations ≡ empty) × (desk.runs ≡ 0)
+      × (desk.previous ≡ None)
+  pub opened : desk.top ≢ None → 1 ≤ desk.runs
+  -- The run before had another sender.
+  pub senders : (top : Top) → desk.top ≡ Some top → desk.previous ≢ Some top.ssrc

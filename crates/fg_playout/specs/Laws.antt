@@ -17,10 +17,10 @@ use Rattle.fg_playout.specs.declared.reply.Outcome.TheVariants.{Repaired}
 use Rattle.fg_playout.specs.State.{State, Live, known, live_equations, opening}
 use Rattle.fg_playout.specs.Room.{HasRoom}
 use Rattle.fg_playout.specs.Solution.{InClosure, IsSolution}
-use Rattle.fg_playout.specs.Admission.{Parity, AdmitsMedia, AdmitsParity, IsDue, position_on, equation_at}
+use Rattle.fg_playout.specs.Admission.{Parity, AdmitsMedia, AdmitsParity, IsDue, IsFresh, position_on, base_on, begun, with_media, equation_at, counted}
 use Rattle.fg_playout.specs.Play.{Play, Shown, IsPlay, IsFlushStep, IsHighest, HasMore, Flushes}
 use Rattle.fg_shape.specs.declared.kind.Kind.{Kind}
-use Rattle.fg_playout.specs.Run.{Arrival, carries, protects, refused, came_by, is_counted, count_of, ArePlaysDue, TakesAll, IsFlush, IsRun}
+use Rattle.fg_playout.specs.Run.{Arrival, carries, protects, refused, came_by, is_counted, count_of, ArePlaysDue, ArePlaysBefore, TakesAll, IsFlush, IsRun}
 use Rattle.fg_playout.specs.Facts.{Holds}
 
 -- The live equations are those that stand under some serial number.
@@ -39,8 +39,8 @@ OpeningHolds =
 
 abbrev pub MediaKeeps : Type 0
 MediaKeeps =
-    (old new : State) (seq : ℕ) (word : Word) (reply : Reply) → Holds old → IsMedia word → ¬ IsDue old seq
-    → AdmitsMedia old seq word reply new → Holds new
+    (old new : State) (seq ssrc : ℕ) (word : Word) (reply : Reply) → Holds old → IsMedia word → ¬ IsDue old seq ssrc
+    → AdmitsMedia old seq ssrc word reply new → Holds new
 
 abbrev pub ParityKeeps : Type 0
 ParityKeeps =
@@ -54,21 +54,59 @@ PlayKeeps =
 abbrev pub FlushStepKeeps : Type 0
 FlushStepKeeps = (old new : State) (play : Option Play) → Holds old → Flushes old play new → Holds new
 
--- A media datagram that is admitted adds its word to the known ones, at a position past what is played that had
--- none, and nothing else.
+-- Whether an SSRC is fresh can be told.
+abbrev pub FreshIsDecided : Type 0
+FreshIsDecided = (desk : State) (ssrc : ℕ) → IsFresh desk ssrc ⊎ (¬ IsFresh desk ssrc)
+
+-- Where nothing more follows, no word is known at the mark or past it, and no peeling has a step.
+
+abbrev pub NothingAheadIsKnown : Type 0
+NothingAheadIsKnown =
+    (desk : State) → (¬ HasMore desk) → (position : ℕ) → desk.mark ≤ position → known desk position ≡ None
+
+abbrev pub NothingIsPeeled : Type 0
+NothingIsPeeled =
+    (desk : State) (steps : List Step) → Holds desk → (¬ HasMore desk)
+    → IsPeeling (known desk) (live_equations desk) steps → steps ≡ []
+
+-- A media datagram that is admitted adds its word to the known ones, at a position past what is played that had none. The live
+-- equations stay, but where a run begins: there all leave the desk. A fresh SSRC comes to a desk that is flushed.
 abbrev pub MediaAdds : Type 0
 MediaAdds =
-    (old new : State) (seq : ℕ) (word : Word) → Holds old → AdmitsMedia old seq word Admitted new
-    → (position : ℕ) × (position_on old seq ≡ Some position) × (old.mark ≤ position)
+    (old new : State) (seq ssrc : ℕ) (word : Word) → Holds old → (IsFresh old ssrc → ¬ HasMore old)
+    → AdmitsMedia old seq ssrc word Admitted new
+    → (position : ℕ) × (position_on old seq ssrc ≡ Some position) × (old.mark ≤ position)
     × (known old position ≡ None)
     × ((other : ℕ) → known new other ≡ (if other == position then Some word else known old other))
-    × (live_equations new ≡ live_equations old)
+    × (IsFresh old ssrc → live_equations new ≡ [])
+    × ((¬ IsFresh old ssrc) → live_equations new ≡ live_equations old)
+
+-- A fresh SSRC is admitted, and begins a run at the mark.
+abbrev pub FreshBegins : Type 0
+FreshBegins =
+    (old new : State) (seq ssrc : ℕ) (word : Word) (reply : Reply) → IsFresh old ssrc
+    → AdmitsMedia old seq ssrc word reply new
+    → (reply ≡ Admitted) × (new ≡ with_media (begun old) seq ssrc old.mark word)
+
+-- So does the first media datagram of all.
+abbrev pub FirstBegins : Type 0
+FirstBegins =
+    (old new : State) (seq ssrc : ℕ) (word : Word) (reply : Reply) → Holds old → old.top ≡ None
+    → AdmitsMedia old seq ssrc word reply new
+    → (reply ≡ Admitted) × (new ≡ with_media (begun old) seq ssrc old.mark word)
+
+-- No other media datagram does, and a play begins none.
+abbrev pub OthersGoOn : Type 0
+OthersGoOn =
+    (old new : State) (seq ssrc : ℕ) (word : Word) (reply : Reply) → (¬ IsFresh old ssrc) → old.top ≢ None
+    → AdmitsMedia old seq ssrc word reply new
+    → (new.runs ≡ old.runs) × (new.origin ≡ old.origin) × (new.previous ≡ old.previous)
 
 -- A parity datagram that is admitted adds its equation to the live ones, and nothing else.
 abbrev pub ParityAdds : Type 0
 ParityAdds =
     (old new : State) (parity : Parity) → Holds old → AdmitsParity old parity Admitted new
-    → (position : ℕ) × (position_on old parity.base ≡ Some position)
+    → (position : ℕ) × (base_on old parity.base ≡ Some position)
     × ((equation : Equation)
     → Contains (live_equations new) equation
     ↔ (Contains (live_equations old) equation ⊎ (equation ≡ equation_at position parity)))
@@ -150,22 +188,47 @@ TakingsJoin =
     → TakesAll old earlier before first between → TakesAll between later after second new
     → TakesAll old (earlier ++ later) (before ++ after) (first ++ second) new
 
--- Plays that are due before a datagram of this sequence number, so far.
-abbrev pub HavePlayed : State → ℕ → List Play → State → Type 0
-HavePlayed old seq [] new = new ≡ old
-HavePlayed old seq (play ∷ plays) new =
-    IsDue old seq × ((next : State) × IsPlay old.playout.window old play next × HavePlayed next seq plays new)
+-- Plays that are due before a datagram of this sequence number and SSRC, so far.
+abbrev pub HavePlayed : State → ℕ → ℕ → List Play → State → Type 0
+HavePlayed old seq ssrc [] new = new ≡ old
+HavePlayed old seq ssrc (play ∷ plays) new =
+    IsDue old seq ssrc × ((next : State) × IsPlay old.playout.window old play next × HavePlayed next seq ssrc plays new)
 
 abbrev pub PlaysDueJoin : Type 0
 PlaysDueJoin =
-    (old between new : State) (seq : ℕ) (before after : List Play)
-    → HavePlayed old seq before between → HavePlayed between seq after new → HavePlayed old seq (before ++ after) new
+    (old between new : State) (seq ssrc : ℕ) (before after : List Play)
+    → HavePlayed old seq ssrc before between → HavePlayed between seq ssrc after new
+    → HavePlayed old seq ssrc (before ++ after) new
 
 -- They are all that are due where then none is.
 abbrev pub PlaysDueEnd : Type 0
 PlaysDueEnd =
-    (old new : State) (seq : ℕ) (plays : List Play)
-    → ArePlaysDue old seq plays new ↔ (HavePlayed old seq plays new × (¬ IsDue new seq))
+    (old new : State) (seq ssrc : ℕ) (plays : List Play)
+    → ArePlaysDue old seq ssrc plays new ↔ (HavePlayed old seq ssrc plays new × (¬ IsDue new seq ssrc))
+
+-- What is played before a media datagram, so far: where its SSRC is fresh, steps of a flush.
+abbrev pub HavePlayedBefore : State → ℕ → ℕ → List Play → State → Type 0
+HavePlayedBefore old seq ssrc plays new =
+    (IsFresh old ssrc × AreFlushSteps old plays new) ⊎ ((¬ IsFresh old ssrc) × HavePlayed old seq ssrc plays new)
+
+-- It is all that is played where, the SSRC being fresh, a flush step then finds nothing left,
+abbrev pub FlushEndsBefore : Type 0
+FlushEndsBefore =
+    (old empty new : State) (seq ssrc : ℕ) (plays : List Play) → IsFresh old ssrc → AreFlushSteps old plays empty
+    → Flushes empty None new → ArePlaysBefore old seq ssrc plays new
+
+-- and where, else, no play is due any more.
+abbrev pub DueEndBefore : Type 0
+DueEndBefore =
+    (old new : State) (seq ssrc : ℕ) (plays : List Play) → (¬ IsFresh old ssrc) → HavePlayed old seq ssrc plays new
+    → (¬ IsDue new seq ssrc) → ArePlaysBefore old seq ssrc plays new
+
+-- Then the datagram can be admitted: no play is due, and where the SSRC is fresh nothing more follows. The plays changed nothing
+-- of whose an SSRC is.
+abbrev pub ReadyAfterPlays : Type 0
+ReadyAfterPlays =
+    (old new : State) (seq ssrc : ℕ) (plays : List Play) → ArePlaysBefore old seq ssrc plays new
+    → (¬ IsDue new seq ssrc) × (IsFresh new ssrc → ¬ HasMore new) × (IsFresh old ssrc ↔ IsFresh new ssrc)
 
 abbrev pub FlushStepsJoin : Type 0
 FlushStepsJoin =
@@ -185,20 +248,20 @@ PlaysFollow =
 
 -- Datagrams as the readers give them: media words, and shapes that are read.
 abbrev pub IsRead : Arrival → Type 0
-IsRead (carries seq word) = (seq < 2 ^ 16) × IsMedia word
+IsRead (carries seq ssrc word) = (seq < 2 ^ 16) × (ssrc < 2 ^ 32) × IsMedia word
 IsRead (protects stream parity) = (parity.base < 2 ^ 16) × IsShape parity.offset parity.count
 IsRead (refused stream) = ⊤
 
 -- As long as a flow's datagrams are fewer than 2^44, the facts hold all along its run, and there is room: before each
--- datagram, and between the plays before it.
+-- datagram, between the plays before it, and after a flush step that finds nothing left.
 abbrev pub RunsStayWithin : Type 0
 RunsStayWithin =
-    (playout : Playout) (seq : ℕ) (arrivals : List Arrival) (plays due : List Play) (replies : List (Option Reply))
+    (playout : Playout) (seq ssrc : ℕ) (arrivals : List Arrival) (plays due : List Play) (replies : List (Option Reply))
     (taken new : State)
-    → 1 ≤ playout.window → playout.window ≤ 100 → playout.window ≤ playout.depth → All IsRead arrivals
-    → length arrivals < 2 ^ 44
-    → TakesAll (opening playout) arrivals plays replies taken → HavePlayed taken seq due new
-    → Holds new × HasRoom new
+    → 1 ≤ playout.window → playout.window ≤ 100 → playout.window ≤ playout.depth → playout.depth ≤ 1000
+    → All IsRead arrivals → length arrivals < 2 ^ 44
+    → TakesAll (opening playout) arrivals plays replies taken → HavePlayedBefore taken seq ssrc due new
+    → Holds new × HasRoom new × HasRoom (counted new)
 
 -- And so they do between the steps of its flush.
 abbrev pub FlushesStayWithin : Type 0
@@ -210,12 +273,12 @@ FlushesStayWithin =
     → TakesAll (opening playout) arrivals plays replies filled → AreFlushSteps filled flushed new
     → Holds new × HasRoom new
 
--- A flow has one run: two of the same datagrams are the same.
+-- A flow has one run: two of the same datagrams are the same, up to the desk before the flush.
 abbrev pub OneRun : Type 0
 OneRun =
     (playout : Playout) (arrivals : List Arrival) (plays plays' : List Play) (replies replies' : List (Option Reply))
-    → All IsRead arrivals → IsRun playout arrivals plays replies → IsRun playout arrivals plays' replies'
-    → (plays ≡ plays') × (replies ≡ replies')
+    → All IsRead arrivals → (one : IsRun playout arrivals plays replies) → (other : IsRun playout arrivals plays' replies')
+    → (plays ≡ plays') × (replies ≡ replies') × (one.filled ≡ other.filled)
 
 -- The same datagrams taken by a new desk give the same plays, the same replies and the same desk.
 abbrev pub OneTaking : Type 0
@@ -230,8 +293,9 @@ OneTaking =
 
 abbrev pub MediaIsOne : Type 0
 MediaIsOne =
-    (old one other : State) (seq : ℕ) (word : Word) (reply reply' : Reply)
-    → AdmitsMedia old seq word reply one → AdmitsMedia old seq word reply' other → (reply ≡ reply') × (one ≡ other)
+    (old one other : State) (seq ssrc : ℕ) (word : Word) (reply reply' : Reply)
+    → AdmitsMedia old seq ssrc word reply one → AdmitsMedia old seq ssrc word reply' other
+    → (reply ≡ reply') × (one ≡ other)
 
 abbrev pub ParityIsOne : Type 0
 ParityIsOne =
@@ -274,13 +338,14 @@ TakenPlaysComeFirst =
     → All IsRead earlier → TakesAll (opening playout) earlier before first taken
     → IsRun playout (earlier ++ later) plays replies → (after : List Play) × (plays ≡ before ++ after)
 
--- Then come those that are due before the next datagram.
+-- Then come those before the next datagram.
 abbrev pub DuePlaysComeNext : Type 0
 DuePlaysComeNext =
-    (playout : Playout) (seq : ℕ) (word : Word) (earlier later : List Arrival) (before due plays : List Play)
+    (playout : Playout) (seq ssrc : ℕ) (word : Word) (earlier later : List Arrival) (before due plays : List Play)
     (first replies : List (Option Reply)) (taken now : State)
-    → All IsRead earlier → TakesAll (opening playout) earlier before first taken → HavePlayed taken seq due now
-    → IsRun playout (earlier ++ carries seq word ∷ later) plays replies
+    → All IsRead earlier → TakesAll (opening playout) earlier before first taken
+    → HavePlayedBefore taken seq ssrc due now
+    → IsRun playout (earlier ++ carries seq ssrc word ∷ later) plays replies
     → (after : List Play) × (plays ≡ before ++ (due ++ after))
 
 -- After the last datagram come the steps of the flush.
@@ -309,8 +374,8 @@ PlaysReachTheMark =
 
 abbrev pub DuePlaysReachTheMark : Type 0
 DuePlaysReachTheMark =
-    (old new : State) (seq : ℕ) (plays : List Play)
-    → 1 ≤ old.playout.window → HavePlayed old seq plays new → Reach old plays new
+    (old new : State) (seq ssrc : ℕ) (plays : List Play)
+    → 1 ≤ old.playout.window → HavePlayed old seq ssrc plays new → Reach old plays new
 
 abbrev pub FlushStepsReachTheMark : Type 0
 FlushStepsReachTheMark =

@@ -5,7 +5,7 @@ use Rattle.fg_shape.specs.Playout.{Playout}
 use Rattle.fg_playout.specs.declared.reply.Reply.{Reply}
 use Rattle.fg_playout.specs.State.{State, opening}
 use Rattle.fg_playout.specs.Play.{Play, IsPlay}
-use Rattle.fg_playout.specs.Run.{Arrival, carries, protects, refused, ArePlaysDue, Takes, TakesAll, IsFlush, IsRun}
+use Rattle.fg_playout.specs.Run.{Arrival, carries, protects, refused, ArePlaysDue, ArePlaysBefore, by_flush, by_due, Takes, TakesAll, IsFlush, IsRun}
 use Rattle.fg_playout.specs.Laws.{IsRead}
 
 -- A play, and the desk that it is made on.
@@ -15,17 +15,29 @@ pub record PlayOn : Type 0 where
 
 -- Of plays that are due before a datagram, each is made on the desk that the one before it leaves.
 abbrev pub due_on :
-    (old : State) (seq : ℕ) (plays : List Play) (new : State) → ArePlaysDue old seq plays new → List PlayOn
-due_on old seq [] new due = []
-due_on old seq (play ∷ plays) new due =
-    record { desk = old; play = play } ∷ due_on due.1.0 seq plays new due.1.2
+    (old : State) (seq ssrc : ℕ) (plays : List Play) (new : State) → ArePlaysDue old seq ssrc plays new → List PlayOn
+due_on old seq ssrc [] new due = []
+due_on old seq ssrc (play ∷ plays) new due =
+    record { desk = old; play = play } ∷ due_on due.1.0 seq ssrc plays new due.1.2
+
+-- Of the steps of a flush, too, each is made on the desk that the one before it leaves.
+abbrev pub flushed_on : (old : State) (plays : List Play) (new : State) → IsFlush old plays new → List PlayOn
+flushed_on old [] new flush = []
+flushed_on old (play ∷ plays) new flush =
+    record { desk = old; play = play } ∷ flushed_on flush.0 plays new flush.2
+
+-- What is played before a media datagram.
+abbrev pub before_on :
+    (old : State) (seq ssrc : ℕ) (plays : List Play) (new : State) → ArePlaysBefore old seq ssrc plays new → List PlayOn
+before_on old seq ssrc plays new (by_flush empty fresh flush counts) = flushed_on old plays empty flush
+before_on old seq ssrc plays new (by_due stale due) = due_on old seq ssrc plays new due
 
 -- What one datagram has played: nothing, but for a media datagram.
 abbrev pub taken_on :
     (old : State) (arrival : Arrival) (plays : List Play) (reply : Option Reply) (new : State)
     → Takes old arrival plays reply new → List PlayOn
-taken_on old (carries seq word) plays None new takes = []
-taken_on old (carries seq word) plays (Some reply) new takes = due_on old seq plays takes.0 takes.1
+taken_on old (carries seq ssrc word) plays None new takes = []
+taken_on old (carries seq ssrc word) plays (Some reply) new takes = before_on old seq ssrc plays takes.0 takes.1
 taken_on old (protects stream parity) plays reply new takes = []
 taken_on old (refused stream) plays reply new takes = []
 
@@ -37,12 +49,6 @@ all_taken_on old [] plays replies new takes = []
 all_taken_on old (arrival ∷ arrivals) plays [] new takes = []
 all_taken_on old (arrival ∷ arrivals) plays (reply ∷ replies) new takes =
     taken_on old arrival takes.0 reply takes.2 takes.4 ++ all_taken_on takes.2 arrivals takes.1 replies new takes.5
-
--- Of the steps of a flush, too, each is made on the desk that the one before it leaves.
-abbrev pub flushed_on : (old : State) (plays : List Play) (new : State) → IsFlush old plays new → List PlayOn
-flushed_on old [] new flush = []
-flushed_on old (play ∷ plays) new flush =
-    record { desk = old; play = play } ∷ flushed_on flush.0 plays new flush.2
 
 -- A run's plays, in order, each with the desk that it is made on.
 abbrev pub played_on :

@@ -3,38 +3,51 @@ use Rattle.std.specs.Prelude.{◌≡◌, ◌==◌, ◌+◌, ◌++◌, ◌&&◌, 
 use Rattle.fg_words.specs.declared.Word.{Word}
 use Rattle.fg_shape.specs.Playout.{Playout}
 use Rattle.fg_playout.specs.declared.reply.Reply.{Reply}
-use Rattle.fg_playout.specs.declared.reply.Reply.TheVariants.{Admitted, Duplicate, Conflict, Late, NotStarted, BeforeStart, Ahead, Crowded}
+use Rattle.fg_playout.specs.declared.reply.Reply.TheVariants.{Admitted, Duplicate, Conflict, Late, NotStarted, BeforeStart, Ahead, Crowded, Foreign}
 use Rattle.fg_shape.specs.declared.kind.Kind.{Kind}
 use Rattle.fg_shape.specs.declared.kind.Kind.TheVariants.{Media, Column, Row}
 use Rattle.fg_playout.specs.State.{State, opening}
-use Rattle.fg_playout.specs.Admission.{Parity, AdmitsMedia, AdmitsParity, IsDue}
+use Rattle.fg_playout.specs.Admission.{Parity, AdmitsMedia, AdmitsParity, IsDue, IsFresh, counted}
 use Rattle.fg_playout.specs.Play.{Play, IsPlay, IsFlushStep, HasMore}
 
--- A datagram as it is read: a media datagram's sequence number and word; a parity datagram of a stream; or one that its
--- reader refused.
+-- A datagram as it is read: a media datagram's sequence number, SSRC and word; a parity datagram of a stream; or one that
+-- its reader refused.
 pub data Arrival : Type 0 where
-  carries : ℕ → Word → Arrival
+  carries : ℕ → ℕ → Word → Arrival
   protects : Kind → Parity → Arrival
   refused : Kind → Arrival
 
 -- The stream that an arrival came by.
 abbrev pub came_by : Arrival → Kind
-came_by (carries seq word) = Media
+came_by (carries seq ssrc word) = Media
 came_by (protects stream parity) = stream
 came_by (refused stream) = stream
 
--- Windows are played while one is due before a datagram of this sequence number.
-abbrev pub ArePlaysDue : State → ℕ → List Play → State → Type 0
-ArePlaysDue old seq [] new = (¬ IsDue old seq) × (new ≡ old)
-ArePlaysDue old seq (play ∷ plays) new =
-    IsDue old seq × ((next : State) × IsPlay old.playout.window old play next × ArePlaysDue next seq plays new)
+-- Windows are played while one is due before a media datagram of this sequence number and SSRC.
+abbrev pub ArePlaysDue : State → ℕ → ℕ → List Play → State → Type 0
+ArePlaysDue old seq ssrc [] new = (¬ IsDue old seq ssrc) × (new ≡ old)
+ArePlaysDue old seq ssrc (play ∷ plays) new =
+    IsDue old seq ssrc × ((next : State) × IsPlay old.playout.window old play next × ArePlaysDue next seq ssrc plays new)
+
+-- A flush: flush steps until none is defined.
+abbrev pub IsFlush : State → List Play → State → Type 0
+IsFlush old [] new = (¬ HasMore old) × (new ≡ old)
+IsFlush old (play ∷ plays) new = (next : State) × IsFlushStep old play next × IsFlush next plays new
+
+-- What is played before a media datagram is admitted. Where its SSRC is fresh the desk is flushed, so that a run can begin: the step
+-- that finds nothing left is a call, too. Else windows are played while one is due.
+pub data ArePlaysBefore (old : State) (seq ssrc : ℕ) (plays : List Play) (new : State) : Type 0 where
+  by_flush :
+      (empty : State) → IsFresh old ssrc → IsFlush old plays empty → new ≡ counted empty
+      → ArePlaysBefore old seq ssrc plays new
+  by_due : ¬ IsFresh old ssrc → ArePlaysDue old seq ssrc plays new → ArePlaysBefore old seq ssrc plays new
 
 -- What one datagram does: the plays before it, and the reply to it. A refused one does nothing and gets none. A parity
 -- datagram plays nothing.
 abbrev pub Takes : State → Arrival → List Play → Option Reply → State → Type 0
-Takes old (carries seq word) plays None new = ⊥
-Takes old (carries seq word) plays (Some reply) new =
-    (due : State) × ArePlaysDue old seq plays due × AdmitsMedia due seq word reply new
+Takes old (carries seq ssrc word) plays None new = ⊥
+Takes old (carries seq ssrc word) plays (Some reply) new =
+    (ready : State) × ArePlaysBefore old seq ssrc plays ready × AdmitsMedia ready seq ssrc word reply new
 Takes old (protects stream parity) plays None new = ⊥
 Takes old (protects stream parity) plays (Some reply) new = (plays ≡ []) × AdmitsParity old parity reply new
 Takes old (refused stream) plays None new = (plays ≡ []) × (new ≡ old)
@@ -48,13 +61,8 @@ TakesAll old (arrival ∷ arrivals) plays (reply ∷ replies) new =
     (before : List Play) × (after : List Play) × (next : State) × (plays ≡ before ++ after)
     × Takes old arrival before reply next × TakesAll next arrivals after replies new
 
--- A flush: flush steps until none is defined.
-abbrev pub IsFlush : State → List Play → State → Type 0
-IsFlush old [] new = (¬ HasMore old) × (new ≡ old)
-IsFlush old (play ∷ plays) new = (next : State) × IsFlushStep old play next × IsFlush next plays new
-
 -- A flow's run: from the opening desk its datagrams are taken, and then the desk is flushed. Its results are the plays,
--- and the reply to each datagram, none where its reader refused it.
+-- and the reply to each datagram, none where its reader refused it. Its last desk tells how many runs of a sender were begun.
 pub record IsRun (playout : Playout) (arrivals : List Arrival) (plays : List Play) (replies : List (Option Reply)) : Type 0 where
   pub taken : List Play
   pub flushed : List Play
@@ -80,7 +88,8 @@ reply_number (Some NotStarted) = 4
 reply_number (Some BeforeStart) = 5
 reply_number (Some Ahead) = 6
 reply_number (Some Crowded) = 7
-reply_number None = 8
+reply_number (Some Foreign) = 8
+reply_number None = 9
 
 -- An arrival that was answered so came by this stream, and got this reply.
 abbrev pub is_counted : Kind → Option Reply → Arrival → Option Reply → Bool

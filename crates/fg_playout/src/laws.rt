@@ -2,9 +2,10 @@
 //! does nothing, or only calls laws of `fg_peel`.
 
 ghost use Rattle.fg_playout.specs.Laws.{LiveStandUnderSerials, FactsAreKept, MediaAdds, ParityAdds};
+ghost use Rattle.fg_playout.specs.Laws.{FreshIsDecided, FreshBegins, FirstBegins, OthersGoOn, NothingAheadIsKnown, NothingIsPeeled};
 ghost use Rattle.fg_playout.specs.Laws.{ClosureIsPeelings, SolutionsArePeelings, StepsAreAhead, OneSolution};
 ghost use Rattle.fg_playout.specs.Laws.{FlushesEnd, SolvedStaysPeeled};
-ghost use Rattle.fg_playout.specs.Laws.{LaterChangesNothing, TakingsJoin, PlaysDueJoin, PlaysDueEnd, PlaysFollow, RunsStayWithin, FlushesStayWithin, OneRun};
+ghost use Rattle.fg_playout.specs.Laws.{LaterChangesNothing, TakingsJoin, PlaysDueJoin, PlaysDueEnd, FlushEndsBefore, DueEndBefore, ReadyAfterPlays, PlaysFollow, RunsStayWithin, FlushesStayWithin, OneRun};
 ghost use Rattle.fg_playout.specs.Laws.{OneOutcome};
 ghost use Rattle.fg_playout.specs.Laws.{PlaysShowOneList, FlushStepsShowOneList};
 ghost use Rattle.fg_playout.specs.Laws.{OneTaking, TakenPlaysComeFirst, DuePlaysComeNext, FlushStepsComeNext};
@@ -12,7 +13,7 @@ ghost use Rattle.fg_playout.specs.Laws.{PlaysReachTheMark, DuePlaysReachTheMark,
 ghost use Rattle.fg_playout.specs.Laws.{EachGetsAReply, CountsAreOfReplies, CountsAdd, CountsStayWithin};
 ghost use Rattle.fg_playout.specs.Existence.{PeelingLaws, SolutionsAreDecided, MediaHasOutcome, ParityHasOutcome, PlayHasOutcome, FlushHasOutcome};
 ghost use Rattle.fg_playout.specs.PlayedOn.{PlaysAreTheRuns, DesksMakeThePlays, OneListOfDesks};
-ghost use Rattle.fg_playout.specs.Existence.{PlaysDueExist, FlushExists, TakingsExist, RunsExist};
+ghost use Rattle.fg_playout.specs.Existence.{PlaysDueExist, FlushExists, PlaysBeforeExist, TakingsExist, RunsExist};
 
 use fg_peel::laws::{
     confluence, maximal_peelings_are_tested, peelings_fill_the_closure, peelings_stay, uniqueness,
@@ -28,7 +29,23 @@ pub fn facts_are_kept()
     ensures { FactsAreKept }
 {}
 
-/// What is admitted is known or live from then on, and nothing else changes in what is known and live.
+/// Whether an SSRC is fresh can be told. One that is begins a run at the mark, as the first media datagram of all does, and no
+/// other datagram does.
+pub fn runs_begin()
+    ensures fresh { FreshIsDecided }
+    ensures begins { FreshBegins }
+    ensures first { FirstBegins }
+    ensures others { OthersGoOn }
+{}
+
+/// Where nothing more follows, no word is known ahead and no peeling has a step: a desk that is flushed is ready for a run.
+pub fn nothing_is_left()
+    ensures known { NothingAheadIsKnown }
+    ensures peeled { NothingIsPeeled }
+{}
+
+/// What is admitted is known or live from then on. What is known and live else stays, but where a run begins: there the
+/// equations leave.
 pub fn admissions_add()
     ensures media { MediaAdds }
     ensures parity { ParityAdds }
@@ -77,6 +94,9 @@ pub fn runs_join()
     ensures takings { TakingsJoin }
     ensures plays { PlaysDueJoin }
     ensures all_due { PlaysDueEnd }
+    ensures flushed { FlushEndsBefore }
+    ensures played { DueEndBefore }
+    ensures ready { ReadyAfterPlays }
 {}
 
 /// As long as a flow's datagrams are fewer than 2^44, the facts hold all along its run, and there is
@@ -131,6 +151,7 @@ pub fn outcomes_exist()
 pub fn plays_come_to_an_end()
     ensures due { PlaysDueExist }
     ensures flush { FlushExists }
+    ensures before { PlaysBeforeExist }
 {
     peelings_are_told();
 }

@@ -13,12 +13,14 @@ pub enum Reply {
     Late,
     /// A parity datagram before any media datagram.
     NotStarted,
-    /// A parity datagram whose base lies before the first media datagram.
+    /// A parity datagram whose base lies before the run's first media datagram.
     BeforeStart,
     /// A parity datagram that reaches 100 positions past the depth, or farther.
     Ahead,
     /// A parity datagram where 512 equations are live.
     Crowded,
+    /// A media datagram of the sender before the current one.
+    Foreign,
 }
 
 /// What a play's words are.

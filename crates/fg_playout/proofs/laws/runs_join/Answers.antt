@@ -1,4 +1,4 @@
-use Rattle.fg_playout.proofs.Joining.{takings_join, plays_due_join, plays_due_end}
+use Rattle.fg_playout.proofs.Joining.{takings_join, plays_due_join, plays_due_end, flush_ends_before, due_end_before, ready_after_plays}
 use Rattle.fg_playout.proofs.laws.runs_join.Goals as goal
 
 pub returns-clause-takings : goal.returns-clause-takings
@@ -9,3 +9,12 @@ returns-clause-plays c = plays_due_join
 
 pub returns-clause-all_due : goal.returns-clause-all_due
 returns-clause-all_due c = plays_due_end
+
+pub returns-clause-flushed : goal.returns-clause-flushed
+returns-clause-flushed c = flush_ends_before
+
+pub returns-clause-played : goal.returns-clause-played
+returns-clause-played c = due_end_before
+
+pub returns-clause-ready : goal.returns-clause-ready
+returns-clause-ready c = ready_after_plays
