@@ -41,7 +41,7 @@ module _
     (parts : Parts) (sound : AreSound parts) (lines : AreLive parts.lines) (place : ℕ) (equation : Equation)
     (shape : IsShape equation.offset equation.count) (base_limit : equation.base ≤ 2 ^ 62)
     (replies : IsEquationReply (state_of parts) equation Admitted) (least : IsLeastFree parts.lines.live place)
-    (opened : parts.top ≢ None) (calls : parts.calls < 2 ^ 62) where
+    (opened : parts.top ≢ None) (from : parts.origin ≤ equation.base) (calls : parts.calls < 2 ^ 62) where
   is_new : IsNew (state_of parts) place equation
   is_new =
       let free = free_place parts.lines.live live_limit replies.2 in
@@ -57,10 +57,11 @@ module _
       }
 
   holds_with : Holds (with_equation (state_of parts) place equation)
-  holds_with = with_equation_holds (state_of parts) place equation sound.facts is_new opened
+  holds_with = with_equation_holds (state_of parts) place equation sound.facts is_new opened from
 
   limited : AreLimited (with_line parts (lines_with parts place equation))
   limited =
+      let runs = sound.limits.runs_limit in
       let admitted = sound.limits.admitted_limit in
       let epoch = sound.limits.epoch_limit in
       record {
@@ -68,6 +69,7 @@ module _
         reach_is = sound.limits.reach_is;
         mark_limit = sound.limits.mark_limit;
         top_limit = sound.limits.top_limit;
+        runs_limit = omega (arith, runs);
         admitted_limit = omega (arith, admitted);
         calls_limit = omega (arith, calls);
         epoch_limit = omega (arith, epoch);

@@ -44,6 +44,7 @@ module _
 
   sound_at : PeelingsKeepWords → parts.calls < 2 ^ 62 → AreSound (counted_with parts (with_found parts cached))
   sound_at keep calls =
+      let runs = sound.limits.runs_limit in
       let admitted = sound.limits.admitted_limit in
       let epoch = sound.limits.epoch_limit in
       let limits : AreLimited (counted_with parts (with_found parts cached)) = record {
@@ -51,6 +52,7 @@ module _
         reach_is = sound.limits.reach_is;
         mark_limit = sound.limits.mark_limit;
         top_limit = sound.limits.top_limit;
+        runs_limit = omega (arith, runs);
         admitted_limit = omega (arith, admitted);
         calls_limit = omega (arith, calls);
         epoch_limit = omega (arith, epoch);

@@ -15,6 +15,9 @@ abbrev pub opened_parts : Playout → Parts
 opened_parts playout = record {
   playout = playout;
   top = None;
+  previous = None;
+  origin = 0;
+  runs = 0;
   buffer = opened_buffer (playout.depth + 100);
   lines = no_equations;
   admitted = 0;
@@ -31,6 +34,7 @@ opened_sound playout one most fits limit =
       reach_is = refl;
       mark_limit = omega arith;
       top_limit = λ top is. absurd (none-some top is);
+      runs_limit = omega arith;
       admitted_limit = omega arith;
       calls_limit = omega arith;
       epoch_limit = omega arith;

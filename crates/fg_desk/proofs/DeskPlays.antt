@@ -99,12 +99,14 @@ module _
       (outcome : Outcome) → parts.buffer.mark < 2 ^ 61 → parts.calls < 2 ^ 62 → count ≤ 100 → new.mark ≡ parts.buffer.mark + count
       → new.reach ≡ parts.buffer.reach → AreLimited (played parts outcome new left)
   limited outcome mark calls most mark_is reach_is =
+      let runs = sound.limits.runs_limit in
       let admitted = sound.limits.admitted_limit in
       record {
         depth_limit = sound.limits.depth_limit;
         reach_is = reach_is ∙ sound.limits.reach_is;
         mark_limit = omega (arith, mark, most, mark_is);
         top_limit = sound.limits.top_limit;
+        runs_limit = omega (arith, runs);
         admitted_limit = omega (arith, admitted);
         calls_limit = omega (arith, calls);
         epoch_limit = epoch_rises outcome parts.epoch parts.calls sound.limits.epoch_limit;

@@ -1,5 +1,6 @@
 pub mod Advancing
 pub mod DeskAdds
+pub mod DeskBegins
 pub mod DeskCounts
 pub mod DeskFills
 pub mod DeskFlushes

@@ -1,5 +1,5 @@
 -- What the loops of a plain run keep.
-use Rattle.std.proofs.Common.{◌≡◌, ◌+◌, ◌-◌, ◌<◌, ◌≤◌, ◌++◌, ℕ, List, [], ◌∷◌, map, take, length, get_or, Option, Bool, true, false, IsTrue, refl, sym, ap, subst, ◌∙◌, arith, append_assoc, length-take}
+use Rattle.std.proofs.Common.{◌≡◌, ◌+◌, ◌-◌, ◌<◌, ◌≤◌, ◌++◌, ℕ, List, [], ◌∷◌, map, take, length, get_or, Option, Bool, true, false, IsTrue, inl, inr, ⊎_elim, refl, sym, ap, subst, ◌∙◌, arith, append_assoc, length-take}
 use Rattle.std.specs.List.{All}
 use Rattle.std.proofs.lemmas.List.{append-nil, length-map, map-append, take_more}
 use Rattle.std.proofs.lemmas.List.Elements.{All-push}
@@ -13,8 +13,9 @@ use Rattle.fg_playout.specs.Admission.{IsDue}
 use Rattle.fg_desk.specs.declared.run.ShownWord.{ShownWord}
 use Rattle.fg_playout.specs.Play.{Play, Shown, nothing_shown, IsPlay, IsFlushStep}
 use Rattle.fg_playout.specs.Run.{Arrival, Takes, TakesAll}
-use Rattle.fg_playout.specs.Laws.{IsRead, HavePlayed, AreFlushSteps, PlaysDueJoin, FlushStepsJoin, TakingsJoin}
+use Rattle.fg_playout.specs.Laws.{IsRead, HavePlayed, HavePlayedBefore, AreFlushSteps, PlaysDueJoin, FlushStepsJoin, TakingsJoin}
 use Rattle.fg_desk.specs.Arrivals.{arrival_of, play_of, shown_word}
+use Rattle.fg_playout.proofs.Senders.{fresh_is_decided}
 
 -- A copy more.
 added_more :
@@ -28,15 +29,16 @@ added_more before plays plays' copy some play added is more =
     ∙ ap (λ (ps : List Play). ps ++ play ∷ []) added
     ∙ append_assoc (map play_of before) some (play ∷ [])
 
--- The plays so far before a datagram.
-pub record HavePlayedSo (old : State) (seq : ℕ) (before : List ShownPlay) (new : State) (plays : List ShownPlay) : Type 0 where
+-- The plays that were due so far before a datagram.
+pub record HavePlayedSo
+    (old : State) (seq ssrc : ℕ) (before : List ShownPlay) (new : State) (plays : List ShownPlay) : Type 0 where
   pub due : List Play
   pub added : map play_of plays ≡ map play_of before ++ due
-  pub played : HavePlayed old seq due new
+  pub played : HavePlayed old seq ssrc due new
   pub playout : new.playout ≡ old.playout
 
-pub none_played : (old : State) (seq : ℕ) (before : List ShownPlay) → HavePlayedSo old seq before old before
-none_played old seq before = record {
+pub none_played : (old : State) (seq ssrc : ℕ) (before : List ShownPlay) → HavePlayedSo old seq ssrc before old before
+none_played old seq ssrc before = record {
   due = [];
   added = sym (append-nil (map play_of before));
   played = refl;
@@ -44,14 +46,14 @@ none_played old seq before = record {
 }
 
 pub one_more_played :
-    (old between new : State) (seq : ℕ) (before plays plays' : List ShownPlay) (copy : ShownPlay) (play : Play)
-    → PlaysDueJoin → HavePlayedSo old seq before between plays → IsDue between seq
+    (old between new : State) (seq ssrc : ℕ) (before plays plays' : List ShownPlay) (copy : ShownPlay) (play : Play)
+    → PlaysDueJoin → HavePlayedSo old seq ssrc before between plays → IsDue between seq ssrc
     → IsPlay between.playout.window between play new → play_of copy ≡ play → plays' ≡ plays ++ copy ∷ []
-    → HavePlayedSo old seq before new plays'
-one_more_played old between new seq before plays plays' copy play join so due is copied more = record {
+    → HavePlayedSo old seq ssrc before new plays'
+one_more_played old between new seq ssrc before plays plays' copy play join so due is copied more = record {
   due = so.due ++ play ∷ [];
   added = added_more before plays plays' copy so.due play so.added copied more;
-  played = join old between new seq so.due (play ∷ []) so.played (due, (new, is, refl));
+  played = join old between new seq ssrc so.due (play ∷ []) so.played (due, (new, is, refl));
   playout = ap (λ (s : State). s.playout) is.rest ∙ so.playout;
 }
 
@@ -152,3 +154,10 @@ pub same_shown : (word : Option Word) (repaired : Bool) (shown : Shown) → word
 same_shown word repaired shown one other =
     ap (λ (w : Option Word). the_shown w repaired) one
     ∙ ap (λ (r : Bool). the_shown shown.word r) other
+
+-- At first nothing was played before a datagram.
+pub nothing_before : (desk : State) (seq ssrc : ℕ) → HavePlayedBefore desk seq ssrc [] desk
+nothing_before desk seq ssrc = ⊎_elim
+    (λ fresh. inl (fresh, refl))
+    (λ stale. inr (stale, refl))
+    (fresh_is_decided desk ssrc)

@@ -1,5 +1,5 @@
 -- What settled equations add to a peeling: nothing.
-use Rattle.std.proofs.Common.{◌≡◌, ◌≢◌, ◌⊎◌, ℕ, Bool, true, false, List, [], Option, Some, IsSome, IsTrue, inl, inr, refl, sym, subst, ◌∙◌, ⊎_elim}
+use Rattle.std.proofs.Common.{◌≡◌, ◌≢◌, ◌⊎◌, ℕ, Bool, true, false, List, [], Option, Some, IsSome, inl, inr, refl, sym, subst, ◌∙◌, ⊎_elim}
 use Rattle.std.proofs.lemmas.Bool.{cases_eq}
 use Rattle.std.proofs.lemmas.Option.{none-some}
 use Rattle.std.specs.List.{Contains}
@@ -14,8 +14,8 @@ use Rattle.fg_peel.specs.Closure.{InClosure, given, derived}
 use Rattle.fg_peel.specs.Solution.{IsSolution}
 use Rattle.fg_peel.specs.Peeling.{Step, CanFollow, EndsPeeling, end_of}
 use Rattle.fg_peel.specs.Laws.{AddsSettled, PeelingsTakeEquations, PeelingsKeepWords}
-use Rattle.fg_peel.proofs.Lists.{Contains-nil, Contains-map, Contains-from_map}
-use Rattle.fg_peel.proofs.Options.{value_of, has_value}
+use Rattle.fg_peel.proofs.Lists.{Contains-map, Contains-from_map}
+use Rattle.fg_peel.proofs.Options.{value_of}
 use Rattle.fg_playout.specs.State.{State, Live, opening}
 use Rattle.fg_buffer.specs.LiveEquations.{LiveState, AreOpen, IsStuck, AreStuck, live_of}
 use Rattle.fg_desk.specs.Storage.{EachSettled, equations_in}

@@ -87,10 +87,10 @@ pub record GivesWay (old : Contents) (position : ℕ) (word : Word) (new : Conte
       → new ≡ record old { state = new.state; solved = remove old.solved position }
 
 -- What is solved after a media datagram that got this reply.
-abbrev pub IsAfterArrival : Contents → ℕ → Word → Reply → Contents → Type 0
-IsAfterArrival old seq word Admitted new =
-    IsSomeAnd (position_on old.state seq) (λ position. GivesWay old position word new)
-IsAfterArrival old seq word _ new = new ≡ record old { state = new.state }
+abbrev pub IsAfterArrival : Contents → ℕ → ℕ → Word → Reply → Contents → Type 0
+IsAfterArrival old seq ssrc word Admitted new =
+    IsSomeAnd (position_on old.state seq ssrc) (λ position. GivesWay old position word new)
+IsAfterArrival old seq ssrc word _ new = new ≡ record old { state = new.state }
 
 -- After a play those kept positions are repaired that were, and those played whose words were not received.
 abbrev pub IsRepairedAfter : Contents → Contents → Type 0

@@ -22,30 +22,42 @@ use Rattle.fg_buffer.specs.LiveInside.{live_code}
 
 -- How contents are told apart.
 abbrev pub top_code : Coded Top
-top_code = code_by (ℕ × ℕ) (coded× coded_ℕ coded_ℕ) (λ t. (t.position, t.seq)) (λ p. record { position = p.0; seq = p.1 }) (λ _. refl)
+top_code =
+    code_by (ℕ × (ℕ × ℕ)) (coded× coded_ℕ (coded× coded_ℕ coded_ℕ)) (λ t. (t.position, (t.seq, t.ssrc)))
+    (λ p. record { position = p.0; seq = p.1.0; ssrc = p.1.1 }) (λ _. refl)
 
 abbrev pub playout_code : Coded Playout
 playout_code = code_by (ℕ × ℕ) (coded× coded_ℕ coded_ℕ) (λ p. (p.window, p.depth)) (λ p. record { window = p.0; depth = p.1 }) (λ _. refl)
 
 abbrev pub contents_code : Coded Contents
 contents_code =
-    code_by (Playout × (Option Top × (ℕ × (Words × (Words × (map.FinMap nat_cmp Live × (ℕ × (ℕ × (Words × (set.FinSet nat_cmp × (set.FinSet nat_cmp × ℕ)))))))))))
-    (coded× playout_code (coded× (coded_option top_code) (coded× coded_ℕ (coded× words_code (coded× words_code
-    (coded× (map.code coded_ℕ live_code) (coded× coded_ℕ (coded× coded_ℕ (coded× words_code
-    (coded× (set.code coded_ℕ) (coded× (set.code coded_ℕ) coded_ℕ)))))))))))
+    code_by (Playout × (Option Top × (Option ℕ × (ℕ × (ℕ × (ℕ × (Words × (Words × (map.FinMap nat_cmp Live
+    × (ℕ × (ℕ × (Words × (set.FinSet nat_cmp × (set.FinSet nat_cmp × ℕ))))))))))))))
+    (coded× playout_code (coded× (coded_option top_code) (coded× (coded_option coded_ℕ) (coded× coded_ℕ (coded× coded_ℕ
+    (coded× coded_ℕ (coded× words_code (coded× words_code (coded× (map.code coded_ℕ live_code) (coded× coded_ℕ (coded× coded_ℕ
+    (coded× words_code (coded× (set.code coded_ℕ) (coded× (set.code coded_ℕ) coded_ℕ))))))))))))))
     (λ c. (
       c.state.playout,
       (
         c.state.top,
         (
-          c.state.mark,
+          c.state.previous,
           (
-            c.state.kept,
+            c.state.origin,
             (
-              c.state.media,
+              c.state.runs,
               (
-                c.state.equations,
-                (c.state.admitted, (c.state.calls, (c.solved, (c.bare, (c.repaired, c.epoch))))),
+                c.state.mark,
+                (
+                  c.state.kept,
+                  (
+                    c.state.media,
+                    (
+                      c.state.equations,
+                      (c.state.admitted, (c.state.calls, (c.solved, (c.bare, (c.repaired, c.epoch))))),
+                    ),
+                  ),
+                ),
               ),
             ),
           ),
@@ -56,17 +68,20 @@ contents_code =
       state = record {
         playout = p.0;
         top = p.1.0;
-        mark = p.1.1.0;
-        kept = p.1.1.1.0;
-        media = p.1.1.1.1.0;
-        equations = p.1.1.1.1.1.0;
-        admitted = p.1.1.1.1.1.1.0;
-        calls = p.1.1.1.1.1.1.1.0;
+        previous = p.1.1.0;
+        origin = p.1.1.1.0;
+        runs = p.1.1.1.1.0;
+        mark = p.1.1.1.1.1.0;
+        kept = p.1.1.1.1.1.1.0;
+        media = p.1.1.1.1.1.1.1.0;
+        equations = p.1.1.1.1.1.1.1.1.0;
+        admitted = p.1.1.1.1.1.1.1.1.1.0;
+        calls = p.1.1.1.1.1.1.1.1.1.1.0;
       };
-      solved = p.1.1.1.1.1.1.1.1.0;
-      bare = p.1.1.1.1.1.1.1.1.1.0;
-      repaired = p.1.1.1.1.1.1.1.1.1.1.0;
-      epoch = p.1.1.1.1.1.1.1.1.1.1.1;
+      solved = p.1.1.1.1.1.1.1.1.1.1.1.0;
+      bare = p.1.1.1.1.1.1.1.1.1.1.1.1.0;
+      repaired = p.1.1.1.1.1.1.1.1.1.1.1.1.1.0;
+      epoch = p.1.1.1.1.1.1.1.1.1.1.1.1.1.1;
     })
     (λ _. refl)
 
@@ -74,6 +89,9 @@ contents_code =
 pub record Parts : Type 0 where
   pub playout : Playout
   pub top : Option Top
+  pub previous : Option ℕ
+  pub origin : ℕ
+  pub runs : ℕ
   pub buffer : BufferState
   pub lines : LiveState
   pub admitted : ℕ
@@ -85,6 +103,9 @@ abbrev pub state_of : Parts → State
 state_of parts = record {
   playout = parts.playout;
   top = parts.top;
+  previous = parts.previous;
+  origin = parts.origin;
+  runs = parts.runs;
   mark = parts.buffer.mark;
   kept = parts.buffer.kept;
   media = parts.buffer.media;
@@ -109,18 +130,19 @@ SettledComeOut parts =
     → IsTrue (set.contains parts.lines.settled serial) → IsSettled (buffer_words parts.buffer) live.equation
 
 -- What keeps numbers within their limits, whatever words and equations there are.
-pub record IsLimited (playout : Playout) (reach mark : ℕ) (top : Option Top) (admitted calls epoch : ℕ) : Type 0 where
+pub record IsLimited (playout : Playout) (reach mark : ℕ) (top : Option Top) (runs admitted calls epoch : ℕ) : Type 0 where
   pub depth_limit : playout.depth ≤ 1000
   pub reach_is : reach ≡ playout.depth + 100
   pub mark_limit : mark < farthest_limit + 200
   pub top_limit : (farthest : Top) → top ≡ Some farthest → farthest.position < farthest_limit + 2 ^ 16
+  pub runs_limit : runs ≤ calls
   pub admitted_limit : admitted ≤ calls
   pub calls_limit : calls ≤ call_limit
   pub epoch_limit : epoch ≤ calls
 
 abbrev pub AreLimited : Parts → Type 0
 AreLimited parts =
-    IsLimited parts.playout parts.buffer.reach parts.buffer.mark parts.top parts.admitted parts.calls parts.epoch
+    IsLimited parts.playout parts.buffer.reach parts.buffer.mark parts.top parts.runs parts.admitted parts.calls parts.epoch
 
 -- What holds of the parts between calls.
 pub record AreSound (parts : Parts) : Type 0 where

@@ -8,17 +8,17 @@ ghost use Rattle.fg_words.specs.Word.{HasRoom as WordHasRoom, IsMedia};
 ghost use Rattle.fg_shape.specs.Shape.{IsShape, position_limit};
 ghost use Rattle.fg_peel.specs.Equation.{IsSettled};
 ghost use Rattle.fg_peel.specs.declared.Line.{Line as LiveLine};
-ghost use Rattle.fg_playout.specs.State.{known, Top as TopState, Live};
+ghost use Rattle.fg_playout.specs.State.{known, current, Live};
 ghost use Rattle.fg_playout.specs.Facts.{Holds};
 ghost use Rattle.fg_buffer.specs.LiveEquations.{live_of, IsAmong};
 ghost use Rattle.fg_playout.specs.Room.{HasRoom, farthest_limit, call_limit};
 ghost use Rattle.fg_desk.specs.Contents.{opened, AreSolved, CanFill, IsLiveAt, IsPlaceAfter, GivesWay, IsAfterArrival, ChangesInPlay, filled, known_in, shared_at, kept_from, epoch_after};
-ghost use Rattle.fg_playout.specs.Admission.{IsDue, IsReplyAt, IsEquationReply, IsLeastFree, AdmitsMedia, AdmitsParity, counted, farther as farther_top, with_media, with_equation};
-ghost use Rattle.fg_playout.specs.Play.{IsPlay, Flushes};
+ghost use Rattle.fg_playout.specs.Admission.{sender_of, own, another, IsFresh, IsDue, IsReplyAt, IsEquationReply, IsLeastFree, AdmitsMedia, AdmitsParity, base_on, begun, counted, farther as farther_top, with_media, with_equation};
+ghost use Rattle.fg_playout.specs.Play.{IsPlay, Flushes, HasMore};
 ghost use Rattle.fg_desk.specs.Inside.{IsLateAt, raised};
 ghost use Rattle.fg_desk.specs.Parts.{top_of};
 
-use crate::storage::{close, publish, receive, recover};
+use crate::storage::{begin, close, publish, receive, recover};
 use crate::tray::Tray;
 use fg_buffer::{KEPT, LIVE_LIMIT, LiveEquations, PlayoutBuffer, Watches, lost_slot};
 use fg_peel::Line;
@@ -35,11 +35,12 @@ use slab::Slab;
 use std::alloc::{AllocError, Global};
 use std::marker::Model;
 
-/// The farthest datagram of a flow: its position and its sequence number.
+/// The farthest datagram of the current run: its position, its sequence number, and the SSRC of the run's sender.
 #[derive(Clone, Copy)]
 struct Farthest {
     position: u64,
     seq: u16,
+    ssrc: u32,
 }
 
 /// One flow's window state.
@@ -48,6 +49,11 @@ pub struct Desk {
     window: u32,
     depth: u32,
     top: Option<Farthest>,
+    /// The SSRC of the run before.
+    previous: Option<u32>,
+    /// The position at which the current run begins.
+    origin: u64,
+    runs: u64,
     buffer: PlayoutBuffer,
     lines: LiveEquations,
     /// By them a play tells quickly that nothing follows from an equation.
@@ -98,6 +104,9 @@ impl Desk {
             window,
             depth,
             top: None,
+            previous: None,
+            origin: 0,
+            runs: 0,
             buffer: PlayoutBuffer::new(alloc, depth)?,
             lines: LiveEquations::new(alloc)?,
             watches: Watches::new(alloc)?,
@@ -170,16 +179,39 @@ impl Desk {
         self.buffer.is_repaired(slot)
     }
 
-    /// The position and the sequence number of the farthest media datagram. None before the first
-    /// one.
+    /// The position and the sequence number of the current run's farthest media datagram. None before
+    /// the first one.
     pub fn top(&self) -> Option<(u64, u16)>
-        ensures { option_map (λ top. record { position = top.0; seq = top.1 }) result
-            ≡ self.now.state.top }
+        ensures { result ≡ option_map (λ top. (top.position, top.seq)) self.now.state.top }
     {
         match self.top {
             Some(top) => Some((top.position, top.seq)),
             None => None,
         }
+    }
+
+    /// The SSRC of the current run's sender. None before the first media datagram.
+    pub fn current(&self) -> Option<u32>
+        ensures { result ≡ current self.now.state }
+    {
+        match self.top {
+            Some(top) => Some(top.ssrc),
+            None => None,
+        }
+    }
+
+    /// The SSRC of the run before, where there was one.
+    pub fn previous(&self) -> Option<u32>
+        ensures { result ≡ self.now.state.previous }
+    {
+        self.previous
+    }
+
+    /// How many runs of a sender were begun.
+    pub fn runs(&self) -> u64
+        ensures { result ≡ self.now.state.runs }
+    {
+        self.runs
     }
 
     /// The live equation at a place. None exactly where no live equation has it.
@@ -217,14 +249,28 @@ impl Desk {
         top_has_room && self.buffer.mark() < FARTHEST_LIMIT && self.calls < CALL_LIMIT
     }
 
-    /// Whether a play is due before a datagram of this sequence number is admitted: it lies the
-    /// depth past the mark, or farther.
-    pub fn due(&self, seq: u16) -> bool
-        ensures { IsTrue result ↔ IsDue self.now.state seq }
+    /// Whether an SSRC is fresh: there is a run, and neither it nor the run before has this SSRC. Before its
+    /// datagram is admitted the desk is flushed, since a run begins with it.
+    pub fn fresh(&self, ssrc: u32) -> bool
+        ensures { IsTrue result ↔ IsFresh self.now.state ssrc }
+    {
+        match self.top {
+            Some(top) => top.ssrc != ssrc && self.previous != Some(ssrc),
+            None => false,
+        }
+    }
+
+    /// Whether a play is due before a datagram of this sequence number and SSRC is admitted: it is of the
+    /// current run, and lies the depth past the mark, or farther.
+    pub fn due(&self, seq: u16, ssrc: u32) -> bool
+        ensures { IsTrue result ↔ IsDue self.now.state seq ssrc }
     {
         let Some(top) = self.top else {
             return false;
         };
+        if top.ssrc != ssrc {
+            return false;
+        }
         match position(top.position, top.seq, seq) {
             Some(position) => position >= self.buffer.mark() + u64::from(self.depth),
             None => false,
@@ -242,33 +288,28 @@ impl Desk {
         }
     }
 
-    /// Admits a media datagram, or says why not.
+    /// Admits a media datagram, or says why not. With one of neither this run's sender nor the run before's
+    /// a run begins at the mark, and the equations of the run before leave.
     ///
     /// The share is let go with every reply but `Admitted`. Where the word is admitted at a position at
     /// which another one was solved, all solved words are withdrawn and the epoch rises.
-    pub fn admit_media(&mut self, seq: u16, share: Shared) -> Reply
+    pub fn admit_media(&mut self, seq: u16, ssrc: u32, share: Shared) -> Reply
         requires room { HasRoom self.old.state }
-        requires not_due { ¬ IsDue self.old.state seq }
+        requires not_due { ¬ IsDue self.old.state seq ssrc }
+        requires flushed { IsFresh self.old.state ssrc → ¬ HasMore self.old.state }
         requires media { IsMedia share }
-        ensures state { AdmitsMedia self.old.state seq share result self.new.state }
-        ensures rest { IsAfterArrival self.old seq share result self.new }
+        ensures state { AdmitsMedia self.old.state seq ssrc share result self.new.state }
+        ensures rest { IsAfterArrival self.old seq ssrc share result self.new }
     {
-        let Some(top) = self.top else {
-            self.take(0, seq, share);
-            return Reply::Admitted;
-        };
-        let Some(position) = position(top.position, top.seq, seq) else {
+        if self.previous == Some(ssrc) {
             self.refuse(share);
-            return Reply::Late;
-        };
-        match self.reply_at(position, share.word()) {
-            Reply::Admitted => {
-                self.take(position, seq, share);
+            return Reply::Foreign;
+        }
+        match self.top {
+            Some(top) if top.ssrc == ssrc => self.admit_own(top, seq, share),
+            _ => {
+                self.begin_run(seq, ssrc, share);
                 Reply::Admitted
-            }
-            reply => {
-                self.refuse(share);
-                reply
             }
         }
     }
@@ -298,11 +339,11 @@ impl Desk {
         ensures rest { self.new ≡ record self.old { state = self.new.state } }
         ensures place { IsPlaceAfter self.old.state result.0 result.1 self.new.state }
     {
-        let Some(top) = self.top else {
+        if self.top.is_none() {
             self.refuse(share);
             return (Reply::NotStarted, None);
-        };
-        let Some(base) = position(top.position, top.seq, base) else {
+        }
+        let Some(base) = self.base_position(base) else {
             self.refuse(share);
             return (Reply::BeforeStart, None);
         };
@@ -464,28 +505,100 @@ impl Desk {
         self.calls += 1;
     }
 
+    /// Admits a media datagram of the current run, whose farthest one is this, or says why not.
+    fn admit_own(&mut self, top: Farthest, seq: u16, share: Shared) -> Reply
+        requires own { sender_of self.old.state top.ssrc ≡ own (top_of top) }
+        requires top { self.old.state.top ≡ Some (top_of top) }
+        requires holds { Holds self.old.state }
+        requires room { HasRoom self.old.state }
+        requires not_due { ¬ IsDue self.old.state seq top.ssrc }
+        requires media { IsMedia share }
+        ensures state { AdmitsMedia self.old.state seq top.ssrc share result self.new.state }
+        ensures rest { IsAfterArrival self.old seq top.ssrc share result self.new }
+    {
+        let Some(position) = position(top.position, top.seq, seq) else {
+            self.refuse(share);
+            return Reply::Late;
+        };
+        match self.reply_at(position, share.word()) {
+            Reply::Admitted => {
+                self.take(position, seq, top.ssrc, share);
+                Reply::Admitted
+            }
+            reply => {
+                self.refuse(share);
+                reply
+            }
+        }
+    }
+
     /// Takes a word in at a position that has none.
-    fn take(&mut self, position: u64, seq: u16, share: Shared)
+    fn take(&mut self, position: u64, seq: u16, ssrc: u32, share: Shared)
         requires ahead { self.old.state.mark ≤ position }
         requires near { position < self.old.state.mark + self.old.state.playout.depth }
         requires none { get self.old.state.media position ≡ None }
-        requires media { IsMedia share }
+        requires holds { Holds (with_media self.old.state seq ssrc position share) }
         requires limit { position < farthest_limit + 2 ^ 16 }
         requires calls { self.old.state.calls < call_limit }
-        ensures state { self.new.state ≡ with_media self.old.state seq position share }
+        ensures state { self.new.state ≡ with_media self.old.state seq ssrc position share }
         ensures rest { GivesWay self.old position share self.new }
     {
         peelings_stay();
         let withdrawn = receive(&mut self.buffer, &mut self.lines, position, share);
-        self.top = Some(farther(self.top, Farthest { position, seq }));
+        let datagram = Farthest {
+            position,
+            seq,
+            ssrc,
+        };
+        self.top = Some(farther(self.top, datagram));
         self.calls += 1;
         self.epoch = raised_epoch(self.epoch, withdrawn);
+    }
+
+    /// Begins the run of another sender at the mark, with its first word. The equations of the run before
+    /// leave. Nothing that follows is left then, so no found word is lost.
+    fn begin_run(&mut self, seq: u16, ssrc: u32, share: Shared)
+        requires another { sender_of self.old.state ssrc ≡ another }
+        requires flushed { IsFresh self.old.state ssrc → ¬ HasMore self.old.state }
+        requires room { HasRoom self.old.state }
+        requires media { IsMedia share }
+        ensures state { self.new.state ≡ with_media (begun self.old.state) seq ssrc self.old.state.mark share }
+        ensures rest { GivesWay self.old self.old.state.mark share self.new }
+    {
+        peelings_stay();
+        let previous = self.current();
+        let mark = self.buffer.mark();
+        begin(&mut self.buffer, &mut self.lines, share);
+        self.previous = previous;
+        self.top = Some(Farthest {
+            position: mark,
+            seq,
+            ssrc,
+        });
+        self.origin = mark;
+        self.runs += 1;
+        self.calls += 1;
+    }
+
+    /// The position of a base in the current run. None where it lies before the run.
+    fn base_position(&self, base: u16) -> Option<u64>
+        ensures value { result ≡ base_on self.now.state base }
+        ensures limit { IfSome result (λ position. position ≤ position_limit) }
+    {
+        let Some(top) = self.top else {
+            return None;
+        };
+        match position(top.position, top.seq, base) {
+            Some(position) if position >= self.origin => Some(position),
+            _ => None,
+        }
     }
 
     /// Adds an equation to the live ones, and tells its place.
     fn add(&mut self, base: u64, shape: Shape, share: Shared) -> u32
         requires shape { IsShape shape.offset shape.na }
         requires base { base ≤ position_limit }
+        requires origin { self.old.state.origin ≤ base }
         requires started { IsSome self.old.state.top }
         requires admitted { IsEquationReply self.old.state
             (record { base = base; offset = shape.offset; count = shape.na; parity = share })

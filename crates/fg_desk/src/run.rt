@@ -3,11 +3,11 @@
 ghost use Rattle.std.specs.Prelude.{◌≡◌, ◌↔◌, ◌<◌, ◌≤◌, ◌^◌, ◌++◌, List, map, length, Option, Some, IsTrue, IsSomeAnd, IfOk};
 ghost use Rattle.std.specs.List.{All};
 ghost use Rattle.fg_playout.specs.State.{State};
-ghost use Rattle.fg_playout.specs.Admission.{IsDue};
-ghost use Rattle.fg_playout.specs.Play.{Play};
+ghost use Rattle.fg_playout.specs.Admission.{IsDue, IsFresh, counted};
+ghost use Rattle.fg_playout.specs.Play.{Play, HasMore};
 ghost use Rattle.fg_playout.specs.Room.{HasRoom};
 ghost use Rattle.fg_playout.specs.Laws.{IsRead};
-ghost use Rattle.fg_playout.specs.Run.{Takes, ArePlaysDue, IsFlush, IsRun, came_by, is_counted, count_of};
+ghost use Rattle.fg_playout.specs.Run.{Takes, ArePlaysBefore, IsFlush, IsRun, came_by, is_counted, count_of};
 ghost use Rattle.fg_desk.specs.Arrivals.{arrival_of, play_of, IsGiven, StaysWithin, FlushesWithin};
 
 use crate::desk::{Desk, Played};
@@ -25,6 +25,8 @@ pub enum Datagram {
     Media {
         /// Its sequence number.
         seq: u16,
+        /// The SSRC of its sender.
+        ssrc: u32,
         /// Its word.
         word: Word,
     },
@@ -94,6 +96,8 @@ pub struct FlowRun {
     pub plays: Vec<ShownPlay>,
     /// The reply to each datagram. None where its reader refused it.
     pub replies: Vec<Option<Reply>>,
+    /// How many runs of a sender were begun.
+    pub runs: u64,
 }
 
 impl FlowRun {
@@ -138,8 +142,8 @@ pub fn run_flow(
     requires given { All IsGiven datagrams.now }
     requires limit { length datagrams.now < 2 ^ 44 }
     ensures { IfOk result (λ run.
-        IsRun (record { window = window; depth = depth }) (map arrival_of datagrams.now) (map play_of run.plays.items)
-        run.replies.items) }
+        (is : IsRun (record { window = window; depth = depth }) (map arrival_of datagrams.now) (map play_of run.plays.items)
+        run.replies.items) × (run.runs ≡ is.filled.runs)) }
 {
     runs_join();
     runs_stay_within();
@@ -151,11 +155,16 @@ pub fn run_flow(
         let reply = take(alloc, &mut desk, &mut tray, &mut plays, datagram)?;
         replies.push(reply)?;
     }
+    let runs = desk.runs();
     flush(alloc, &mut desk, &mut tray, &mut plays)?;
-    Ok(FlowRun { plays, replies })
+    Ok(FlowRun {
+        plays,
+        replies,
+        runs,
+    })
 }
 
-/// Takes one datagram: plays what is due before it, and admits it or says why not.
+/// Takes one datagram: plays what is played before it, and admits it or says why not.
 fn take(
     alloc: Global,
     desk: &mut Desk,
@@ -166,18 +175,18 @@ fn take(
     requires within { StaysWithin desk.old.state }
     requires tray { desk.old.state.playout.window ≤ tray.old.window }
     requires given { IsGiven datagram.now }
-    ensures takes { IfOk result (λ reply. (due : List Play)
-        × (map play_of plays.new.items ≡ map play_of plays.old.items ++ due)
-        × Takes desk.old.state (arrival_of datagram.now) due reply desk.new.state) }
+    ensures takes { IfOk result (λ reply. (before : List Play)
+        × (map play_of plays.new.items ≡ map play_of plays.old.items ++ before)
+        × Takes desk.old.state (arrival_of datagram.now) before reply desk.new.state) }
     ensures read { IfOk result (λ _. IsRead (arrival_of datagram.now)) }
     ensures playout { IfOk result (λ _. desk.new.state.playout ≡ desk.old.state.playout) }
     ensures tray { tray.new.window ≡ tray.old.window }
 {
     match *datagram {
-        Datagram::Media { seq, word } => {
+        Datagram::Media { seq, ssrc, word } => {
             let share = word.share(alloc)?;
-            play_due(alloc, desk, tray, plays, seq)?;
-            Ok(Some(desk.admit_media(seq, share)))
+            play_before(alloc, desk, tray, plays, seq, ssrc)?;
+            Ok(Some(desk.admit_media(seq, ssrc, share)))
         }
         Datagram::Parity {
             base,
@@ -192,33 +201,64 @@ fn take(
     }
 }
 
-/// Plays while a play is due before a datagram of this sequence number.
+/// Plays what is played before a media datagram: all that is left where its SSRC is fresh, and else while a
+/// play is due.
+fn play_before(
+    alloc: Global,
+    desk: &mut Desk,
+    tray: &mut Tray,
+    plays: &mut Vec<ShownPlay>,
+    seq: u16,
+    ssrc: u32,
+) -> Result<(), AllocError>
+    requires within { StaysWithin desk.old.state }
+    requires tray { desk.old.state.playout.window ≤ tray.old.window }
+    ensures plays { IfOk result (λ _. (before : List Play)
+        × (map play_of plays.new.items ≡ map play_of plays.old.items ++ before)
+        × ArePlaysBefore desk.old.state seq ssrc before desk.new.state) }
+    ensures ready { IfOk result (λ _. (¬ IsDue desk.new.state seq ssrc)
+        × (IsFresh desk.new.state ssrc → ¬ HasMore desk.new.state)) }
+    ensures room { IfOk result (λ _. HasRoom desk.new.state) }
+    ensures playout { IfOk result (λ _. desk.new.state.playout ≡ desk.old.state.playout) }
+    ensures tray { tray.new.window ≡ tray.old.window }
+{
+    runs_join();
+    flushes_end();
+    if desk.fresh(ssrc) {
+        flush(alloc, desk, tray, plays)?;
+        return Ok(());
+    }
+    play_due(alloc, desk, tray, plays, seq, ssrc)
+}
+
+/// Plays while a play is due before a datagram of this sequence number and SSRC.
 fn play_due(
     alloc: Global,
     desk: &mut Desk,
     tray: &mut Tray,
     plays: &mut Vec<ShownPlay>,
     seq: u16,
+    ssrc: u32,
 ) -> Result<(), AllocError>
     requires within { StaysWithin desk.old.state }
+    requires stale { ¬ IsFresh desk.old.state ssrc }
     requires tray { desk.old.state.playout.window ≤ tray.old.window }
     ensures plays { IfOk result (λ _. (due : List Play)
         × (map play_of plays.new.items ≡ map play_of plays.old.items ++ due)
-        × ArePlaysDue desk.old.state seq due desk.new.state) }
-    ensures none_due { IfOk result (λ _. ¬ IsDue desk.new.state seq) }
+        × ArePlaysBefore desk.old.state seq ssrc due desk.new.state) }
     ensures room { IfOk result (λ _. HasRoom desk.new.state) }
     ensures playout { IfOk result (λ _. desk.new.state.playout ≡ desk.old.state.playout) }
     ensures tray { tray.new.window ≡ tray.old.window }
 {
     runs_join();
-    while desk.due(seq) {
+    while desk.due(seq, ssrc) {
         let played = desk.play(tray);
         plays.push(copied(alloc, played, tray)?)?;
     }
     Ok(())
 }
 
-/// Plays all that is left.
+/// Plays all that is left. The step that finds nothing left is a call, too.
 fn flush(
     alloc: Global,
     desk: &mut Desk,
@@ -227,9 +267,11 @@ fn flush(
 ) -> Result<(), AllocError>
     requires within { FlushesWithin desk.old.state }
     requires tray { desk.old.state.playout.window ≤ tray.old.window }
-    ensures { IfOk result (λ _. (flushed : List Play) × (empty : State)
+    ensures plays { IfOk result (λ _. (flushed : List Play) × (empty : State)
         × (map play_of plays.new.items ≡ map play_of plays.old.items ++ flushed)
-        × IsFlush desk.old.state flushed empty) }
+        × IsFlush desk.old.state flushed empty × (desk.new.state ≡ counted empty)) }
+    ensures playout { IfOk result (λ _. desk.new.state.playout ≡ desk.old.state.playout) }
+    ensures tray { tray.new.window ≡ tray.old.window }
 {
     flushes_end();
     while let Some(played) = desk.flush_step(tray) {

@@ -111,6 +111,17 @@ pub(crate) fn receive(
     withdrawn
 }
 
+/// Takes the first word of a run in at the mark. The equations of the run before leave.
+pub(crate) fn begin(buffer: &mut PlayoutBuffer, equations: &mut LiveEquations, share: Shared)
+    requires some { 1 ≤ buffer.old.reach }
+    ensures buffer { buffer.new ≡ receives buffer.old buffer.old.mark share }
+    ensures equations { equations.new ≡ no_equations }
+{
+    let mark = buffer.mark();
+    equations.clear();
+    buffer.put_media(mark, share);
+}
+
 /// Takes a solved word in at a position where none is known.
 pub(crate) fn publish(
     buffer: &mut PlayoutBuffer,

@@ -20,6 +20,13 @@ pub(super) struct Sum {
 pub(super) struct Plain {
     pub window: usize,
     pub depth: usize,
+    /// The SSRC of the current run, and of the run before.
+    pub current: Option<u32>,
+    pub previous: Option<u32>,
+    /// The position of the run's first datagram, and its sequence number.
+    pub origin: usize,
+    pub first: u16,
+    pub runs: u64,
     pub mark: usize,
     pub epoch: u64,
     /// Each word that was received, and each that was shown.
@@ -121,6 +128,11 @@ impl Plain {
         Ok(Plain {
             window,
             depth,
+            current: None,
+            previous: None,
+            origin: 0,
+            first: 0,
+            runs: 0,
             mark: 0,
             epoch: 0,
             media,
@@ -162,7 +174,32 @@ impl Plain {
         end.saturating_sub(self.mark).min(self.window)
     }
 
-    pub(super) fn admit_media(&mut self, position: Option<usize>, word: u32) -> Reply {
+    /// A sender's first datagram has the mark, whatever its sequence number.
+    fn begin_run(&mut self, seq: u16, ssrc: u32) {
+        self.previous = self.current;
+        self.current = Some(ssrc);
+        self.origin = self.mark;
+        self.first = seq;
+        self.runs = self.runs.saturating_add(1);
+        self.live.clear();
+    }
+
+    /// `position` is that of a datagram of the current run.
+    pub(super) fn admit_media(
+        &mut self,
+        seq: u16,
+        ssrc: u32,
+        position: Option<usize>,
+        word: u32,
+    ) -> Reply {
+        if self.previous == Some(ssrc) {
+            return Reply::Foreign;
+        }
+        if self.current != Some(ssrc) {
+            self.begin_run(seq, ssrc);
+            put(&mut self.media, self.mark, Some(word));
+            return Reply::Admitted;
+        }
         let Some(position) = position else {
             return Reply::Late;
         };
@@ -180,6 +217,9 @@ impl Plain {
     }
 
     pub(super) fn admit_parity(&mut self, sum: Sum) -> Result<Reply, AllocError> {
+        if sum.base < self.origin {
+            return Ok(Reply::BeforeStart);
+        }
         if last(sum) < self.mark || is_lost(sum, self.mark, &self.shown) {
             return Ok(Reply::Late);
         }

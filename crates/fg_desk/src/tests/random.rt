@@ -11,7 +11,7 @@ use std::alloc::{AllocError, Global};
 use std::process::Abort;
 use std::test::Fail;
 
-/// The sequence number of position 0.
+/// The first sequence number of all.
 const FIRST: u16 = 65_500;
 
 /// A media word with this timestamp.
@@ -26,8 +26,10 @@ fn sent(position: usize) -> u32 {
     ((position % 65_536) as u32).wrapping_mul(0x9e37_79b1)
 }
 
-fn seq_of(position: usize) -> u16 {
-    FIRST.wrapping_add((position % 65_536) as u16)
+/// The sequence number that a position has in the current run.
+fn seq_of(plain: &Plain, position: usize) -> u16 {
+    let ahead = position.wrapping_sub(plain.origin);
+    plain.first.wrapping_add((ahead % 65_536) as u16)
 }
 
 /// Whether a word is the media word with this timestamp.
@@ -67,6 +69,9 @@ fn tell_same(desk: &Desk, plain: &Plain) -> bool {
     if desk.mark() != plain.mark as u64
         || desk.epoch() != plain.epoch
         || desk.live() as usize != plain.live.len()
+        || desk.runs() != plain.runs
+        || desk.current() != plain.current
+        || desk.previous() != plain.previous
     {
         return false;
     }
@@ -108,8 +113,36 @@ fn both_play(
     Ok(shows_same(plain, &done, first, count, outcome) && tell_same(desk, plain))
 }
 
-/// A media datagram near the mark comes to both, and plays that it makes due.
-fn both_take_media(
+/// A media datagram of another sender than the current one comes to both. Where it begins a run, both are
+/// flushed first.
+fn both_take_another(
+    desk: &mut Desk,
+    plain: &mut Plain,
+    alloc: Global,
+    seq: u16,
+    ssrc: u32,
+) -> Result<bool, AllocError> {
+    let fresh = plain.previous != Some(ssrc);
+    if desk.fresh(ssrc) != fresh || desk.due(seq, ssrc) {
+        return Ok(false);
+    }
+    for _ in 0..200 {
+        let words = plain.closure(alloc)?;
+        if !fresh || plain.rest(&words) == 0 {
+            break;
+        }
+        if !both_play(desk, plain, alloc, false)? {
+            return Ok(false);
+        }
+    }
+    let timestamp = sent(plain.mark);
+    let reply = admit_media(desk, seq, ssrc, stamped(timestamp).share(alloc)?);
+    let want = plain.admit_media(seq, ssrc, None, timestamp);
+    Ok(reply == Some(want) && tell_same(desk, plain))
+}
+
+/// A media datagram of the current run, near the mark, comes to both, and plays that it makes due.
+fn both_take_own(
     desk: &mut Desk,
     plain: &mut Plain,
     alloc: Global,
@@ -117,12 +150,13 @@ fn both_take_media(
 ) -> Result<bool, AllocError> {
     let near = random.next_word() as usize % plain.depth.saturating_add(6).max(1);
     let from_three = plain.mark.saturating_add(near);
-    let seq = seq_of(from_three).wrapping_sub(3);
+    let seq = seq_of(plain, from_three).wrapping_sub(3);
     let position = from_three.checked_sub(3);
+    let ssrc = plain.current.unwrap_or(0);
     for _ in 0..4 {
         let due = position.is_some_and(|position| position
             >= plain.mark.saturating_add(plain.depth));
-        if desk.due(seq) != due {
+        if desk.due(seq, ssrc) != due {
             return Ok(false);
         }
         if due && !both_play(desk, plain, alloc, true)? {
@@ -135,8 +169,23 @@ fn both_take_media(
         0
     };
     let timestamp = sent(from_three.wrapping_sub(3)) ^ wrong;
-    let reply = admit_media(desk, seq, stamped(timestamp).share(alloc)?);
-    Ok(reply == Some(plain.admit_media(position, timestamp)))
+    let reply = admit_media(desk, seq, ssrc, stamped(timestamp).share(alloc)?);
+    Ok(reply == Some(plain.admit_media(seq, ssrc, position, timestamp)))
+}
+
+/// A media datagram comes to both, mostly of the current run.
+fn both_take_media(
+    desk: &mut Desk,
+    plain: &mut Plain,
+    alloc: Global,
+    random: &mut Pcg32,
+) -> Result<bool, AllocError> {
+    let ssrc = random.next_word() % 4;
+    if random.next_word() % 12 == 0 && plain.current != Some(ssrc) {
+        let seq = (random.next_word() % 65_536) as u16;
+        return both_take_another(desk, plain, alloc, seq, ssrc);
+    }
+    both_take_own(desk, plain, alloc, random)
 }
 
 /// The parity of what was sent at these slots.
@@ -175,7 +224,7 @@ fn both_take_parity(
     word.ts = parity;
     let reply = admit_parity(
         desk,
-        seq_of(from_eight).wrapping_sub(8),
+        seq_of(plain, from_eight).wrapping_sub(8),
         shape,
         word.share(alloc)?,
     );
@@ -214,8 +263,8 @@ fn try_flow(rt: &impl Abort, alloc: Global, random: &mut Pcg32) -> Result<(), Fa
     assert!(rt; 1 <= window && window <= 100 && window <= depth && depth <= 1000);
     let mut desk = Desk::new(alloc, window, depth)?;
     let mut plain = Plain::new(alloc, window as usize, depth as usize)?;
-    let first = admit_media(&mut desk, FIRST, stamped(sent(0)).share(alloc)?);
-    assert!(rt; first == Some(plain.admit_media(Some(0), sent(0))));
+    let first = admit_media(&mut desk, FIRST, 0, stamped(sent(0)).share(alloc)?);
+    assert!(rt; first == Some(plain.admit_media(FIRST, 0, None, sent(0))));
     for i in 0..80 {
         assert!(rt;
             both_go_on(&mut desk, &mut plain, alloc, random)?,

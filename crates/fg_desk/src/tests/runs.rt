@@ -4,16 +4,29 @@ ghost use Rattle.std.specs.Prelude.{IsTrue};
 ghost use Rattle.std.specs.List.{All};
 ghost use Rattle.fg_desk.specs.Arrivals.{IsGiven};
 
-use super::script::word_of;
+use super::script::{sum_of, word_of};
 use crate::{Datagram, FlowRun, Outcome, Reply, ShownPlay, run_flow};
-use fg_shape::Kind;
+use fg_shape::{Kind, Shape};
+use std::alloc::Global;
 use std::process::Abort;
 use std::test::Fail;
 
-fn media(seq: u16) -> Datagram {
+fn media(seq: u16, ssrc: u32) -> Datagram {
     Datagram::Media {
         seq,
+        ssrc,
         word: word_of(u32::from(seq)),
+    }
+}
+
+/// A row of two.
+fn row(base: u16) -> Datagram {
+    let shape = Shape { offset: 1, na: 2 };
+    Datagram::Parity {
+        stream: Kind::Row,
+        base,
+        shape,
+        word: sum_of(u32::from(base), shape),
     }
 }
 
@@ -57,12 +70,12 @@ fn counts(run: &FlowRun, datagrams: &[Datagram]) -> [u64; 4] {
 fn late_datagram(rt: HostRuntime) -> Result<(), Fail> {
     // 4 plays 0 to 3, with a gap at 2. So 2 is late.
     let datagrams = [
-        media(0),
-        media(1),
-        media(3),
+        media(0, 0),
+        media(1, 0),
+        media(3, 0),
         Datagram::Refused(Kind::Row),
-        media(4),
-        media(2),
+        media(4, 0),
+        media(2, 0),
     ];
     assert!(rt; are_given(&datagrams));
     let run = run_flow(rt.alloc(), 4, 4, &datagrams)?;
@@ -71,4 +84,56 @@ fn late_datagram(rt: HostRuntime) -> Result<(), Fail> {
     assert!(rt; shows(&run.plays[1], 4, 1, 0));
     assert!(rt; counts(&run, &datagrams) == [4, 1, 1, 0]);
     Ok(())
+}
+
+/// How many words a run shows.
+fn shown_words(run: &FlowRun) -> u64 {
+    let mut count: u64 = 0;
+    for play in run.plays.iter() {
+        for shown in play.shown.iter() {
+            count = count.saturating_add(u64::from(shown.word.is_some()));
+        }
+    }
+    count
+}
+
+/// Datagrams are run. Wanted is how many runs of a sender they begin, how many words are shown, how many media
+/// datagrams are foreign, and how many rows lie before the start.
+fn restarts(
+    rt: &impl Abort,
+    alloc: Global,
+    datagrams: &[Datagram],
+    want: [u64; 4],
+) -> Result<(), Fail> {
+    assert!(rt; are_given(datagrams) && datagrams.len() < 100);
+    let run = run_flow(alloc, 4, 8, datagrams)?;
+    let foreign = run.count(datagrams, Kind::Media, Some(Reply::Foreign));
+    let before = run.count(datagrams, Kind::Row, Some(Reply::BeforeStart));
+    assert!(rt; [run.runs, shown_words(&run), foreign, before] == want);
+    Ok(())
+}
+
+#[test]
+fn senders_restart(rt: HostRuntime) -> Result<(), Fail> {
+    let one_restart = [
+        media(10, 1),
+        media(11, 1),
+        media(500, 2),
+        row(499),
+        media(501, 2),
+        media(12, 1),
+        media(502, 2),
+    ];
+    restarts(&rt, rt.alloc(), &one_restart, [2, 5, 1, 1])?;
+    let sender_again = [media(10, 1), media(20, 2), media(30, 3), media(40, 1)];
+    restarts(&rt, rt.alloc(), &sender_again, [4, 4, 0, 0])?;
+    let foreign_then_again = [
+        media(10, 1),
+        media(20, 2),
+        media(11, 1),
+        media(21, 2),
+        media(30, 3),
+        media(40, 1),
+    ];
+    restarts(&rt, rt.alloc(), &foreign_then_again, [4, 5, 1, 0])
 }

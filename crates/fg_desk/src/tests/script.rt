@@ -1,5 +1,9 @@
 //! Scripts: the calls of a desk, each with the answer that is wanted.
 
+ghost use Rattle.std.specs.Prelude.{IsTrue};
+ghost use Rattle.fg_playout.specs.Admission.{IsFresh};
+ghost use Rattle.fg_playout.specs.Play.{HasMore};
+
 use crate::{Desk, Outcome, Played, Reply, Tray};
 use fg_shape::{Shape, shape_ok};
 use fg_words::{Shared, Word};
@@ -10,11 +14,13 @@ use std::test::Fail;
 /// A word of which a payload bit is flipped has this number more than the word had.
 const FLIPPED: u32 = 1 << 20;
 
-/// A call, and what is wanted of it. Words go by numbers.
+/// A call, and what is wanted of it. Words go by numbers. The sender has the SSRC 0 where none is told.
 #[derive(Clone, Copy)]
 pub(super) enum Step {
     /// A media datagram: its sequence number, its word, and the reply.
     Media(u16, u32, Reply),
+    /// A media datagram of the sender with this SSRC.
+    From(u32, u16, u32, Reply),
     /// Media datagrams that are all admitted: the first sequence number, how many, and which of them
     /// are lost. The words have the sequence numbers.
     Run(u16, u16, u128),
@@ -45,6 +51,8 @@ pub(super) enum Step {
     Live(u32),
     /// How many plays were inconsistent.
     Epoch(u64),
+    /// The SSRC of the current run and of the run before, and how many runs were begun.
+    Senders(Option<u32>, Option<u32>, u64),
     /// Whether a position has a known word, which then has the position's number, and whether it is
     /// shared.
     Known(u64, bool, bool),
@@ -79,12 +87,26 @@ pub(super) fn sum_of(number: u32, shape: Shape) -> Word {
     sum
 }
 
-/// Admits a media datagram. None where a play is due first, or the word is no media word.
-pub(super) fn admit_media(desk: &mut Desk, seq: u16, share: Shared) -> Option<Reply> {
-    if !desk.room() || desk.due(seq) || !share.word().is_media() {
+/// Whether a datagram of this SSRC may come: where it is fresh, a flush step must find nothing left.
+fn is_flushed_for(desk: &mut Desk, ssrc: u32) -> bool
+    ensures { IsTrue result → IsFresh desk.new.state ssrc → ¬ HasMore desk.new.state }
+{
+    if !desk.fresh(ssrc) {
+        return true;
+    }
+    desk.room() && desk.flush_step_in_place().is_none()
+}
+
+/// Admits a media datagram. None where a play is due or more is to be flushed first, or the word is no
+/// media word.
+pub(super) fn admit_media(desk: &mut Desk, seq: u16, ssrc: u32, share: Shared) -> Option<Reply> {
+    if !is_flushed_for(desk, ssrc) {
         return None;
     }
-    Some(desk.admit_media(seq, share))
+    if !desk.room() || desk.due(seq, ssrc) || !share.word().is_media() {
+        return None;
+    }
+    Some(desk.admit_media(seq, ssrc, share))
 }
 
 /// Admits a parity datagram. None where there is no such shape.
@@ -157,11 +179,12 @@ fn media_replies(
     desk: &mut Desk,
     alloc: Global,
     seq: u16,
+    ssrc: u32,
     number: u32,
     want: Reply,
 ) -> Result<bool, AllocError> {
     let share = word_of(number).share(alloc)?;
-    Ok(admit_media(desk, seq, share) == Some(want))
+    Ok(admit_media(desk, seq, ssrc, share) == Some(want))
 }
 
 fn run_is_admitted(
@@ -175,7 +198,7 @@ fn run_is_admitted(
     for i in 0..count {
         if lost >> (i % 128) & 1 == 0 {
             let seq = seq.wrapping_add(i);
-            admitted &= media_replies(desk, alloc, seq, u32::from(seq), Reply::Admitted)?;
+            admitted &= media_replies(desk, alloc, seq, 0, u32::from(seq), Reply::Admitted)?;
         }
     }
     Ok(admitted)
@@ -285,7 +308,7 @@ fn is_at(desk: &Desk, place: u32, base: Option<u64>) -> bool {
 /// Plays while a play is due for a sequence number.
 fn plays_on(desk: &mut Desk, alloc: Global, seq: u16) -> Result<bool, AllocError> {
     for _ in 0..400 {
-        if !desk.due(seq) {
+        if !desk.due(seq, 0) {
             return Ok(true);
         }
         if play(desk, alloc)?.is_none() {
@@ -298,7 +321,10 @@ fn plays_on(desk: &mut Desk, alloc: Global, seq: u16) -> Result<bool, AllocError
 /// Whether a call answers as is wanted.
 fn answers(desk: &mut Desk, alloc: Global, step: Step) -> Result<bool, AllocError> {
     match step {
-        Step::Media(seq, number, reply) => media_replies(desk, alloc, seq, number, reply),
+        Step::Media(seq, number, reply) => media_replies(desk, alloc, seq, 0, number, reply),
+        Step::From(ssrc, seq, number, reply) => media_replies(
+            desk, alloc, seq, ssrc, number, reply,
+        ),
         Step::Run(seq, count, lost) => run_is_admitted(desk, alloc, seq, count, lost),
         Step::Parity(base, offset, na, number, reply) => {
             parity_replies(desk, alloc, base, Shape { offset, na }, number, reply)
@@ -323,10 +349,13 @@ fn answers(desk: &mut Desk, alloc: Global, step: Step) -> Result<bool, AllocErro
 /// Whether a desk tells of itself what is wanted.
 fn tells(desk: &Desk, step: Step) -> bool {
     match step {
-        Step::Due(seq, due) => desk.due(seq) == due,
+        Step::Due(seq, due) => desk.due(seq, 0) == due,
         Step::Mark(mark) => desk.mark() == mark,
         Step::Live(live) => desk.live() == live,
         Step::Epoch(epoch) => desk.epoch() == epoch,
+        Step::Senders(current, previous, runs) => {
+            desk.current() == current && desk.previous() == previous && desk.runs() == runs
+        }
         Step::Known(position, known, shared) => is_known(desk, position, known, shared),
         Step::Place(place, base) => is_at(desk, place, base),
         _ => false,

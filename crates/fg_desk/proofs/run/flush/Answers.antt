@@ -1,5 +1,6 @@
 use Rattle.std.proofs.Common.{◌^◌, refl, arith, ◌∙◌, ap}
 use Rattle.fg_shape.specs.Playout.{Playout}
+use Rattle.fg_playout.specs.State.{State}
 use Rattle.fg_desk.proofs.PlainRuns.{none_flushed, one_more_flushed, step_nearer}
 use Rattle.fg_desk.proofs.run.flush.Goals as goal
 
@@ -34,11 +35,16 @@ loop-played-preserved c = record {
   tray = c.flush_step.ensures.tray ∙ c.loop-played.invariant.tray;
 }
 
-pub returns : goal.returns
-returns c =
+pub returns-clause-plays : goal.returns-clause-plays
+returns-clause-plays c =
     let so = c.loop-played.invariant.so in (
       so.flushed,
       c.loop-played.desk.state,
       so.added,
       (c.flushes_end.ensures.nothing_left c.args.desk.now.state c.loop-played.desk.state so.flushed).1 (so.steps, c.in_default.ensures.flushes.0),
+      c.in_default.ensures.flushes.1,
     )
+
+pub returns-clause-playout : goal.returns-clause-playout
+returns-clause-playout c =
+    ap (λ (s : State). s.playout) c.in_default.ensures.flushes.1 ∙ c.loop-played.invariant.so.playout

@@ -4,7 +4,7 @@ use Rattle.fg_desk.proofs.run.play_due.Given as goal
 
 abbrev pub invariant-loop-alloc : goal.invariant-loop-alloc
 invariant-loop-alloc l = record {
-  so : HavePlayedSo l.fn.desk.state l.seq l.fn.plays.items l.desk.state l.plays.items;
+  so : HavePlayedSo l.fn.desk.state l.seq l.ssrc l.fn.plays.items l.desk.state l.plays.items;
   tray : l.tray.window ≡ l.fn.tray.window;
 }
 

@@ -13,7 +13,7 @@ use Rattle.fg_desk.proofs.PlainRuns.{one_more_taken, few_arrivals}
 use Rattle.fg_desk.proofs.run.run_flow.Goals as goal
 
 abbrev no_datagram : Datagram
-no_datagram = datagram.Media 0 (record { pt = 0; ts = 0; len = 0; bytes = [] })
+no_datagram = datagram.Media 0 0 (record { pt = 0; ts = 0; len = 0; bytes = [] })
 
 pub loop-datagram-init : goal.loop-datagram-init
 loop-datagram-init c = record {
@@ -30,11 +30,12 @@ loop-datagram-init c = record {
 }
 
 pub take-requires-clause-within : goal.take-requires-clause-within
-take-requires-clause-within c seq due new played =
+take-requires-clause-within c seq ssrc due new played =
     let so = c.loop-datagram.invariant.so in
-    c.runs_stay_within.ensures.taking (record { window = c.args.window; depth = c.args.depth }) seq (map arrival_of (take c.loop-datagram.datagram-index c.args.datagrams.now))
+    c.runs_stay_within.ensures.taking (record { window = c.args.window; depth = c.args.depth }) seq ssrc
+    (map arrival_of (take c.loop-datagram.datagram-index c.args.datagrams.now))
     (map play_of c.loop-datagram.plays.items) due c.loop-datagram.replies.items c.loop-datagram.desk.state new
-    c.requires.window.0 c.requires.window.1 c.requires.depth.0 so.read
+    c.requires.window.0 c.requires.window.1 c.requires.depth.0 c.requires.depth.1 so.read
     (few_arrivals (2 ^ 44) c.loop-datagram.datagram-index c.args.datagrams.now c.requires.limit) so.takes played
 
 pub take-requires-clause-tray : goal.take-requires-clause-tray
@@ -74,17 +75,21 @@ flush-requires-clause-tray c =
 pub returns : goal.returns
 returns c =
     let so = c.loop-datagram.invariant.so in
-    let flush = c.in_ok-flush.ensures in
+    let flush = c.in_ok-flush.ensures.plays in
     let all : take c.loop-datagram.datagram-index c.args.datagrams.now ≡ c.args.datagrams.now =
-    take_all c.loop-datagram.datagram-index c.args.datagrams.now c.loop-datagram-test.false in
-    record {
-      taken = map play_of c.loop-datagram.plays.items;
-      flushed = flush.0;
-      filled = c.loop-datagram.desk.state;
-      empty = flush.1;
-      takes =
-          subst (λ (ds : List Datagram). TakesAll (opening (record { window = c.args.window; depth = c.args.depth })) (map arrival_of ds) (map play_of c.loop-datagram.plays.items) c.loop-datagram.replies.items c.loop-datagram.desk.state)
-          all so.takes;
-      flush = flush.3;
-      plays_are = flush.2;
-    }
+    take_all c.loop-datagram.datagram-index c.args.datagrams.now c.loop-datagram-test.false in (
+      record {
+        taken = map play_of c.loop-datagram.plays.items;
+        flushed = flush.0;
+        filled = c.loop-datagram.desk.state;
+        empty = flush.1;
+        takes =
+            subst (λ (ds : List Datagram). TakesAll (opening (record { window = c.args.window; depth = c.args.depth }))
+            (map arrival_of ds) (map play_of c.loop-datagram.plays.items) c.loop-datagram.replies.items
+            c.loop-datagram.desk.state)
+            all so.takes;
+        flush = flush.3;
+        plays_are = flush.2;
+      },
+      c.runs-runs.ensures,
+    )

@@ -1,22 +1,26 @@
-use Rattle.std.proofs.Common.{[], Some, refl, sym, subst}
+use Rattle.std.proofs.Common.{[], Some, sym, subst}
 use Rattle.fg_words.specs.declared.Word.{Word}
 use Rattle.fg_desk.specs.declared.run.Datagram.{Datagram}
 use Rattle.fg_playout.specs.Admission.{AdmitsMedia}
 use Rattle.fg_playout.specs.Run.{Takes}
 use Rattle.fg_desk.specs.Arrivals.{arrival_of}
+use Rattle.fg_desk.proofs.PlainRuns.{nothing_before}
 use Rattle.fg_desk.proofs.run.take.Goals as goal
 
 pub admit_parity-requires-clause-room : goal.admit_parity-requires-clause-room
-admit_parity-requires-clause-room c = (c.requires.within 0 [] c.args.desk.now.state refl).1
+admit_parity-requires-clause-room c =
+    (c.requires.within 0 0 [] c.args.desk.now.state (nothing_before c.args.desk.now.state 0 0)).1
 
-pub returns-in_ok-play_due-in-Media-clause-takes : goal.returns-in_ok-play_due-in-Media-clause-takes
-returns-in_ok-play_due-in-Media-clause-takes c =
-    let due = c.in_ok-play_due-in-Media.ensures.plays in
+pub returns-in_ok-play_before-in-Media-clause-takes : goal.returns-in_ok-play_before-in-Media-clause-takes
+returns-in_ok-play_before-in-Media-clause-takes c =
+    let before = c.in_ok-play_before-in-Media.ensures.plays in
     let admits =
-    subst (λ (word : Word). AdmitsMedia c.play_due.new.desk.state c.in-Media.seq word c.admit_media.result c.admit_media.new.self.state)
+    subst (λ (word : Word). AdmitsMedia c.play_before.new.desk.state c.in-Media.seq c.in-Media.ssrc word
+    c.admit_media.result c.admit_media.new.self.state)
     c.in_ok-share-in-Media.ensures c.admit_media.ensures.state in (
-      due.0,
-      due.1,
-      subst (λ (datagram : Datagram). Takes c.args.desk.now.state (arrival_of datagram) due.0 (Some c.admit_media.result) c.admit_media.new.self.state)
-          (sym c.in-Media.is) (c.play_due.new.desk.state, due.2, admits),
+      before.0,
+      before.1,
+      subst (λ (datagram : Datagram). Takes c.args.desk.now.state (arrival_of datagram) before.0 (Some c.admit_media.result)
+          c.admit_media.new.self.state)
+          (sym c.in-Media.is) (c.play_before.new.desk.state, before.2, admits),
     )

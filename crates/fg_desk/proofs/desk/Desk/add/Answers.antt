@@ -1,4 +1,4 @@
-use Rattle.std.proofs.Common.{◌≢◌, ◌<◌, ◌^◌, None, IsSome, sym, subst}
+use Rattle.std.proofs.Common.{◌≢◌, ◌<◌, ◌≤◌, ◌^◌, None, IsSome, sym, subst}
 use Rattle.fg_peel.specs.Equation.{Equation}
 use Rattle.fg_peel.proofs.Options.{none_has_no_value}
 use Rattle.fg_playout.specs.declared.reply.Reply.TheVariants.{Admitted}
@@ -23,8 +23,10 @@ invariant_of-self c =
     subst (λ (s : Contents). IsEquationReply s.state equation Admitted) (sym c.self.view_is) c.requires.admitted in
     let opened : parts.top ≢ None =
     λ none. none_has_no_value parts.top none (subst (λ (s : Contents). IsSome s.state.top) (sym c.self.view_is) c.requires.started) in
+    let from : parts.origin ≤ c.args.base =
+    subst (λ (s : Contents). s.state.origin ≤ c.args.base) (sym c.self.view_is) c.requires.origin in
     let calls : c.self.inside.calls < 2 ^ 62 =
     subst (λ (s : Contents). s.state.calls < 2 ^ 62) (sym c.self.view_is) c.requires.calls in
     subst (λ (l : LiveState). AreSound (with_line parts l)) (sym added.1)
     (sound_with_line parts c.self.invariant c.insert-place.ensures.facts c.insert-place.result equation c.requires.shape c.requires.base replies added.0
-    opened calls c.peelings_stay.ensures.equations c.requires.room)
+    opened from calls c.peelings_stay.ensures.equations c.requires.room)

@@ -3,6 +3,7 @@ use Rattle.std.specs.FinMap.{get}
 use Rattle.fg_buffer.specs.PlayoutBuffer.{receives}
 use Rattle.fg_desk.specs.Contents.{Contents, GivesWay}
 use Rattle.fg_playout.specs.Admission.{with_media}
+use Rattle.fg_playout.specs.Facts.{Holds}
 use Rattle.fg_desk.specs.Inside.{Parts, AreSound, state_of, contents_of}
 use Rattle.fg_desk.specs.Parts.{parts_of, top_of}
 use Rattle.fg_desk.proofs.DeskReceives.{raised_within, taken, takes_sound, takes_state, takes_give_way}
@@ -18,7 +19,7 @@ module _ (c : After-raised_epoch-self-inside) where
 
   -- The parts after the call.
   abbrev after : Parts
-  after = taken (parts_of c.self.inside) c.args.position c.args.seq c.args.share c.receive-withdrawn.ensures.0
+  after = taken (parts_of c.self.inside) c.args.position c.args.seq c.args.ssrc c.args.share c.receive-withdrawn.ensures.0
       c.receive-withdrawn.new.lines c.raised_epoch-self-inside.result
 
   after_is :
@@ -43,28 +44,30 @@ module _ (c : After-raised_epoch-self-inside) where
 
   sound : AreSound after
   sound =
-      let near : c.args.position < c.self.inside.buffer.mark + c.self.inside.depth =
-      subst (λ (s : Contents). c.args.position < s.state.mark + s.state.playout.depth) (sym c.self.view_is) c.requires.near in
+      let facts : Holds (with_media (state_of (parts_of c.self.inside)) c.args.seq c.args.ssrc c.args.position c.args.share) =
+      subst (λ (s : Contents). Holds (with_media s.state c.args.seq c.args.ssrc c.args.position c.args.share))
+      (sym c.self.view_is)
+      c.requires.holds in
       let calls : c.self.inside.calls < 2 ^ 62 =
       subst (λ (s : Contents). s.state.calls < 2 ^ 62) (sym c.self.view_is) c.requires.calls in
-      takes_sound (parts_of c.self.inside) c.self.invariant c.args.position c.args.seq c.args.share ahead none near
-      c.requires.media c.requires.limit calls c.peelings_stay.ensures.words c.receive-withdrawn.result
+      takes_sound (parts_of c.self.inside) c.self.invariant c.args.position c.args.seq c.args.ssrc c.args.share ahead none facts
+      c.requires.limit calls c.peelings_stay.ensures.words c.receive-withdrawn.result
       c.receive-withdrawn.ensures.0 c.receive-withdrawn.new.lines c.raised_epoch-self-inside.result
       (subst (λ (epoch : ℕ). epoch ≤ c.self.inside.calls + 1) (sym c.raised_epoch-self-inside.ensures)
       (raised_within c.self.inside.epoch c.self.inside.calls c.receive-withdrawn.result c.self.invariant.limits.epoch_limit))
       c.receive-withdrawn.ensures.1
 
-  state : state_of after ≡ with_media c.args.self.now.state c.args.seq c.args.position c.args.share
+  state : state_of after ≡ with_media c.args.self.now.state c.args.seq c.args.ssrc c.args.position c.args.share
   state =
-      takes_state (parts_of c.self.inside) c.self.invariant c.args.position c.args.seq c.args.share ahead none
+      takes_state (parts_of c.self.inside) c.self.invariant c.args.position c.args.seq c.args.ssrc c.args.share ahead none
       c.receive-withdrawn.result c.receive-withdrawn.ensures.0 c.receive-withdrawn.new.lines c.raised_epoch-self-inside.result
       c.receive-withdrawn.ensures.1
-      ∙ ap (λ (s : Contents). with_media s.state c.args.seq c.args.position c.args.share) c.self.view_is
+      ∙ ap (λ (s : Contents). with_media s.state c.args.seq c.args.ssrc c.args.position c.args.share) c.self.view_is
 
   gives_way : GivesWay c.args.self.now c.args.position c.args.share (contents_of after)
   gives_way =
       subst (λ (s : Contents). GivesWay s c.args.position c.args.share (contents_of after)) c.self.view_is
-      (takes_give_way (parts_of c.self.inside) c.self.invariant c.args.position c.args.seq c.args.share ahead none
+      (takes_give_way (parts_of c.self.inside) c.self.invariant c.args.position c.args.seq c.args.ssrc c.args.share ahead none
       c.receive-withdrawn.result c.receive-withdrawn.ensures.0 c.receive-withdrawn.new.lines c.raised_epoch-self-inside.result
       c.raised_epoch-self-inside.ensures c.receive-withdrawn.ensures.1)
 

@@ -1,0 +1,72 @@
+use Rattle.std.proofs.Common.{◌≡◌, ◌+◌, ◌<◌, ◌^◌, Some, sym, ap, subst, ◌∙◌}
+use Rattle.fg_playout.specs.State.{current}
+use Rattle.fg_playout.specs.Admission.{another, sender_of, IsFresh}
+use Rattle.fg_playout.specs.Play.{HasMore}
+use Rattle.fg_desk.specs.Contents.{Contents, GivesWay}
+use Rattle.fg_desk.specs.Inside.{Parts, AreSound, state_of, contents_of}
+use Rattle.fg_desk.specs.Parts.{parts_of, top_of}
+use Rattle.fg_desk.proofs.DeskBegins.{run_parts, nothing_more, holds_in_run, sound_in_run, gives_way_in_run}
+use Rattle.fg_desk.proofs.desk.Desk.begin_run.Goals as goal
+use Rattle.fg_desk.proofs.desk.Desk.begin_run.Goals.{After-begin}
+
+module _ (c : After-begin) where
+  abbrev parts : Parts
+  parts = parts_of c.self.inside
+
+  is_another : sender_of (state_of parts) c.args.ssrc ≡ another
+  is_another = subst (λ (s : Contents). sender_of s.state c.args.ssrc ≡ another) (sym c.self.view_is) c.requires.another
+
+  none : ¬ HasMore (state_of parts)
+  none = nothing_more (state_of parts) c.args.ssrc c.self.invariant.facts is_another
+      (subst (λ (s : Contents). IsFresh s.state c.args.ssrc → ¬ HasMore s.state) (sym c.self.view_is) c.requires.flushed)
+
+  sound : AreSound (run_parts parts c.args.seq c.args.ssrc c.args.share)
+  sound = sound_in_run parts c.self.invariant none c.args.seq c.args.ssrc c.args.share c.peelings_stay.ensures.words
+      (subst (λ (s : Contents). s.state.mark < 2 ^ 61) (sym c.self.view_is) c.requires.room.mark)
+      (subst (λ (s : Contents). s.state.calls < 2 ^ 62) (sym c.self.view_is) c.requires.room.calls)
+      (holds_in_run (state_of parts) c.args.ssrc c.self.invariant.facts is_another c.args.seq c.args.share c.requires.media)
+
+  gives_way :
+      GivesWay c.args.self.now c.args.self.now.state.mark c.args.share
+      (contents_of (run_parts parts c.args.seq c.args.ssrc c.args.share))
+  gives_way =
+      subst (λ (s : Contents). GivesWay s s.state.mark c.args.share
+      (contents_of (run_parts parts c.args.seq c.args.ssrc c.args.share)))
+      c.self.view_is (gives_way_in_run parts c.self.invariant none c.args.seq c.args.ssrc c.args.share)
+
+  after_is :
+      record parts {
+        top = Some (top_of (record { position = c.mark-mark.result; seq = c.args.seq; ssrc = c.args.ssrc }));
+        previous = c.current-previous.result;
+        origin = c.mark-mark.result;
+        runs = c.self.inside.runs + 1;
+        buffer = c.begin.new.buffer;
+        lines = c.begin.new.equations;
+        calls = c.self.inside.calls + 1;
+      }
+      ≡ run_parts parts c.args.seq c.args.ssrc c.args.share
+  after_is =
+      let mark : c.mark-mark.result ≡ c.self.inside.buffer.mark = c.mark-mark.ensures.value in
+      let previous : c.current-previous.result ≡ current (state_of parts) =
+      c.current-previous.ensures ∙ ap (λ (s : Contents). current s.state) (sym c.self.view_is) in
+      let buffer = c.begin.ensures.buffer in
+      let lines = c.begin.ensures.equations in
+      λ i. record parts {
+        top = Some (record { position = mark i; seq = c.args.seq; ssrc = c.args.ssrc });
+        previous = previous i;
+        origin = mark i;
+        runs = c.self.inside.runs + 1;
+        buffer = buffer i;
+        lines = lines i;
+        calls = c.self.inside.calls + 1;
+      }
+
+pub invariant_of-self : goal.invariant_of-self
+invariant_of-self c =
+    let d = (goal.at.invariant_of-self c).After-begin in subst AreSound (sym (after_is d)) (sound d)
+
+pub returns-clause-rest : goal.returns-clause-rest
+returns-clause-rest c =
+    let d = (goal.at.returns-clause-rest c).After-begin in
+    subst (λ (p : Parts). GivesWay c.args.self.now c.args.self.now.state.mark c.args.share (contents_of p))
+    (sym (after_is d)) (gives_way d)
