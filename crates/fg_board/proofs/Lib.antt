@@ -1,4 +1,5 @@
 mod Bringing
+mod Flushed
 mod Later
 mod OneCall
 mod OneTurn

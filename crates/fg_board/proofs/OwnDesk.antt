@@ -32,11 +32,11 @@ module _ (call : Call) (old new : AdmitterState) (makes : MakesCall call old new
 
 -- It admits as a desk alone does.
 pub media_by_desk :
-    (seq : ℕ) (word : Word) (reply : Reply) (old new : AdmitterState) → MakesCall (media seq word reply) old new
-    → AdmitsMedia (desk_of old) seq word reply (desk_of new)
-media_by_desk seq word reply old new makes =
-    subst (λ (desk : State). AdmitsMedia (desk_of old) seq word reply desk) (left_is_desk (media seq word reply) old new makes)
-    (subst (λ (desk : State). AdmitsMedia desk seq word reply makes.left.desk.state) makes.own makes.call_is.state)
+    (seq ssrc : ℕ) (word : Word) (reply : Reply) (old new : AdmitterState) → MakesCall (media seq ssrc word reply) old new
+    → AdmitsMedia (desk_of old) seq ssrc word reply (desk_of new)
+media_by_desk seq ssrc word reply old new makes =
+    subst (λ (desk : State). AdmitsMedia (desk_of old) seq ssrc word reply desk) (left_is_desk (media seq ssrc word reply) old new makes)
+    (subst (λ (desk : State). AdmitsMedia desk seq ssrc word reply makes.left.desk.state) makes.own makes.call_is.state)
 
 pub parity_by_desk :
     (given : Parity) (reply : Reply) (key : Option Key) (old new : AdmitterState) → MakesCall (parity given reply key) old new

@@ -73,7 +73,7 @@ pub record Follows (seat : Standing BoardState) (event : Event) (entered left : 
 -- The admitter
 
 abbrev pub call_of : Made → Call
-call_of (made.Media seq share reply) = media seq share.value reply
+call_of (made.Media seq ssrc share reply) = media seq ssrc share.value reply
 call_of (made.Parity base shape share reply key) =
     parity (record { base = base; offset = shape.offset; count = shape.na; word = share.value }) reply key
 call_of (made.Play played) = play played

@@ -3,11 +3,11 @@
 ghost use Rattle.std.specs.Prelude.{◌≡◌, ◌↔◌, ◌+◌, ◌<◌, ◌≤◌, ◌^◌, [], ◌∷◌, length, false, true, Some, None, IsTrue, IsSome, IfSome, IfNone, option_map};
 ghost use Rattle.fg_words.specs.Word.{IsMedia};
 ghost use Rattle.fg_shape.specs.Shape.{IsShape};
-ghost use Rattle.fg_playout.specs.Admission.{IsDue, AdmitsMedia, AdmitsParity};
+ghost use Rattle.fg_playout.specs.Admission.{IsDue, IsFresh, AdmitsMedia, AdmitsParity};
 ghost use Rattle.fg_playout.specs.Room.{HasRoom, call_limit};
 ghost use Rattle.fg_desk.specs.Contents.{AreSolved};
 ghost use Rattle.fg_playout.specs.Facts.{Holds};
-ghost use Rattle.fg_playout.specs.Play.{IsPlay, Flushes};
+ghost use Rattle.fg_playout.specs.Play.{IsPlay, Flushes, HasMore};
 ghost use Rattle.fg_board.specs.Actors.{MakesCall, board_of, desk_of, IsOwnBoard, GivesKeyOf};
 ghost use Rattle.fg_core.specs.Codes.{opening_code, IsOwnedBy, GrowsFrom};
 ghost use Rattle.fg_core.specs.Core.{media, parity, play, flush, play_of};
@@ -30,9 +30,23 @@ use std::sync::Wait;
 /// What an admitter knows of its desk without a turn.
 #[derive(Clone, Copy)]
 struct Near {
-    top: Option<(u64, u16)>,
+    /// The farthest position of the current run, its sequence number and its SSRC.
+    top: Option<(u64, u16, u32)>,
+    /// The SSRC of the run before.
+    previous: Option<u32>,
+    /// How many runs were begun.
+    runs: u64,
     mark: u64,
     calls: u64,
+}
+
+// The farthest position of the current run, its sequence number and its SSRC.
+fn farthest(flow: &Flow) -> Option<(u64, u16, u32)>
+    ensures { top_of result ≡ flow.now.desk.state.top }
+{
+    let (position, seq) = flow.top()?;
+    let ssrc = flow.current()?;
+    Some((position, seq, ssrc))
 }
 
 impl Near {
@@ -40,11 +54,15 @@ impl Near {
     fn after(self, flow: &Flow) -> Near
         requires { self.calls < call_limit }
         ensures top { top_of result.top ≡ flow.now.desk.state.top }
+        ensures previous { result.previous ≡ flow.now.desk.state.previous }
+        ensures runs { result.runs ≡ flow.now.desk.state.runs }
         ensures mark { result.mark ≡ flow.now.desk.state.mark }
         ensures calls { result.calls ≡ self.calls + 1 }
     {
         Near {
-            top: flow.top(),
+            top: farthest(flow),
+            previous: flow.previous(),
+            runs: flow.runs(),
             mark: flow.mark(),
             calls: self.calls + 1,
         }
@@ -52,7 +70,7 @@ impl Near {
 }
 
 /// The owner of a board: it admits the flow's datagrams and plays its windows. It knows the desk that its calls have
-/// made, so it needs no turn to see whether a play is due.
+/// made, so it needs no turn to see whether a play is due or an SSRC is fresh.
 ///
 /// Contracts see its standing, and the settings of its board.
 #[derive(Drop)]
@@ -77,7 +95,7 @@ impl Model for Admitter {
     ghost view = { λ a. record { seat = a.owner; playout = record { window = a.window; depth = a.depth } } };
 
     ghost invariant = { λ a. KnowsItsDesk (record { seat = a.owner; playout = record { window = a.window; depth = a.depth } })
-        a.near.top a.near.mark a.near.calls };
+        a.near.top a.near.previous a.near.runs a.near.mark a.near.calls };
 }
 
 // Enters the admitter's turn, and takes a spare share there where the admitter has none. The desk there is its own.
@@ -123,6 +141,8 @@ impl Admitter {
         opening_is_owned();
         let near = Near {
             top: None,
+            previous: None,
+            runs: 0,
             mark: 0,
             calls: 0,
         };
@@ -150,14 +170,35 @@ impl Admitter {
         owner
     }
 
-    /// Whether a play is due before a datagram of this sequence number is admitted: it lies the depth past the mark, or
-    /// farther.
-    pub fn due(&self, seq: u16) -> bool
-        ensures { IsTrue result ↔ IsDue (desk_of self.now) seq }
+    /// Whether an SSRC (RFC 3550) is fresh: there is a current run, and the SSRC is neither its own nor that of the run before.
+    /// A datagram of it begins a run, once nothing is left to be shown.
+    pub fn fresh(&self, ssrc: u32) -> bool
+        ensures { IsTrue result ↔ IsFresh (desk_of self.now) ssrc }
     {
-        let Some((top, top_seq)) = self.near.top else {
+        let Some((_, _, current)) = self.near.top else {
             return false;
         };
+        current != ssrc && self.near.previous != Some(ssrc)
+    }
+
+    /// How many runs were begun.
+    pub fn runs(&self) -> u64
+        ensures { result ≡ (desk_of self.now).runs }
+    {
+        self.near.runs
+    }
+
+    /// Whether a play is due before a datagram of this sequence number and SSRC is admitted: it is of the current run, and
+    /// lies the depth past the mark, or farther.
+    pub fn due(&self, seq: u16, ssrc: u32) -> bool
+        ensures { IsTrue result ↔ IsDue (desk_of self.now) seq ssrc }
+    {
+        let Some((top, top_seq, current)) = self.near.top else {
+            return false;
+        };
+        if current != ssrc {
+            return false;
+        }
         match position(top, top_seq, seq) {
             Some(position) => {
                 position >= self.near.mark && position - self.near.mark >= u64::from(self.depth)
@@ -176,7 +217,7 @@ impl Admitter {
         ensures playout { (desk_of self.now).playout ≡ self.now.playout }
     {
         let top_has_room = match self.near.top {
-            Some((top, _)) => top < FARTHEST_LIMIT,
+            Some((top, _, _)) => top < FARTHEST_LIMIT,
             None => true,
         };
         top_has_room && self.near.mark < FARTHEST_LIMIT && self.near.calls < CALL_LIMIT
@@ -197,14 +238,23 @@ impl Admitter {
         self.spare.take()
     }
 
-    /// Admits a media datagram in one turn, or says why not.
-    pub fn admit_media(&mut self, wait: &impl Wait, board: &Board, seq: u16, share: Shared) -> Reply
+    /// Admits a media datagram in one turn, or says why not. One of a fresh SSRC begins a run at the mark: all equations leave,
+    /// so jobs and keys of before it are gone.
+    pub fn admit_media(
+        &mut self,
+        wait: &impl Wait,
+        board: &Board,
+        seq: u16,
+        ssrc: u32,
+        share: Shared,
+    ) -> Reply
         requires board { self.old.seat.turn ≡ board.now.name }
         requires room { HasRoom (desk_of self.old) }
-        requires not_due { ¬ IsDue (desk_of self.old) seq }
+        requires not_due { ¬ IsDue (desk_of self.old) seq ssrc }
+        requires flushed { IsFresh (desk_of self.old) ssrc → ¬ HasMore (desk_of self.old) }
         requires media { IsMedia share }
-        ensures call { MakesCall (media seq share result) self.old self.new }
-        ensures state { AdmitsMedia (desk_of self.old) seq share result (desk_of self.new) }
+        ensures call { MakesCall (media seq ssrc share result) self.old self.new }
+        ensures state { AdmitsMedia (desk_of self.old) seq ssrc share result (desk_of self.new) }
     {
         let mut flow = enter_own(
             wait,
@@ -215,13 +265,13 @@ impl Admitter {
             self.depth,
         );
         let word = Snapshot::of(&share);
-        let reply = flow.admit_media(seq, share);
+        let reply = flow.admit_media(seq, ssrc, share);
         self.near = self.near.after(&flow);
         settle_owner(
             &board.turn,
             &mut self.owner,
             flow,
-            Made::Media(seq, word, reply),
+            Made::Media(seq, ssrc, word, reply),
         );
         reply
     }

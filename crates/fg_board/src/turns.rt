@@ -35,7 +35,7 @@ pub(crate) enum Deed {
 /// What the admitter did in its turn.
 #[derive(Drop)]
 pub(crate) enum Made {
-    Media(u16, Snapshot<Shared>, Reply),
+    Media(u16, u32, Snapshot<Shared>, Reply),
     Parity(u16, Shape, Snapshot<Shared>, Reply, Option<Key>),
     Play(Played),
     Flush(Option<Played>),

@@ -30,7 +30,7 @@ calls_and_one first between last (call' ∷ calls) call made one =
 
 -- What a call does to a board is what it does to a desk of its own.
 call_on : (old new : BoardState) (call : Call) → IsCall old call new → IsCallOn old.desk.state call new.desk.state
-call_on old new (media seq word reply) is = is.state
+call_on old new (media seq ssrc word reply) is = is.state
 call_on old new (parity datagram reply key) is = (is.state, is.key_is)
 call_on old new (play played) is = (is.0, is.1.state, is.2)
 call_on old new (flush None) is = is.0
@@ -38,7 +38,7 @@ call_on old new (flush (Some played)) is = (is.0, is.1.0, is.2)
 
 -- Its notes stay as each call says.
 notes_kept : (old new : BoardState) (call : Call) → IsCall old call new → KeepsNotes old new
-notes_kept old new (media seq word reply) is = is.notes
+notes_kept old new (media seq ssrc word reply) is = is.notes
 notes_kept old new (parity datagram reply key) is = is.notes
 notes_kept old new (play played) is = is.1.notes
 notes_kept old new (flush None) is = is.2
@@ -46,14 +46,14 @@ notes_kept old new (flush (Some played)) is = is.1.2
 
 -- The key that it gives is of the board's epoch.
 key_is_of : (old new : BoardState) (call : Call) → IsCall old call new → KeyIsOf new.desk.epoch call
-key_is_of old new (media seq word reply) is = tt
+key_is_of old new (media seq ssrc word reply) is = tt
 key_is_of old new (parity datagram reply None) is = tt
 key_is_of old new (parity datagram reply (Some key)) is = let e = is.key_epoch in omega (arith, e)
 key_is_of old new (play played) is = tt
 key_is_of old new (flush played) is = tt
 
 later_epoch : (epoch later : ℕ) → epoch ≤ later → (call : Call) → KeyIsOf epoch call → KeyIsOf later call
-later_epoch epoch later rises (media seq word reply) is = tt
+later_epoch epoch later rises (media seq ssrc word reply) is = tt
 later_epoch epoch later rises (parity datagram reply None) is = tt
 later_epoch epoch later rises (parity datagram reply (Some key)) is = omega (arith, rises, is)
 later_epoch epoch later rises (play played) is = tt
@@ -63,8 +63,8 @@ later_epoch epoch later rises (flush played) is = tt
 facts_hold :
     CallLaws → (old new : BoardState) (call : Call) → Holds old.desk.state → CanCall old call → IsCall old call new
     → Holds new.desk.state
-facts_hold laws old new (media seq word reply) holds can is =
-    laws.facts.media old.desk.state new.desk.state seq word reply holds can.2 can.1 is.state
+facts_hold laws old new (media seq ssrc word reply) holds can is =
+    laws.facts.media old.desk.state new.desk.state seq ssrc word reply holds can.3 can.1 is.state
 facts_hold laws old new (parity datagram reply key) holds can is =
     laws.facts.parity old.desk.state new.desk.state datagram reply holds can.0 can.1 is.state
 facts_hold laws old new (play played) holds can is =
@@ -77,15 +77,15 @@ facts_hold laws old new (flush (Some played)) holds can is =
 -- What it keeps of the board's desk.
 desk_is_next :
     CallLaws → (old new : BoardState) (call : Call) → Holds old.desk.state → AreSolved old.desk → AreBareKept old.desk
-    → IsCall old call new → IsNext old.desk new.desk
-desk_is_next laws old new (media seq word reply) holds solved bare is =
-    media_is_next laws.media_adds laws.take_words old.desk new.desk seq word holds reply solved bare is.state is.solved
-desk_is_next laws old new (parity datagram reply key) holds solved bare is =
+    → CanCall old call → IsCall old call new → IsNext old.desk new.desk
+desk_is_next laws old new (media seq ssrc word reply) holds solved bare can is =
+    media_is_next laws old.desk new.desk seq ssrc word holds can.2 solved bare reply is.state is.solved
+desk_is_next laws old new (parity datagram reply key) holds solved bare can is =
     parity_is_next laws.parity_adds laws.take_equations old.desk new.desk datagram holds solved bare is.solved reply is.state
-desk_is_next laws old new (play played) holds solved bare is =
+desk_is_next laws old new (play played) holds solved bare can is =
     play_is_next laws.plays old.desk.state.playout.window old.desk new.desk (play_of played is.0) holds solved is.1.state is.1.changes
-desk_is_next laws old new (flush None) holds solved bare is = is_next_counted old.desk new.desk solved bare is.1 is.0.1
-desk_is_next laws old new (flush (Some played)) holds solved bare is =
+desk_is_next laws old new (flush None) holds solved bare can is = is_next_counted old.desk new.desk solved bare is.1 is.0.1
+desk_is_next laws old new (flush (Some played)) holds solved bare can is =
     play_is_next laws.plays _ old.desk new.desk (play_of played is.0) holds solved is.1.0.plays is.1.1
 
 module _
@@ -142,7 +142,7 @@ module _
 pub calls_extend : CallLaws → CallsExtend
 calls_extend laws playout calls call old new owned can is =
     let holds = facts_hold laws old new call owned.facts can is in
-    let next = desk_is_next laws old new call owned.facts owned.solved owned.bare is in
+    let next = desk_is_next laws old new call owned.facts owned.solved owned.bare can is in
     let notes = notes_kept old new call is in
     let one_more = next.one_more in
     let few = owned.epoch in
@@ -164,4 +164,4 @@ pub calls_keep_told : CallLaws → CallsKeepTold
 calls_keep_told laws playout calls call old new told owned can is =
     All-weaker (IsBorneOut old) (IsBorneOut new)
     (told_after old new owned.facts (facts_hold laws old new call owned.facts can is)
-    (desk_is_next laws old new call owned.facts owned.solved owned.bare is)) told
+    (desk_is_next laws old new call owned.facts owned.solved owned.bare can is)) told

@@ -2,7 +2,7 @@
 use Rattle.std.proofs.Common.{◌≡◌, refl, ap}
 use Rattle.std.specs.Prelude.{Some, None}
 use Rattle.fg_playout.specs.declared.reply.Reply.{Reply}
-use Rattle.fg_playout.specs.declared.reply.Reply.TheVariants.{Admitted, Duplicate, Conflict, Late, NotStarted, BeforeStart, Ahead, Crowded}
+use Rattle.fg_playout.specs.declared.reply.Reply.TheVariants.{Admitted, Duplicate, Conflict, Late, NotStarted, BeforeStart, Ahead, Crowded, Foreign}
 use Rattle.fg_playout.specs.declared.reply.Outcome.{Outcome}
 use Rattle.fg_playout.specs.declared.reply.Outcome.TheVariants.{Repaired, Inconsistent}
 use Rattle.fg_desk.specs.declared.desk.Played.{Played}
@@ -19,6 +19,7 @@ reply_back NotStarted = refl
 reply_back BeforeStart = refl
 reply_back Ahead = refl
 reply_back Crowded = refl
+reply_back Foreign = refl
 
 outcome_back : (outcome : Outcome) → outcome_from (outcome_code outcome) ≡ outcome
 outcome_back Repaired = refl
@@ -28,7 +29,7 @@ played_back : (played : Played) → played_from played.first played.count (outco
 played_back played = ap (λ (o : Outcome). record played { verdict = o }) (outcome_back played.verdict)
 
 pub calls_read_back : (call : Call) → call_from (call_code call) ≡ call
-calls_read_back (media seq word reply) = ap (media seq word) (reply_back reply)
+calls_read_back (media seq ssrc word reply) = ap (media seq ssrc word) (reply_back reply)
 calls_read_back (parity p reply None) = ap (λ (r : Reply). parity p r None) (reply_back reply)
 calls_read_back (parity p reply (Some key)) = ap (λ (r : Reply). parity p r (Some key)) (reply_back reply)
 calls_read_back (play played) = ap play (played_back played)

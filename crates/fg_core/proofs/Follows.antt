@@ -1,7 +1,6 @@
 -- What each call of the admitter keeps of a desk, as far as notes and shares go.
 use Rattle.std.proofs.Common.{◌≡◌, ◌<◌, ◌≤◌, ℕ, Some, sym, ap, ◌∙◌, ⊎_elim, arith}
-use Rattle.std.specs.Ordering.{nat_cmp}
-use Rattle.std.specs.FinMap.{FinMap, get}
+use Rattle.std.specs.FinMap.{get}
 use Rattle.fg_words.specs.declared.Word.{Word}
 use Rattle.fg_peel.proofs.Options.{some_and}
 use Rattle.fg_peel.proofs.Maps.{beside_inserted}
@@ -10,12 +9,12 @@ use Rattle.fg_playout.specs.declared.reply.Reply.TheVariants.{Admitted}
 use Rattle.fg_playout.specs.declared.reply.Outcome.{Outcome}
 use Rattle.fg_playout.specs.declared.reply.Outcome.TheVariants.{Repaired, Inconsistent}
 use Rattle.fg_playout.specs.State.{State, Live}
-use Rattle.fg_playout.specs.Admission.{Parity, AdmitsMedia, AdmitsParity, IsAfterMedia, IsAfterParity, IsLeastFree, counted, position_on, with_media, with_equation, equation_at}
+use Rattle.fg_playout.specs.Admission.{Parity, AdmitsMedia, AdmitsParity, IsAfterMedia, IsAfterParity, IsLeastFree, counted, position_on, base_on, with_equation, equation_at}
 use Rattle.fg_playout.specs.Play.{Play, IsPlay}
 use Rattle.fg_desk.specs.Contents.{Contents, GivesWay, IsAfterArrival, ChangesInPlay, epoch_after}
 use Rattle.fg_core.proofs.Next.{AreBareKept}
 use Rattle.fg_core.proofs.Played.{bare_is_kept}
-use Rattle.fg_core.proofs.Received.{contradicted_or_not, not_contradicted}
+use Rattle.fg_core.proofs.Received.{Leaves, media_leaves, contradicted_or_not, not_contradicted}
 
 -- The numbers never fall, and no equation becomes live under a serial number that was given before.
 pub record Follows (old new : Contents) : Type 0 where
@@ -26,32 +25,28 @@ pub record Follows (old new : Contents) : Type 0 where
       → get old.state.equations serial ≡ Some live
   pub bare : AreBareKept new
 
--- Where the rest is the same and the state has the same kept words, equations and number admitted.
-record Alike (old new : State) : Type 0 where
-  kept : new.kept ≡ old.kept
-  equations : new.equations ≡ old.equations
-  admitted : new.admitted ≡ old.admitted
-
-counted_alike : (old new : State) → new ≡ counted old → Alike old new
-counted_alike old new is = record {
-  kept = ap (λ (s : State). s.kept) is;
-  equations = ap (λ (s : State). s.equations) is;
-  admitted = ap (λ (s : State). s.admitted) is;
+-- A call that is only counted leaves all.
+counted_leaves : (old new : State) → new ≡ counted old → Leaves old new
+counted_leaves old new is = record {
+  mark_is = ap (λ (s : State). s.mark) is;
+  kept_is = ap (λ (s : State). s.kept) is;
+  admitted_is = ap (λ (s : State). s.admitted) is;
+  still_live = λ serial live lives. sym (ap (λ (s : State). get s.equations serial) is) ∙ lives;
 }
 
 module _ (old new : Contents) (bare : AreBareKept old) where
-  alike_follows : Alike old.state new.state → old.epoch ≤ new.epoch → new.bare ≡ old.bare → Follows old new
-  alike_follows alike rises same = record {
-    admitted = (let a = alike.admitted in omega (arith, a));
+  leaves_follow : Leaves old.state new.state → old.epoch ≤ new.epoch → new.bare ≡ old.bare → Follows old new
+  leaves_follow leaves rises same = record {
+    admitted = (let a = leaves.admitted_is in omega (arith, a));
     epoch = rises;
-    lives = λ serial live _ is. sym (ap (λ (m : FinMap nat_cmp Live). get m serial) alike.equations) ∙ is;
-    bare = λ position is. rw (alike.kept) (bare position (rw same at is));
+    lives = λ serial live _ is. leaves.still_live serial live is;
+    bare = λ position is. rw (leaves.kept_is) (bare position (rw same at is));
   }
 
   pub counted_follows : new ≡ record old { state = new.state } → new.state ≡ counted old.state → Follows old new
   counted_follows rest is =
       let e = ap (λ (d : Contents). d.epoch) rest in
-      alike_follows (counted_alike old.state new.state is) (omega (arith, e)) (ap (λ (d : Contents). d.bare) rest)
+      leaves_follow (counted_leaves old.state new.state is) (omega (arith, e)) (ap (λ (d : Contents). d.bare) rest)
 
   gave_way :
       (position : ℕ) (word : Word) → GivesWay old position word new → (old.epoch ≤ new.epoch) × (new.bare ≡ old.bare)
@@ -67,20 +62,16 @@ module _ (old new : Contents) (bare : AreBareKept old) where
       (contradicted_or_not old position word)
 
   pub media_follows :
-      (seq : ℕ) (word : Word) (reply : Reply) → AdmitsMedia old.state seq word reply new.state
-      → IsAfterArrival old seq word reply new → Follows old new
-  media_follows seq word reply admits after = go reply admits.after after
+      (seq ssrc : ℕ) (word : Word) (reply : Reply) → AdmitsMedia old.state seq ssrc word reply new.state
+      → IsAfterArrival old seq ssrc word reply new → Follows old new
+  media_follows seq ssrc word reply admits after = go reply admits.after after
     where
-      go : (reply : Reply) → IsAfterMedia old.state seq word reply new.state → IsAfterArrival old seq word reply new → Follows old new
+      go : (reply : Reply) → IsAfterMedia old.state seq ssrc word reply new.state
+          → IsAfterArrival old seq ssrc word reply new → Follows old new
       go Admitted state rest =
-          let s = some_and (position_on old.state seq) (λ position. new.state ≡ with_media old.state seq position word) state in
-          let r = some_and (position_on old.state seq) (λ position. GivesWay old position word new) rest in
+          let r = some_and (position_on old.state seq ssrc) (λ position. GivesWay old position word new) rest in
           let way = gave_way r.0 word r.2 in
-          alike_follows (record {
-            kept = ap (λ (s : State). s.kept) s.2;
-            equations = ap (λ (s : State). s.equations) s.2;
-            admitted = ap (λ (s : State). s.admitted) s.2;
-          }) way.0 way.1
+          leaves_follow (media_leaves old.state new.state seq ssrc word state) way.0 way.1
       go other state rest = counted_follows rest state
 
   pub parity_follows :
@@ -90,7 +81,7 @@ module _ (old new : Contents) (bare : AreBareKept old) where
     where
       go : (reply : Reply) → IsAfterParity old.state parity reply new.state → Follows old new
       go Admitted state =
-          let s = some_and (position_on old.state parity.base) (λ (position : ℕ).
+          let s = some_and (base_on old.state parity.base) (λ (position : ℕ).
           (place : ℕ) × IsLeastFree old.state.equations place
           × (new.state ≡ with_equation old.state place (equation_at position parity))) state in
           let e = ap (λ (d : Contents). d.epoch) rest in

@@ -10,7 +10,7 @@ use Rattle.fg_core.specs.Laws.{CallsMakeOneDesk}
 module _ (laws : CallLaws) where
   -- The facts hold after a call,
   holds_after : (old new : State) (call : Call) → Holds old → CanCallOn old call → IsCallOn old call new → Holds new
-  holds_after old new (media seq word reply) holds can is = laws.facts.media old new seq word reply holds can.2 can.1 is
+  holds_after old new (media seq ssrc word reply) holds can is = laws.facts.media old new seq ssrc word reply holds can.3 can.1 is
   holds_after old new (parity given reply key) holds can is = laws.facts.parity old new given reply holds can.0 can.1 is.0
   holds_after old new (play played) holds can is =
       laws.facts.play old.playout.window old new (play_of played is.0) holds (λ none. none_has_no_value old.top none can.1) is.1
@@ -21,8 +21,8 @@ module _ (laws : CallLaws) where
   -- and it has one outcome.
   one_after :
       (old one other : State) (call : Call) → Holds old → IsCallOn old call one → IsCallOn old call other → one ≡ other
-  one_after old one other (media seq word reply) holds is is' =
-      (laws.one.media old one other seq word reply reply is is').1
+  one_after old one other (media seq ssrc word reply) holds is is' =
+      (laws.one.media old one other seq ssrc word reply reply is is').1
   one_after old one other (parity given reply key) holds is is' =
       (laws.one.parity old one other given reply reply holds is.0 is'.0).1
   one_after old one other (play played) holds is is' =

@@ -8,7 +8,7 @@ use Rattle.fg_peel.proofs.Maps.{beside_inserted}
 use Rattle.fg_playout.specs.declared.reply.Reply.{Reply}
 use Rattle.fg_playout.specs.declared.reply.Reply.TheVariants.{Admitted}
 use Rattle.fg_playout.specs.State.{State, known, live_equations}
-use Rattle.fg_playout.specs.Admission.{Parity, AdmitsParity, IsParityReply, IsAfterParity, IsLeastFree, position_on, with_equation, equation_at}
+use Rattle.fg_playout.specs.Admission.{Parity, AdmitsParity, IsParityReply, IsAfterParity, IsLeastFree, base_on, with_equation, equation_at}
 use Rattle.fg_playout.specs.Facts.{Holds}
 use Rattle.fg_playout.specs.Laws.{ParityAdds}
 use Rattle.fg_desk.specs.Contents.{Contents, AreSolved}
@@ -52,7 +52,7 @@ module _
     (rest : new ≡ record old { state = new.state }) where
   admitted_is_next : AdmitsParity old.state parity Admitted new.state → IsNext old new
   admitted_is_next admits =
-      let a = some_and (position_on old.state parity.base) (λ (position : ℕ).
+      let a = some_and (base_on old.state parity.base) (λ (position : ℕ).
       (place : ℕ) × IsLeastFree old.state.equations place
       × (new.state ≡ with_equation old.state place (equation_at position parity))) admits.after in
       let place : ℕ = a.2.0 in

@@ -89,7 +89,7 @@ core_holds opened calls_extend calls_keep events_keep_owned events_keep_told ans
 
 -- A call on a board is one on its desk.
 call_on : (old : BoardState) (call : Call) (new : BoardState) → IsCall old call new → IsCallOn old.desk.state call new.desk.state
-call_on old (media seq word reply) new does = does.state
+call_on old (media seq ssrc word reply) new does = does.state
 call_on old (parity datagram reply key) new does = (does.state, does.key_is)
 call_on old (play played) new does = (does.0, does.1.state, does.2)
 call_on old (flush None) new does = does.0

@@ -73,9 +73,9 @@ pub record KeepsNotes (old new : BoardState) : Type 0 where
 -- What the admitter does
 
 -- It admits a media datagram.
-pub record AdmitsMediaOn (old : BoardState) (seq : ℕ) (word : Word) (reply : Reply) (new : BoardState) : Type 0 where
-  pub state : AdmitsMedia old.desk.state seq word reply new.desk.state
-  pub solved : IsAfterArrival old.desk seq word reply new.desk
+pub record AdmitsMediaOn (old : BoardState) (seq ssrc : ℕ) (word : Word) (reply : Reply) (new : BoardState) : Type 0 where
+  pub state : AdmitsMedia old.desk.state seq ssrc word reply new.desk.state
+  pub solved : IsAfterArrival old.desk seq ssrc word reply new.desk
   pub notes : KeepsNotes old new
 
 -- A key is given with an equation that is admitted, and with no other reply: of its serial number and its place.

@@ -5,7 +5,7 @@ use Rattle.fg_words.specs.declared.Word.{Word}
 use Rattle.fg_words.specs.Word.{zero_word}
 use Rattle.fg_shape.specs.Playout.{Playout}
 use Rattle.fg_playout.specs.declared.reply.Reply.{Reply}
-use Rattle.fg_playout.specs.declared.reply.Reply.TheVariants.{Admitted, Duplicate, Conflict, Late, NotStarted, BeforeStart, Ahead, Crowded}
+use Rattle.fg_playout.specs.declared.reply.Reply.TheVariants.{Admitted, Duplicate, Conflict, Late, NotStarted, BeforeStart, Ahead, Crowded, Foreign}
 use Rattle.fg_playout.specs.declared.reply.Outcome.{Outcome}
 use Rattle.fg_playout.specs.declared.reply.Outcome.TheVariants.{Repaired, Inconsistent}
 use Rattle.fg_desk.specs.declared.desk.Played.{Played}
@@ -51,6 +51,7 @@ reply_code NotStarted = 4
 reply_code BeforeStart = 5
 reply_code Ahead = 6
 reply_code Crowded = 7
+reply_code Foreign = 8
 
 abbrev pub reply_from : ℕ → Reply
 reply_from zero = Admitted
@@ -60,7 +61,8 @@ reply_from (suc (suc (suc zero))) = Late
 reply_from (suc (suc (suc (suc zero)))) = NotStarted
 reply_from (suc (suc (suc (suc (suc zero))))) = BeforeStart
 reply_from (suc (suc (suc (suc (suc (suc zero)))))) = Ahead
-reply_from _ = Crowded
+reply_from (suc (suc (suc (suc (suc (suc (suc zero))))))) = Crowded
+reply_from _ = Foreign
 
 abbrev pub outcome_code : Outcome → ℕ
 outcome_code Repaired = 0
@@ -76,7 +78,7 @@ abbrev pub played_code : Played → Entry
 played_code played = played.first ∷ played.count ∷ outcome_code played.verdict ∷ []
 
 abbrev pub call_code : Call → Entry
-call_code (media seq word reply) = 0 ∷ seq ∷ reply_code reply ∷ word_code word
+call_code (media seq ssrc word reply) = 0 ∷ seq ∷ ssrc ∷ reply_code reply ∷ word_code word
 call_code (parity given reply None) =
     1 ∷ given.base ∷ given.offset ∷ given.count ∷ reply_code reply ∷ word_code given.word
 call_code (parity given reply (Some key)) =
@@ -94,7 +96,7 @@ abbrev pub played_from : ℕ → ℕ → ℕ → Played
 played_from first count outcome = record { first = first; count = count; verdict = outcome_from outcome }
 
 abbrev pub call_from : Entry → Call
-call_from (zero ∷ seq ∷ reply ∷ word) = media seq (word_from word) (reply_from reply)
+call_from (zero ∷ seq ∷ ssrc ∷ reply ∷ word) = media seq ssrc (word_from word) (reply_from reply)
 call_from (suc zero ∷ base ∷ offset ∷ count ∷ reply ∷ word) =
     parity (parity_from base offset count word) (reply_from reply) None
 call_from (suc (suc zero) ∷ place ∷ serial ∷ epoch ∷ base ∷ offset ∷ count ∷ reply ∷ word) =

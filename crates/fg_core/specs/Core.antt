@@ -11,11 +11,11 @@ use Rattle.fg_peel.specs.Equation.{Equation, IsSettled}
 use Rattle.fg_playout.specs.declared.reply.Reply.{Reply}
 use Rattle.fg_desk.specs.declared.desk.Played.{Played}
 use Rattle.fg_playout.specs.State.{State, Live, opening}
-use Rattle.fg_playout.specs.Admission.{Parity, AdmitsMedia, AdmitsParity, IsDue}
+use Rattle.fg_playout.specs.Admission.{Parity, AdmitsMedia, AdmitsParity, IsDue, IsFresh}
 use Rattle.fg_playout.specs.Room.{HasRoom}
 use Rattle.fg_desk.specs.Contents.{AreSolved, known_in}
 use Rattle.fg_playout.specs.Facts.{Holds}
-use Rattle.fg_playout.specs.Play.{Play, Shown, IsPlay, Flushes}
+use Rattle.fg_playout.specs.Play.{Play, Shown, IsPlay, Flushes, HasMore}
 use Rattle.fg_core.specs.Board.{BoardState, JobState, IsLive, opened_board, GivesKey, AdmitsMediaOn, AdmitsParityOn, PlaysOn, FlushesOn, Takes, Publishes, Offers, Vouches, Attests, GivesBack, Looks}
 use Rattle.fg_core.specs.Views.{Told, word_at, equation_is, seen_of, IsWorked, IsChecked, told_of_job}
 use Rattle.fg_core.specs.declared.key.Key.{Key}
@@ -26,9 +26,10 @@ use Rattle.fg_core.specs.declared.fate.Look.TheVariants as looked
 
 -- The admitter's calls
 
--- A call of the admitter, with its arguments and its answer: a media datagram, a parity datagram, a play, a flush step.
+-- A call of the admitter, with its arguments and its answer: a media datagram of a sequence number and an SSRC, a parity
+-- datagram, a play, a flush step.
 pub data Call : Type 0 where
-  media : ℕ → Word → Reply → Call
+  media : ℕ → ℕ → Word → Reply → Call
   parity : Parity → Reply → Option Key → Call
   play : Played → Call
   flush : Option Played → Call
@@ -42,7 +43,7 @@ CountIs played shown = played.count ≡ length shown
 
 -- What a call makes of a desk that nobody else touches.
 abbrev pub IsCallOn : State → Call → State → Type 0
-IsCallOn old (media seq word reply) new = AdmitsMedia old seq word reply new
+IsCallOn old (media seq ssrc word reply) new = AdmitsMedia old seq ssrc word reply new
 IsCallOn old (parity given reply key) new = AdmitsParity old given reply new × GivesKey old reply key new
 IsCallOn old (play played) new =
     (shown : List Shown) × IsPlay old.playout.window old (play_of played shown) new × CountIs played shown
@@ -50,9 +51,10 @@ IsCallOn old (flush None) new = Flushes old None new
 IsCallOn old (flush (Some played)) new =
     (shown : List Shown) × Flushes old (Some (play_of played shown)) new × CountIs played shown
 
--- The conditions of a call.
+-- The conditions of a call. A datagram of a fresh SSRC begins a run, so nothing may be left to be shown.
 abbrev pub CanCallOn : State → Call → Type 0
-CanCallOn desk (media seq word reply) = HasRoom desk × (¬ IsDue desk seq) × IsMedia word
+CanCallOn desk (media seq ssrc word reply) =
+    HasRoom desk × (¬ IsDue desk seq ssrc) × (IsFresh desk ssrc → ¬ HasMore desk) × IsMedia word
 CanCallOn desk (parity given reply key) = HasRoom desk × IsShape given.offset given.count
 CanCallOn desk (play played) = HasRoom desk × IsSome desk.top
 CanCallOn desk (flush played) = HasRoom desk
@@ -65,7 +67,7 @@ AreCallsOn old (call ∷ calls) new =
 
 -- The key that a call gave was not given in a later epoch.
 abbrev pub KeyIsOf : ℕ → Call → Type 0
-KeyIsOf epoch (media seq word reply) = ⊤
+KeyIsOf epoch (media seq ssrc word reply) = ⊤
 KeyIsOf epoch (parity given reply None) = ⊤
 KeyIsOf epoch (parity given reply (Some key)) = key.epoch ≤ epoch
 KeyIsOf epoch (play played) = ⊤
@@ -93,7 +95,7 @@ CanCall board = CanCallOn board.desk.state
 
 -- What a call does to a board.
 abbrev pub IsCall : BoardState → Call → BoardState → Type 0
-IsCall old (media seq word reply) new = AdmitsMediaOn old seq word reply new
+IsCall old (media seq ssrc word reply) new = AdmitsMediaOn old seq ssrc word reply new
 IsCall old (parity given reply key) new = AdmitsParityOn old given reply key new
 IsCall old (play played) new =
     (shown : List Shown) × PlaysOn old (play_of played shown) new × CountIs played shown

@@ -5,8 +5,9 @@ ghost use Rattle.std.specs.FinMap.{get};
 ghost use Rattle.fg_words.specs.Word.{IsMedia};
 ghost use Rattle.fg_shape.specs.Shape.{IsShape};
 ghost use Rattle.fg_peel.specs.Equation.{IsSettled};
-ghost use Rattle.fg_playout.specs.State.{Live};
-ghost use Rattle.fg_playout.specs.Admission.{IsDue};
+ghost use Rattle.fg_playout.specs.State.{Live, current};
+ghost use Rattle.fg_playout.specs.Admission.{IsDue, IsFresh};
+ghost use Rattle.fg_playout.specs.Play.{HasMore};
 ghost use Rattle.fg_playout.specs.Room.{HasRoom};
 ghost use Rattle.fg_desk.specs.Contents.{CanFill, known_in};
 ghost use Rattle.fg_core.specs.Board.{opened_board, IsCurrent, IsHeld, AdmitsMediaOn, AdmitsParityOn, PlaysOn, FlushesOn, Takes, Offers, Publishes, Attests, Vouches, GivesBack, Looks, Asks, TellsReadable, with_vouched, VouchedAreComplete};
@@ -82,11 +83,32 @@ impl Flow {
         })
     }
 
-    /// The position and the sequence number of the farthest media datagram.
+    /// The position and the sequence number of the farthest media datagram of the current run.
     pub fn top(&self) -> Option<(u64, u16)>
-        ensures { option_map (λ top. record { position = top.0; seq = top.1 }) result ≡ self.now.desk.state.top }
+        ensures { result ≡ option_map (λ top. (top.position, top.seq)) self.now.desk.state.top }
     {
         self.held.desk.top()
+    }
+
+    /// The SSRC of the current run.
+    pub fn current(&self) -> Option<u32>
+        ensures { result ≡ current self.now.desk.state }
+    {
+        self.held.desk.current()
+    }
+
+    /// The SSRC of the run before, where there was one.
+    pub fn previous(&self) -> Option<u32>
+        ensures { result ≡ self.now.desk.state.previous }
+    {
+        self.held.desk.previous()
+    }
+
+    /// How many runs were begun.
+    pub fn runs(&self) -> u64
+        ensures { result ≡ self.now.desk.state.runs }
+    {
+        self.held.desk.runs()
     }
 
     /// The first position that isn't played yet.
@@ -104,14 +126,16 @@ impl Flow {
         self.held.desk.spare()
     }
 
-    /// Admits a media datagram, or says why not.
-    pub fn admit_media(&mut self, seq: u16, share: Shared) -> Reply
+    /// Admits a media datagram, or says why not. One of a fresh SSRC begins a run at the mark.
+    pub fn admit_media(&mut self, seq: u16, ssrc: u32, share: Shared) -> Reply
         requires room { HasRoom self.old.desk.state }
-        requires not_due { ¬ IsDue self.old.desk.state seq }
+        requires not_due { ¬ IsDue self.old.desk.state seq ssrc }
+        requires flushed { IsFresh self.old.desk.state ssrc → ¬ HasMore self.old.desk.state }
         requires media { IsMedia share }
-        ensures { AdmitsMediaOn self.old seq share result self.new }
+        ensures { AdmitsMediaOn self.old seq ssrc share result self.new }
     {
-        self.held.desk.admit_media(seq, share)
+        // Where a run begins all equations leave the desk. What is noted of them is void from then on.
+        self.held.desk.admit_media(seq, ssrc, share)
     }
 
     /// Admits a parity datagram's equation, with a key to it, or says why not.

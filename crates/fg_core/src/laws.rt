@@ -7,8 +7,8 @@ ghost use Rattle.fg_core.specs.Laws.{CoreHolds, LaterTurnsKeepCalls, ToldWordsAr
 
 use fg_peel::laws::{confluence, peelings_fill_the_closure, peelings_stay};
 use fg_playout::laws::{
-    admissions_add, facts_are_kept, live_equations, mark_makes_no_difference, one_outcome,
-    solved_stays_peeled,
+    admissions_add, facts_are_kept, live_equations, mark_makes_no_difference, nothing_is_left,
+    one_outcome, runs_begin, solved_stays_peeled,
 };
 
 /// A new board is what no calls make of it.
@@ -23,6 +23,8 @@ fn laws_of_calls()
     ensures { CallLaws }
 {
     facts_are_kept();
+    runs_begin();
+    nothing_is_left();
     admissions_add();
     peelings_stay();
     confluence();

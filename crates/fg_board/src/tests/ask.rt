@@ -24,7 +24,7 @@ fn row_of_four(
     let shape = Shape { offset: 1, na: 4 };
     let first = word_of(0).share(alloc)?;
     let parity = sum_of(0, shape).share(alloc)?;
-    let _ = admit::media(wait, board, admitter, 0, first);
+    let _ = admit::media(wait, board, admitter, 0, 0, first);
     match admit::parity(wait, board, admitter, 0, shape, parity) {
         Some((_, key)) => Ok(key),
         None => Ok(None),

@@ -5,12 +5,27 @@ use fg_shape::{Shape, shape_ok};
 use fg_words::Shared;
 use std::alloc::{AllocError, Global};
 
-/// Admits a media datagram. None where a play is due first, or the word is no media word.
-pub(super) fn media(desk: &mut Desk, seq: u16, share: Shared) -> Option<Reply> {
-    if !desk.room() || desk.due(seq) || !share.word().is_media() {
+/// Admits a media datagram. None where a play is due first, where a run begins and something is left to be shown first, or
+/// where the word is no media word.
+pub(super) fn media(desk: &mut Desk, seq: u16, ssrc: u32, share: Shared) -> Option<Reply> {
+    if desk.fresh(ssrc) {
+        return begin(desk, seq, ssrc, share);
+    }
+    if !desk.room() || desk.due(seq, ssrc) || !share.word().is_media() {
         return None;
     }
-    Some(desk.admit_media(seq, share))
+    Some(desk.admit_media(seq, ssrc, share))
+}
+
+// Admits a media datagram with which a run may begin.
+fn begin(desk: &mut Desk, seq: u16, ssrc: u32, share: Shared) -> Option<Reply> {
+    if !desk.room() || desk.flush_step_in_place().is_some() {
+        return None;
+    }
+    if !desk.room() || desk.due(seq, ssrc) || !share.word().is_media() {
+        return None;
+    }
+    Some(desk.admit_media(seq, ssrc, share))
 }
 
 /// Admits a parity datagram. None where there is no such shape.
@@ -21,14 +36,15 @@ pub(super) fn parity(desk: &mut Desk, base: u16, shape: Shape, share: Shared) ->
     Some(desk.admit_parity(base, shape, share))
 }
 
-/// Plays a window. None where no play is due before this sequence number.
+/// Plays a window. None where no play is due before this sequence number and SSRC.
 pub(super) fn play(
     desk: &mut Desk,
     alloc: Global,
     seq: u16,
+    ssrc: u32,
 ) -> Result<Option<(Played, Tray)>, AllocError> {
     let mut tray = Tray::new(alloc, 100)?;
-    if !desk.room() || !desk.due(seq) {
+    if !desk.room() || !desk.due(seq, ssrc) {
         return Ok(None);
     }
     let played = desk.play(&mut tray);

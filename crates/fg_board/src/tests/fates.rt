@@ -2,13 +2,13 @@
 
 use super::scene::Who::{A, B, C};
 use super::script::Step::{
-    Attest, BackAndAttest, BackAndOffer, Flush, GiveBack, Look, Media, Parity, Play, Publish, Run,
-    Take, Vouch,
+    Attest, BackAndAttest, BackAndOffer, Flush, From, GiveBack, Look, Media, Parity, Play, Publish,
+    Run, Take, Vouch,
 };
 use super::script::{FLIPPED, Sight, follows, to_show};
 use crate::Fate::{Beaten, Done, Gone};
 use fg_desk::Outcome::{Inconsistent, Repaired};
-use fg_desk::Reply::Admitted;
+use fg_desk::Reply::{Admitted, BeforeStart, Foreign};
 use std::test::Fail;
 
 #[test]
@@ -119,6 +119,42 @@ fn words_and_checks_of_jobs_given_back(rt: HostRuntime) -> Result<(), Fail> {
         BackAndAttest(B, true, Done),
         Take(C, Some((1, None))),
         Take(A, None),
+    ];
+    follows(&rt, rt.alloc(), &script)
+}
+
+#[test]
+fn jobs_where_a_run_begins(rt: HostRuntime) -> Result<(), Fail> {
+    let gone = Gone { mark: 16, epoch: 0 };
+    let script = [
+        Run(0, 16, 1 << 5),
+        Parity(4, 1, 4, 4, Admitted),
+        Parity(8, 1, 4, 8, Admitted),
+        // Two of its words are still to come.
+        Parity(12, 3, 4, 12, Admitted),
+        Take(A, Some((0, Some(5)))),
+        Take(B, Some((1, None))),
+        Vouch(B, true, Done),
+        Flush(to_show(Repaired, 16, 0, 1 << 5, 0)),
+        Look(C, 2, 12, Sight::Word),
+        // Another sender's run begins at the mark, without the equations of the one before.
+        From(1, 500, 16, Admitted),
+        Look(C, 2, 12, Sight::Gone(16, 0)),
+        Publish(A, gone),
+        Take(A, None),
+        Media(16, 16, Foreign),
+        Parity(499, 1, 4, 15, BeforeStart),
+        From(1, 501, 17, Admitted),
+        From(1, 503, 19, Admitted),
+        Parity(500, 1, 4, 16, Admitted),
+        Take(B, Some((3, Some(18)))),
+        Publish(B, Done),
+        Flush(to_show(Repaired, 4, 0, 1 << 2, 0)),
+        From(2, 10, 20, Admitted),
+        Flush(to_show(Repaired, 1, 0, 0, 0)),
+        // The first sender isn't the one before any more.
+        From(0, 16, 21, Admitted),
+        From(2, 11, 22, Foreign),
     ];
     follows(&rt, rt.alloc(), &script)
 }

@@ -7,7 +7,7 @@ use super::bare::same_plays;
 use super::scene::{Scene, Who};
 use super::script::word_of;
 use crate::{Fate, Look};
-use fg_desk::Desk;
+use fg_desk::{Desk, Reply};
 use fg_shape::Shape;
 use fg_words::Word;
 use rand_core::utils::NextWord;
@@ -26,10 +26,13 @@ const FLOWS: u32 = 20;
 /// How many steps a flow has before it is flushed.
 const STEPS: u32 = 120;
 
-/// The sequence number of position 0.
+/// The sequence number of position 0 in the first run.
 const FIRST: u16 = 65_500;
 
-/// How often passes were answered what.
+/// A flush has so many steps at most.
+const FLUSHES: u32 = 40;
+
+/// How often passes and the admitter were answered what.
 #[derive(Clone, Copy)]
 struct Came {
     done: u32,
@@ -37,6 +40,9 @@ struct Came {
     gone: u32,
     /// Gone, since a word that was solved was contradicted.
     withdrawn: u32,
+    /// Runs that were begun.
+    runs: u64,
+    foreign: u32,
 }
 
 /// A board, and a desk that takes the same.
@@ -45,6 +51,9 @@ struct Both {
     scene: Scene,
     desk: Desk,
     depth: u32,
+    /// The SSRC of the current run, and the sequence number that position 0 has in it.
+    ssrc: u32,
+    first: u16,
     came: Came,
 }
 
@@ -60,8 +69,9 @@ fn sent(position: u64) -> u32 {
     ((position % 65_536) as u32).wrapping_mul(0x9e37_79b1)
 }
 
-fn seq_of(position: u64) -> u16 {
-    FIRST.wrapping_add((position % 65_536) as u16)
+/// The sequence number of a position in the current run.
+fn seq_of(both: &Both, position: u64) -> u16 {
+    both.first.wrapping_add((position % 65_536) as u16)
 }
 
 /// The parity word of what was sent at these slots.
@@ -82,22 +92,23 @@ fn one_of(random: &mut Pcg32, count: u64) -> u64 {
     u64::from(random.next_word()) % count.max(1)
 }
 
-/// Both play a window where one is due before a sequence number. Whether they agree.
+/// Both play a window where one is due before a sequence number and SSRC. Whether they agree.
 fn both_play(
     wait: &impl Wait,
     alloc: Global,
     both: &mut Both,
     seq: u16,
+    ssrc: u32,
 ) -> Result<bool, AllocError> {
-    let due = both.scene.due(seq);
-    if due != both.desk.due(seq) {
+    let due = both.scene.due(seq, ssrc);
+    if due != both.desk.due(seq, ssrc) {
         return Ok(false);
     }
     if !due {
         return Ok(true);
     }
-    let shared = both.scene.play(wait, seq)?;
-    let alone = bare::play(&mut both.desk, alloc, seq)?;
+    let shared = both.scene.play(wait, seq, ssrc)?;
+    let alone = bare::play(&mut both.desk, alloc, seq, ssrc)?;
     Ok(shared.is_some() && same_plays(&shared, &alone))
 }
 
@@ -108,15 +119,26 @@ fn both_flush(wait: &impl Wait, alloc: Global, both: &mut Both) -> Result<bool, 
     Ok(same_plays(&shared, &alone))
 }
 
-/// Both play while a play is due before a sequence number.
+/// Both play while a play is due before a sequence number and SSRC.
 fn both_play_on(
     wait: &impl Wait,
     alloc: Global,
     both: &mut Both,
     seq: u16,
+    ssrc: u32,
 ) -> Result<bool, AllocError> {
     for _ in 0..4 {
-        if !both_play(wait, alloc, both, seq)? {
+        if !both_play(wait, alloc, both, seq, ssrc)? {
+            return Ok(false);
+        }
+    }
+    Ok(true)
+}
+
+/// Both are flushed. Whether they agree.
+fn both_flush_on(wait: &impl Wait, alloc: Global, both: &mut Both) -> Result<bool, AllocError> {
+    for _ in 0..FLUSHES {
+        if !both_flush(wait, alloc, both)? {
             return Ok(false);
         }
     }
@@ -133,23 +155,73 @@ fn arriving(random: &mut Pcg32, position: u64) -> Word {
     stamped(sent(position) ^ wrong)
 }
 
-/// A media datagram near the mark comes to both, after the plays that it makes due.
+/// Both admit a media datagram. Whether they agree.
+fn both_admit(
+    wait: &impl Wait,
+    alloc: Global,
+    both: &mut Both,
+    seq: u16,
+    ssrc: u32,
+    word: Word,
+) -> Result<bool, AllocError> {
+    let shared = both.scene.media(wait, seq, ssrc, word)?;
+    let alone = bare::media(&mut both.desk, seq, ssrc, word.share(alloc)?);
+    if shared == Some(Reply::Foreign) {
+        both.came.foreign = both.came.foreign.saturating_add(1);
+    }
+    Ok(shared.is_some() && shared == alone)
+}
+
+/// Both are flushed, and begin a run at the mark. Whether they agree.
+fn both_begin(
+    wait: &impl Wait,
+    alloc: Global,
+    both: &mut Both,
+    random: &mut Pcg32,
+    ssrc: u32,
+) -> Result<bool, AllocError> {
+    if !both_flush_on(wait, alloc, both)? {
+        return Ok(false);
+    }
+    let mark = both.desk.mark();
+    let seq = (random.next_word() % 65_536) as u16;
+    both.ssrc = ssrc;
+    both.first = seq.wrapping_sub((mark % 65_536) as u16);
+    both_admit(wait, alloc, both, seq, ssrc, arriving(random, mark))
+}
+
+/// Who sends: mostly the sender of the current run.
+fn sender(random: &mut Pcg32, current: u32) -> u32 {
+    match random.next_word() % 32 {
+        0 => current.wrapping_add(1),
+        1 | 2 => current.wrapping_sub(1),
+        _ => current,
+    }
+}
+
+/// A media datagram near the mark comes to both, after the plays that it makes due. Now and then another sender begins a run.
 fn both_take_media(
     wait: &impl Wait,
     alloc: Global,
     both: &mut Both,
     random: &mut Pcg32,
 ) -> Result<bool, AllocError> {
+    let ssrc = sender(random, both.ssrc);
+    let fresh = both.scene.fresh(ssrc);
+    if fresh != both.desk.fresh(ssrc) {
+        return Ok(false);
+    }
+    if fresh {
+        return both_begin(wait, alloc, both, random, ssrc);
+    }
     let near = one_of(random, u64::from(both.depth).saturating_add(6));
     let from_three = both.desk.mark().saturating_add(near);
-    let seq = seq_of(from_three).wrapping_sub(3);
-    if !both_play_on(wait, alloc, both, seq)? {
+    let seq = seq_of(both, from_three).wrapping_sub(3);
+    if !both_play_on(wait, alloc, both, seq, ssrc)? {
         return Ok(false);
     }
     let word = arriving(random, from_three.wrapping_sub(3));
-    let shared = both.scene.media(wait, seq, word)?;
-    let alone = bare::media(&mut both.desk, seq, word.share(alloc)?);
-    Ok(shared.is_some() && shared == alone)
+    both_admit(wait, alloc, both, seq, ssrc, word)
 }
 
 /// A parity datagram comes to both.
@@ -165,7 +237,7 @@ fn both_take_parity(
     };
     let near = one_of(random, u64::from(both.depth).saturating_add(10));
     let from_eight = both.desk.mark().saturating_add(near);
-    let seq = seq_of(from_eight).wrapping_sub(8);
+    let seq = seq_of(both, from_eight).wrapping_sub(8);
     let mut word = parity_of(from_eight.wrapping_sub(8), shape);
     if random.next_word() % 24 == 0 {
         word.ts ^= 1;
@@ -296,16 +368,15 @@ fn new_both(alloc: Global, window: u32, depth: u32, came: Came) -> Result<Both, 
         scene,
         desk,
         depth,
+        ssrc: 0,
+        first: FIRST,
         came,
     })
 }
 
 /// Both take the first datagram.
 fn both_start(wait: &impl Wait, alloc: Global, both: &mut Both) -> Result<bool, AllocError> {
-    let word = stamped(sent(0));
-    let shared = both.scene.media(wait, FIRST, word)?;
-    let alone = bare::media(&mut both.desk, FIRST, word.share(alloc)?);
-    Ok(shared.is_some() && shared == alone)
+    both_admit(wait, alloc, both, FIRST, 0, stamped(sent(0)))
 }
 
 fn steps(
@@ -316,13 +387,6 @@ fn steps(
 ) -> Result<(), Fail> {
     for i in 0..STEPS {
         assert!(rt; go_on(rt, alloc, both, random)?, "step {i}");
-    }
-    Ok(())
-}
-
-fn flush_steps(rt: &(impl Abort + Wait), alloc: Global, both: &mut Both) -> Result<(), Fail> {
-    for i in 0..30 {
-        assert!(rt; both_flush(rt, alloc, both)?, "flush step {i}");
     }
     Ok(())
 }
@@ -340,10 +404,17 @@ fn try_flow(
     let mut both = new_both(alloc, window, depth, came)?;
     assert!(rt; both_start(rt, alloc, &mut both)?);
     steps(rt, alloc, &mut both, random)?;
-    flush_steps(rt, alloc, &mut both)?;
-    let Both { scene, came, .. } = both;
+    assert!(rt; both_flush_on(rt, alloc, &mut both)?);
+    let Both {
+        scene,
+        desk,
+        came,
+        ..
+    } = both;
+    assert!(rt; scene.runs() == desk.runs());
+    let runs = came.runs.saturating_add(scene.runs());
     assert!(rt; scene.close());
-    Ok(came)
+    Ok(Came { runs, ..came })
 }
 
 /// All flows, and what passes were answered in them.
@@ -353,6 +424,8 @@ fn try_flows(rt: &(impl Abort + Wait), alloc: Global, random: &mut Pcg32) -> Res
         beaten: 0,
         gone: 0,
         withdrawn: 0,
+        runs: 0,
+        foreign: 0,
     };
     for _ in 0..FLOWS {
         came = try_flow(rt, alloc, came, random)?;
@@ -360,9 +433,10 @@ fn try_flows(rt: &(impl Abort + Wait), alloc: Global, random: &mut Pcg32) -> Res
     Ok(came)
 }
 
-/// Whether each answer came.
+/// Whether each answer came, and runs were begun beside the first one of each flow.
 fn all_came(came: Came) -> bool {
-    came.done > 0 && came.beaten > 0 && came.gone > 0 && came.withdrawn > 0
+    let passes = came.done > 0 && came.beaten > 0 && came.gone > 0 && came.withdrawn > 0;
+    passes && came.foreign > 0 && came.runs > u64::from(FLOWS)
 }
 
 #[test]

@@ -338,9 +338,19 @@ impl Scene {
         })
     }
 
-    /// Whether a play is due before a datagram of this sequence number.
-    pub(super) fn due(&self, seq: u16) -> bool {
-        self.admitter.due(seq)
+    /// Whether a play is due before a datagram of this sequence number and SSRC.
+    pub(super) fn due(&self, seq: u16, ssrc: u32) -> bool {
+        self.admitter.due(seq, ssrc)
+    }
+
+    /// Whether an SSRC is fresh.
+    pub(super) fn fresh(&self, ssrc: u32) -> bool {
+        self.admitter.fresh(ssrc)
+    }
+
+    /// How many runs were begun.
+    pub(super) fn runs(&self) -> u64 {
+        self.admitter.runs()
     }
 
     /// How many equations were admitted.
@@ -357,15 +367,22 @@ impl Scene {
         }
     }
 
-    /// Admits a media datagram. None where a play is due first, or the word is no media word.
+    /// Admits a media datagram. None where a play is due first, where a run begins and something is left to be shown first, or
+    /// where the word is no media word.
     pub(super) fn media(
         &mut self,
         wait: &impl Wait,
         seq: u16,
+        ssrc: u32,
         word: Word,
     ) -> Result<Option<Reply>, AllocError> {
         let share = word.share(self.alloc)?;
-        Ok(admit::media(wait, &self.board, &mut self.admitter, seq, share))
+        let (board, admitter) = (&self.board, &mut self.admitter);
+        if admitter.fresh(ssrc) {
+            admit::begin(wait, self.alloc, board, admitter, seq, ssrc, share)
+        } else {
+            Ok(admit::media(wait, board, admitter, seq, ssrc, share))
+        }
     }
 
     /// Admits a parity datagram. None where there is no such shape.
@@ -387,13 +404,14 @@ impl Scene {
         Ok(Some(reply))
     }
 
-    /// Plays a window. None where no play is due before this sequence number.
+    /// Plays a window. None where no play is due before this sequence number and SSRC.
     pub(super) fn play(
         &mut self,
         wait: &impl Wait,
         seq: u16,
+        ssrc: u32,
     ) -> Result<Option<(Played, Tray)>, AllocError> {
-        admit::play(wait, self.alloc, &self.board, &mut self.admitter, seq)
+        admit::play(wait, self.alloc, &self.board, &mut self.admitter, seq, ssrc)
     }
 
     /// Plays a flush step. None where there is none.

@@ -16,8 +16,10 @@ pub(super) const FLIPPED: u32 = 1 << 20;
 /// A call, and what is wanted of it. Words go by numbers.
 #[derive(Clone, Copy)]
 pub(super) enum Step {
-    /// A media datagram: its sequence number, its word, and the reply.
+    /// A media datagram of SSRC 0: its sequence number, its word, and the reply.
     Media(u16, u32, Reply),
+    /// A media datagram of any SSRC: the SSRC, its sequence number, its word, and the reply.
+    From(u32, u16, u32, Reply),
     /// Media datagrams that are all admitted: the first sequence number, how many, and which of them
     /// are lost. The words have the sequence numbers.
     Run(u16, u16, u128),
@@ -42,7 +44,7 @@ pub(super) enum Step {
     BackAndAttest(Who, bool, Fate),
     /// A look by the key of the equation of this serial number, at a position.
     Look(Who, usize, u64, Sight),
-    /// A play, which is due before a sequence number.
+    /// A play, which is due before a sequence number of SSRC 0.
     Play(u16, Shows),
     /// A flush step.
     Flush(Shows),
@@ -126,7 +128,7 @@ fn run_is_admitted(
     for i in 0..count {
         if lost >> (i % 128) & 1 == 0 {
             let seq = seq.wrapping_add(i);
-            let reply = scene.media(wait, seq, word_of(u32::from(seq)))?;
+            let reply = scene.media(wait, seq, 0, word_of(u32::from(seq)))?;
             admitted &= reply == Some(Reply::Admitted);
         }
     }
@@ -189,7 +191,10 @@ fn looks(scene: &mut Scene, wait: &impl Wait, who: Who, serial: usize, slot: u64
 fn answers(scene: &mut Scene, wait: &impl Wait, step: Step) -> Result<bool, AllocError> {
     match step {
         Step::Media(seq, number, want) => {
-            Ok(scene.media(wait, seq, word_of(number))? == Some(want))
+            Ok(scene.media(wait, seq, 0, word_of(number))? == Some(want))
+        }
+        Step::From(ssrc, seq, number, want) => {
+            Ok(scene.media(wait, seq, ssrc, word_of(number))? == Some(want))
         }
         Step::Run(seq, count, lost) => run_is_admitted(scene, wait, seq, count, lost),
         Step::Parity(base, offset, na, number, want) => {
@@ -199,7 +204,7 @@ fn answers(scene: &mut Scene, wait: &impl Wait, step: Step) -> Result<bool, Allo
         Step::Look(who, serial, slot, want) => {
             Ok(looks(scene, wait, who, serial, slot) == Some(want))
         }
-        Step::Play(seq, want) => Ok(is_shown(scene.play(wait, seq)?, want)),
+        Step::Play(seq, want) => Ok(is_shown(scene.play(wait, seq, 0)?, want)),
         Step::Flush(want) => Ok(is_shown(scene.flush(wait)?, want)),
         _ => is_brought(scene, wait, step),
     }

@@ -115,7 +115,7 @@ fn board_plays(
     ensures window { admitter.new.playout.window ≡ admitter.old.playout.window }
 {
     for _ in 0..WINDOWS {
-        let Some(done) = admit::play(wait, alloc, board, admitter, seq)? else {
+        let Some(done) = admit::play(wait, alloc, board, admitter, seq, 0)? else {
             break;
         };
         log.plays.push(done)?;
@@ -139,7 +139,7 @@ fn board_takes(
     let reply = match *datagram {
         Datagram::Media(seq, word) => {
             board_plays(wait, alloc, board, admitter, seq, log)?;
-            admit::media(wait, board, admitter, seq, word.share(alloc)?)
+            admit::media(wait, board, admitter, seq, 0, word.share(alloc)?)
         }
         Datagram::Parity(base, shape, word) => {
             let share = word.share(alloc)?;
@@ -210,7 +210,7 @@ fn board_is_fed<R: Wait + Clock>(
 
 fn desk_plays(desk: &mut Desk, alloc: Global, seq: u16, log: &mut Log) -> Result<(), AllocError> {
     for _ in 0..WINDOWS {
-        let Some(done) = bare::play(desk, alloc, seq)? else {
+        let Some(done) = bare::play(desk, alloc, seq, 0)? else {
             break;
         };
         log.plays.push(done)?;
@@ -227,7 +227,7 @@ fn desk_takes(
     let reply = match *datagram {
         Datagram::Media(seq, word) => {
             desk_plays(desk, alloc, seq, log)?;
-            bare::media(desk, seq, word.share(alloc)?)
+            bare::media(desk, seq, 0, word.share(alloc)?)
         }
         Datagram::Parity(base, shape, word) => bare::parity(desk, base, shape, word.share(alloc)?),
     };

@@ -33,7 +33,7 @@ pub(super) fn sum_of(base: u32, shape: Shape) -> Word {
     sum
 }
 
-/// Admits a media datagram. None where a play is due first, or the word is no media word.
+/// Admits a media datagram of SSRC 0. None where a play is due first, or the word is no media word.
 pub(super) fn send_media(
     wait: &impl Wait,
     board: &Board,
@@ -45,10 +45,13 @@ pub(super) fn send_media(
     ensures turn { admitter.new.seat.turn ≡ admitter.old.seat.turn }
     ensures window { admitter.new.playout.window ≡ admitter.old.playout.window }
 {
-    if !admitter.room() || admitter.due(seq) || !share.word().is_media() {
+    if admitter.fresh(0) {
         return None;
     }
-    Some(admitter.admit_media(wait, board, seq, share))
+    if !admitter.room() || admitter.due(seq, 0) || !share.word().is_media() {
+        return None;
+    }
+    Some(admitter.admit_media(wait, board, seq, 0, share))
 }
 
 /// Admits the media datagram that has the word of its sequence number. Whether it was admitted.
@@ -104,7 +107,7 @@ pub(super) fn admit_parity(
     Ok(send_parity(wait, board, admitter, base, shape, share))
 }
 
-/// Plays a window, with what it shows. None where no play is due before this sequence number.
+/// Plays a window, with what it shows. None where no play is due before this sequence number of SSRC 0.
 pub(super) fn play(
     wait: &impl Wait,
     alloc: Global,
@@ -118,7 +121,7 @@ pub(super) fn play(
     ensures window { admitter.new.playout.window ≡ admitter.old.playout.window }
 {
     let mut tray = Tray::new(alloc, 100)?;
-    if !admitter.room() || !admitter.due(seq) {
+    if !admitter.room() || !admitter.due(seq, 0) {
         return Ok(None);
     }
     let played = admitter.play(wait, board, &mut tray);

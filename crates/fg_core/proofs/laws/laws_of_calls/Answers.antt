@@ -4,6 +4,8 @@ pub returns : goal.returns
 returns c = record {
   facts = c.facts_are_kept.ensures;
   one = c.one_outcome.ensures;
+  fresh_is_decided = c.runs_begin.ensures.fresh;
+  nothing_is_peeled = c.nothing_is_left.ensures.peeled;
   media_adds = c.admissions_add.ensures.media;
   parity_adds = c.admissions_add.ensures.parity;
   take_words = c.peelings_stay.ensures.words;

@@ -20,6 +20,6 @@ invariant_of-result c =
       window = c.requires.window;
       depth = omega arith;
       own = ([], c.requires.calls, subst (λ (b : BoardState). IsOwned playout [] b) board owned);
-      knows = subst (λ (b : BoardState). Knows playout None 0 0 b.desk.state) board
-          (record { playout_is = refl; top_is = refl; mark_is = refl; calls_is = refl; top_limit = tt });
+      knows = subst (λ (b : BoardState). Knows playout None None 0 0 0 b.desk.state) board
+          (record { playout_is = refl; top_is = refl; previous_is = refl; runs_is = refl; mark_is = refl; calls_is = refl; top_limit = tt });
     }

@@ -15,10 +15,10 @@ returns c =
     let old : Contents = f.held.value.desk in
     let new : Contents = c.admit_media.new.self in
     let value = desk_of c.deref_mut.ensures.value in
-    let state = subst (λ (d : Contents). AdmitsMedia d.state c.args.seq c.args.share c.admit_media.result new.state) value c.admit_media.ensures.state in
-    let rest = subst (λ (d : Contents). IsAfterArrival d c.args.seq c.args.share c.admit_media.result new) value c.admit_media.ensures.rest in
-    let follows : Follows old new = media_follows old new c.self.invariant.bare c.args.seq c.args.share c.admit_media.result state rest in
-    subst (λ (notes : List Note). AdmitsMediaOn c.args.self.now c.args.seq c.args.share c.admit_media.result (board_of new notes))
+    let state = subst (λ (d : Contents). AdmitsMedia d.state c.args.seq c.args.ssrc c.args.share c.admit_media.result new.state) value c.admit_media.ensures.state in
+    let rest = subst (λ (d : Contents). IsAfterArrival d c.args.seq c.args.ssrc c.args.share c.admit_media.result new) value c.admit_media.ensures.rest in
+    let follows : Follows old new = media_follows old new c.self.invariant.bare c.args.seq c.args.ssrc c.args.share c.admit_media.result state rest in
+    subst (λ (notes : List Note). AdmitsMediaOn c.args.self.now c.args.seq c.args.ssrc c.args.share c.admit_media.result (board_of new notes))
     (sym (notes_of c.deref_mut.ensures.value))
-    (subst (λ (b : BoardState). AdmitsMediaOn b c.args.seq c.args.share c.admit_media.result (board_of new f.held.value.notes)) c.self.view_is
+    (subst (λ (b : BoardState). AdmitsMediaOn b c.args.seq c.args.ssrc c.args.share c.admit_media.result (board_of new f.held.value.notes)) c.self.view_is
     (record { state = state; solved = rest; notes = keeps_notes f.held.value.notes old new c.self.invariant follows }))
