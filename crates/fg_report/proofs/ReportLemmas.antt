@@ -1,10 +1,10 @@
 -- A report's text tells its counts.
-use Rattle.std.proofs.Common.{◌≡◌, ◌≢◌, ℕ, List, [], ◌∷◌, ◌++◌, map, get_or, codes, refl, sym, ap, ◌∙◌, subst, arith, append_assoc}
+use Rattle.std.proofs.Common.{◌≡◌, ◌≢◌, ℕ, Bool, true, false, cond, nat_lt, List, [], ◌∷◌, ◌++◌, map, get_or, codes, refl, sym, ap, ◌∙◌, subst, arith, append_assoc}
 use Rattle.std.specs.Fmt.{decimal}
 use Rattle.std.specs.List.{flat_map}
 use Rattle.fg_report.specs.Fits.{Fits, MarksFit, GapsFit, FlowFits, FlowsFit, TailFits}
-use Rattle.fg_report.specs.Laws.{told, TextNamesItsCounts}
-use Rattle.fg_report.specs.Text.{flow_counts, media_counts, parity_counts, flow_line, media_line, parity_line, gap_line, flow_lines, flow_text, other_line, tail_text}
+use Rattle.fg_report.specs.Laws.{told, told_of_runs, TextNamesItsCounts}
+use Rattle.fg_report.specs.Text.{flow_counts, media_counts, parity_counts, flow_line, media_line, parity_line, runs_line, gap_line, flow_lines, flow_text, other_line, tail_text}
 use Rattle.fg_report.specs.declared.marks.Marks.{Marks}
 use Rattle.fg_report.specs.declared.flow_sum.FlowSum.{FlowSum}
 use Rattle.fg_report.specs.declared.tail.Tail.{Tail}
@@ -27,10 +27,11 @@ marks_of counts = record {
   ahead = (get_or counts 6 (([]), 0)).1;
   crowded = (get_or counts 7 (([]), 0)).1;
   bad = (get_or counts 8 (([]), 0)).1;
+  foreign = 0;
 }
 
-media_of : List (List ℕ × ℕ) → Marks
-media_of counts = record {
+media_of : List (List ℕ × ℕ) → ℕ → Marks
+media_of counts foreign = record {
   admitted = (get_or counts 0 (([]), 0)).1;
   duplicate = (get_or counts 1 (([]), 0)).1;
   conflict = (get_or counts 2 (([]), 0)).1;
@@ -40,38 +41,45 @@ media_of counts = record {
   ahead = 0;
   crowded = 0;
   bad = (get_or counts 4 (([]), 0)).1;
+  foreign = foreign;
 }
 
--- what a flow's five lists of numbers tell of it
-flow_of : ℕ → List (List ℕ × ℕ) → List (List ℕ × ℕ) → List (List ℕ × ℕ) → List (List ℕ × ℕ) → List (ℕ × ℕ) → FlowSum
-flow_of port counts media column row gaps = record {
+-- what a flow's five lists of numbers and the two of its runs tell of it
+flow_of :
+    ℕ → List (List ℕ × ℕ) → List (List ℕ × ℕ) → List (List ℕ × ℕ) → List (List ℕ × ℕ) → List (ℕ × ℕ) → ℕ → ℕ → FlowSum
+flow_of port counts media column row gaps runs foreign = record {
   port = port;
   shown = (get_or counts 0 (([]), 0)).1;
   repaired = (get_or counts 1 (([]), 0)).1;
   missing = (get_or counts 2 (([]), 0)).1;
   windows = (get_or counts 3 (([]), 0)).1;
   inconsistent = (get_or counts 4 (([]), 0)).1;
-  media = media_of media;
+  media = media_of media foreign;
   column = marks_of column;
   row = marks_of row;
+  runs = runs;
   gaps = gaps;
 }
 
 flow_of_told : (f : FlowSum)
-    → flow_of f.port (flow_counts f) (media_counts f.media) (parity_counts f.column) (parity_counts f.row) f.gaps ≡ told f
+    → flow_of f.port (flow_counts f) (media_counts f.media) (parity_counts f.column) (parity_counts f.row) f.gaps
+    (told_of_runs f f.runs) (told_of_runs f f.media.foreign) ≡ told f
 unfolding flow_of media_of marks_of
 flow_of_told f = refl
 
-all_same : {A B C : Type 0} (F : ℕ → A → A → A → A → B → C) (p q : ℕ) (a b c d a' b' c' d' : A) (g h : B)
-    → p ≡ q → a ≡ a' → b ≡ b' → c ≡ c' → d ≡ d' → g ≡ h → F p a b c d g ≡ F q a' b' c' d' h
-all_same F p q a b c d a' b' c' d' g h ep ea eb ec ed eg = cc
+all_same : {A B C : Type 0} (F : ℕ → A → A → A → A → B → ℕ → ℕ → C) (p q : ℕ) (a b c d a' b' c' d' : A) (g h : B) (m n k l : ℕ)
+    → p ≡ q → a ≡ a' → b ≡ b' → c ≡ c' → d ≡ d' → g ≡ h → m ≡ n → k ≡ l → F p a b c d g m k ≡ F q a' b' c' d' h n l
+all_same F p q a b c d a' b' c' d' g h m n k l ep ea eb ec ed eg em ek = cc
 
 told_same : (f g : FlowSum) → f.port ≡ g.port → flow_counts f ≡ flow_counts g → media_counts f.media ≡ media_counts g.media
-    → parity_counts f.column ≡ parity_counts g.column → parity_counts f.row ≡ parity_counts g.row → f.gaps ≡ g.gaps → told f ≡ told g
-told_same f g port counts media column row gaps =
+    → parity_counts f.column ≡ parity_counts g.column → parity_counts f.row ≡ parity_counts g.row → f.gaps ≡ g.gaps
+    → told_of_runs f f.runs ≡ told_of_runs g g.runs → told_of_runs f f.media.foreign ≡ told_of_runs g g.media.foreign → told f ≡ told g
+told_same f g port counts media column row gaps runs foreign =
     sym (flow_of_told f)
     ∙ all_same flow_of f.port g.port (flow_counts f) (media_counts f.media) (parity_counts f.column) (parity_counts f.row)
-    (flow_counts g) (media_counts g.media) (parity_counts g.column) (parity_counts g.row) f.gaps g.gaps port counts media column row gaps
+    (flow_counts g) (media_counts g.media) (parity_counts g.column) (parity_counts g.row) f.gaps g.gaps
+    (told_of_runs f f.runs) (told_of_runs g g.runs) (told_of_runs f f.media.foreign) (told_of_runs g g.media.foreign)
+    port counts media column row gaps runs foreign
     ∙ flow_of_told g
 
 -- each line, cut off
@@ -126,27 +134,86 @@ gaps_cut p q (g ∷ gs) (h ∷ hs) r s fp fq fg fh nr ns e =
     let one : g ≡ h = ap (λ x. (x, g.1)) first.0 ∙ ap (λ y. (h.0, y)) count.0 in
     (ap (λ x. x ∷ gs) one ∙ ap (λ t. h ∷ t) rest.0, rest.1)
 
+-- what does not begin as the line of a flow's runs
+abbrev NoRuns : List ℕ → Type 0
+NoRuns [] = Unit {0}
+NoRuns (x ∷ xs) = x ≢ 114
+
+-- that line, where it is there
+runs_text : ℕ → ℕ → ℕ → List ℕ
+runs_text port runs foreign =
+    codes "runs " ++ decimal port ++ codes " " ++ decimal runs ++ codes " foreign " ++ decimal foreign ++ codes "\n"
+
+runs_right : (p runs foreign : ℕ) (r : List ℕ) → runs_text p runs foreign ++ r
+    ≡ codes "runs " ++ (decimal p ++ (32 ∷ (decimal runs ++ (codes " foreign " ++ (decimal foreign ++ (10 ∷ r))))))
+unfolding runs_text
+runs_right p runs foreign r = simp append_assoc
+
+-- what it tells where it is left out or there
+abbrev told_where : Bool → ℕ → ℕ
+told_where none count = cond none 0 count
+
+abbrev text_where : Bool → ℕ → ℕ → ℕ → List ℕ
+text_where none port runs foreign = cond none [] (runs_text port runs foreign)
+
+-- the numbers of one flow's runs, and those of another's
+record RunsFit (p m k : ℕ) : Type 0 where
+  port : Fits p
+  runs : Fits m
+  foreign : Fits k
+
+text_where_cut : (none none' : Bool) (p q m n k l : ℕ) (r s : List ℕ) → RunsFit p m k → RunsFit q n l → NoRuns r → NoRuns s
+    → text_where none p m k ++ r ≡ text_where none' q n l ++ s
+    → (told_where none m ≡ told_where none' n) × (told_where none k ≡ told_where none' l) × (r ≡ s)
+text_where_cut true true p q m n k l r s fp fq nr ns e = (refl, refl, e)
+text_where_cut true false p q m n k l r s fp fq nr ns e = let bad = subst NoRuns (e ∙ runs_right q n l s) nr in absurd (bad refl)
+text_where_cut false true p q m n k l r s fp fq nr ns e = let bad = subst NoRuns (sym e ∙ runs_right p m k r) ns in absurd (bad refl)
+text_where_cut false false p q m n k l r s fp fq nr ns e =
+    let R = codes " foreign " ++ (decimal k ++ (10 ∷ r)) in
+    let S = codes " foreign " ++ (decimal l ++ (10 ∷ s)) in
+    let port = number_cut p q (32 ∷ (decimal m ++ R)) (32 ∷ (decimal n ++ S)) fp.port fq.port (omega arith) (omega arith)
+    (cancel (codes "runs ") _ _ (sym (runs_right p m k r) ∙ e ∙ runs_right q n l s)) in
+    let runs = number_cut m n R S fp.runs fq.runs (omega arith) (omega arith) (tail_same 32 32 _ _ port.1) in
+    let foreign = number_cut k l (10 ∷ r) (10 ∷ s) fp.foreign fq.foreign (omega arith) (omega arith)
+    (cancel (codes " foreign ") _ _ runs.1) in
+    (runs.0, foreign.0, tail_same 10 10 r s foreign.1)
+
+runs_cut : (f g : FlowSum) (r s : List ℕ) → FlowFits f → FlowFits g → NoRuns r → NoRuns s → runs_line f ++ r ≡ runs_line g ++ s
+    → (told_of_runs f f.runs ≡ told_of_runs g g.runs)
+    × (told_of_runs f f.media.foreign ≡ told_of_runs g g.media.foreign) × (r ≡ s)
+unfolding runs_line runs_text
+runs_cut f g r s ff fg nr ns e =
+    text_where_cut (nat_lt f.runs 2) (nat_lt g.runs 2) f.port g.port f.runs g.runs f.media.foreign g.media.foreign r s
+    (record { port = ff.port; runs = ff.runs; foreign = ff.media.foreign })
+    (record { port = fg.port; runs = fg.runs; foreign = fg.media.foreign }) nr ns e
+
 -- the lines of a flow, one after another
-five_right : (a b c d g r : List ℕ) → (a ++ b ++ c ++ d ++ g) ++ r ≡ a ++ (b ++ (c ++ (d ++ (g ++ r))))
-five_right a b c d g r = simp append_assoc
+six_right : (a b c d h g r : List ℕ) → (a ++ b ++ c ++ d ++ h ++ g) ++ r ≡ a ++ (b ++ (c ++ (d ++ (h ++ (g ++ r)))))
+six_right a b c d h g r = simp append_assoc
 
 flow_right : (f : FlowSum) (r : List ℕ) → flow_text f ++ r
     ≡ flow_line f ++ (media_line f.port f.media ++ (parity_line (codes "column") f.port f.column
-    ++ (parity_line (codes "row") f.port f.row ++ (flat_map (gap_line f.port) f.gaps ++ r))))
+    ++ (parity_line (codes "row") f.port f.row ++ (runs_line f ++ (flat_map (gap_line f.port) f.gaps ++ r)))))
 unfolding flow_lines
 flow_right f r =
-    five_right (flow_line f) (media_line f.port f.media) (parity_line (codes "column") f.port f.column)
-    (parity_line (codes "row") f.port f.row) (flat_map (gap_line f.port) f.gaps) r
+    six_right (flow_line f) (media_line f.port f.media) (parity_line (codes "column") f.port f.column)
+    (parity_line (codes "row") f.port f.row) (runs_line f) (flat_map (gap_line f.port) f.gaps) r
 
-text_cut : (f g : FlowSum) (r s : List ℕ) → FlowFits f → FlowFits g → NoGap r → NoGap s → flow_text f ++ r ≡ flow_text g ++ s
-    → (told f ≡ told g) × (r ≡ s)
-text_cut f g r s ff fg nr ns e =
+-- what follows a flow's runs
+gaps_no_runs : (p : ℕ) (gs : List (ℕ × ℕ)) (r : List ℕ) → NoRuns r → NoRuns (flat_map (gap_line p) gs ++ r)
+gaps_no_runs p [] r none = none
+gaps_no_runs p (g ∷ gs) r none = subst NoRuns (sym (gap_right p g gs r)) (λ e. absurd (omega (arith, e)))
+
+text_cut : (f g : FlowSum) (r s : List ℕ) → FlowFits f → FlowFits g → NoGap r → NoGap s → NoRuns r → NoRuns s
+    → flow_text f ++ r ≡ flow_text g ++ s → (told f ≡ told g) × (r ≡ s)
+text_cut f g r s ff fg nr ns or os e =
     let own = flow_cut f g _ _ ff fg (sym (flow_right f r) ∙ e ∙ flow_right g s) in
     let media = media_cut f.port g.port f.media g.media _ _ ff.port fg.port ff.media fg.media own.2 in
     let column = parity_cut (codes "column") f.port g.port f.column g.column _ _ ff.port fg.port ff.column fg.column media.1 in
     let row = parity_cut (codes "row") f.port g.port f.row g.row _ _ ff.port fg.port ff.row fg.row column.1 in
-    let gaps = gaps_cut f.port g.port f.gaps g.gaps r s ff.port fg.port ff.gaps fg.gaps nr ns row.1 in
-    (told_same f g own.0 own.1 media.0 column.0 row.0 gaps.0, gaps.1)
+    let runs = runs_cut f g _ _ ff fg (gaps_no_runs f.port f.gaps r or) (gaps_no_runs g.port g.gaps s os) row.1 in
+    let gaps = gaps_cut f.port g.port f.gaps g.gaps r s ff.port fg.port ff.gaps fg.gaps nr ns runs.2 in
+    (told_same f g own.0 own.1 media.0 column.0 row.0 gaps.0 runs.0 runs.1, gaps.1)
 
 -- what a text begins with
 first_of : List ℕ → ℕ
@@ -170,6 +237,11 @@ unfolding first_of
 no_gap [] other = tt
 no_gap (x ∷ xs) other = other
 
+no_runs : (t : List ℕ) → first_of t ≢ 114 → NoRuns t
+unfolding first_of
+no_runs [] other = tt
+no_runs (x ∷ xs) other = other
+
 -- what follows a flow
 abbrev flows_end : List FlowSum → ℕ → List ℕ → List ℕ
 flows_end flows other tail = flat_map flow_text flows ++ (other_line other ++ tail)
@@ -180,6 +252,11 @@ more_right f fs other tail = append_assoc (flow_text f) (flat_map flow_text fs) 
 end_no_gap : (fs : List FlowSum) (other : ℕ) (tail : List ℕ) → NoGap (flows_end fs other tail)
 end_no_gap [] other tail = no_gap (other_line other ++ tail) (λ e. let first = other_first other tail in absurd (omega (arith, e, first)))
 end_no_gap (f ∷ fs) other tail = no_gap (flows_end (f ∷ fs) other tail)
+    (λ e. let first = ap first_of (more_right f fs other tail) ∙ flow_first f (flows_end fs other tail) in absurd (omega (arith, e, first)))
+
+end_no_runs : (fs : List FlowSum) (other : ℕ) (tail : List ℕ) → NoRuns (flows_end fs other tail)
+end_no_runs [] other tail = no_runs (other_line other ++ tail) (λ e. let first = other_first other tail in absurd (omega (arith, e, first)))
+end_no_runs (f ∷ fs) other tail = no_runs (flows_end (f ∷ fs) other tail)
     (λ e. let first = ap first_of (more_right f fs other tail) ∙ flow_first f (flows_end fs other tail) in absurd (omega (arith, e, first)))
 
 -- the end
@@ -217,6 +294,7 @@ flows_cut (f ∷ fs) [] other number t u ff fg fo fn e =
     absurd (omega (arith, first))
 flows_cut (f ∷ fs) (g ∷ gs) other number t u ff fg fo fn e =
     let one = text_cut f g (flows_end fs other t) (flows_end gs number u) ff.0 fg.0 (end_no_gap fs other t) (end_no_gap gs number u)
+    (end_no_runs fs other t) (end_no_runs gs number u)
     (sym (more_right f fs other t) ∙ e ∙ more_right g gs number u) in
     let rest = flows_cut fs gs other number t u ff.1 fg.1 fo fn one.1 in
     (ap (λ x. x ∷ map told fs) one.0 ∙ ap (λ xs. told g ∷ xs) rest.0, rest.1, rest.2)

@@ -20,6 +20,7 @@ pub record MarksFit (marks : Marks) : Type 0 where
   pub ahead : Fits marks.ahead
   pub crowded : Fits marks.crowded
   pub bad : Fits marks.bad
+  pub foreign : Fits marks.foreign
 
 -- all runs,
 abbrev pub GapsFit : List (ℕ × ℕ) → Type 0
@@ -37,6 +38,7 @@ pub record FlowFits (flow : FlowSum) : Type 0 where
   pub media : MarksFit flow.media
   pub column : MarksFit flow.column
   pub row : MarksFit flow.row
+  pub runs : Fits flow.runs
   pub gaps : GapsFit flow.gaps
 
 -- of all flows,

@@ -1,5 +1,5 @@
 -- What shows that the definitions of this crate are right.
-use Rattle.std.specs.Prelude.{◌≡◌, ◌⊎◌, ◌↔◌, ℕ, ◌+◌, ◌<◌, ◌≤◌, List, map}
+use Rattle.std.specs.Prelude.{◌≡◌, ◌⊎◌, ◌↔◌, ℕ, ◌+◌, ◌<◌, ◌≤◌, List, map, nat_lt, if◌then◌else◌}
 use Rattle.fg_report.specs.Fits.{Fits, FlowsFit, TailFits}
 use Rattle.fg_report.specs.Gaps.{with_gap, gaps_end, AreApart, IsInGap}
 use Rattle.fg_report.specs.Text.{report_of}
@@ -22,9 +22,25 @@ GapsHold = (runs : List (ℕ × ℕ)) (first count position : ℕ)
     → (IsInGap (with_gap runs first count) position
     ↔ (IsInGap runs position ⊎ ((first ≤ position) × (position < first + count))))
 
--- what the report tells of a flow: all of it, but for the replies that no media datagram gets
+-- a count that is told only where a flow has two runs or more
+abbrev pub told_of_runs : FlowSum → ℕ → ℕ
+told_of_runs flow count = (if nat_lt flow.runs 2 then 0 else count)
+
+-- what the report tells of a flow: all of it, but for the replies that no datagram of a kind gets, and the runs and the foreign
+-- datagrams of a flow of fewer than two runs
 abbrev pub told : FlowSum → FlowSum
-told flow = record flow { media = record flow.media { not_started = 0; before_start = 0; ahead = 0; crowded = 0 } }
+told flow = record flow {
+  media = record flow.media {
+    not_started = 0;
+    before_start = 0;
+    ahead = 0;
+    crowded = 0;
+    foreign = told_of_runs flow flow.media.foreign;
+  };
+  column = record flow.column { foreign = 0 };
+  row = record flow.row { foreign = 0 };
+  runs = told_of_runs flow flow.runs;
+}
 
 -- two reports with one text tell the same
 abbrev pub TextNamesItsCounts : Type 0

@@ -1,5 +1,5 @@
 -- The report: exactly the text that a run of the gateway prints. This project's own.
-use Rattle.std.specs.Prelude.{ℕ, List, [], ◌∷◌, ◌++◌, codes}
+use Rattle.std.specs.Prelude.{ℕ, List, [], ◌∷◌, ◌++◌, codes, nat_lt, if◌then◌else◌}
 use Rattle.std.specs.Fmt.{decimal}
 use Rattle.std.specs.List.{flat_map}
 use Rattle.fg_report.specs.declared.marks.Marks.{Marks}
@@ -59,18 +59,26 @@ media_line port marks = line_of (codes "media") port (media_counts marks)
 unfoldable pub parity_line : List ℕ → ℕ → Marks → List ℕ
 parity_line kind port marks = line_of kind port (parity_counts marks)
 
+-- The line of a flow whose sender was restarted: how many runs were begun, and how many datagrams came of the sender before the
+-- current one. A flow of one run has none.
+unfoldable pub runs_line : FlowSum → List ℕ
+runs_line flow =
+    (if nat_lt flow.runs 2 then [] else codes "runs " ++ decimal flow.port ++ codes " " ++ decimal flow.runs
+    ++ codes " foreign " ++ decimal flow.media.foreign ++ codes "\n")
+
 -- The line of a run of positions that show nothing: its first position, and how many they are.
 unfoldable pub gap_line : ℕ → ℕ × ℕ → List ℕ
 gap_line port gap =
     codes "gap " ++ decimal port ++ codes " " ++ decimal gap.0 ++ codes " " ++ decimal gap.1 ++ codes "\n"
 
--- The four lines that every flow has.
+-- The four lines that every flow has, and the one of its runs.
 unfoldable pub flow_lines : FlowSum → List ℕ
 flow_lines flow =
     flow_line flow
     ++ media_line flow.port flow.media
     ++ parity_line (codes "column") flow.port flow.column
     ++ parity_line (codes "row") flow.port flow.row
+    ++ runs_line flow
 
 -- All lines of a flow.
 abbrev pub flow_text : FlowSum → List ℕ

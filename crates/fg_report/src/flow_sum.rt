@@ -24,6 +24,8 @@ pub struct FlowSum {
     pub column: Marks,
     /// The replies to its row parity datagrams.
     pub row: Marks,
+    /// How many runs of a sender were begun.
+    pub runs: u64,
     /// The runs of played positions that show none.
     pub gaps: Gaps,
 }

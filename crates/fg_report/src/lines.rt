@@ -1,7 +1,7 @@
 //! The lines of the report, each pushed to a text.
 ghost use Rattle.std.specs.Prelude.{◌≡◌, ◌++◌, OnOk, codes, map};
 ghost use Rattle.std.specs.Fmt.{decimal};
-ghost use Rattle.fg_report.specs.Text.{counts_text, line_of, flow_line, media_line, parity_line, gap_line, flow_lines, other_line, tail_text};
+ghost use Rattle.fg_report.specs.Text.{counts_text, line_of, flow_line, media_line, parity_line, runs_line, gap_line, flow_lines, other_line, tail_text};
 
 use crate::flow_sum::FlowSum;
 use crate::marks::Marks;
@@ -124,7 +124,25 @@ fn push_parity_line(
     )
 }
 
-/// Pushes the four lines that every flow has.
+/// Pushes the line of a flow's runs, where there are two or more.
+#[tactic(auto, unfolding(crate::specs::Text::runs_line))]
+fn push_runs_line(text: &mut Vec<u8>, flow: &FlowSum) -> Result<(), AllocError>
+    ensures { OnOk result (text.new.items ≡ text.old.items ++ runs_line flow.now) }
+{
+    if flow.runs < 2 {
+        return Ok(());
+    }
+    text.extend_from_slice(b"runs ")?;
+    push_number(text, u64::from(flow.port))?;
+    text.push(b' ')?;
+    push_number(text, flow.runs)?;
+    text.extend_from_slice(b" foreign ")?;
+    push_number(text, flow.media.foreign)?;
+    text.push(b'\n')?;
+    Ok(())
+}
+
+/// Pushes the four lines that every flow has, and the one of its runs.
 #[tactic(auto, unfolding(crate::specs::Text::flow_lines))]
 pub(crate) fn push_flow_lines(text: &mut Vec<u8>, flow: &FlowSum) -> Result<(), AllocError>
     ensures { OnOk result (text.new.items ≡ text.old.items ++ flow_lines flow.now) }
@@ -132,7 +150,8 @@ pub(crate) fn push_flow_lines(text: &mut Vec<u8>, flow: &FlowSum) -> Result<(), 
     push_flow_line(text, flow)?;
     push_media_line(text, flow.port, &flow.media)?;
     push_parity_line(text, "column", flow.port, &flow.column)?;
-    push_parity_line(text, "row", flow.port, &flow.row)
+    push_parity_line(text, "row", flow.port, &flow.row)?;
+    push_runs_line(text, flow)
 }
 
 /// Pushes the line of a run of positions that show nothing.

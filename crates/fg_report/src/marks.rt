@@ -1,6 +1,7 @@
 //! The counters of one kind of datagrams.
 
-/// How many datagrams of a kind got each reply. Media datagrams get the first four only, and `bad`.
+/// How many datagrams of a kind got each reply. Media datagrams get the first four only, `bad` and `foreign`, which parity
+/// datagrams don't get.
 #[derive(Clone, Copy, Debug, PartialEq, Eq, Default)]
 pub struct Marks {
     /// Taken.
@@ -13,7 +14,7 @@ pub struct Marks {
     pub late: u64,
     /// Parity before the first media datagram.
     pub not_started: u64,
-    /// Parity of positions before the first one.
+    /// Parity of positions before those of the run.
     pub before_start: u64,
     /// Parity too far ahead of the window.
     pub ahead: u64,
@@ -21,4 +22,6 @@ pub struct Marks {
     pub crowded: u64,
     /// Refused by the reader of its format.
     pub bad: u64,
+    /// Of the sender of the run before.
+    pub foreign: u64,
 }

@@ -16,7 +16,7 @@ use std::alloc::Global;
 /// How many bytes of the text are gathered before they are written.
 const ROOM: usize = 16_384;
 
-/// Room for a flow's four lines, which are made at once.
+/// Room for a flow's four or five lines, which are made at once.
 const LINES: usize = 1_024;
 
 /// Writes the line of a run of positions that show nothing, or holds it. It is made in `text`.

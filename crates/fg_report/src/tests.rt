@@ -16,11 +16,12 @@ fn marks(before: u8) -> Marks {
         ahead: before + 7,
         crowded: before + 8,
         bad: before + 9,
+        foreign: before + 10,
     }
 }
 
-/// A flow all of whose counters differ.
-fn flow(port: u16, gaps: Gaps) -> FlowSum {
+/// A flow all of whose counters differ, with so many runs.
+fn flow(port: u16, runs: u64, gaps: Gaps) -> FlowSum {
     FlowSum {
         port,
         shown: 1,
@@ -31,6 +32,7 @@ fn flow(port: u16, gaps: Gaps) -> FlowSum {
         media: marks(10),
         column: marks(20),
         row: marks(30),
+        runs,
         gaps,
     }
 }
@@ -57,7 +59,7 @@ fn many_gaps(alloc: Global, count: u16) -> Result<Gaps, AllocError> {
 fn many_flows(alloc: Global, count: u16) -> Result<Vec<FlowSum>, AllocError> {
     let mut flows = Vec::new(alloc);
     for port in 0..count {
-        flows.push(flow(port, Gaps::new(alloc)))?;
+        flows.push(flow(port, 1, Gaps::new(alloc)))?;
     }
     Ok(flows)
 }
@@ -66,6 +68,7 @@ const FLOW: &str = "flow 5000 shown 1 repaired 2 missing 3 windows 4 inconsisten
 media 5000 admitted 11 duplicate 12 conflict 13 late 14 bad 19
 column 5000 admitted 21 duplicate 22 conflict 23 late 24 notstarted 25 beforestart 26 ahead 27 crowded 28 bad 29
 row 5000 admitted 31 duplicate 32 conflict 33 late 34 notstarted 35 beforestart 36 ahead 37 crowded 38 bad 39
+runs 5000 2 foreign 20
 gap 5000 197 5
 gap 5000 203 1
 other 6
@@ -75,7 +78,7 @@ cut at byte 77
 #[test]
 fn tells_all_counters(rt: HostRuntime) -> Result<(), Fail> {
     let alloc = rt.alloc();
-    let flows = [flow(5000, three_gaps(alloc)?)];
+    let flows = [flow(5000, 2, three_gaps(alloc)?)];
     let mut out = MemSink::new(alloc, 1000, &[])?;
     assert_eq!(rt;
         write_report(alloc, &flows, 6, Tail::Cut(77), &mut out),
@@ -140,7 +143,7 @@ fn tells_64_flows(rt: HostRuntime) -> Result<(), Fail> {
 // The text has some 200 kB. A sink that fails at its 16th write isn't asked that often.
 #[test]
 fn many_gaps_are_few_writes(rt: HostRuntime) -> Result<(), Fail> {
-    let flows = [flow(5000, many_gaps(rt.alloc(), 10_000)?)];
+    let flows = [flow(5000, 1, many_gaps(rt.alloc(), 10_000)?)];
     assert_eq!(rt; lines_in(rt.alloc(), &flows, 400_000, 15)?, Some(10_005));
     Ok(())
 }
@@ -149,7 +152,7 @@ fn many_gaps_are_few_writes(rt: HostRuntime) -> Result<(), Fail> {
 #[test]
 fn a_failed_write_ends_the_report(rt: HostRuntime) -> Result<(), Fail> {
     let alloc = rt.alloc();
-    let flows = [flow(5000, many_gaps(alloc, 2_000)?)];
+    let flows = [flow(5000, 1, many_gaps(alloc, 2_000)?)];
     let mut whole = MemSink::new(alloc, 100_000, &[])?;
     assert_eq!(rt; report_to(alloc, &flows, &mut whole), Ok(()));
     let mut out = MemSink::new(alloc, 100_000, &[1])?;
@@ -165,7 +168,7 @@ fn a_failed_write_ends_the_report(rt: HostRuntime) -> Result<(), Fail> {
 #[test]
 fn a_full_sink_ends_the_report(rt: HostRuntime) -> Result<(), Fail> {
     let alloc = rt.alloc();
-    let flows = [flow(5000, Gaps::new(alloc))];
+    let flows = [flow(5000, 1, Gaps::new(alloc))];
     let mut out = MemSink::new(alloc, 10, &[])?;
     assert_eq!(rt;
         report_to(alloc, &flows, &mut out),

@@ -66,12 +66,12 @@ parity_is_good parity read is same =
     subst (λ (p : Parity). IsRead (protects kind.Column p)) (sym same) (is.base_size, is.shape)
 
 media_is_read : (bytes : List ℕ) (arrival : Arrival) → IsReadAsMedia bytes arrival → IsRead arrival
-media_is_read bytes (carries seq word) read = (read.1.seq_size, read.1.media)
+media_is_read bytes (carries seq ssrc word) read = (read.seq_size, read.ssrc_size, read.media)
 media_is_read bytes (protects by parity) read = absurd read
 media_is_read bytes (refused by) read = tt
 
 parity_is_read : (kind : Kind) (bytes : List ℕ) (arrival : Arrival) → IsReadAsParity kind bytes arrival → IsRead arrival
-parity_is_read kind bytes (carries seq word) read = absurd read
+parity_is_read kind bytes (carries seq ssrc word) read = absurd read
 parity_is_read kind bytes (protects by parity) read = parity_is_good parity read.1.0 read.1.1 read.1.2
 parity_is_read kind bytes (refused by) read = tt
 
@@ -116,25 +116,25 @@ module _ (media : MediaReadsOneWay) (parity : ParityReadsOneWay) where
 
   one_media_reading :
       (bytes : List ℕ) (one other : Arrival) → IsReadAsMedia bytes one → IsReadAsMedia bytes other → one ≡ other
-  one_media_reading bytes (carries seq word) (carries seq' word') a b =
-      let same = media bytes seq a.0 seq' b.0 word word' a.1 b.1 in
-      λ i. carries (same.0 i) (same.2 i)
-  one_media_reading bytes (carries seq word) (protects by' parity') a b = absurd b
-  one_media_reading bytes (carries seq word) (refused by') a b = absurd (b.1 seq a.0 word a.1)
+  one_media_reading bytes (carries seq ssrc word) (carries seq' ssrc' word') a b =
+      let same = media bytes seq ssrc seq' ssrc' word word' a b in
+      λ i. carries (same.0 i) (same.1 i) (same.2 i)
+  one_media_reading bytes (carries seq ssrc word) (protects by' parity') a b = absurd b
+  one_media_reading bytes (carries seq ssrc word) (refused by') a b = absurd (b.1 seq ssrc word a)
   one_media_reading bytes (protects by parity) other a b = absurd a
-  one_media_reading bytes (refused by) (carries seq' word') a b = absurd (a.1 seq' b.0 word' b.1)
+  one_media_reading bytes (refused by) (carries seq' ssrc' word') a b = absurd (a.1 seq' ssrc' word' b)
   one_media_reading bytes (refused by) (protects by' parity') a b = absurd b
   one_media_reading bytes (refused by) (refused by') a b = one_refused by by' kind.Media a.0 b.0
 
   one_parity_reading :
       (kind : Kind) (bytes : List ℕ) (one other : Arrival) → IsReadAsParity kind bytes one → IsReadAsParity kind bytes other
       → one ≡ other
-  one_parity_reading kind bytes (carries seq word) other a b = absurd a
-  one_parity_reading kind bytes (protects by parity) (carries seq' word') a b = absurd b
+  one_parity_reading kind bytes (carries seq ssrc word) other a b = absurd a
+  one_parity_reading kind bytes (protects by parity) (carries seq' ssrc' word') a b = absurd b
   one_parity_reading kind bytes (protects by parity) (protects by' parity') a b =
       one_parity bytes by by' kind parity parity' a.0 b.0 a.1 b.1
   one_parity_reading kind bytes (protects by parity) (refused by') a b = absurd (b.1 a.1.0 a.1.1)
-  one_parity_reading kind bytes (refused by) (carries seq' word') a b = absurd b
+  one_parity_reading kind bytes (refused by) (carries seq' ssrc' word') a b = absurd b
   one_parity_reading kind bytes (refused by) (protects by' parity') a b = absurd (a.1 b.1.0 b.1.1)
   one_parity_reading kind bytes (refused by) (refused by') a b = one_refused by by' kind a.0 b.0
 

@@ -35,9 +35,9 @@ module _ (media : MediaIsDecided) (parity : ParityIsDecided) (flow : ℕ) where
   taken_as_media : (r : Record) → port_of flow kind.Media ≡ r.port → IsTaken flow r
   taken_as_media r port = ⊎_elim
       (λ d. record {
-        arrival = carries d.0 d.2;
-        arrives = (kind.Media, port, (d.1, d.3));
-        read = (d.3.seq_size, d.3.media);
+        arrival = carries d.0 d.1 d.2;
+        arrives = (kind.Media, port, d.3);
+        read = (d.3.seq_size, d.3.ssrc_size, d.3.media);
       })
       (λ none. record { arrival = refused kind.Media; arrives = (kind.Media, port, (refl, none)); read = tt })
       (media r.datagram)
@@ -85,7 +85,7 @@ module _ (media : MediaIsDecided) (parity : ParityIsDecided) (runs : RunsExist) 
   flow_result_exists playout flow records some =
       let all = all_taken media parity flow records in
       let run = runs playout all.arrivals some all.read in (
-        record { lane = lane_of run.0; sum = sum_of flow all.arrivals run.0 run.1 },
+        record { lane = lane_of run.0; sum = sum_of flow run.2.filled.runs all.arrivals run.0 run.1 },
         record {
           arrivals = all.arrivals;
           plays = run.0;

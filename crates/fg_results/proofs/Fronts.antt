@@ -7,7 +7,8 @@ use Rattle.fg_rtp.specs.Laws.{ReadsOneWay as MediaReadsOneWay}
 use Rattle.fg_trace.specs.Trace.{Record}
 use Rattle.fg_shape.specs.Playout.{Playout}
 use Rattle.fg_playout.specs.Laws.{OneRun, TakenPlaysComeFirst}
-use Rattle.fg_playout.specs.Run.{Arrival, IsRun}
+use Rattle.fg_playout.specs.Run.{Arrival, IsRun, TakesAll}
+use Rattle.fg_playout.specs.State.{State, opening}
 use Rattle.fg_report.specs.declared.flow_sum.FlowSum.{FlowSum}
 use Rattle.fg_results.specs.Laws.{OneFlowResult, ShownIsFront}
 use Rattle.fg_results.specs.Flow.{FlowResult, IsFlowResult, Arrives, records_of, is_of, lane_of, sum_of}
@@ -23,12 +24,22 @@ same_results a b lane sum = ap (λ (t : List ℕ). record { lane = t; sum = a.su
 pub one_flow_result : MediaReadsOneWay → ParityReadsOneWay → OneRun → OneFlowResult
 one_flow_result media parity run playout flow records a b h k =
     let same = one_list_arrives media parity flow (records_of flow records) k.arrivals h.arrivals k.arrive h.arrive in
-    let other = subst (λ (xs : List Arrival). IsRun playout xs k.plays k.replies) same k.run in
+    let other : IsRun playout h.arrivals k.plays k.replies = record {
+      taken = k.run.taken;
+      flushed = k.run.flushed;
+      filled = k.run.filled;
+      empty = k.run.empty;
+      takes = subst (λ (xs : List Arrival). TakesAll (opening playout) xs k.run.taken k.replies k.run.filled) same k.run.takes;
+      flush = k.run.flush;
+      plays_are = k.run.plays_are;
+    } in
     let one = run playout h.arrivals h.plays k.plays h.replies k.replies (arrivals_are_read flow records h.arrivals h.arrive) h.run other in
     same_results a b
     (h.lane ∙ ap lane_of one.0 ∙ sym k.lane)
-    (h.sum ∙ ap (λ ps. sum_of flow h.arrivals ps h.replies) one.0 ∙ ap (λ rs. sum_of flow h.arrivals k.plays rs) one.1
-    ∙ ap (λ xs. sum_of flow xs k.plays k.replies) (sym same) ∙ sym k.sum)
+    (h.sum ∙ ap (λ (desk : State). sum_of flow desk.runs h.arrivals h.plays h.replies) one.2
+    ∙ ap (λ ps. sum_of flow k.run.filled.runs h.arrivals ps h.replies) one.0
+    ∙ ap (λ rs. sum_of flow k.run.filled.runs h.arrivals k.plays rs) one.1
+    ∙ ap (λ xs. sum_of flow k.run.filled.runs xs k.plays k.replies) (sym same) ∙ sym k.sum)
 
 -- The front of a lane
 

@@ -12,7 +12,7 @@ use Rattle.fg_shape.specs.declared.kind.Kind.TheVariants as kind
 use Rattle.fg_shape.specs.Kind.{port_of}
 use Rattle.fg_shape.specs.Playout.{Playout}
 use Rattle.fg_playout.specs.declared.reply.Reply.{Reply}
-use Rattle.fg_playout.specs.declared.reply.Reply.TheVariants.{Admitted, Duplicate, Conflict, Late, NotStarted, BeforeStart, Ahead, Crowded}
+use Rattle.fg_playout.specs.declared.reply.Reply.TheVariants.{Admitted, Duplicate, Conflict, Late, NotStarted, BeforeStart, Ahead, Crowded, Foreign}
 use Rattle.fg_playout.specs.declared.reply.Outcome.TheVariants.{Repaired, Inconsistent}
 use Rattle.fg_playout.specs.Admission.{Parity}
 use Rattle.fg_playout.specs.Play.{Play, Shown}
@@ -45,14 +45,14 @@ parity_of parity = record {
 
 -- A datagram on the media port is read so: as a media datagram. One that is none is refused.
 abbrev pub IsReadAsMedia : List ℕ → Arrival → Type 0
-IsReadAsMedia bytes (carries seq word) = (ssrc : ℕ) × IsMediaDatagram bytes seq ssrc word
+IsReadAsMedia bytes (carries seq ssrc word) = IsMediaDatagram bytes seq ssrc word
 IsReadAsMedia bytes (protects by parity) = ⊥
 IsReadAsMedia bytes (refused by) =
     (by ≡ kind.Media) × ((seq ssrc : ℕ) (word : Word) → ¬ IsMediaDatagram bytes seq ssrc word)
 
 -- And so is one on a port for parity, which is told by its kind: as a parity datagram.
 abbrev pub IsReadAsParity : Kind → List ℕ → Arrival → Type 0
-IsReadAsParity kind bytes (carries seq word) = ⊥
+IsReadAsParity kind bytes (carries seq ssrc word) = ⊥
 IsReadAsParity kind bytes (protects by parity) =
     (by ≡ kind) × ((read : ParityRead) × IsParityDatagram bytes read × (parity ≡ parity_of read))
 IsReadAsParity kind bytes (refused by) =
@@ -101,6 +101,7 @@ marks_of stream arrivals replies = record {
   ahead = count_of stream (Some Ahead) arrivals replies;
   crowded = count_of stream (Some Crowded) arrivals replies;
   bad = count_of stream None arrivals replies;
+  foreign = count_of stream (Some Foreign) arrivals replies;
 }
 
 -- The runs of positions without a word, of those shown from a position on. Each is a run of one, and runs that touch are
@@ -110,9 +111,10 @@ gaps_from gaps position [] = gaps
 gaps_from gaps position (shown ∷ more) =
     gaps_from (if shows_word shown then gaps else with_gap gaps position 1) (position + 1) more
 
--- A flow's counts: of positions played, of plays and of replies. The first position played is 0, and none is left out.
-abbrev pub sum_of : ℕ → List Arrival → List Play → List (Option Reply) → FlowSum
-sum_of flow arrivals plays replies = record {
+-- A flow's counts: of positions played, of plays, of replies and of the runs that were begun. The first position played is 0, and
+-- none is left out.
+abbrev pub sum_of : ℕ → ℕ → List Arrival → List Play → List (Option Reply) → FlowSum
+sum_of flow runs arrivals plays replies = record {
   port = flow;
   shown = count_by shows_word (all_shown plays);
   repaired = count_by (λ shown. shown.repaired) (all_shown plays);
@@ -122,6 +124,7 @@ sum_of flow arrivals plays replies = record {
   media = marks_of kind.Media arrivals replies;
   column = marks_of kind.Column arrivals replies;
   row = marks_of kind.Row arrivals replies;
+  runs = runs;
   gaps = gaps_from [] 0 (all_shown plays);
 }
 
@@ -139,4 +142,4 @@ pub record IsFlowResult (playout : Playout) (records : List Record) (flow : ℕ)
   pub arrive : AllZip (Arrives flow) (records_of flow records) arrivals
   pub run : IsRun playout arrivals plays replies
   pub lane : result.lane ≡ lane_of plays
-  pub sum : result.sum ≡ sum_of flow arrivals plays replies
+  pub sum : result.sum ≡ sum_of flow run.filled.runs arrivals plays replies
