@@ -1,36 +1,38 @@
 -- Which flows may play.
-use Rattle.std.proofs.Common.{◌≡◌, ◌⊎◌, inl, inr, ℕ, zero, suc, ◌+◌, ◌<◌, ◌≤◌, Option, Some, None, IfSome, IfNone, List, length, sym, ◌∙◌, subst, arith, slice_index_or}
+use Rattle.std.proofs.Common.{◌≡◌, ◌≢◌, ◌⊎◌, ◌↔◌, inl, inr, ℕ, Bool, IsTrue, zero, suc, ◌+◌, ◌<◌, ◌≤◌, Option, Some, None, IfSome, IfNone, List, length, sym, ap, ◌∙◌, subst, ⊎_elim, arith, slice_index_or}
 use Rattle.std.specs.List.{slice_get}
-use Rattle.std.proofs.lemmas.Bool.{cases_eq}
+use Rattle.std.proofs.lemmas.Bool.{cases_eq, cases_lt}
 use Rattle.fg_flows.specs.Sheaf.{Item, SheafState, items_of}
+use Rattle.fg_playout.specs.Admission.{IsDue, IsFresh}
+use Rattle.fg_engine.specs.View.{FlowView}
 use Rattle.fg_batches.specs.BatchView.{BatchView}
-use Rattle.fg_batches.specs.Batches.{HasNumber, HaveNoNumber, IsLastNumber, MayPlay, TwoMayPlay}
+use Rattle.fg_batches.specs.Batches.{HasNumbers, HaveNoNumbers, AreLastNumbers, MayPlay, TwoMayPlay, numbers_in}
 
--- The last number
+-- The last numbers
 
 -- what was found among the first items
-abbrev pub Found : List Item → ℕ → Option ℕ → Type 0
-Found items end (Some seq) = IsLastNumber items end seq
-Found items end None = HaveNoNumber items 0 end
+abbrev pub Found : List Item → ℕ → Option (ℕ × ℕ) → Type 0
+Found items end (Some numbers) = AreLastNumbers items end numbers
+Found items end None = HaveNoNumbers items 0 end
 
-pub found_none : (items : List Item) → HaveNoNumber items 0 0
+pub found_none : (items : List Item) → HaveNoNumbers items 0 0
 found_none items = λ j item past below. absurd (omega arith)
 
 same_item : (items : List Item) (k : ℕ) (item other : Item) → slice_get items k ≡ Some item → slice_get items k ≡ Some other → item ≡ other
 same_item items k item other at at' = (let e : Some item ≡ Some other = sym at ∙ at' in cc)
 
-none_at : (items : List Item) (first k : ℕ) (item : Item) → slice_get items k ≡ Some item → ((seq : ℕ) → HasNumber item.kind item.payload seq → ⊥) → HaveNoNumber items first k → (j : ℕ) (other : Item) → first ≤ j → j < k + 1 → slice_get items j ≡ Some other → (seq : ℕ) → HasNumber other.kind other.payload seq → (j ≡ k) ⊎ (j ≡ k → ⊥) → ⊥
-none_at items first k item at never none j other past below is seq has (inl e) =
+none_at : (items : List Item) (first k : ℕ) (item : Item) → slice_get items k ≡ Some item → ((numbers : ℕ × ℕ) → HasNumbers item.kind item.payload numbers → ⊥) → HaveNoNumbers items first k → (j : ℕ) (other : Item) → first ≤ j → j < k + 1 → slice_get items j ≡ Some other → (numbers : ℕ × ℕ) → HasNumbers other.kind other.payload numbers → (j ≡ k) ⊎ (j ≡ k → ⊥) → ⊥
+none_at items first k item at never none j other past below is numbers has (inl e) =
     let same : item ≡ other = same_item items k item other at (subst (λ i. slice_get items i ≡ Some other) e is) in
-    never seq (subst (λ (i : Item). HasNumber i.kind i.payload seq) (sym same) has)
-none_at items first k item at never none j other past below is seq has (inr ne) = none j other past (omega arith) is seq has
+    never numbers (subst (λ (i : Item). HasNumbers i.kind i.payload numbers) (sym same) has)
+none_at items first k item at never none j other past below is numbers has (inr ne) = none j other past (omega arith) is numbers has
 
-none_more : (items : List Item) (first k : ℕ) (item : Item) → slice_get items k ≡ Some item → ((seq : ℕ) → HasNumber item.kind item.payload seq → ⊥) → HaveNoNumber items first k → HaveNoNumber items first (k + 1)
-none_more items first k item at never none = λ j other past below is seq has. none_at items first k item at never none j other past below is seq has (cases_eq j k)
+none_more : (items : List Item) (first k : ℕ) (item : Item) → slice_get items k ≡ Some item → ((numbers : ℕ × ℕ) → HasNumbers item.kind item.payload numbers → ⊥) → HaveNoNumbers items first k → HaveNoNumbers items first (k + 1)
+none_more items first k item at never none = λ j other past below is numbers has. none_at items first k item at never none j other past below is numbers has (cases_eq j k)
 
--- one more item has a number
-pub found_here : (items : List Item) (k : ℕ) (item : Item) (seq : ℕ) → slice_get items k ≡ Some item → HasNumber item.kind item.payload seq → IsLastNumber items (k + 1) seq
-found_here items k item seq at has = record {
+-- one more item has numbers
+pub found_here : (items : List Item) (k : ℕ) (item : Item) (numbers : ℕ × ℕ) → slice_get items k ≡ Some item → HasNumbers item.kind item.payload numbers → AreLastNumbers items (k + 1) numbers
+found_here items k item numbers at has = record {
   at = k;
   item = item;
   within = omega arith;
@@ -40,8 +42,8 @@ found_here items k item seq at has = record {
 }
 
 -- or none
-pub found_still : (items : List Item) (k : ℕ) (item : Item) (last : Option ℕ) → slice_get items k ≡ Some item → ((seq : ℕ) → HasNumber item.kind item.payload seq → ⊥) → Found items k last → Found items (k + 1) last
-found_still items k item (Some seq) at never h = record {
+pub found_still : (items : List Item) (k : ℕ) (item : Item) (last : Option (ℕ × ℕ)) → slice_get items k ≡ Some item → ((numbers : ℕ × ℕ) → HasNumbers item.kind item.payload numbers → ⊥) → Found items k last → Found items (k + 1) last
+found_still items k item (Some numbers) at never h = record {
   at = h.at;
   item = h.item;
   within = (let within : h.at < k = h.within in omega arith);
@@ -50,6 +52,45 @@ found_still items k item (Some seq) at never h = record {
   later = none_more items (h.at + 1) k item at never h.later;
 }
 found_still items k item None at never h = none_more items 0 k item at never h
+
+-- There is one last.
+one_last :
+    (items : List Item) (end : ℕ) (one other : ℕ × ℕ) → AreLastNumbers items end one → AreLastNumbers items end other
+    → one ≡ other
+one_last items end one other a b = ⊎_elim
+    (λ (below : a.at < b.at). absurd (a.later b.at b.item (omega (arith, below)) b.within b.is_at other b.has))
+    (λ (past : b.at ≤ a.at). ⊎_elim
+    (λ (below : b.at < a.at). absurd (b.later a.at a.item (omega (arith, below)) a.within a.is_at one a.has))
+    (λ (still : a.at ≤ b.at).
+    let at : b.at ≡ a.at = omega (arith, past, still) in
+    let here : slice_get items a.at ≡ Some b.item = subst (λ k. slice_get items k ≡ Some b.item) at b.is_at in
+    let same : a.item ≡ b.item = same_item items a.at a.item b.item a.is_at here in
+    a.has.are ∙ ap (λ (item : Item). numbers_in item.payload) same ∙ sym b.has.are)
+    (cases_lt b.at a.at))
+    (cases_lt a.at b.at)
+
+-- So these decide whether the flow may play; with none it may not.
+pub by_last :
+    (flow : FlowView) (items : List Item) (numbers : ℕ × ℕ) → AreLastNumbers items (length items) numbers → MayPlay flow items
+    → (flow.sum.media.admitted ≡ 0) ⊎ IsFresh flow.state numbers.1 ⊎ IsDue flow.state numbers.0 numbers.1
+by_last flow items numbers last may =
+    subst (λ (n : ℕ × ℕ). (flow.sum.media.admitted ≡ 0) ⊎ IsFresh flow.state n.1 ⊎ IsDue flow.state n.0 n.1)
+    (one_last items (length items) may.numbers numbers may.last last) may.plays
+
+pub by_none : (flow : FlowView) (items : List Item) → HaveNoNumbers items 0 (length items) → MayPlay flow items → ⊥
+by_none flow items none may =
+    let last = may.last in
+    none last.at last.item (omega arith) last.within last.is_at may.numbers last.has
+
+-- A flow that has admitted one may play where a run begins or a play is due before the last.
+pub by_test :
+    (flow now : FlowView) (items : List Item) (seq ssrc : ℕ) (b : Bool) → flow ≡ now
+    → AreLastNumbers items (length items) (seq, ssrc) → flow.sum.media.admitted ≢ 0
+    → IsTrue b ↔ (IsFresh flow.state ssrc ⊎ IsDue flow.state seq ssrc) → IsTrue b ↔ MayPlay now items
+by_test flow now items seq ssrc b same last some test = subst (λ (f : FlowView). IsTrue b ↔ MayPlay f items) same (
+  λ yes. record { numbers = (seq, ssrc); last = last; plays = inr (test.0 yes) },
+  λ may. ⊎_elim (λ none. absurd (some none)) (λ plays. test.1 plays) (by_last flow items (seq, ssrc) last may),
+)
 
 -- How many flows may play
 
@@ -131,10 +172,10 @@ module _ (flows : List BatchView) (sheaf : SheafState) (d : BatchView) where
   fewer_may end (suc (suc n)) few all h two = absurd (omega (arith, few))
 
 -- All items were looked at.
-pub found_some : (items : List Item) (end : ℕ) (last : Option ℕ) → end ≡ length items → Found items end last → IfSome last (λ seq. IsLastNumber items (length items) seq)
-found_some items end (Some seq) all h = subst (λ n. IsLastNumber items n seq) all h
+pub found_some : (items : List Item) (end : ℕ) (last : Option (ℕ × ℕ)) → end ≡ length items → Found items end last → IfSome last (λ numbers. AreLastNumbers items (length items) numbers)
+found_some items end (Some numbers) all h = subst (λ n. AreLastNumbers items n numbers) all h
 found_some items end None all h = tt
 
-pub found_no : (items : List Item) (end : ℕ) (last : Option ℕ) → end ≡ length items → Found items end last → IfNone last (HaveNoNumber items 0 (length items))
-found_no items end (Some seq) all h = tt
-found_no items end None all h = subst (λ n. HaveNoNumber items 0 n) all h
+pub found_no : (items : List Item) (end : ℕ) (last : Option (ℕ × ℕ)) → end ≡ length items → Found items end last → IfNone last (HaveNoNumbers items 0 (length items))
+found_no items end (Some numbers) all h = tt
+found_no items end None all h = subst (λ n. HaveNoNumbers items 0 n) all h

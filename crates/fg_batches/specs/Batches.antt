@@ -1,6 +1,6 @@
 -- The batches of a repair with workers, which run the flows side by side. No public contract cites what stands here.
 use Rattle.std.specs.Prelude.{◌≡◌, ◌==◌, ◌⊎◌, ◌+◌, ◌<◌, ◌≤◌, ◌^◌, ◌++◌, ℕ, Option, Some, List, [], ◌∷◌, length, slice_index, if◌then◌else◌}
-use Rattle.std.specs.Int.{from_be_bytes, w16}
+use Rattle.std.specs.Int.{from_be_bytes, w16, w32}
 use Rattle.std.specs.List.{AllZip, slice_get, slice_index_or}
 use Rattle.fg_io.specs.Outlet.{Lanes}
 use Rattle.fg_io.specs.Prefix.{IsPrefix}
@@ -11,7 +11,7 @@ use Rattle.fg_shape.specs.Kind.{port_of}
 use Rattle.fg_shape.specs.Playout.{PlayoutFits}
 use Rattle.fg_flows.specs.declared.Plan.{Plan}
 use Rattle.fg_flows.specs.Sheaf.{Item, SheafState, items_of}
-use Rattle.fg_playout.specs.Admission.{IsDue}
+use Rattle.fg_playout.specs.Admission.{IsDue, IsFresh}
 use Rattle.fg_results.specs.Flow.{records_of}
 use Rattle.fg_engine.specs.View.{FlowView}
 use Rattle.fg_engine.specs.declared.shelved.Shelved.{Shelved}
@@ -57,31 +57,39 @@ pub record HasRun (items : List Item) (old new : BatchView) : Type 0 where
 
 -- Whether a flow may play
 
--- The bytes are those of a media datagram with this sequence number: bytes 2 and 3 of its header, by RFC 3550, section 5.1.
-pub record HasNumber (stream : Kind) (bytes : List ℕ) (seq : ℕ) : Type 0 where
+-- The sequence number and the SSRC of a media datagram: bytes 2 and 3, and 8 to 11, of its header, by RFC 3550, section 5.1.
+abbrev pub numbers_in : List ℕ → ℕ × ℕ
+numbers_in bytes = (
+  from_be_bytes w16 (slice_index bytes 2 ∷ slice_index bytes 3 ∷ []),
+  from_be_bytes w32 (slice_index bytes 8 ∷ slice_index bytes 9 ∷ slice_index bytes 10 ∷ slice_index bytes 11 ∷ []),
+)
+
+-- The bytes are those of a media datagram with these.
+pub record HasNumbers (stream : Kind) (bytes : List ℕ) (numbers : ℕ × ℕ) : Type 0 where
   pub media : stream ≡ kind.Media
-  pub long : 4 ≤ length bytes
-  pub seq_is : seq ≡ from_be_bytes w16 (slice_index bytes 2 ∷ slice_index bytes 3 ∷ [])
+  pub long : 12 ≤ length bytes
+  pub are : numbers ≡ numbers_in bytes
 
--- None of these items has a number, from the one with the index `first` on, and before `end`.
-abbrev pub HaveNoNumber : List Item → ℕ → ℕ → Type 0
-HaveNoNumber items first end =
-    (j : ℕ) (item : Item) → first ≤ j → j < end → slice_get items j ≡ Some item → (seq : ℕ) → ¬ HasNumber item.kind item.payload seq
+-- None of these items has such numbers, from the one with the index `first` on, and before `end`.
+abbrev pub HaveNoNumbers : List Item → ℕ → ℕ → Type 0
+HaveNoNumbers items first end =
+    (j : ℕ) (item : Item) → first ≤ j → j < end → slice_get items j ≡ Some item → (numbers : ℕ × ℕ) → ¬ HasNumbers item.kind item.payload numbers
 
--- The last number that the first `end` items have is this one.
-pub record IsLastNumber (items : List Item) (end seq : ℕ) : Type 0 where
+-- The last numbers that the first `end` items have are these.
+pub record AreLastNumbers (items : List Item) (end : ℕ) (numbers : ℕ × ℕ) : Type 0 where
   pub at : ℕ
   pub item : Item
   pub within : at < end
   pub is_at : slice_get items at ≡ Some item
-  pub has : HasNumber item.kind item.payload seq
-  pub later : HaveNoNumber items (at + 1) end
+  pub has : HasNumbers item.kind item.payload numbers
+  pub later : HaveNoNumbers items (at + 1) end
 
--- The flow may play while it runs the items: it has admitted no media datagram yet, or a play is due before the last of them.
+-- The flow may play while it runs the items: it has admitted no media datagram yet, or before the last of them a run begins or
+-- a play is due.
 pub record MayPlay (flow : FlowView) (items : List Item) : Type 0 where
-  pub seq : ℕ
-  pub last : IsLastNumber items (length items) seq
-  pub plays : (flow.sum.media.admitted ≡ 0) ⊎ IsDue flow.state seq
+  pub numbers : ℕ × ℕ
+  pub last : AreLastNumbers items (length items) numbers
+  pub plays : (flow.sum.media.admitted ≡ 0) ⊎ IsFresh flow.state numbers.1 ⊎ IsDue flow.state numbers.0 numbers.1
 
 -- Two of the flows may play while they run what the sheaf has of each.
 pub record TwoMayPlay (flows : List BatchView) (sheaf : SheafState) (d : BatchView) : Type 0 where

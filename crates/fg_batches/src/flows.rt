@@ -1,8 +1,9 @@
 //! A flow of a repair in batches.
-ghost use Rattle.std.specs.Prelude.{◌≡◌, ◌<◌, ◌↔◌, ℕ, [], ◌∷◌, false, length, IfSome, IfNone, IsTrue, OnOk};
+ghost use Rattle.std.specs.Prelude.{◌≡◌, ◌⊎◌, ◌<◌, ◌↔◌, ℕ, [], ◌∷◌, false, length, IfSome, IfNone, IsTrue, OnOk};
 ghost use Rattle.std.specs.Bool.{OnFalse};
 ghost use Rattle.fg_flows.specs.Sheaf.{items_of};
-ghost use Rattle.fg_batches.specs.Batches.{CanRun, HasRun, HasNumber, HaveNoNumber, IsLastNumber, MayPlay};
+ghost use Rattle.fg_playout.specs.Admission.{IsDue, IsFresh};
+ghost use Rattle.fg_batches.specs.Batches.{CanRun, HasRun, HasNumbers, HaveNoNumbers, AreLastNumbers, MayPlay};
 
 use fg_engine::{Flow, ShelfFiller, Shelved, WindowState};
 use fg_flows::{Kind, Sheaf};
@@ -65,14 +66,16 @@ impl<D: WindowState> BatchFlow<D> {
         self.starved
     }
 
-    /// Whether it may play while it runs its records of the batch: it has admitted no media datagram yet, or a play is due
-    /// before the last of them.
+    /// Whether it may play while it runs its records of the batch: it has admitted no media datagram yet, or before the last of
+    /// them a run begins or a play is due.
     pub(crate) fn may_play(&self, sheaf: &Sheaf, index: usize) -> bool
         requires { index < length sheaf.now.items }
         ensures { IsTrue result ↔ MayPlay self.now.flow (items_of sheaf.now index) }
     {
-        match last_number(sheaf, index) {
-            Some(seq) => self.flow.sum.media.admitted == 0 || self.flow.window.due(seq),
+        match last_numbers(sheaf, index) {
+            Some((seq, ssrc)) => {
+                self.flow.sum.media.admitted == 0 || may_make_play(&self.flow.window, seq, ssrc)
+            }
             None => false,
         }
     }
@@ -127,29 +130,41 @@ impl<D: WindowState> BatchFlow<D> {
     }
 }
 
-/// The sequence number of the last media datagram that the flow has in the batch.
-fn last_number(sheaf: &Sheaf, index: usize) -> Option<u16>
+/// Whether a run begins or a play is due before a media datagram of this sequence number and SSRC is admitted.
+fn may_make_play<D: WindowState>(window: &D, seq: u16, ssrc: u32) -> bool
+    ensures { IsTrue result ↔ (IsFresh (D.state window.now) ssrc ⊎ IsDue (D.state window.now) seq ssrc) }
+{
+    window.fresh(ssrc) || window.due(seq, ssrc)
+}
+
+/// The sequence number and the SSRC of the last media datagram that the flow has in the batch.
+fn last_numbers(sheaf: &Sheaf, index: usize) -> Option<(u16, u32)>
     requires { index < length sheaf.now.items }
-    ensures some { IfSome result (λ seq. let items = items_of sheaf.now index in IsLastNumber items (length items) seq) }
-    ensures none { IfNone result (let items = items_of sheaf.now index in HaveNoNumber items 0 (length items)) }
+    ensures some { IfSome result (λ numbers.
+        let items = items_of sheaf.now index in AreLastNumbers items (length items) numbers) }
+    ensures none { IfNone result (let items = items_of sheaf.now index in HaveNoNumbers items 0 (length items)) }
 {
     let mut last = None;
     for k in 0..sheaf.count(index) {
         let (kind, _, datagram) = sheaf.item(index, k);
-        if let Some(seq) = number(kind, datagram) {
-            last = Some(seq);
+        if let Some(found) = numbers(kind, datagram) {
+            last = Some(found);
         }
     }
     last
 }
 
-/// The sequence number of a media datagram, where it is long enough to have one.
-fn number(kind: Kind, datagram: &[u8]) -> Option<u16>
-    ensures some { IfSome result (λ seq. HasNumber kind datagram.now seq) }
-    ensures none { IfNone result ((seq : ℕ) → ¬ HasNumber kind datagram.now seq) }
+/// The sequence number and the SSRC of a media datagram, where it is long enough to have them.
+fn numbers(kind: Kind, datagram: &[u8]) -> Option<(u16, u32)>
+    ensures some { IfSome result (λ numbers. HasNumbers kind datagram.now numbers) }
+    ensures none { IfNone result ((numbers : ℕ × ℕ) → ¬ HasNumbers kind datagram.now numbers) }
 {
     match kind {
-        Kind::Media if datagram.len() >= 4 => Some(u16::from_be_bytes([datagram[2], datagram[3]])),
+        Kind::Media if datagram.len() >= 12 => {
+            let seq = u16::from_be_bytes([datagram[2], datagram[3]]);
+            let ssrc = u32::from_be_bytes([datagram[8], datagram[9], datagram[10], datagram[11]]);
+            Some((seq, ssrc))
+        }
         _ => None,
     }
 }

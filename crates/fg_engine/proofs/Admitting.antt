@@ -11,11 +11,12 @@ use Rattle.fg_playout.specs.declared.reply.Reply.{Reply}
 use Rattle.fg_shape.specs.declared.kind.Kind.TheVariants as kind
 use Rattle.fg_playout.specs.State.{State}
 use Rattle.fg_playout.specs.Admission.{AdmitsMedia}
-use Rattle.fg_playout.specs.Run.{Arrival, carries, protects, refused, ArePlaysDue, Takes}
-use Rattle.fg_playout.specs.Laws.{HavePlayed}
+use Rattle.fg_playout.specs.Run.{Arrival, carries, protects, refused, ArePlaysBefore, Takes}
+use Rattle.fg_playout.specs.Laws.{HavePlayedBefore, FreshIsDecided}
 use Rattle.fg_report.specs.declared.flow_sum.FlowSum.{FlowSum}
 use Rattle.fg_results.specs.Flow.{IsReadAs, parity_of}
 use Rattle.fg_engine.specs.Steps.{HaveShown, BreakOff, AdmitsDatagram, BreaksAtDatagram, PlaysBefore}
+use Rattle.fg_engine.proofs.Before.{nothing_before}
 use Rattle.fg_engine.proofs.Growing.{grows_none}
 use Rattle.fg_engine.proofs.Reading.{parity_is_read}
 use Rattle.fg_engine.proofs.Showing.{counts_none, breaks_before}
@@ -44,33 +45,33 @@ media_is_refused bytes old sum lanes none =
 pub media_is_admitted :
     (bytes : List ℕ) (old due new : State) (sum sum' : FlowSum) (before after : Option Lanes) (seq ssrc : ℕ) (word : Word)
     (reply : Reply) → IsMediaDatagram bytes seq ssrc word
-    → HaveShown (ArePlaysDue old seq) old sum before due sum' after → AdmitsMedia due seq word reply new
+    → HaveShown (ArePlaysBefore old seq ssrc) old sum before due sum' after → AdmitsMedia due seq ssrc word reply new
     → AdmitsDatagram Media bytes old sum before (Some reply) new sum' after
 media_is_admitted bytes old due new sum sum' before after seq ssrc word reply is so admits = record {
-  arrival = carries seq word;
+  arrival = carries seq ssrc word;
   due = so.plays;
-  read = (ssrc, is);
+  read = is;
   takes = (due, so.are, admits);
   grows = so.grows;
   counts = so.counts;
 }
 
 pub media_without_memory :
-    (bytes : List ℕ) (old : State) (port : ℕ) (lanes : Option Lanes) (seq ssrc : ℕ) (word : Word)
+    FreshIsDecided → (bytes : List ℕ) (old : State) (port : ℕ) (lanes : Option Lanes) (seq ssrc : ℕ) (word : Word)
     → IsMediaDatagram bytes seq ssrc word → BreaksAtDatagram Media bytes old port lanes lanes
-media_without_memory bytes old port lanes seq ssrc word is = record {
-  arrival = carries seq word;
-  read = (ssrc, is);
-  off = breaks_before (PlaysBefore old (carries seq word)) old port lanes refl;
+media_without_memory decided bytes old port lanes seq ssrc word is = record {
+  arrival = carries seq ssrc word;
+  read = is;
+  off = breaks_before (PlaysBefore old (carries seq ssrc word)) old port lanes (nothing_before decided old seq ssrc);
 }
 
 pub media_breaks_off :
     (bytes : List ℕ) (old : State) (port : ℕ) (before after : Option Lanes) (seq ssrc : ℕ) (word : Word)
-    → IsMediaDatagram bytes seq ssrc word → BreakOff (HavePlayed old seq) port before after
+    → IsMediaDatagram bytes seq ssrc word → BreakOff (HavePlayedBefore old seq ssrc) port before after
     → BreaksAtDatagram Media bytes old port before after
 media_breaks_off bytes old port before after seq ssrc word is off = record {
-  arrival = carries seq word;
-  read = (ssrc, is);
+  arrival = carries seq ssrc word;
+  read = is;
   off = record { plays = off.plays; now = off.now; are = off.are; part = off.part };
 }
 

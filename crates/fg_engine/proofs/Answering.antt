@@ -3,7 +3,7 @@ use Rattle.std.proofs.Common.{◌≡◌, ◌+◌, ◌==◌, ◌&&◌, ℕ, cond,
 use Rattle.fg_shape.specs.declared.kind.Kind.{Kind}
 use Rattle.fg_shape.specs.declared.kind.Kind.TheVariants as kind
 use Rattle.fg_playout.specs.declared.reply.Reply.{Reply}
-use Rattle.fg_playout.specs.declared.reply.Reply.TheVariants.{Admitted, Duplicate, Conflict, Late, NotStarted, BeforeStart, Ahead, Crowded}
+use Rattle.fg_playout.specs.declared.reply.Reply.TheVariants.{Admitted, Duplicate, Conflict, Late, NotStarted, BeforeStart, Ahead, Crowded, Foreign}
 use Rattle.fg_playout.specs.Play.{Play}
 use Rattle.fg_playout.specs.Run.{Arrival, carries, protects, refused, came_by, kind_number, reply_number, count_of}
 use Rattle.fg_playout.specs.Laws.{CountsAdd}
@@ -24,6 +24,7 @@ plus marks more = record {
   ahead = marks.ahead + more (Some Ahead);
   crowded = marks.crowded + more (Some Crowded);
   bad = marks.bad + more None;
+  foreign = marks.foreign + more (Some Foreign);
 }
 
 zero : (n : ℕ) → n + 0 ≡ n
@@ -40,6 +41,7 @@ plus_none marks = λ i. record {
   ahead = zero marks.ahead i;
   crowded = zero marks.crowded i;
   bad = zero marks.bad i;
+  foreign = zero marks.foreign i;
 }
 
 -- A one where it is this reply.
@@ -55,6 +57,7 @@ plus_one marks (Some NotStarted) = λ i. record (plus_none marks i) { not_starte
 plus_one marks (Some BeforeStart) = λ i. record (plus_none marks i) { before_start = marks.before_start + 1 }
 plus_one marks (Some Ahead) = λ i. record (plus_none marks i) { ahead = marks.ahead + 1 }
 plus_one marks (Some Crowded) = λ i. record (plus_none marks i) { crowded = marks.crowded + 1 }
+plus_one marks (Some Foreign) = λ i. record (plus_none marks i) { foreign = marks.foreign + 1 }
 plus_one marks None = λ i. record (plus_none marks i) { bad = marks.bad + 1 }
 
 -- What an arrival by this stream adds to a stream's counts.
@@ -80,6 +83,7 @@ marks_more add stream arrivals arrival replies answer same =
       ahead = more (Some Ahead) i;
       crowded = more (Some Crowded) i;
       bad = more None i;
+      foreign = more (Some Foreign) i;
     }
 
 -- What an arrival by this stream adds to the three streams' counts.
@@ -99,12 +103,12 @@ answered kind.Row answer sum =
     λ i. record sum { media = plus_none sum.media i; column = plus_none sum.column i; row = plus_one sum.row answer i }
 
 came_on_media : (bytes : List ℕ) (arrival : Arrival) → IsReadAsMedia bytes arrival → came_by arrival ≡ kind.Media
-came_on_media bytes (carries seq word) read = refl
+came_on_media bytes (carries seq ssrc word) read = refl
 came_on_media bytes (protects by parity) read = absurd read
 came_on_media bytes (refused by) read = read.0
 
 came_on_parity : (kind : Kind) (bytes : List ℕ) (arrival : Arrival) → IsReadAsParity kind bytes arrival → came_by arrival ≡ kind
-came_on_parity kind bytes (carries seq word) read = absurd read
+came_on_parity kind bytes (carries seq ssrc word) read = absurd read
 came_on_parity kind bytes (protects by parity) read = read.0
 came_on_parity kind bytes (refused by) read = read.0
 
@@ -114,15 +118,15 @@ came_by_its_stream kind.Column bytes arrival read = came_on_parity kind.Column b
 came_by_its_stream kind.Row bytes arrival read = came_on_parity kind.Row bytes arrival read
 
 pub answer_added :
-    CountsAdd → (flow : ℕ) (came : Kind) (bytes : List ℕ) (arrivals : List Arrival) (arrival : Arrival) (plays : List Play)
+    CountsAdd → (flow runs : ℕ) (came : Kind) (bytes : List ℕ) (arrivals : List Arrival) (arrival : Arrival) (plays : List Play)
     (replies : List (Option Reply)) (answer : Option Reply) → length arrivals ≡ length replies → IsReadAs came bytes arrival
-    → with_answer came (sum_of flow arrivals plays replies) answer
-    ≡ sum_of flow (arrivals ++ arrival ∷ []) plays (replies ++ answer ∷ [])
-answer_added add flow came bytes arrivals arrival plays replies answer same read =
-    let sum = sum_of flow arrivals plays replies in
+    → with_answer came (sum_of flow runs arrivals plays replies) answer
+    ≡ sum_of flow runs (arrivals ++ arrival ∷ []) plays (replies ++ answer ∷ [])
+answer_added add flow runs came bytes arrivals arrival plays replies answer same read =
+    let sum = sum_of flow runs arrivals plays replies in
     let media = marks_more add kind.Media arrivals arrival replies answer same in
     let column = marks_more add kind.Column arrivals arrival replies answer same in
     let row = marks_more add kind.Row arrivals arrival replies answer same in
-    let more : sum_of flow (arrivals ++ arrival ∷ []) plays (replies ++ answer ∷ []) ≡ adds_all (came_by arrival) answer sum =
+    let more : sum_of flow runs (arrivals ++ arrival ∷ []) plays (replies ++ answer ∷ []) ≡ adds_all (came_by arrival) answer sum =
     λ i. record sum { media = media i; column = column i; row = row i } in
     sym (more ∙ ap (λ (by : Kind). adds_all by answer sum) (came_by_its_stream came bytes arrival read) ∙ answered came answer sum)

@@ -1,5 +1,6 @@
 pub mod Admitting
 pub mod Answering
+pub mod Before
 pub mod Breaking
 pub mod Counting
 pub mod Driving

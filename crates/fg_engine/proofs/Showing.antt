@@ -117,11 +117,11 @@ within_one_more count between new so_far next play within is some counted =
 
 -- A play that is due comes after those before it.
 pub due_after :
-    (old between new : State) (seq : ℕ) (play : Play) → PlaysDueJoin → IsDue between seq
-    → IsPlay between.playout.window between play new → (plays : List Play) → HavePlayed old seq plays between
-    → HavePlayed old seq (plays ++ play ∷ []) new
-due_after old between new seq play join due is plays played =
-    join old between new seq plays (play ∷ []) played (due, (new, is, refl))
+    (old between new : State) (seq ssrc : ℕ) (play : Play) → PlaysDueJoin → IsDue between seq ssrc
+    → IsPlay between.playout.window between play new → (plays : List Play) → HavePlayed old seq ssrc plays between
+    → HavePlayed old seq ssrc (plays ++ play ∷ []) new
+due_after old between new seq ssrc play join due is plays played =
+    join old between new seq ssrc plays (play ∷ []) played (due, (new, is, refl))
 
 -- So does a step of a flush.
 pub step_after :

@@ -13,10 +13,11 @@ use Rattle.fg_playout.specs.declared.reply.Reply.{Reply}
 use Rattle.fg_shape.specs.declared.kind.Kind.TheVariants as kind
 use Rattle.fg_shape.specs.Playout.{Playout}
 use Rattle.fg_playout.specs.State.{State, opening}
+use Rattle.fg_playout.specs.Admission.{counted}
 use Rattle.fg_playout.specs.Play.{Play}
 use Rattle.fg_playout.specs.Run.{Arrival, TakesAll, IsFlush, IsRun}
 use Rattle.fg_desk.specs.Arrivals.{StaysWithin}
-use Rattle.fg_playout.specs.Laws.{LaterChangesNothing, OneTaking, PlayIsOne, AreFlushSteps, TakingsJoin, FlushStepsComeNext, PlaysReachTheMark, EachGetsAReply, CountsAdd}
+use Rattle.fg_playout.specs.Laws.{LaterChangesNothing, OneTaking, PlayIsOne, FlushIsOne, AreFlushSteps, TakingsJoin, FlushStepsComeNext, PlaysReachTheMark, EachGetsAReply, CountsAdd}
 use Rattle.fg_report.specs.declared.flow_sum.FlowSum.{FlowSum}
 use Rattle.fg_results.specs.Flow.{FlowResult, IsFlowResult, IsReadAs, Arrives, records_of, all_shown, marks_of, lane_of, sum_of}
 use Rattle.fg_engine.specs.Steps.{HasTaken, HaveShown, BreakOff, AdmitsDatagram, BreaksAtDatagram, TakesRecord, BreaksAtRecord, EndsFlow, BreaksAtEnd, with_plays, with_answer}
@@ -29,9 +30,9 @@ use Rattle.fg_engine.proofs.Counting.{plays_more}
 use Rattle.fg_engine.proofs.Underway.{mark_is_shown}
 use Rattle.fg_results.proofs.Zips.{zip_push}
 
--- The counts of replies alone.
-abbrev replies_alone : ℕ → List Arrival → List (Option Reply) → FlowSum
-replies_alone flow arrivals replies = record {
+-- The counts of replies and runs alone.
+abbrev replies_alone : ℕ → ℕ → List Arrival → List (Option Reply) → FlowSum
+replies_alone flow runs arrivals replies = record {
   port = flow;
   shown = 0;
   repaired = 0;
@@ -41,16 +42,17 @@ replies_alone flow arrivals replies = record {
   media = marks_of kind.Media arrivals replies;
   column = marks_of kind.Column arrivals replies;
   row = marks_of kind.Row arrivals replies;
+  runs = runs;
   gaps = [];
 }
 
 -- The others are those of the plays.
 sum_is_with_plays :
-    (flow : ℕ) (arrivals : List Arrival) (plays : List Play) (replies : List (Option Reply))
-    → sum_of flow arrivals plays replies ≡ with_plays (replies_alone flow arrivals replies) 0 plays
-sum_is_with_plays flow arrivals plays replies =
+    (flow runs : ℕ) (arrivals : List Arrival) (plays : List Play) (replies : List (Option Reply))
+    → sum_of flow runs arrivals plays replies ≡ with_plays (replies_alone flow runs arrivals replies) 0 plays
+sum_is_with_plays flow runs arrivals plays replies =
     let zero : (n : ℕ) → n ≡ 0 + n = λ n. omega arith in
-    let sum = sum_of flow arrivals plays replies in
+    let sum = sum_of flow runs arrivals plays replies in
     λ i. record sum {
       shown = zero sum.shown i;
       repaired = zero sum.repaired i;
@@ -60,23 +62,24 @@ sum_is_with_plays flow arrivals plays replies =
     }
 
 pub plays_added :
-    (flow : ℕ) (arrivals : List Arrival) (plays more : List Play) (replies : List (Option Reply))
-    → with_plays (sum_of flow arrivals plays replies) (length (all_shown plays)) more ≡ sum_of flow arrivals (plays ++ more) replies
-plays_added flow arrivals plays more replies =
+    (flow runs : ℕ) (arrivals : List Arrival) (plays more : List Play) (replies : List (Option Reply))
+    → with_plays (sum_of flow runs arrivals plays replies) (length (all_shown plays)) more
+    ≡ sum_of flow runs arrivals (plays ++ more) replies
+plays_added flow runs arrivals plays more replies =
     let place : length (all_shown plays) ≡ 0 + length (all_shown plays) = omega arith in
-    (λ i. with_plays (sum_is_with_plays flow arrivals plays replies i) (place i) more)
-    ∙ plays_more (replies_alone flow arrivals replies) 0 plays more
-    ∙ sym (sum_is_with_plays flow arrivals (plays ++ more) replies)
+    (λ i. with_plays (sum_is_with_plays flow runs arrivals plays replies i) (place i) more)
+    ∙ plays_more (replies_alone flow runs arrivals replies) 0 plays more
+    ∙ sym (sum_is_with_plays flow runs arrivals (plays ++ more) replies)
 
 pub sum_after_plays :
     PlaysReachTheMark → (playout : Playout) (flow : ℕ) (records : List Record) (state : State) (sum sum' : FlowSum) (lane : List ℕ)
     → 1 ≤ playout.window → (taken : HasTaken playout flow records state sum lane) → (plays : List Play)
-    → sum' ≡ with_plays sum state.mark plays → sum' ≡ sum_of flow taken.arrivals (taken.plays ++ plays) taken.replies
+    → sum' ≡ with_plays sum state.mark plays → sum' ≡ sum_of flow state.runs taken.arrivals (taken.plays ++ plays) taken.replies
 sum_after_plays reach playout flow records state sum sum' lane some taken plays counts =
     let mark = mark_is_shown reach playout taken.arrivals taken.plays taken.replies state some taken.takes in
     counts
     ∙ (λ i. with_plays (taken.sum_is i) (mark i) plays)
-    ∙ plays_added flow taken.arrivals taken.plays plays taken.replies
+    ∙ plays_added flow state.runs taken.arrivals taken.plays plays taken.replies
 
 -- What a run shows begins with what was shown, and then with a part of what its next plays show.
 pub front_of_lane :
@@ -96,11 +99,12 @@ front_of_lane lane part whole before next after plays is front begin shown = (
 -- The end.
 
 pub flow_ends :
-    PlaysReachTheMark → (playout : Playout) (state : State) (sum sum' : FlowSum) (before after : Option Lanes) → 1 ≤ playout.window
-    → (empty : State) × HaveShown (IsFlush state) state sum before empty sum' after
+    PlaysReachTheMark → (playout : Playout) (state new : State) (sum sum' : FlowSum) (before after : Option Lanes)
+    → 1 ≤ playout.window
+    → (empty : State) × (new ≡ counted empty) × HaveShown (IsFlush state) state sum before empty sum' after
     → (records : List Record) (lane : List ℕ) → HasTaken playout sum.port records state sum lane
     → EndsFlow playout sum.port records lane sum' before after
-flow_ends reach playout state sum sum' before after some (empty, shown) records lane taken = record {
+flow_ends reach playout state new sum sum' before after some (empty, counts, shown) records lane taken = record {
   piece = lane_of shown.plays;
   grows = shown.grows;
   result = record {
@@ -145,7 +149,7 @@ pub record_taken :
     PlaysReachTheMark → TakingsJoin → CountsAdd → EachGetsAReply
     → (playout : Playout) (kind : Kind) (bytes : List ℕ) (state new : State) (sum sum' last : FlowSum) (reply : Option Reply)
     (before after : Option Lanes) → 1 ≤ playout.window → AdmitsDatagram kind bytes state sum before reply new sum' after
-    → last ≡ with_answer kind sum' reply
+    → last ≡ record (with_answer kind sum' reply) { runs = new.runs }
     → (records : List Record) (r : Record) (lane : List ℕ) → HasTaken playout sum.port records state sum lane
     → r.datagram ≡ bytes → port_of sum.port kind ≡ r.port
     → TakesRecord playout sum.port records r lane new last before after
@@ -172,8 +176,10 @@ record_taken reach join add each playout kind bytes state new sum sum' last repl
         lane_is = ap (λ (bytes : List ℕ). bytes ++ lane_of admits.due) taken.lane_is ∙ sym (lane_more taken.plays admits.due);
         sum_is =
             counted
-            ∙ ap (λ (s : FlowSum). with_answer kind s reply) plays
-            ∙ answer_added add flow kind bytes taken.arrivals admits.arrival (taken.plays ++ admits.due) taken.replies reply same admits.read;
+            ∙ ap (λ (s : FlowSum). record (with_answer kind s reply) { runs = new.runs }) plays
+            ∙ ap (λ (s : FlowSum). record s { runs = new.runs })
+            (answer_added add flow state.runs kind bytes taken.arrivals admits.arrival (taken.plays ++ admits.due) taken.replies reply
+            same admits.read);
       };
     }
 
@@ -192,19 +198,19 @@ module _ (media : MediaReadsOneWay) (parity : ParityReadsOneWay) where
       (kind, on, subst (λ (bytes : List ℕ). IsReadAs kind bytes arrival) (sym is) read))
 
   pub record_breaks :
-      LaterChangesNothing → OneTaking → PlayIsOne
+      LaterChangesNothing → OneTaking → PlayIsOne → FlushIsOne
       → (playout : Playout) (flow : ℕ) (kind : Kind) (bytes : List ℕ) (state : State) (sum : FlowSum) (before after : Option Lanes)
       → StaysWithin state → BreaksAtDatagram kind bytes state flow before after
       → (records : List Record) (r : Record) (lane : List ℕ) → HasTaken playout flow records state sum lane
       → r.datagram ≡ bytes → port_of flow kind ≡ r.port → BreaksAtRecord playout flow records r lane before after
-  record_breaks further once one playout flow kind bytes state sum before after within breaks records r lane taken is on =
+  record_breaks further once one step playout flow kind bytes state sum before after within breaks records r lane taken is on =
       let off = breaks.off in
       record {
         part = off.part.0;
         grows = off.part.2;
         next = λ (more : List ℕ) (shown : HasShown playout flow (records ++ r ∷ []) more).
             let same = one_more_arrives flow kind bytes breaks.arrival breaks.read records r taken.arrivals shown.arrivals taken.arrive is on shown.arrive in
-            let begin = plays_go_on further once one playout taken.arrivals breaks.arrival taken.plays off.plays shown.plays
+            let begin = plays_go_on further once one step playout taken.arrivals breaks.arrival taken.plays off.plays shown.plays
             taken.replies shown.replies state off.now shown.state (arrivals_are_read flow records taken.arrivals taken.arrive) taken.takes within off.are
             (subst (λ (arrivals : List Arrival). TakesAll (opening playout) arrivals shown.plays shown.replies shown.state) same shown.takes) in
             front_of_lane lane off.part.0 more taken.plays off.plays begin.0 shown.plays taken.lane_is off.part.1 begin.1 shown.bytes_are;

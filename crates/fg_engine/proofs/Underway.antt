@@ -4,7 +4,7 @@ use Rattle.std.specs.List.{All}
 use Rattle.std.proofs.lemmas.List.Sums.{count_by-le-length}
 use Rattle.std.proofs.lemmas.List.Elements.{All-head, All-tail}
 use Rattle.fg_playout.specs.declared.reply.Reply.{Reply}
-use Rattle.fg_playout.specs.declared.reply.Reply.TheVariants.{Admitted, Duplicate, Conflict, Late, NotStarted, BeforeStart, Ahead, Crowded}
+use Rattle.fg_playout.specs.declared.reply.Reply.TheVariants.{Admitted, Duplicate, Conflict, Late, NotStarted, BeforeStart, Ahead, Crowded, Foreign}
 use Rattle.fg_shape.specs.declared.kind.Kind.{Kind}
 use Rattle.fg_shape.specs.declared.kind.Kind.TheVariants.{Media, Column, Row}
 use Rattle.fg_shape.specs.Playout.{Playout}
@@ -26,11 +26,11 @@ few_arrivals playout flow state sum is =
     omega (arith, fewer, few)
 
 pub stays_within : RunsStayWithin → (playout : Playout) (flow : ℕ) (state : State) (sum : FlowSum) → IsUnderway playout flow state sum → StaysWithin state
-stays_within stay playout flow state sum is seq due new played =
+stays_within stay playout flow state sum is seq ssrc due new played =
     let few = few_arrivals playout flow state sum is in
-    stay playout seq is.taken.arrivals is.taken.plays due is.taken.replies state new
-    is.fits.window.0 is.fits.window.1 is.fits.depth.0 (arrivals_are_read flow is.records is.taken.arrivals is.taken.arrive)
-    (omega (arith, few)) is.taken.takes played
+    stay playout seq ssrc is.taken.arrivals is.taken.plays due is.taken.replies state new
+    is.fits.window.0 is.fits.window.1 is.fits.depth.0 is.fits.depth.1
+    (arrivals_are_read flow is.records is.taken.arrivals is.taken.arrive) (omega (arith, few)) is.taken.takes played
 
 pub flushes_within : FlushesStayWithin → (playout : Playout) (flow : ℕ) (state : State) (sum : FlowSum) → IsUnderway playout flow state sum → FlushesWithin state
 flushes_within stay playout flow state sum is flushed new steps =
@@ -64,9 +64,10 @@ mark_is_shown reach playout arrivals plays replies state some takes =
     omega (arith, mark, shown)
 
 sum_within :
-    (flow : ℕ) (arrivals : List Arrival) (plays : List Play) (replies : List (Option Reply)) → length plays ≤ length (all_shown plays)
-    → CountsWithin (sum_of flow arrivals plays replies) (length (all_shown plays))
-sum_within flow arrivals plays replies some = record {
+    (flow runs : ℕ) (arrivals : List Arrival) (plays : List Play) (replies : List (Option Reply))
+    → length plays ≤ length (all_shown plays)
+    → CountsWithin (sum_of flow runs arrivals plays replies) (length (all_shown plays))
+sum_within flow runs arrivals plays replies some = record {
   shown = count_by-le-length shows_word (all_shown plays);
   repaired = count_by-le-length (λ (s : Shown). s.repaired) (all_shown plays);
   missing = count_by-le-length (λ (s : Shown). not (shows_word s)) (all_shown plays);
@@ -83,8 +84,8 @@ counts_within reach playout flow state sum is =
     let same = played_are_shown taken.plays in
     let mark = mark_is_shown reach playout taken.arrivals taken.plays taken.replies state is.fits.window.0 taken.takes in
     subst (λ (s : FlowSum). CountsWithin s state.mark) (sym taken.sum_is)
-    (subst (λ (n : ℕ). CountsWithin (sum_of flow taken.arrivals taken.plays taken.replies) n) (sym mark)
-    (sum_within flow taken.arrivals taken.plays taken.replies (omega (arith, fewer, same))))
+    (subst (λ (n : ℕ). CountsWithin (sum_of flow state.runs taken.arrivals taken.plays taken.replies) n) (sym mark)
+    (sum_within flow state.runs taken.arrivals taken.plays taken.replies (omega (arith, fewer, same))))
 
 -- The replies are fewer than the records.
 
@@ -104,6 +105,7 @@ marks_have_room within stream arrivals replies few =
       ahead = room (Some Ahead);
       crowded = room (Some Crowded);
       bad = room None;
+      foreign = room (Some Foreign);
     }
 
 pub replies_have_room : CountsStayWithin → (playout : Playout) (flow : ℕ) (state : State) (sum : FlowSum) → IsUnderway playout flow state sum → RepliesHaveRoom sum

@@ -9,11 +9,11 @@ use Rattle.fg_shape.specs.declared.kind.Kind.TheVariants as kind
 use Rattle.fg_shape.specs.Playout.{Playout, PlayoutFits}
 use Rattle.fg_desk.specs.declared.desk.Played.{Played}
 use Rattle.fg_playout.specs.declared.reply.Reply.{Reply}
-use Rattle.fg_playout.specs.declared.reply.Reply.TheVariants.{Admitted, Duplicate, Conflict, Late, NotStarted, BeforeStart, Ahead, Crowded}
+use Rattle.fg_playout.specs.declared.reply.Reply.TheVariants.{Admitted, Duplicate, Conflict, Late, NotStarted, BeforeStart, Ahead, Crowded, Foreign}
 use Rattle.fg_playout.specs.State.{State, opening}
 use Rattle.fg_playout.specs.Play.{Play, Shown}
 use Rattle.fg_playout.specs.Run.{Arrival, carries, protects, refused, Takes, TakesAll}
-use Rattle.fg_playout.specs.Laws.{HavePlayed}
+use Rattle.fg_playout.specs.Laws.{HavePlayedBefore}
 use Rattle.fg_report.specs.declared.marks.Marks.{Marks}
 use Rattle.fg_report.specs.declared.flow_sum.FlowSum.{FlowSum}
 use Rattle.fg_report.specs.Gaps.{gaps_end}
@@ -39,7 +39,7 @@ pub record HasTaken
   pub arrive : AllZip (Arrives flow) (records_of flow records) arrivals
   pub takes : TakesAll (opening playout) arrivals plays replies state
   pub lane_is : lane ≡ lane_of plays
-  pub sum_is : sum ≡ sum_of flow arrivals plays replies
+  pub sum_is : sum ≡ sum_of flow state.runs arrivals plays replies
 
 -- Some records have been taken, fewer than a trace within the limits can have.
 pub record IsUnderway (playout : Playout) (flow : ℕ) (state : State) (sum : FlowSum) : Type 0 where
@@ -95,6 +95,7 @@ with_reply marks (Some NotStarted) = record marks { not_started = marks.not_star
 with_reply marks (Some BeforeStart) = record marks { before_start = marks.before_start + 1 }
 with_reply marks (Some Ahead) = record marks { ahead = marks.ahead + 1 }
 with_reply marks (Some Crowded) = record marks { crowded = marks.crowded + 1 }
+with_reply marks (Some Foreign) = record marks { foreign = marks.foreign + 1 }
 with_reply marks None = record marks { bad = marks.bad + 1 }
 
 -- The flow's counts after one more reply to a datagram of this kind.
@@ -130,6 +131,7 @@ pub record MarksHaveRoom (marks : Marks) : Type 0 where
   pub ahead : marks.ahead < 2 ^ 44
   pub crowded : marks.crowded < 2 ^ 44
   pub bad : marks.bad < 2 ^ 44
+  pub foreign : marks.foreign < 2 ^ 44
 
 abbrev pub RepliesHaveRoom : FlowSum → Type 0
 RepliesHaveRoom sum = MarksHaveRoom sum.media × MarksHaveRoom sum.column × MarksHaveRoom sum.row
@@ -179,9 +181,9 @@ pub record AdmitsDatagram
   pub grows : Grows before sum.port (lane_of due) after
   pub counts : sum' ≡ with_plays sum old.mark due
 
--- The plays that come before an arrival, so far. Only a media datagram makes plays due.
+-- The plays that come before an arrival, so far. Only a media datagram has any.
 abbrev pub PlaysBefore : State → Arrival → List Play → State → Type 0
-PlaysBefore old (carries seq word) due now = HavePlayed old seq due now
+PlaysBefore old (carries seq ssrc word) due now = HavePlayedBefore old seq ssrc due now
 PlaysBefore old (protects stream parity) due now = due ≡ []
 PlaysBefore old (refused stream) due now = due ≡ []
 

@@ -25,8 +25,18 @@ impl WindowState for Desk {
     ghost shows = { λ desk played. kept_from desk played.first played.count };
 
     #[inline]
-    fn due(&self, seq: u16) -> bool {
-        self.due(seq)
+    fn fresh(&self, ssrc: u32) -> bool {
+        self.fresh(ssrc)
+    }
+
+    #[inline]
+    fn due(&self, seq: u16, ssrc: u32) -> bool {
+        self.due(seq, ssrc)
+    }
+
+    #[inline]
+    fn runs(&self) -> u64 {
+        self.runs()
     }
 
     #[inline]
@@ -35,8 +45,8 @@ impl WindowState for Desk {
     }
 
     #[inline]
-    fn admit_media(&mut self, seq: u16, share: Shared) -> Reply {
-        self.admit_media(seq, share)
+    fn admit_media(&mut self, seq: u16, ssrc: u32, share: Shared) -> Reply {
+        self.admit_media(seq, ssrc, share)
     }
 
     #[inline]

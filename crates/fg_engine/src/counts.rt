@@ -28,6 +28,7 @@ pub(crate) fn count_reply(marks: &mut Marks, reply: Option<Reply>)
         Some(Reply::BeforeStart) => marks.before_start += 1,
         Some(Reply::Ahead) => marks.ahead += 1,
         Some(Reply::Crowded) => marks.crowded += 1,
+        Some(Reply::Foreign) => marks.foreign += 1,
         None => marks.bad += 1,
     }
 }

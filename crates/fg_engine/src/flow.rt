@@ -8,10 +8,11 @@ ghost use Rattle.fg_shape.specs.declared.kind.Kind.{Kind as KindOf};
 ghost use Rattle.fg_shape.specs.Kind.{port_of};
 ghost use Rattle.fg_shape.specs.Playout.{Playout};
 ghost use Rattle.fg_playout.specs.State.{State, opening};
-ghost use Rattle.fg_playout.specs.Admission.{IsDue};
+ghost use Rattle.fg_playout.specs.Admission.{IsDue, IsFresh, counted};
+ghost use Rattle.fg_playout.specs.Play.{HasMore};
 ghost use Rattle.fg_playout.specs.Room.{HasRoom, farthest_limit};
-ghost use Rattle.fg_playout.specs.Run.{Arrival, ArePlaysDue, Takes, IsFlush};
-ghost use Rattle.fg_playout.specs.Laws.{HavePlayed, AreFlushSteps};
+ghost use Rattle.fg_playout.specs.Run.{Arrival, ArePlaysDue, ArePlaysBefore, Takes, IsFlush};
+ghost use Rattle.fg_playout.specs.Laws.{HavePlayed, HavePlayedBefore, AreFlushSteps};
 ghost use Rattle.fg_desk.specs.Arrivals.{StaysWithin, FlushesWithin};
 ghost use Rattle.fg_results.specs.Flow.{IsReadAs, lane_of};
 ghost use Rattle.fg_engine.specs.Steps.{HasTaken, IsUnderway, TakesRecord, BreaksAtRecord, EndsFlow, BreaksAtEnd};
@@ -27,7 +28,8 @@ use fg_flows::Kind;
 use fg_io::Fault;
 use fg_playout::laws::{
     counts_add, counts_stay_within, each_gets_a_reply, flush_steps_come_next, flushes_end,
-    one_outcome, one_taking, plays_reach_the_mark, runs_join, runs_only_add, runs_stay_within,
+    one_outcome, one_taking, plays_reach_the_mark, runs_begin, runs_join, runs_only_add,
+    runs_stay_within,
 };
 use fg_report::{FlowSum, Gaps, Marks};
 use fg_rtp::laws::media_datagrams_read_one_way;
@@ -72,12 +74,13 @@ impl<D: WindowState> Flow<D> {
                 media: Marks::default(),
                 column: Marks::default(),
                 row: Marks::default(),
+                runs: 0,
                 gaps: Gaps::new(alloc),
             },
         }
     }
 
-    /// Takes a datagram that came on the flow's port of this kind: plays what is due before it, and admits it or counts why
+    /// Takes a datagram that came on the flow's port of this kind: plays what comes before it, and admits it or counts why
     /// not. The player takes what the plays show to the flow's lane.
     ///
     /// # Errors
@@ -127,6 +130,7 @@ impl<D: WindowState> Flow<D> {
         parity_datagrams_read_one_way();
         let reply = self.admit(alloc, player, kind, datagram, lanes)?;
         count_answer(&mut self.sum, kind, reply);
+        self.sum.runs = self.window.runs();
         Ok(())
     }
 
@@ -164,7 +168,7 @@ impl<D: WindowState> Flow<D> {
         self.play_rest(player, lanes)
     }
 
-    /// Plays what is due before a datagram that came on the port of this kind, and admits it or says why not. There is no
+    /// Plays what comes before a datagram that came on the port of this kind, and admits it or says why not. There is no
     /// reply where its reader refused it.
     fn admit<L, P: Player<L>>(
         &mut self,
@@ -187,34 +191,72 @@ impl<D: WindowState> Flow<D> {
         ensures playout { self.new.state.playout ≡ self.old.state.playout }
         ensures faults { Counts result [] ((P.faults lanes.old, P.faults lanes.new) ∷ []) }
     {
+        // Whether an SSRC is fresh can be told.
+        runs_begin();
         match kind {
             Kind::Media => {
                 let spare = self.window.spare();
-                let Ok((seq, _, share)) = media_share(alloc, spare, datagram)? else {
+                let Ok((seq, ssrc, share)) = media_share(alloc, spare, datagram)? else {
                     return Ok(None);
                 };
-                self.play_due(player, seq, lanes)?;
-                Ok(Some(self.window.admit_media(seq, share)))
+                self.play_before(player, seq, ssrc, lanes)?;
+                Ok(Some(self.window.admit_media(seq, ssrc, share)))
             }
             _ => Ok(admit_parity(alloc, &mut self.window, datagram)?),
         }
     }
 
-    /// Plays while a play is due before a datagram of this sequence number.
-    fn play_due<L, P: Player<L>>(
+    /// Plays what comes before a media datagram of this sequence number and SSRC: all that is left where the SSRC is fresh, so
+    /// that a run can begin, and else what is due.
+    fn play_before<L, P: Player<L>>(
         &mut self,
         player: &mut P,
         seq: u16,
+        ssrc: u32,
         lanes: &mut L,
     ) -> Result<(), Fault>
         requires player { P.takes lanes.old self.old.sum.port }
         requires within { StaysWithin self.old.state }
         requires counts { CountsWithin self.old.sum self.old.state.mark }
-        ensures plays { OnOk result (HaveShown (ArePlaysDue self.old.state seq) self.old.state self.old.sum
-            (P.lanes lanes.old) self.new.state self.new.sum (P.lanes lanes.new)) }
-        ensures none_due { OnOk result (¬ IsDue self.new.state seq) }
+        ensures plays { OnOk result (HaveShown (ArePlaysBefore self.old.state seq ssrc) self.old.state
+            self.old.sum (P.lanes lanes.old) self.new.state self.new.sum (P.lanes lanes.new)) }
+        ensures none_due { OnOk result (¬ IsDue self.new.state seq ssrc) }
+        ensures flushed { OnOk result (IsFresh self.new.state ssrc → ¬ HasMore self.new.state) }
         ensures room { OnOk result (HasRoom self.new.state) }
-        ensures breaks { OnErr result (BreakOff (HavePlayed self.old.state seq) self.old.sum.port
+        ensures breaks { OnErr result (BreakOff (HavePlayedBefore self.old.state seq ssrc) self.old.sum.port
+            (P.lanes lanes.old) (P.lanes lanes.new)) }
+        ensures port { self.new.sum.port ≡ self.old.sum.port }
+        ensures still { P.takes lanes.new self.old.sum.port }
+        ensures player { player.new ≡ player.old }
+        ensures playout { self.new.state.playout ≡ self.old.state.playout }
+        ensures faults { Counts result [] ((P.faults lanes.old, P.faults lanes.new) ∷ []) }
+    {
+        flushes_end();
+        runs_join();
+        if self.window.fresh(ssrc) {
+            self.play_rest(player, lanes)
+        } else {
+            self.play_due(player, seq, ssrc, lanes)
+        }
+    }
+
+    /// Plays while a play is due before a media datagram of this sequence number and SSRC, which isn't fresh.
+    fn play_due<L, P: Player<L>>(
+        &mut self,
+        player: &mut P,
+        seq: u16,
+        ssrc: u32,
+        lanes: &mut L,
+    ) -> Result<(), Fault>
+        requires player { P.takes lanes.old self.old.sum.port }
+        requires within { StaysWithin self.old.state }
+        requires stale { ¬ IsFresh self.old.state ssrc }
+        requires counts { CountsWithin self.old.sum self.old.state.mark }
+        ensures plays { OnOk result (HaveShown (ArePlaysDue self.old.state seq ssrc) self.old.state
+            self.old.sum (P.lanes lanes.old) self.new.state self.new.sum (P.lanes lanes.new)) }
+        ensures none_due { OnOk result (¬ IsDue self.new.state seq ssrc) }
+        ensures room { OnOk result (HasRoom self.new.state) }
+        ensures breaks { OnErr result (BreakOff (HavePlayed self.old.state seq ssrc) self.old.sum.port
             (P.lanes lanes.old) (P.lanes lanes.new)) }
         ensures port { self.new.sum.port ≡ self.old.sum.port }
         ensures still { P.takes lanes.new self.old.sum.port }
@@ -223,7 +265,7 @@ impl<D: WindowState> Flow<D> {
         ensures faults { Counts result [] ((P.faults lanes.old, P.faults lanes.new) ∷ []) }
     {
         runs_join();
-        while self.window.due(seq) {
+        while self.window.due(seq, ssrc) {
             let played = self.window.play();
             player.put_play(lanes, &mut self.sum, &self.window, played)?;
         }
@@ -235,13 +277,15 @@ impl<D: WindowState> Flow<D> {
         requires player { P.takes lanes.old self.old.sum.port }
         requires within { FlushesWithin self.old.state }
         requires counts { CountsWithin self.old.sum self.old.state.mark }
-        ensures plays { OnOk result ((empty : State) × HaveShown (IsFlush self.old.state) self.old.state
+        ensures plays { OnOk result ((empty : State) × (self.new.state ≡ counted empty)
+            × HaveShown (IsFlush self.old.state) self.old.state
             self.old.sum (P.lanes lanes.old) empty self.new.sum (P.lanes lanes.new)) }
         ensures breaks { OnErr result (BreakOff (AreFlushSteps self.old.state) self.old.sum.port
             (P.lanes lanes.old) (P.lanes lanes.new)) }
         ensures port { self.new.sum.port ≡ self.old.sum.port }
         ensures still { P.takes lanes.new self.old.sum.port }
         ensures player { player.new ≡ player.old }
+        ensures playout { self.new.state.playout ≡ self.old.state.playout }
         ensures faults { Counts result [] ((P.faults lanes.old, P.faults lanes.new) ∷ []) }
     {
         flushes_end();

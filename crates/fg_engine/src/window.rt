@@ -6,8 +6,8 @@ ghost use Rattle.fg_words.specs.Word.{IsMedia};
 ghost use Rattle.fg_shape.specs.Shape.{IsShape};
 ghost use Rattle.fg_desk.specs.declared.desk.Played.{Played};
 ghost use Rattle.fg_playout.specs.State.{State};
-ghost use Rattle.fg_playout.specs.Admission.{IsDue, AdmitsMedia, AdmitsParity};
-ghost use Rattle.fg_playout.specs.Play.{IsPlay, Flushes, Shown, nothing_shown};
+ghost use Rattle.fg_playout.specs.Admission.{IsDue, IsFresh, AdmitsMedia, AdmitsParity};
+ghost use Rattle.fg_playout.specs.Play.{IsPlay, Flushes, HasMore, Shown, nothing_shown};
 ghost use Rattle.fg_playout.specs.Room.{HasRoom, farthest_limit};
 ghost use Rattle.fg_engine.specs.Steps.{played_as};
 
@@ -25,21 +25,31 @@ pub trait WindowState: Drop {
     /// What it shows of a play: of the one that it made last.
     ghost shows: { Self → Played → List Shown };
 
-    /// Whether a play is due before a datagram of this sequence number is admitted.
-    fn due(&self, seq: u16) -> bool
-        ensures { IsTrue result ↔ IsDue (state self.now) seq };
+    /// Whether this SSRC is fresh: neither the current run's nor that of the run before. Before the first datagram none is.
+    fn fresh(&self, ssrc: u32) -> bool
+        ensures { IsTrue result ↔ IsFresh (state self.now) ssrc };
+
+    /// Whether a play is due before a media datagram of this sequence number and SSRC is admitted.
+    fn due(&self, seq: u16, ssrc: u32) -> bool
+        ensures { IsTrue result ↔ IsDue (state self.now) seq ssrc };
+
+    /// How many runs of a sender were begun.
+    fn runs(&self) -> u64
+        ensures { result ≡ (state self.now).runs };
 
     /// A share that was let go, where there is one, for the payload of the next datagram. Somebody else may have a share of
     /// the same word.
     fn spare(&mut self) -> Option<Shared>
         ensures { state self.new ≡ state self.old };
 
-    /// Admits a media datagram, or says why not. The share is let go with every reply but `Admitted`.
-    fn admit_media(&mut self, seq: u16, share: Shared) -> Reply
+    /// Admits a media datagram, or says why not. A fresh SSRC begins a run. The share is let go with every reply but
+    /// `Admitted`.
+    fn admit_media(&mut self, seq: u16, ssrc: u32, share: Shared) -> Reply
         requires room { HasRoom (state self.old) }
-        requires not_due { ¬ IsDue (state self.old) seq }
+        requires not_due { ¬ IsDue (state self.old) seq ssrc }
+        requires flushed { IsFresh (state self.old) ssrc → ¬ HasMore (state self.old) }
         requires media { IsMedia share }
-        ensures { AdmitsMedia (state self.old) seq share result (state self.new) };
+        ensures { AdmitsMedia (state self.old) seq ssrc share result (state self.new) };
 
     /// Admits a parity datagram's equation, or says why not. `base` is the sequence number of its base. The share is let go
     /// with every reply but `Admitted`.

@@ -1,6 +1,7 @@
 //! Which positions of a flow have a word.
 
 use crate::crewed::bits::{Bits, mask};
+use fg_desk::Played;
 use std::alloc::{AllocError, Global};
 
 /// How many words of 64 bits a flow's arrivals take: one bit for each sequence number.
@@ -40,8 +41,10 @@ fn bit_of(position: u64) -> usize {
 /// How far the caller has come with a flow's datagrams, and what it has not told of them yet.
 #[derive(Clone, Copy)]
 pub(crate) struct Progress {
-    /// The sequence number of the first one that was admitted, whose position is 0.
-    first: Option<u16>,
+    /// The sequence number that position 0 has in the current run, modulo 65,536.
+    first: u16,
+    /// The position that is played next, modulo 65,536. The next run begins there.
+    next: u16,
     /// The word of the map in which the last one stands.
     word: usize,
     /// The bits of that word that are to be set.
@@ -54,17 +57,28 @@ impl Progress {
     /// None was admitted.
     pub(crate) fn new() -> Progress {
         Progress {
-            first: None,
+            first: 0,
+            next: 0,
             word: 0,
             bits: 0,
             untold: 0,
         }
     }
 
+    /// Notes a play.
+    pub(crate) fn play(&mut self, played: Played) {
+        self.next = ((played.first % 65_536) as u16).wrapping_add((played.count % 65_536) as u16);
+    }
+
+    /// Notes that a run begins with a media datagram of this sequence number.
+    pub(crate) fn begin(&mut self, seq: u16) {
+        self.first = seq.wrapping_sub(self.next);
+    }
+
     /// Adds a media datagram that was admitted. Where that goes into another word of the map than the last one, what stands in that
     /// one is marked, and the word half the map ahead is cleared: what stands there is of an earlier lap.
     pub(crate) fn add_media(&mut self, arrivals: &Arrivals, seq: u16) {
-        let position = usize::from(seq.wrapping_sub(self.first_or(seq)));
+        let position = usize::from(self.position(seq));
         let word = position / 64;
         if word != self.word {
             self.mark(arrivals);
@@ -101,19 +115,8 @@ impl Progress {
         }
     }
 
-    /// The position of a sequence number, modulo 65,536, once a media datagram was admitted.
+    /// The position of a sequence number in the current run, modulo 65,536.
     pub(crate) fn position(&self, seq: u16) -> u16 {
-        seq.wrapping_sub(self.first.unwrap_or(seq))
-    }
-
-    /// The sequence number of the first media datagram, which is this one where none was before.
-    fn first_or(&mut self, seq: u16) -> u16 {
-        match self.first {
-            Some(first) => first,
-            None => {
-                self.first = Some(seq);
-                seq
-            }
-        }
+        seq.wrapping_sub(self.first)
     }
 }

@@ -39,17 +39,31 @@ impl<'a, W: Wait, G: Hears> WindowState for BoardWindow<'a, W, G> {
 
     ghost shows = { λ window _. window.tray.shown };
 
-    fn due(&self, seq: u16) -> bool {
-        self.admitter.due(seq)
+    fn fresh(&self, ssrc: u32) -> bool {
+        self.admitter.fresh(ssrc)
+    }
+
+    fn due(&self, seq: u16, ssrc: u32) -> bool {
+        self.admitter.due(seq, ssrc)
+    }
+
+    fn runs(&self) -> u64 {
+        self.admitter.runs()
     }
 
     fn spare(&mut self) -> Option<Shared> {
         self.admitter.spare()
     }
 
-    fn admit_media(&mut self, seq: u16, share: Shared) -> Reply {
-        let reply = self.admitter.admit_media(self.wait, self.board, seq, share);
+    fn admit_media(&mut self, seq: u16, ssrc: u32, share: Shared) -> Reply {
+        let runs = self.admitter.runs();
+        let reply = self
+            .admitter
+            .admit_media(self.wait, self.board, seq, ssrc, share);
         if let Reply::Admitted = reply {
+            if self.admitter.runs() != runs {
+                self.progress.begin(seq);
+            }
             self.progress.add_media(&self.signal.arrivals, seq);
             self.signal
                 .tell_much(&mut self.progress, self.wait, self.hints, self.flow);
@@ -79,15 +93,22 @@ impl<'a, W: Wait, G: Hears> WindowState for BoardWindow<'a, W, G> {
         self.signal
             .tell_progress(&mut self.progress, self.wait, self.hints, self.flow);
         self.gate.hear(CALLER, PLAYING);
-        self.admitter.play(self.wait, self.board, &mut self.tray)
+        let played = self.admitter.play(self.wait, self.board, &mut self.tray);
+        self.progress.play(played);
+        played
     }
 
     fn flush_step(&mut self) -> Option<Played> {
         self.signal
             .tell_progress(&mut self.progress, self.wait, self.hints, self.flow);
         self.gate.hear(CALLER, PLAYING);
-        self.admitter
-            .flush_step(self.wait, self.board, &mut self.tray)
+        let step = self
+            .admitter
+            .flush_step(self.wait, self.board, &mut self.tray);
+        if let Some(played) = step {
+            self.progress.play(played);
+        }
+        step
     }
 
     fn word(&self, _played: Played, i: u32) -> Option<&Word> {

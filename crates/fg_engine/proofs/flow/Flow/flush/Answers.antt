@@ -12,7 +12,7 @@ play_rest-requires-clause-counts g c = counts_within c.plays_reach_the_mark.ensu
 pub returns-clause-ends : goal.returns-clause-ends
 returns-clause-ends g c =
     let old = c.args.self.now in
-    on_ok_weaker _ (flow_ends c.plays_reach_the_mark.ensures.taken old.state.playout old.state old.sum c.play_rest.new.self.sum
+    on_ok_weaker _ (flow_ends c.plays_reach_the_mark.ensures.taken old.state.playout old.state c.play_rest.new.self.state old.sum c.play_rest.new.self.sum
     (g.P.Player.lanes c.args.lanes.now) (g.P.Player.lanes c.play_rest.new.lanes) c.requires.underway.fits.window.0) c.play_rest.ensures.plays
 
 pub returns-clause-breaks : goal.returns-clause-breaks

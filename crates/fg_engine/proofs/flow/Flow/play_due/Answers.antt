@@ -1,4 +1,4 @@
-use Rattle.std.proofs.Common.{List, refl, sym, subst, ◌∙◌}
+use Rattle.std.proofs.Common.{List, inr, refl, sym, subst, ◌∙◌}
 use Rattle.fg_playout.specs.Play.{Play}
 use Rattle.fg_playout.specs.Admission.{IsDue}
 use Rattle.fg_playout.specs.Run.{ArePlaysDue}
@@ -20,10 +20,10 @@ loop-self-preserved g c =
     let from = g.D.WindowState.state now.self-inside.window in
     let to = g.D.WindowState.state c.play-played.new.self in
     let play = played_as c.play-played.result (g.D.WindowState.shows c.play-played.new.self c.play-played.result) in
-    let join = due_after old.state from to c.args.seq play c.runs_join.ensures.plays (c.loop-self-test.ensures.0 refl) c.play-played.ensures.play in
-    let holds = (c.requires.within c.args.seq now.invariant.so.plays from now.invariant.so.are).0 in
+    let join = due_after old.state from to c.args.seq c.args.ssrc play c.runs_join.ensures.plays (c.loop-self-test.ensures.0 refl) c.play-played.ensures.play in
+    let holds = (c.requires.within c.args.seq c.args.ssrc now.invariant.so.plays from (inr (c.requires.stale, now.invariant.so.are))).0 in
     record {
-      so = one_more_shown (HavePlayed old.state c.args.seq) old.state old.sum (g.P.Player.lanes c.args.lanes.now)
+      so = one_more_shown (HavePlayed old.state c.args.seq c.args.ssrc) old.state old.sum (g.P.Player.lanes c.args.lanes.now)
           from.playout.window from to now.self-inside.sum c.put_play.new.sum
           (g.P.Player.lanes now.lanes) (g.P.Player.lanes c.put_play.new.to) play
           now.invariant.so join c.play-played.ensures.play now.invariant.port c.in_ok-put_play.ensures.counts c.in_ok-put_play.ensures.puts;
@@ -43,8 +43,8 @@ returns-in_err-put_play-clause-breaks g c =
     let from = g.D.WindowState.state now.self-inside.window in
     let to = g.D.WindowState.state c.play-played.new.self in
     let play = played_as c.play-played.result (g.D.WindowState.shows c.play-played.new.self c.play-played.result) in
-    let join = due_after old.state from to c.args.seq play c.runs_join.ensures.plays (c.loop-self-test.ensures.0 refl) c.play-played.ensures.play in
-    on_err _ _ (breaks_off (HavePlayed old.state c.args.seq) old.state old.sum (g.P.Player.lanes c.args.lanes.now)
+    let join = due_after old.state from to c.args.seq c.args.ssrc play c.runs_join.ensures.plays (c.loop-self-test.ensures.0 refl) c.play-played.ensures.play in
+    on_err _ _ (breaks_off (HavePlayed old.state c.args.seq c.args.ssrc) old.state old.sum (g.P.Player.lanes c.args.lanes.now)
     from to now.self-inside.sum (g.P.Player.lanes now.lanes) (g.P.Player.lanes c.put_play.new.to) play
     now.invariant.so join now.invariant.port c.in_err-put_play.ensures.part)
 
@@ -53,8 +53,8 @@ returns-clause-plays g c =
     let old = c.args.self.now in
     let now = c.loop-self in
     let from = g.D.WindowState.state now.self-inside.window in
-    let none = fails (IsDue from c.args.seq) c.due.result c.loop-self-test.false c.due.ensures.1 in
-    retold (HavePlayed old.state c.args.seq) (ArePlaysDue old.state c.args.seq) old.state from old.sum now.self-inside.sum
+    let none = fails (IsDue from c.args.seq c.args.ssrc) c.due.result c.loop-self-test.false c.due.ensures.1 in
+    retold (HavePlayed old.state c.args.seq c.args.ssrc) (ArePlaysDue old.state c.args.seq c.args.ssrc) old.state from old.sum now.self-inside.sum
     (g.P.Player.lanes c.args.lanes.now) (g.P.Player.lanes now.lanes)
-    (λ (plays : List Play) played. (c.runs_join.ensures.all_due old.state from c.args.seq plays).1 (played, none))
+    (λ (plays : List Play) played. (c.runs_join.ensures.all_due old.state from c.args.seq c.args.ssrc plays).1 (played, none))
     now.invariant.so

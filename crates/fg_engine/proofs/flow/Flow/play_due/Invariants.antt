@@ -6,7 +6,7 @@ use Rattle.fg_engine.proofs.flow.Flow.play_due.Given as goal
 
 abbrev pub invariant-loop-self : goal.invariant-loop-self
 invariant-loop-self g l = record {
-  so : HaveShown (HavePlayed l.fn.self.state l.seq) l.fn.self.state l.fn.self.sum (g.P.Player.lanes l.fn.lanes)
+  so : HaveShown (HavePlayed l.fn.self.state l.seq l.ssrc) l.fn.self.state l.fn.self.sum (g.P.Player.lanes l.fn.lanes)
       (g.D.WindowState.state l.self-inside.window) l.self-inside.sum (g.P.Player.lanes l.lanes);
   counts : CountsWithin l.self-inside.sum (g.D.WindowState.state l.self-inside.window).mark;
   port : l.self-inside.sum.port ≡ l.fn.self.sum.port;

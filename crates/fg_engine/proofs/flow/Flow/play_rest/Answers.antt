@@ -55,6 +55,7 @@ returns-clause-plays g c =
     let now = c.loop-played in
     let from = g.D.WindowState.state now.self-inside.window in (
       from,
+      c.in_default.ensures.flushes.1,
       retold (AreFlushSteps old.state) (IsFlush old.state) old.state from old.sum now.self-inside.sum
           (g.P.Player.lanes c.args.lanes.now) (g.P.Player.lanes now.lanes)
           (λ (plays : List Play) steps. (c.flushes_end.ensures.nothing_left old.state from plays).1 (steps, c.in_default.ensures.flushes.0))

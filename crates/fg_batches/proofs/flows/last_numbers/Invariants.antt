@@ -1,6 +1,6 @@
 use Rattle.fg_flows.specs.Sheaf.{items_of}
 use Rattle.fg_batches.proofs.Playing.{Found}
-use Rattle.fg_batches.proofs.flows.last_number.Given as goal
+use Rattle.fg_batches.proofs.flows.last_numbers.Given as goal
 
 abbrev pub invariant-loop-k : goal.invariant-loop-k
 invariant-loop-k l = Found (items_of l.sheaf l.index) l.k l.last

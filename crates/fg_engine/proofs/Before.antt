@@ -1,0 +1,65 @@
+-- What is played before a media datagram: all that is left, where its SSRC is fresh, and else what is due.
+use Rattle.std.proofs.Common.{◌≡◌, ℕ, [], Option, refl, sym, ap, subst, ◌∙◌, inl, inr, ⊎_elim}
+use Rattle.fg_io.specs.Outlet.{Lanes}
+use Rattle.fg_desk.specs.Arrivals.{StaysWithin, FlushesWithin}
+use Rattle.fg_playout.specs.State.{State}
+use Rattle.fg_playout.specs.Admission.{IsDue, IsFresh, counted}
+use Rattle.fg_playout.specs.Play.{HasMore}
+use Rattle.fg_playout.specs.Room.{HasRoom}
+use Rattle.fg_playout.specs.Run.{ArePlaysBefore, by_flush, IsFlush}
+use Rattle.fg_playout.specs.Laws.{HavePlayed, HavePlayedBefore, AreFlushSteps, FlushStepsEnd, ReadyAfterPlays, FreshIsDecided}
+use Rattle.fg_report.specs.declared.flow_sum.FlowSum.{FlowSum}
+use Rattle.fg_engine.specs.Steps.{HaveShown, BreakOff}
+
+-- Nothing was played yet.
+pub nothing_before : FreshIsDecided → (old : State) (seq ssrc : ℕ) → HavePlayedBefore old seq ssrc [] old
+nothing_before decided old seq ssrc = ⊎_elim (λ fresh. inl (fresh, refl)) (λ stale. inr (stale, refl)) (decided old ssrc)
+
+-- Where nothing comes before, the desk has room.
+pub room_before : FreshIsDecided → (old : State) → StaysWithin old → HasRoom old
+room_before decided old within = (within 0 0 [] old (nothing_before decided old 0 0)).1
+
+module _ (old : State) (seq ssrc : ℕ) where
+  pub flushes_if_fresh : StaysWithin old → IsFresh old ssrc → FlushesWithin old
+  flushes_if_fresh within fresh flushed new steps = (let h = within seq ssrc flushed new (inl (fresh, steps)) in (h.0, h.1))
+
+  -- A flush, where the SSRC is fresh.
+  module _ (fresh : IsFresh old ssrc) (new : State) (sum sum' : FlowSum) (before after : Option Lanes) where
+    pub flushed_before :
+        (empty : State) × (new ≡ counted empty) × HaveShown (IsFlush old) old sum before empty sum' after
+        → HaveShown (ArePlaysBefore old seq ssrc) old sum before new sum' after
+    flushed_before (empty, counts, so) = record {
+      plays = so.plays;
+      are = by_flush empty fresh so.are counts;
+      mark = ap (λ (desk : State). desk.mark) counts ∙ so.mark;
+      grows = so.grows;
+      counts = so.counts;
+    }
+
+    pub room_if_flushed :
+        FlushStepsEnd → StaysWithin old
+        → (empty : State) × (new ≡ counted empty) × HaveShown (IsFlush old) old sum before empty sum' after → HasRoom new
+    room_if_flushed end within (empty, counts, so) =
+        subst HasRoom (sym counts) (within seq ssrc so.plays empty (inl (fresh, ((end old empty so.plays).0 so.are).0))).2
+
+    pub none_due_then :
+        ReadyAfterPlays → (empty : State) × (new ≡ counted empty) × HaveShown (IsFlush old) old sum before empty sum' after
+        → ¬ IsDue new seq ssrc
+    none_due_then ready flushed = (let so = flushed_before flushed in (ready old new seq ssrc so.plays so.are).0)
+
+    pub nothing_left_then :
+        ReadyAfterPlays → (empty : State) × (new ≡ counted empty) × HaveShown (IsFlush old) old sum before empty sum' after
+        → IsFresh new ssrc → ¬ HasMore new
+    nothing_left_then ready flushed = (let so = flushed_before flushed in (ready old new seq ssrc so.plays so.are).1)
+
+  pub flush_breaks_off :
+      (port : ℕ) (before after : Option Lanes) → IsFresh old ssrc → BreakOff (AreFlushSteps old) port before after
+      → BreakOff (HavePlayedBefore old seq ssrc) port before after
+  flush_breaks_off port before after fresh off =
+      record { plays = off.plays; now = off.now; are = inl (fresh, off.are); part = off.part }
+
+  pub due_breaks_off :
+      (port : ℕ) (before after : Option Lanes) → ¬ IsFresh old ssrc → BreakOff (HavePlayed old seq ssrc) port before after
+      → BreakOff (HavePlayedBefore old seq ssrc) port before after
+  due_breaks_off port before after stale off =
+      record { plays = off.plays; now = off.now; are = inr (stale, off.are); part = off.part }
