@@ -15,6 +15,7 @@ use Rattle.fg_encode.specs.Payloads.{ArePayloads}
 use Rattle.fg_results.specs.Flow.{Arrives, records_of}
 use Rattle.fg_results.proofs.ArrivalLemmas.{is_of_its_flow}
 use Rattle.fg_thin.specs.Thinned.{without}
+use Rattle.fg_drill.specs.Sent.{source_sent}
 use Rattle.fg_drill.specs.True.{AreInFull}
 use Rattle.fg_drill.proofs.Reading.{column_arrival, column_can_arrive, media_can_arrive, row_arrival, row_can_arrive}
 
@@ -59,7 +60,7 @@ module _ (settings : Settings) (payloads : List (List ℕ)) (most : settings.pac
   -- What is sent for a slot arrives as this.
   abbrev arrivals_at : ℕ → List Arrival
   arrivals_at slot =
-      carries (sequence_of settings slot) (word_at settings payloads slot)
+      carries (sequence_of settings slot) (source_sent settings) (word_at settings payloads slot)
       ∷ map (column_arrival settings payloads most are) (columns_ending settings.layout slot)
       ++ map (row_arrival settings payloads most are) (rows_ending settings.layout slot)
 
@@ -127,30 +128,31 @@ module _ (settings : Settings) (payloads : List (List ℕ)) (most : settings.pac
 
   -- Parities are passed over.
   columns_passed :
-      (count next : ℕ) (bases : List ℕ) (rest : List Arrival) → AreInFull settings.seq count next rest
-      → AreInFull settings.seq count next (map (column_arrival settings payloads most are) bases ++ rest)
+      (count next : ℕ) (bases : List ℕ) (rest : List Arrival) → AreInFull settings.seq (source_sent settings) count next rest
+      → AreInFull settings.seq (source_sent settings) count next (map (column_arrival settings payloads most are) bases ++ rest)
   columns_passed count next [] rest full = full
   columns_passed count next (base ∷ bases) rest full = columns_passed count next bases rest full
 
   rows_passed :
-      (count next : ℕ) (bases : List ℕ) (rest : List Arrival) → AreInFull settings.seq count next rest
-      → AreInFull settings.seq count next (map (row_arrival settings payloads most are) bases ++ rest)
+      (count next : ℕ) (bases : List ℕ) (rest : List Arrival) → AreInFull settings.seq (source_sent settings) count next rest
+      → AreInFull settings.seq (source_sent settings) count next (map (row_arrival settings payloads most are) bases ++ rest)
   rows_passed count next [] rest full = full
   rows_passed count next (base ∷ bases) rest full = rows_passed count next bases rest full
 
   slots_in_full :
-      (slot n count : ℕ) → slot + n ≡ count → AreInFull settings.seq count slot (flat_map arrivals_at (range_with_len slot n))
+      (slot n count : ℕ) → slot + n ≡ count → AreInFull settings.seq (source_sent settings) count slot (flat_map arrivals_at (range_with_len slot n))
   slots_in_full slot zero count same = omega (arith, same)
   slots_in_full slot (suc n) count same =
       let columns : List ℕ = columns_ending settings.layout slot in
       let rows : List ℕ = rows_ending settings.layout slot in
       let rest : List Arrival = flat_map arrivals_at (range_with_len (slot + 1) n) in (
         refl,
-        subst (λ (more : List Arrival). AreInFull settings.seq count (slot + 1) more)
+        refl,
+        subst (λ (more : List Arrival). AreInFull settings.seq (source_sent settings) count (slot + 1) more)
             (sym (append_assoc (map (column_arrival settings payloads most are) columns) (map (row_arrival settings payloads most are) rows) rest))
             (columns_passed count (slot + 1) columns (map (row_arrival settings payloads most are) rows ++ rest)
             (rows_passed count (slot + 1) rows rest (slots_in_full (slot + 1) n count (omega (arith, same))))),
       )
 
-  pub all_in_full : AreInFull settings.seq (length payloads) 0 all_arrivals
+  pub all_in_full : AreInFull settings.seq (source_sent settings) (length payloads) 0 all_arrivals
   all_in_full = slots_in_full 0 (length payloads) (length payloads) (omega arith)

@@ -1,8 +1,9 @@
 -- What comes back of a thinned encoding.
-use Rattle.std.proofs.Common.{◌≡◌, ℕ, zero, suc, ◌+◌, ◌-◌, ◌<◌, ◌≤◌, Bool, true, false, cond, List, [], ◌∷◌, ◌++◌, length, replicate, get_or, Option, Some, None, refl, sym, ap, subst, ⊎_elim, ◌∙◌, arith}
+use Rattle.std.proofs.Common.{◌≡◌, ℕ, zero, suc, ◌+◌, ◌-◌, ◌<◌, ◌≤◌, Bool, true, false, cond, List, [], ◌∷◌, ◌++◌, length, replicate, get_or, Option, Some, None, refl, sym, ap, subst, ⊎_elim, ◌∙◌, ◌^◌, arith, lit<}
 use Rattle.std.specs.List.{All, AllZip, count_by, flat_map, range_with_len}
 use Rattle.std.specs.Option.{is_some}
 use Rattle.std.proofs.lemmas.Bool.{cases_lt}
+use Rattle.std.proofs.lemmas.Nat.{mod_below}
 use Rattle.std.proofs.lemmas.List.{get_or_past, take-append-le, take_all}
 use Rattle.std.proofs.lemmas.List.Elements.{All-head, All-tail}
 use Rattle.std.proofs.lemmas.List.Sums.{sum_by-cons}
@@ -19,7 +20,7 @@ use Rattle.fg_report.specs.declared.flow_sum.FlowSum.{FlowSum}
 use Rattle.fg_results.specs.Flow.{Arrives, FlowResult, IsFlowResult, all_shown, is_inconsistent, lane_of, records_of, shown_payload}
 use Rattle.fg_drill.specs.ComesBack.{CanComeBack, stream_of}
 use Rattle.fg_drill.specs.Repaired.{ArrivalsPeel, Peels, is_shown, stream_shown}
-use Rattle.fg_drill.specs.Sent.{ArriveOneWay, FewArrive, SentRecordsAreTrue, SentWordsAreMedia, words_sent}
+use Rattle.fg_drill.specs.Sent.{ArriveOneWay, FewArrive, SentRecordsAreTrue, SentWordsAreMedia, source_sent, words_sent}
 use Rattle.fg_thin.specs.Thinned.{thinned}
 use Rattle.fg_drill.specs.True.{AreSentTrue}
 use Rattle.fg_drill.specs.TrueLaws.{PeeledSlotsAreShown, TrueRunsAreRepaired, TrueRunsShowTheTruth}
@@ -124,12 +125,13 @@ module _
     (media : SentWordsAreMedia) (records : SentRecordsAreTrue) (few : FewArrive) where
   pub sent_true :
       (arrivals : List Arrival) → AllZip (Arrives settings.port) (records_of settings.port (thinned settings lost payloads)) arrivals
-      → AreSentTrue playout settings.seq (words_sent settings payloads) arrivals
+      → AreSentTrue playout settings.seq (source_sent settings) (words_sent settings payloads) arrivals
   sent_true arrivals arrive =
       let count = few settings payloads lost arrivals can.can can.whole arrive in
       let limit = can.limit in
       record {
         fits = can.fits;
+        source = mod_below settings.ssrc (2 ^ 32) (lit< tt);
         media = media settings payloads can.can can.whole;
         arrive = records settings payloads lost arrivals can.can can.whole can.few arrive;
         few = omega arith;
@@ -139,13 +141,13 @@ module _
     pub nothing_inconsistent : TrueRunsAreRepaired → result.sum.inconsistent ≡ 0
     nothing_inconsistent law =
         ap (λ (sum : FlowSum). sum.inconsistent) is.sum
-        ∙ none_inconsistent is.plays (law playout settings.seq (words_sent settings payloads) is.arrivals is.plays is.replies (sent_true is.arrivals is.arrive) is.run)
+        ∙ none_inconsistent is.plays (law playout settings.seq (source_sent settings) (words_sent settings payloads) is.arrivals is.plays is.replies (sent_true is.arrivals is.arrive) is.run)
 
     pub what_is_shown : TrueRunsShowTheTruth → result.lane ≡ stream_shown payloads is.plays
     what_is_shown law =
         is.lane
         ∙ lane_is_shown settings payloads is.plays
-        (law playout settings.seq (words_sent settings payloads) is.arrivals is.plays is.replies (sent_true is.arrivals is.arrive) is.run)
+        (law playout settings.seq (source_sent settings) (words_sent settings payloads) is.arrivals is.plays is.replies (sent_true is.arrivals is.arrive) is.run)
 
     pub all_comes_back :
         TrueRunsShowTheTruth → PeeledSlotsAreShown → ArriveOneWay
@@ -155,4 +157,4 @@ module _
         let peel : ArrivalsPeel playout is.arrivals (length payloads) = subst (λ (arrivals : List Arrival). ArrivalsPeel playout arrivals (length payloads)) same peels.2 in
         what_is_shown truth
         ∙ all_is_shown payloads is.plays
-        (law playout settings.seq (length payloads) (words_sent settings payloads) is.arrivals is.plays is.replies (sent_true is.arrivals is.arrive) is.run peel)
+        (law playout settings.seq (source_sent settings) (length payloads) (words_sent settings payloads) is.arrivals is.plays is.replies (sent_true is.arrivals is.arrive) is.run peel)

@@ -19,6 +19,7 @@ use Rattle.fg_encode.specs.Encoding.{bits_before, column_record, column_shape, l
 use Rattle.fg_encode.specs.Ends.{columns_before, rows_before}
 use Rattle.fg_encode.specs.Payloads.{ArePayloads}
 use Rattle.fg_results.specs.Flow.{Arrives, IsReadAs, IsReadAsParity, parity_of}
+use Rattle.fg_drill.specs.Sent.{source_sent}
 use Rattle.fg_drill.proofs.Written.{low_bytes, parity_can_be_written, sum_len, sum_room, sum_ts, time_is_small, word_is_media}
 
 -- The kind of a port
@@ -43,10 +44,10 @@ on_row flow kind.Row bytes a on read = read
 pub read_as_media :
     (bytes : List ℕ) (seq ssrc : ℕ) (word : Word) → IsMediaDatagram bytes seq ssrc word
     → ((seq' ssrc' : ℕ) (word' : Word) → IsMediaDatagram bytes seq' ssrc' word' → (seq ≡ seq') × (ssrc ≡ ssrc') × (word ≡ word'))
-    → (a : Arrival) → IsReadAs kind.Media bytes a → a ≡ carries seq word
-read_as_media bytes seq ssrc word is one (carries seq' word') read =
-    let same = one seq' read.0 word' read.1 in
-    λ i. carries (sym same.0 i) (sym same.2 i)
+    → (a : Arrival) → IsReadAs kind.Media bytes a → a ≡ carries seq ssrc word
+read_as_media bytes seq ssrc word is one (carries seq' ssrc' word') read =
+    let same = one seq' ssrc' word' read in
+    λ i. carries (sym same.0 i) (sym same.1 i) (sym same.2 i)
 read_as_media bytes seq ssrc word is one (protects by parity) read = absurd read
 read_as_media bytes seq ssrc word is one (refused by) read = absurd (read.1 seq ssrc word is)
 
@@ -54,7 +55,7 @@ pub read_as_parity :
     (by : Kind) (bytes : List ℕ) (p : ParityRead) → IsParityDatagram bytes p
     → ((other : ParityRead) → IsParityDatagram bytes other → p ≡ other)
     → (a : Arrival) → IsReadAsParity by bytes a → a ≡ protects by (parity_of p)
-read_as_parity by bytes p is one (carries seq word) read = absurd read
+read_as_parity by bytes p is one (carries seq ssrc word) read = absurd read
 read_as_parity by bytes p is one (protects other parity) read =
     let same : parity ≡ parity_of p = read.1.2 ∙ ap parity_of (sym (one read.1.0 read.1.1)) in
     λ i. protects (read.0 i) (same i)
@@ -69,13 +70,13 @@ module _ (settings : Settings) (payloads : List (List ℕ)) (most : settings.pac
   media_is_written :
       MediaWrittenIsRead → (slot : ℕ) → slot < length payloads
       → let seq : ℕ = sequence_of settings slot in let word : Word = word_at settings payloads slot in
-      IsMediaDatagram (media_bytes seq settings.ssrc word) seq (settings.ssrc % 2 ^ 32) word
+      IsMediaDatagram (media_bytes seq settings.ssrc word) seq (source_sent settings) word
       × ((seq' ssrc' : ℕ) (word' : Word) → IsMediaDatagram (media_bytes seq settings.ssrc word) seq' ssrc' word'
-      → (seq ≡ seq') × (settings.ssrc % 2 ^ 32 ≡ ssrc') × (word ≡ word'))
+      → (seq ≡ seq') × (source_sent settings ≡ ssrc') × (word ≡ word'))
   media_is_written law slot below =
       let seq : ℕ = sequence_of settings slot in
       let word : Word = word_at settings payloads slot in
-      let ssrc : ℕ = settings.ssrc % 2 ^ 32 in
+      let ssrc : ℕ = source_sent settings in
       let same : media_bytes seq ssrc word ≡ media_bytes seq settings.ssrc word =
       ap (λ (source : List ℕ). 0x80 ∷ 33 ∷ (to_be_bytes w16 seq ++ to_be_bytes w32 word.ts ++ source) ++ payload_of word) (low_bytes settings.ssrc) in
       subst (λ (bytes : List ℕ). IsMediaDatagram bytes seq ssrc word
@@ -87,19 +88,20 @@ module _ (settings : Settings) (payloads : List (List ℕ)) (most : settings.pac
   -- So it is read, and as nothing else.
   pub media_can_arrive :
       MediaWrittenIsRead → (slot : ℕ) → slot < length payloads
-      → Arrives settings.port (media_record settings payloads slot) (carries (sequence_of settings slot) (word_at settings payloads slot))
-  media_can_arrive law slot below =
-      (kind.Media, refl, (settings.ssrc % 2 ^ 32, (media_is_written law slot below).0))
+      → Arrives settings.port (media_record settings payloads slot)
+      (carries (sequence_of settings slot) (source_sent settings) (word_at settings payloads slot))
+  media_can_arrive law slot below = (kind.Media, refl, (media_is_written law slot below).0)
 
   pub media_arrives :
       MediaWrittenIsRead → (slot : ℕ) → slot < length payloads → (a : Arrival)
-      → Arrives settings.port (media_record settings payloads slot) a → a ≡ carries (sequence_of settings slot) (word_at settings payloads slot)
+      → Arrives settings.port (media_record settings payloads slot) a
+      → a ≡ carries (sequence_of settings slot) (source_sent settings) (word_at settings payloads slot)
   media_arrives law slot below a arrives =
       let seq : ℕ = sequence_of settings slot in
       let word : Word = word_at settings payloads slot in
       let bytes : List ℕ = media_bytes seq settings.ssrc word in
       let written = media_is_written law slot below in
-      read_as_media bytes seq (settings.ssrc % 2 ^ 32) word written.0 written.1 a
+      read_as_media bytes seq (source_sent settings) word written.0 written.1 a
       (on_media settings.port arrives.0 bytes a arrives.1 arrives.2)
 
   -- A record of parity is a parity datagram of the parity of its equation.

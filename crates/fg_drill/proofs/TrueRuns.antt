@@ -1,5 +1,5 @@
 -- All plays of a run of true datagrams are true.
-use Rattle.std.proofs.Common.{◌≡◌, ◌+◌, ◌-◌, ◌<◌, ◌^◌, ◌++◌, ℕ, min, List, [], ◌∷◌, length, Option, Some, None, refl, sym, subst, ◌∙◌, arith}
+use Rattle.std.proofs.Common.{◌≡◌, ◌+◌, ◌-◌, ◌<◌, ◌^◌, ◌++◌, ℕ, min, List, [], ◌∷◌, length, Option, Some, None, inr, refl, sym, subst, ◌∙◌, arith}
 use Rattle.std.proofs.lemmas.Option.{none-some}
 use Rattle.std.proofs.lemmas.List.{append-nil, length_push}
 use Rattle.std.proofs.lemmas.List.Elements.{All-nil, All-cons, All-append, All-push}
@@ -19,33 +19,33 @@ use Rattle.fg_playout.specs.Laws.{IsRead, LiveStandUnderSerials, SolutionsArePee
 use Rattle.fg_drill.specs.True.{IsTrueArrival, AreTrueArrivals, last_after, AreSentTrue}
 use Rattle.fg_playout.proofs.Orderly.{known_ahead}
 use Rattle.fg_drill.proofs.TrueDesks.{IsTrueWindow, IsTruePlay, play_is_true, true_after_play}
-use Rattle.fg_drill.proofs.TrueTakings.{LeavesTruth, is_taken_truly}
+use Rattle.fg_drill.proofs.TrueTakings.{LeavesTruth, is_taken_truly, next_slot, none_is_fresh}
 
 -- A true datagram is read.
 pub is_read :
-    (seq : ℕ) (truth : ℕ → Option Word) (slot : ℕ) (arrival : Arrival) → AreMedia truth
-    → IsTrueArrival seq truth slot arrival → IsRead arrival
-is_read seq truth slot (carries number word) media is =
+    (seq ssrc : ℕ) (truth : ℕ → Option Word) (slot : ℕ) (arrival : Arrival) → ssrc < 2 ^ 32 → AreMedia truth
+    → IsTrueArrival seq ssrc truth slot arrival → IsRead arrival
+is_read seq ssrc truth slot (carries number source word) small media is =
     let number_is = is.0 in
-    (omega (arith, number_is), media slot word is.1)
-is_read seq truth slot (protects stream parity) media is =
+    (omega (arith, number_is), subst (λ (s : ℕ). s < 2 ^ 32) (sym is.1) small, media slot word is.2)
+is_read seq ssrc truth slot (protects stream parity) small media is =
     let number_is = is.base_is in
     (omega (arith, number_is), is.shape)
-is_read seq truth slot (refused stream) media is = absurd is
+is_read seq ssrc truth slot (refused stream) small media is = absurd is
 
 pub all_are_read :
-    (seq : ℕ) (truth : ℕ → Option Word) (last : Option ℕ) (arrivals : List Arrival) → AreMedia truth
-    → AreTrueArrivals seq truth last arrivals → All IsRead arrivals
-all_are_read seq truth last [] media are = All-nil IsRead
-all_are_read seq truth last (arrival ∷ arrivals) media are =
-    All-cons IsRead arrival arrivals (is_read seq truth are.0 arrival media are.1)
-    (all_are_read seq truth (last_after last are.0 arrival) arrivals media are.3)
+    (seq ssrc : ℕ) (truth : ℕ → Option Word) (last : Option ℕ) (arrivals : List Arrival) → ssrc < 2 ^ 32 → AreMedia truth
+    → AreTrueArrivals seq ssrc truth last arrivals → All IsRead arrivals
+all_are_read seq ssrc truth last [] small media are = All-nil IsRead
+all_are_read seq ssrc truth last (arrival ∷ arrivals) small media are =
+    All-cons IsRead arrival arrivals (is_read seq ssrc truth are.0 arrival small media are.1)
+    (all_are_read seq ssrc truth (last_after last are.0 arrival) arrivals small media are.3)
 
 -- Nothing is there at first.
 pub opening_is_true :
-    (playout : Playout) (seq : ℕ) (truth : ℕ → Option Word) → LiveStandUnderSerials
-    → LeavesTruth truth seq None (opening playout)
-opening_is_true playout seq truth stand =
+    (playout : Playout) (seq ssrc : ℕ) (truth : ℕ → Option Word) → LiveStandUnderSerials
+    → LeavesTruth truth seq ssrc None (opening playout)
+opening_is_true playout seq ssrc truth stand =
     let nothing : (position : ℕ) → known (opening playout) position ≡ None =
     λ position. known_ahead (opening playout) position (omega arith) ∙ get-empty {X = Word} nat_cmp position in
     record {
@@ -55,14 +55,14 @@ opening_is_true playout seq truth stand =
             let r = (stand (opening playout) e).0 listed in
             absurd (none-some r.1 (sym (get-empty {X = Live} nat_cmp r.0) ∙ r.2));
       };
-      top = record { top = refl; mark = omega arith; unknown = λ p past ahead. nothing p };
+      top = record { top = refl; previous = refl; origin = refl; mark = omega arith; unknown = λ p past ahead. nothing p };
     }
 
 module _
     (stand : LiveStandUnderSerials) (peelings : SolutionsArePeelings) (solvable : TruthIsSolvable) (found : SolutionsAreTrue)
     (media_adds : MediaAdds) (parity_adds : ParityAdds) (flush_keeps : FlushStepKeeps) (within : RunsStayWithin)
-    (join : TakingsJoin) (playout : Playout) (seq : ℕ) (truth : ℕ → Option Word) (arrivals : List Arrival)
-    (sent : AreSentTrue playout seq truth arrivals) where
+    (join : TakingsJoin) (playout : Playout) (seq ssrc : ℕ) (truth : ℕ → Option Word) (arrivals : List Arrival)
+    (sent : AreSentTrue playout seq ssrc truth arrivals) where
   -- What the datagrams so far leave.
   record AreTakenTruly (plays : List Play) (new : State) : Type 0 where
     made : All (IsTruePlay truth) plays
@@ -73,11 +73,13 @@ module _
       (earlier later : List Arrival) (before plays : List Play) (first replies : List (Option Reply)) (taken new : State)
       (last : Option ℕ)
       → All IsRead earlier → length earlier + length later < 2 ^ 44
-      → TakesAll (opening playout) earlier before first taken → LeavesTruth truth seq last taken
-      → AreTrueArrivals seq truth last later → TakesAll taken later plays replies new → AreTakenTruly plays new
+      → TakesAll (opening playout) earlier before first taken → LeavesTruth truth seq ssrc last taken
+      → AreTrueArrivals seq ssrc truth last later → TakesAll taken later plays replies new → AreTakenTruly plays new
   all_are_taken_truly earlier [] before plays first replies taken new last read few so is are takes =
-      let stays = within playout 0 earlier before [] first taken taken
-      sent.fits.window.0 sent.fits.window.1 sent.fits.depth.0 read (omega (arith, few)) so refl in
+      let stale = none_is_fresh seq ssrc last (next_slot last) taken is.top in
+      let stays = within playout 0 ssrc earlier before [] first taken taken
+      sent.fits.window.0 sent.fits.window.1 sent.fits.depth.0 sent.fits.depth.1 read (omega (arith, few)) so
+      (inr (stale, refl)) in
       record {
         made = subst (All (IsTruePlay truth)) (sym takes.0) (All-nil (IsTruePlay truth));
         holds = subst Holds (sym takes.2) stays.0;
@@ -85,16 +87,18 @@ module _
       }
   all_are_taken_truly earlier (arrival ∷ later) before plays first [] taken new last read few so is are takes = absurd takes
   all_are_taken_truly earlier (arrival ∷ later) before plays first (reply ∷ replies) taken new last read few so is are takes =
-      let one = is_taken_truly stand peelings solvable found media_adds parity_adds truth sent.media seq
+      let stale = none_is_fresh seq ssrc last (next_slot last) taken is.top in
+      let one = is_taken_truly stand peelings solvable found media_adds parity_adds truth sent.media seq ssrc
       last are.0 taken arrival takes.0 reply takes.2
       (λ number due now played.
-      (within playout number earlier before due first taken now
-      sent.fits.window.0 sent.fits.window.1 sent.fits.depth.0 read (omega (arith, few)) so played).0)
+      (within playout number ssrc earlier before due first taken now
+      sent.fits.window.0 sent.fits.window.1 sent.fits.depth.0 sent.fits.depth.1 read (omega (arith, few)) so
+      (inr (stale, played))).0)
       is are.1 are.2 takes.4 in
       let long = length_push earlier arrival in
       let rest = all_are_taken_truly (earlier ++ arrival ∷ []) later (before ++ takes.0) takes.1 (first ++ reply ∷ []) replies
       takes.2 new (last_after last are.0 arrival)
-      (All-push IsRead earlier arrival read (is_read seq truth are.0 arrival sent.media are.1))
+      (All-push IsRead earlier arrival read (is_read seq ssrc truth are.0 arrival sent.source sent.media are.1))
       (omega (arith, few, long))
       (join (opening playout) taken takes.2 earlier (arrival ∷ []) before takes.0 first (reply ∷ []) so
       (takes.0, [], takes.2, sym (append-nil takes.0), takes.4, (refl, refl, refl)))
@@ -123,7 +127,7 @@ module _
   run_is_true plays replies run =
       let few = sent.few in
       let all = all_are_taken_truly [] arrivals [] run.taken [] replies (opening playout) run.filled None
-      (All-nil IsRead) (omega (arith, few)) (refl, refl, refl) (opening_is_true playout seq truth stand)
+      (All-nil IsRead) (omega (arith, few)) (refl, refl, refl) (opening_is_true playout seq ssrc truth stand)
       sent.arrive run.takes in
       subst (All (IsTruePlay truth)) (sym run.plays_are)
       (All-append (IsTruePlay truth) run.taken run.flushed all.made
@@ -132,14 +136,14 @@ module _
 -- All plays of runs of true datagrams are true.
 abbrev pub TrueRunsAreTrue : Type 0
 TrueRunsAreTrue =
-    (playout : Playout) (seq : ℕ) (truth : ℕ → Option Word) (arrivals : List Arrival) (plays : List Play)
+    (playout : Playout) (seq ssrc : ℕ) (truth : ℕ → Option Word) (arrivals : List Arrival) (plays : List Play)
     (replies : List (Option Reply))
-    → AreSentTrue playout seq truth arrivals → IsRun playout arrivals plays replies
+    → AreSentTrue playout seq ssrc truth arrivals → IsRun playout arrivals plays replies
     → All (IsTruePlay truth) plays
 
 pub true_runs_are_true :
     LiveStandUnderSerials → SolutionsArePeelings → TruthIsSolvable → SolutionsAreTrue → MediaAdds → ParityAdds
     → FlushStepKeeps → RunsStayWithin → TakingsJoin → TrueRunsAreTrue
-true_runs_are_true stand peelings solvable found media_adds parity_adds flush_keeps within join playout seq truth arrivals plays replies sent run =
-    run_is_true stand peelings solvable found media_adds parity_adds flush_keeps within join playout seq truth arrivals
+true_runs_are_true stand peelings solvable found media_adds parity_adds flush_keeps within join playout seq ssrc truth arrivals plays replies sent run =
+    run_is_true stand peelings solvable found media_adds parity_adds flush_keeps within join playout seq ssrc truth arrivals
     sent plays replies run

@@ -39,9 +39,9 @@ not_some None not = refl
 not_some (Some x) not = absurd (not x refl)
 
 pub nothing_else : TrueRunsShowTheTruth → NothingElseIsShown
-nothing_else truly playout seq truth arrivals plays replies sent run slot none =
+nothing_else truly playout seq ssrc truth arrivals plays replies sent run slot none =
     not_some (get_or (all_shown plays) slot nothing_shown).word
-    (λ word shown. none-some word (sym none ∙ truly playout seq truth arrivals plays replies sent run slot word shown))
+    (λ word shown. none-some word (sym none ∙ truly playout seq ssrc truth arrivals plays replies sent run slot word shown))
 
 -- A play of plays in succession shows its slots at their positions.
 pub record ShowsAt (plays : List Play) (play : Play) (first slot : ℕ) : Type 0 where
@@ -76,13 +76,13 @@ of_one P [] after play all = All-head P play after all
 of_one P (other ∷ before) after play all = of_one P before after play (All-tail P other (before ++ play ∷ after) all)
 
 pub runs_are_repaired : TrueRunsAreTrue → TrueRunsAreRepaired
-runs_are_repaired all playout seq truth arrivals plays replies sent run =
+runs_are_repaired all playout seq ssrc truth arrivals plays replies sent run =
     All-weaker (IsTruePlay truth) (λ (play : Play). play.outcome ≡ Repaired) (λ play is. is.repaired) plays
-    (all playout seq truth arrivals plays replies sent run)
+    (all playout seq ssrc truth arrivals plays replies sent run)
 
 pub runs_show_the_truth : TrueRunsAreTrue → PlaysFollow → TrueRunsShowTheTruth
-runs_show_the_truth all follow playout seq truth arrivals plays replies sent run slot word shown =
+runs_show_the_truth all follow playout seq ssrc truth arrivals plays replies sent run slot word shown =
     let from_first : slot ≡ 0 + slot = omega arith in
     ap truth from_first
     ∙ shown_is_true truth plays 0 (follow playout arrivals plays replies run)
-    (all playout seq truth arrivals plays replies sent run) slot word shown
+    (all playout seq ssrc truth arrivals plays replies sent run) slot word shown

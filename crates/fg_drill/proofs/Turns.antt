@@ -20,7 +20,7 @@ use Rattle.fg_encode.specs.Payloads.{ArePayloads}
 use Rattle.fg_encode.proofs.ListLemmas.{flat_more_at}
 use Rattle.fg_results.specs.Flow.{Arrives, is_of, parity_of, records_of}
 use Rattle.fg_results.proofs.ArrivalLemmas.{is_of_its_flow}
-use Rattle.fg_drill.specs.Sent.{words_sent}
+use Rattle.fg_drill.specs.Sent.{source_sent, words_sent}
 use Rattle.fg_thin.specs.Thinned.{AreFew, media_number, without}
 use Rattle.fg_drill.specs.True.{AreTrueArrivals, ComesInTurn, IsTrueArrival, IsTrueParity, last_after}
 use Rattle.fg_drill.proofs.Reading.{column_arrives, media_arrives, row_arrives}
@@ -45,7 +45,7 @@ module _ (settings : Settings) (payloads : List (List ℕ)) (lost : ℕ → Bool
   GoesOn number last records =
       (arrivals : List Arrival)
       → AllZip (Arrives settings.port) (records_of settings.port (without lost number records)) arrivals
-      → AreTrueArrivals settings.seq (words_sent settings payloads) last arrivals
+      → AreTrueArrivals settings.seq (source_sent settings) (words_sent settings payloads) last arrivals
 
   -- The media record of this slot was the last that isn't left out before a slot, or none was so far.
   abbrev StandsBefore : ℕ → Option ℕ → Type 0
@@ -56,8 +56,8 @@ module _ (settings : Settings) (payloads : List (List ℕ)) (lost : ℕ → Bool
   -- An arrival is true and comes in its turn, and the rest goes on.
   abbrev Comes : Option ℕ → ℕ → List Arrival → Arrival → Type 0
   Comes last slot more a =
-      IsTrueArrival settings.seq (words_sent settings payloads) slot a × ComesInTurn last slot a
-      × AreTrueArrivals settings.seq (words_sent settings payloads) (last_after last slot a) more
+      IsTrueArrival settings.seq (source_sent settings) (words_sent settings payloads) slot a × ComesInTurn last slot a
+      × AreTrueArrivals settings.seq (source_sent settings) (words_sent settings payloads) (last_after last slot a) more
 
   nothing_more : (last : Option ℕ) → GoesOn 0 last []
   nothing_more last [] zip = tt
@@ -67,7 +67,7 @@ module _ (settings : Settings) (payloads : List (List ℕ)) (lost : ℕ → Bool
   first_arrives :
       (r : Record) (kept : List Record) (slot : ℕ) (last : Option ℕ) (arrivals : List Arrival)
       → ((a : Arrival) (more : List Arrival) → Arrives settings.port r a → AllZip (Arrives settings.port) kept more → Comes last slot more a)
-      → AllZip (Arrives settings.port) (r ∷ kept) arrivals → AreTrueArrivals settings.seq (words_sent settings payloads) last arrivals
+      → AllZip (Arrives settings.port) (r ∷ kept) arrivals → AreTrueArrivals settings.seq (source_sent settings) (words_sent settings payloads) last arrivals
   first_arrives r kept slot last [] comes zip = absurd zip
   first_arrives r kept slot last (a ∷ more) comes zip =
       let both = comes a more zip.0 zip.1 in
@@ -77,11 +77,11 @@ module _ (settings : Settings) (payloads : List (List ℕ)) (lost : ℕ → Bool
       (b : Bool) (r : Record) (kept : List Record) (slot : ℕ) (last : Option ℕ) (arrivals : List Arrival)
       → is_of settings.port r ≡ true
       → (b ≡ true → AllZip (Arrives settings.port) (records_of settings.port kept) arrivals
-      → AreTrueArrivals settings.seq (words_sent settings payloads) last arrivals)
+      → AreTrueArrivals settings.seq (source_sent settings) (words_sent settings payloads) last arrivals)
       → (b ≡ false → (a : Arrival) (more : List Arrival) → Arrives settings.port r a
       → AllZip (Arrives settings.port) (records_of settings.port kept) more → Comes last slot more a)
       → AllZip (Arrives settings.port) (records_of settings.port (cond b kept (r ∷ kept))) arrivals
-      → AreTrueArrivals settings.seq (words_sent settings payloads) last arrivals
+      → AreTrueArrivals settings.seq (source_sent settings) (words_sent settings payloads) last arrivals
   record_more true r kept slot last arrivals on left comes zip = left refl zip
   record_more false r kept slot last arrivals on left comes zip =
       first_arrives r (records_of settings.port kept) slot last arrivals (comes refl)
@@ -177,7 +177,9 @@ module _ (settings : Settings) (payloads : List (List ℕ)) (lost : ℕ → Bool
           absurd (cc))
           (cases_lt next (before + 32002))
 
-      turn : (slot : ℕ) (last : Option ℕ) → slot < length payloads → StandsBefore slot last → ComesInTurn last slot (carries (sequence_of settings slot) (word_at settings payloads slot))
+      turn :
+          (slot : ℕ) (last : Option ℕ) → slot < length payloads → StandsBefore slot last
+          → ComesInTurn last slot (carries (sequence_of settings slot) (source_sent settings) (word_at settings payloads slot))
       turn slot None below stands = stands
       turn slot (Some before) below stands = (stands.0, gap before slot (omega arith) stands.1)
 
@@ -228,7 +230,7 @@ module _ (settings : Settings) (payloads : List (List ℕ)) (lost : ℕ → Bool
           (λ kept a more arrives more'.
           let is = media_arrives settings payloads most are media_law slot below a arrives in
           subst (Comes last slot more) (sym is) (
-            (refl, word_sent settings payloads slot below),
+            (refl, refl, word_sent settings payloads slot below),
             turn slot last below stands,
             after_media slot (number + 1) slot rest below (omega arith) (omega arith)
                 (goes (Some slot) (omega arith, (λ j low high. absurd (omega arith)))) more more',

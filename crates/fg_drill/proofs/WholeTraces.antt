@@ -7,7 +7,7 @@ use Rattle.fg_encode.specs.Encoding.{encoding}
 use Rattle.fg_encode.specs.Laws.{RecordsFit}
 use Rattle.fg_results.specs.Flow.{Arrives, IsFlowResult, records_of}
 use Rattle.fg_drill.specs.ComesBack.{EncodingComesBack, NothingIsInconsistent, NothingLostIsAll, NothingLostIsFew, NothingLostPeels, PeelingBringsAllBack, ThinnedTraceComesBack, ThinnedTraceIsRead, WhatIsShownComesBack}
-use Rattle.fg_drill.specs.Sent.{AllRecordsArrive, FewArrive, SentRecordsAreTrue, SentWordsAreMedia, words_sent}
+use Rattle.fg_drill.specs.Sent.{AllRecordsArrive, FewArrive, SentRecordsAreTrue, SentWordsAreMedia, source_sent, words_sent}
 use Rattle.fg_thin.specs.Thinned.{media_number, thinned}
 use Rattle.fg_drill.specs.TrueLaws.{FullArrivalsPeel}
 use Rattle.fg_drill.proofs.AllSent.{all_kept}
@@ -32,7 +32,7 @@ nothing_lost_peels media records few arrive peel playout settings payloads lost 
     (sym (nothing_is_all settings payloads lost none)) all.1 in (
       all.0,
       zip,
-      peel playout settings.seq (length payloads) (words_sent settings payloads) all.0
+      peel playout settings.seq (source_sent settings) (length payloads) (words_sent settings payloads) all.0
           (sent_true playout settings payloads lost can media records few all.0 zip) all.2,
     )
 

@@ -6,7 +6,7 @@ use Rattle.fg_words.specs.declared.Word.{Word}
 use Rattle.fg_trace.specs.Trace.{Record}
 use Rattle.fg_playout.specs.declared.reply.Reply.{Reply}
 use Rattle.fg_playout.specs.State.{State, opening}
-use Rattle.fg_playout.specs.Admission.{IsDue}
+use Rattle.fg_playout.specs.Admission.{IsDue, IsFresh}
 use Rattle.fg_playout.specs.Solution.{InClosure}
 use Rattle.fg_playout.specs.Play.{Play, IsPlay, IsFlushStep, nothing_shown}
 use Rattle.fg_playout.specs.Run.{Arrival, carries, TakesAll}
@@ -23,13 +23,20 @@ abbrev pub stream_shown : List (List ℕ) → List Play → List ℕ
 stream_shown payloads plays =
     flat_map (λ slot. if is_shown plays slot then payload_at payloads slot else []) (range_with_len 0 (length payloads))
 
--- The run of these arrivals makes this play on this desk: before an arrival that makes it due, or in its flush.
+-- The run of these arrivals makes this play on this desk: before an arrival that makes it due, in the flush before one with
+-- a fresh SSRC, or in the flush at its end.
 pub data MakesPlay (playout : Playout) (arrivals : List Arrival) (desk : State) (play : Play) : Type 0 where
   due :
-      (earlier later : List Arrival) (seq : ℕ) (word : Word) (plays before : List Play) (replies : List (Option Reply))
+      (earlier later : List Arrival) (seq ssrc : ℕ) (word : Word) (plays before : List Play) (replies : List (Option Reply))
       (taken next : State)
-      → arrivals ≡ earlier ++ carries seq word ∷ later → TakesAll (opening playout) earlier plays replies taken
-      → HavePlayed taken seq before desk → IsDue desk seq → IsPlay playout.window desk play next
+      → arrivals ≡ earlier ++ carries seq ssrc word ∷ later → TakesAll (opening playout) earlier plays replies taken
+      → HavePlayed taken seq ssrc before desk → IsDue desk seq ssrc → IsPlay playout.window desk play next
+      → MakesPlay playout arrivals desk play
+  begun :
+      (earlier later : List Arrival) (seq ssrc : ℕ) (word : Word) (plays before : List Play) (replies : List (Option Reply))
+      (taken next : State)
+      → arrivals ≡ earlier ++ carries seq ssrc word ∷ later → TakesAll (opening playout) earlier plays replies taken
+      → IsFresh taken ssrc → AreFlushSteps taken before desk → IsFlushStep desk play next
       → MakesPlay playout arrivals desk play
   flushed :
       (plays before : List Play) (replies : List (Option Reply)) (filled next : State)

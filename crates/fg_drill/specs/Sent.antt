@@ -1,5 +1,5 @@
 -- What is sent of an encoding arrives as true datagrams. This project's own.
-use Rattle.std.specs.Prelude.{◌≡◌, ◌*◌, ◌≤◌, ℕ, Bool, List, length, nat_lt, Option, Some, None, if◌then◌else◌}
+use Rattle.std.specs.Prelude.{◌≡◌, ◌*◌, ◌≤◌, ◌%◌, ◌^◌, ℕ, Bool, List, length, nat_lt, Option, Some, None, if◌then◌else◌}
 use Rattle.std.specs.List.{AllZip}
 use Rattle.fg_words.specs.declared.Word.{Word}
 use Rattle.fg_shape.specs.declared.encoding.Settings.{Settings}
@@ -12,6 +12,10 @@ use Rattle.fg_encode.specs.Payloads.{total_length, ArePayloads}
 use Rattle.fg_results.specs.Flow.{Arrives, records_of}
 use Rattle.fg_thin.specs.Thinned.{AreFew, thinned}
 use Rattle.fg_drill.specs.True.{AreInFull, AreTrueArrivals}
+
+-- The SSRC of an encoding's datagrams, all of which have the same: it has 32 bits (RFC 3550).
+abbrev pub source_sent : Settings → ℕ
+source_sent settings = settings.ssrc % 2 ^ 32
 
 -- The true words of an encoding: each payload's, at its slot.
 abbrev pub words_sent : Settings → List (List ℕ) → ℕ → Option Word
@@ -30,7 +34,7 @@ SentRecordsAreTrue =
     (settings : Settings) (payloads : List (List ℕ)) (lost : ℕ → Bool) (arrivals : List Arrival)
     → CanEncode settings → ArePayloads settings.packets payloads → AreFew settings.layout (length payloads) lost
     → AllZip (Arrives settings.port) (records_of settings.port (thinned settings lost payloads)) arrivals
-    → AreTrueArrivals settings.seq (words_sent settings payloads) None arrivals
+    → AreTrueArrivals settings.seq (source_sent settings) (words_sent settings payloads) None arrivals
 
 -- For each payload at most three arrive: its own, and the parity of a column and of a row. Each payload has a packet at
 -- least.
@@ -54,4 +58,4 @@ AllRecordsArrive =
     (settings : Settings) (payloads : List (List ℕ)) → CanEncode settings → ArePayloads settings.packets payloads
     → (arrivals : List Arrival)
     × AllZip (Arrives settings.port) (records_of settings.port (encoding settings payloads)) arrivals
-    × AreInFull settings.seq (length payloads) 0 arrivals
+    × AreInFull settings.seq (source_sent settings) (length payloads) 0 arrivals

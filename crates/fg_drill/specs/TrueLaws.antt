@@ -14,40 +14,40 @@ use Rattle.fg_drill.specs.True.{AreInFull, AreSentTrue}
 -- Every play is repaired.
 abbrev pub TrueRunsAreRepaired : Type 0
 TrueRunsAreRepaired =
-    (playout : Playout) (seq : ℕ) (truth : ℕ → Option Word) (arrivals : List Arrival) (plays : List Play)
+    (playout : Playout) (seq ssrc : ℕ) (truth : ℕ → Option Word) (arrivals : List Arrival) (plays : List Play)
     (replies : List (Option Reply))
-    → AreSentTrue playout seq truth arrivals → IsRun playout arrivals plays replies
+    → AreSentTrue playout seq ssrc truth arrivals → IsRun playout arrivals plays replies
     → All (λ play. play.outcome ≡ Repaired) plays
 
 -- Each word that is shown is the true one of its slot.
 abbrev pub TrueRunsShowTheTruth : Type 0
 TrueRunsShowTheTruth =
-    (playout : Playout) (seq : ℕ) (truth : ℕ → Option Word) (arrivals : List Arrival) (plays : List Play)
+    (playout : Playout) (seq ssrc : ℕ) (truth : ℕ → Option Word) (arrivals : List Arrival) (plays : List Play)
     (replies : List (Option Reply))
-    → AreSentTrue playout seq truth arrivals → IsRun playout arrivals plays replies
+    → AreSentTrue playout seq ssrc truth arrivals → IsRun playout arrivals plays replies
     → (slot : ℕ) (word : Word)
     → (slice_index_or (all_shown plays) slot nothing_shown).word ≡ Some word → truth slot ≡ Some word
 
 -- So no slot is shown that has no true word.
 abbrev pub NothingElseIsShown : Type 0
 NothingElseIsShown =
-    (playout : Playout) (seq : ℕ) (truth : ℕ → Option Word) (arrivals : List Arrival) (plays : List Play)
+    (playout : Playout) (seq ssrc : ℕ) (truth : ℕ → Option Word) (arrivals : List Arrival) (plays : List Play)
     (replies : List (Option Reply))
-    → AreSentTrue playout seq truth arrivals → IsRun playout arrivals plays replies
+    → AreSentTrue playout seq ssrc truth arrivals → IsRun playout arrivals plays replies
     → (slot : ℕ) → truth slot ≡ None → is_shown plays slot ≡ false
 
 -- Where arrivals of so many slots peel, each of these is shown.
 abbrev pub PeeledSlotsAreShown : Type 0
 PeeledSlotsAreShown =
-    (playout : Playout) (seq count : ℕ) (truth : ℕ → Option Word) (arrivals : List Arrival) (plays : List Play)
+    (playout : Playout) (seq ssrc count : ℕ) (truth : ℕ → Option Word) (arrivals : List Arrival) (plays : List Play)
     (replies : List (Option Reply))
-    → AreSentTrue playout seq truth arrivals → IsRun playout arrivals plays replies
+    → AreSentTrue playout seq ssrc truth arrivals → IsRun playout arrivals plays replies
     → ArrivalsPeel playout arrivals count
     → (slot : ℕ) → slot < count → is_shown plays slot ≡ true
 
 -- True datagrams of so many slots peel where no media datagram is missing, at every playout.
 abbrev pub FullArrivalsPeel : Type 0
 FullArrivalsPeel =
-    (playout : Playout) (seq count : ℕ) (truth : ℕ → Option Word) (arrivals : List Arrival)
-    → AreSentTrue playout seq truth arrivals → AreInFull seq count 0 arrivals
+    (playout : Playout) (seq ssrc count : ℕ) (truth : ℕ → Option Word) (arrivals : List Arrival)
+    → AreSentTrue playout seq ssrc truth arrivals → AreInFull seq ssrc count 0 arrivals
     → ArrivalsPeel playout arrivals count
