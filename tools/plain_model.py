@@ -81,7 +81,7 @@ def is_media(word):
 
 @functools.lru_cache(maxsize=4096)
 def read_media(datagram):
-    """A fault's number, or sequence number and word."""
+    """A fault's number, or sequence number, SSRC and word."""
     if len(datagram) < 12:
         return 1
     if datagram[0] >> 6 != 2:
@@ -95,8 +95,8 @@ def read_media(datagram):
         return 5
     if not are_packets(payload):
         return 6
-    seq, ts = struct.unpack_from(">HI", datagram, 2)
-    return seq, word_of(33, ts, len(payload), payload)
+    seq, ts, ssrc = struct.unpack_from(">HII", datagram, 2)
+    return seq, ssrc, word_of(33, ts, len(payload), payload)
 
 
 def is_shape(offset, na):
@@ -174,22 +174,27 @@ class Desk:
     def __init__(self, window, depth):
         self.window, self.depth = window, depth
         self.top = None
+        # The SSRC of the current run and of the one before, where the current one begins, and how many were begun.
+        self.current, self.previous, self.origin, self.runs = None, None, 0, 0
         self.mark = 0
         self.kept, self.media = {}, {}
         # By their shapes, of which no two are the same.
         self.equations = {}
 
-    def due(self, seq):
-        """How many plays come before a media datagram of this sequence number: while it is `depth` positions past the mark or
-        more, the mark moves on by a window."""
-        if self.top is None:
-            return 0
-        return max(0, (position(*self.top, seq) - self.mark - self.depth) // self.window + 1)
+    def plays_before(self, seq, ssrc):
+        """The plays before a media datagram. With a new SSRC, neither the current nor the previous one, the desk is flushed. With the
+        current one, while it is `depth` positions past the mark or more, the mark moves on by a window."""
+        if self.top is None or ssrc != self.current:
+            return self.flush() if self.top is not None and ssrc != self.previous else []
+        return self.plays(max(0, (position(*self.top, seq) - self.mark - self.depth) // self.window + 1))
 
-    def admit_media(self, seq, word):
-        if self.top is None:
-            self.top, self.mark = (0, seq), 0
-            self.media[0] = word
+    def admit_media(self, seq, ssrc, word):
+        if self.previous is not None and ssrc == self.previous:
+            return "foreign"
+        if self.top is None or ssrc != self.current:
+            self.previous, self.current, self.origin, self.runs = self.current, ssrc, self.mark, self.runs + 1
+            self.top, self.equations = (self.mark, seq), {}
+            self.media[self.mark] = word
             return "admitted"
         at = position(*self.top, seq)
         if at < 0 or at < self.mark:
@@ -205,7 +210,7 @@ class Desk:
         if self.top is None:
             return "notstarted"
         equation = Equation(position(*self.top, base_seq), offset, na, word)
-        if equation.base < 0:
+        if equation.base < self.origin:
             return "beforestart"
         if equation.last < self.mark or not self.reaches_back(equation):
             return "late"
@@ -293,20 +298,21 @@ KINDS = {0: "media", 2: "column", 4: "row"}
 
 
 def run_of(records, window, depth):
-    """A flow's run over its records (kind, datagram): its plays, and how often each kind got each reply."""
+    """A flow's run over its records (kind, datagram): its plays, how often each kind got each reply, and how many runs of a
+    sender were begun."""
     desk, plays = Desk(window, depth), []
-    counts = {kind: dict.fromkeys(PARITY_COUNTS, 0) for kind in KINDS.values()}
+    counts = {kind: dict.fromkeys([*PARITY_COUNTS, "foreign"], 0) for kind in KINDS.values()}
     for kind, datagram in records:
         read = (read_media if kind == "media" else read_parity)(datagram)
         if isinstance(read, int):
             reply = "bad"
         elif kind == "media":
-            plays += desk.plays(desk.due(read[0]))
+            plays += desk.plays_before(*read[:2])
             reply = desk.admit_media(*read)
         else:
             reply = desk.admit_parity(*read)
         counts[kind][reply] += 1
-    return plays + list(desk.flush()), counts
+    return plays + list(desk.flush()), counts, desk.runs
 
 
 def gaps_of(shown):
@@ -329,7 +335,7 @@ def repair(records, ports, window, depth):
             port, kind = owners[at]
             own[port].append((kind, datagram))
     for port in ports:
-        plays, counts = run_of(own[port], window, depth)
+        plays, counts, runs = run_of(own[port], window, depth)
         shown = [word for play in plays for word in play.shown]
         lanes[port] = b"".join(payload_of(word) for word in shown if word is not None)
         missing = shown.count(None)
@@ -339,6 +345,8 @@ def repair(records, ports, window, depth):
                      f"inconsistent {broken}")
         lines.append(counted("media", port, counts["media"], MEDIA_COUNTS))
         lines += [counted(kind, port, counts[kind], PARITY_COUNTS) for kind in ("column", "row")]
+        if runs > 1:
+            lines.append(f"runs {port} {runs} foreign {counts['media']['foreign']}")
         lines += [f"gap {port} {first} {length}" for first, length in gaps_of(shown)]
     lines.append(f"other {len(records) - sum(map(len, own.values()))}")
     return lanes, "".join(line + "\n" for line in lines)
@@ -473,7 +481,7 @@ def inspected(number, time, port, datagram, ports):
     if isinstance(read, int):
         return line + f"{kind} bad {read}\n"
     if kind == "media":
-        return line + f"media seq {read[0]} len {length_of(read[1])}\n"
+        return line + f"media seq {read[0]} len {length_of(read[2])}\n"
     return line + "{} base {} offset {} na {}\n".format(kind, *read[:3])
 
 

@@ -55,7 +55,7 @@ impl Drill<'_> {
 
 // Column 1 gives 5, then row 1 gives 6, column 2 gives 10, and row 2 gives 11.
 const BLOCK_OF_TWO_PASSES: Drill<'static> = Drill {
-    line: "drill columns=4 rows=4 drop=6 drop=7 drop=12 drop=13 drop=22",
+    line: "drill columns=4 rows=4 ssrc=4294967295 drop=6 drop=7 drop=12 drop=13 drop=22",
     datagrams: 16,
     bytes: 21_056,
     report: "flow 5000 shown 16 repaired 4 missing 0 windows 1 inconsistent 0
@@ -85,7 +85,7 @@ other 0
 
 // Slot 25 plays the window of 0 to 24. Then the column of slots 6, 11, 16, 21 and 26 comes, and gives 26.
 const COLUMN_AFTER_ITS_FIRST_SLOTS: Drill<'static> = Drill {
-    line: "drill columns=5 rows=5 fec=column layout=staggered window=25 depth=25 drop=27",
+    line: "drill columns=5 rows=5 fec=column layout=staggered window=25 depth=25 ssrc=1 drop=27",
     datagrams: 50,
     bytes: 65_800,
     report: "flow 5000 shown 50 repaired 1 missing 0 windows 2 inconsistent 0

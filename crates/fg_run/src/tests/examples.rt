@@ -172,6 +172,83 @@ other 0
     ..REPAIR
 };
 
+// 500 begins a run behind 11, and 12 is then of the sender before.
+const RESTARTED: Example<'static> = Example {
+    sent: &[
+        Sent::Of(10, 1),
+        Sent::Of(11, 1),
+        Sent::Of(500, 2),
+        Sent::Of(501, 2),
+        Sent::Of(12, 1),
+        Sent::Of(502, 2),
+    ],
+    wanted: Wanted {
+        out: "flow 5000 shown 5 repaired 0 missing 0 windows 2 inconsistent 0
+media 5000 admitted 5 duplicate 0 conflict 0 late 0 bad 0
+column 5000 admitted 0 duplicate 0 conflict 0 late 0 notstarted 0 beforestart 0 ahead 0 crowded 0 bad 0
+row 5000 admitted 0 duplicate 0 conflict 0 late 0 notstarted 0 beforestart 0 ahead 0 crowded 0 bad 0
+runs 5000 2 foreign 1
+other 0
+",
+        lane: Some(&[10, 11, 500, 501, 502]),
+        ..DONE
+    },
+    ..REPAIR
+};
+
+// The parity from 8 on goes with the first run. That from 499 on begins before the second one, and that from 500 on gives 501.
+const PARITY_ON_BOTH_SIDES: Example<'static> = Example {
+    sent: &[
+        Sent::Of(8, 1),
+        Sent::Of(9, 1),
+        Sent::From(8),
+        Sent::Of(500, 2),
+        Sent::From(499),
+        Sent::Of(502, 2),
+        Sent::Of(503, 2),
+        Sent::From(500),
+    ],
+    wanted: Wanted {
+        out: "flow 5000 shown 6 repaired 1 missing 0 windows 2 inconsistent 0
+media 5000 admitted 5 duplicate 0 conflict 0 late 0 bad 0
+column 5000 admitted 0 duplicate 0 conflict 0 late 0 notstarted 0 beforestart 0 ahead 0 crowded 0 bad 0
+row 5000 admitted 2 duplicate 0 conflict 0 late 0 notstarted 0 beforestart 1 ahead 0 crowded 0 bad 0
+runs 5000 2 foreign 0
+other 0
+",
+        lane: Some(&[8, 9, 500, 501, 502, 503]),
+        ..DONE
+    },
+    ..REPAIR
+};
+
+// The sender of the first run begins the fourth one.
+const FOUR_RUNS: Example<'static> = Example {
+    sent: &[
+        Sent::Of(10, 1),
+        Sent::Of(20, 2),
+        Sent::Of(30, 3),
+        Sent::Of(40, 1),
+    ],
+    wanted: Wanted {
+        out: "flow 5000 shown 4 repaired 0 missing 0 windows 4 inconsistent 0
+media 5000 admitted 4 duplicate 0 conflict 0 late 0 bad 0
+column 5000 admitted 0 duplicate 0 conflict 0 late 0 notstarted 0 beforestart 0 ahead 0 crowded 0 bad 0
+row 5000 admitted 0 duplicate 0 conflict 0 late 0 notstarted 0 beforestart 0 ahead 0 crowded 0 bad 0
+runs 5000 4 foreign 0
+other 0
+",
+        lane: Some(&[10, 20, 30, 40]),
+        ..DONE
+    },
+    ..REPAIR
+};
+
+const FOUR_RUNS_ALONE: Example<'static> = Example {
+    line: "repair flow=5000 workers=0",
+    ..FOUR_RUNS
+};
+
 // The third record begins at byte 2,688.
 const CUT_IN_BYTES: Example<'static> = Example {
     sent: &TEN,
@@ -251,6 +328,15 @@ fn what_is_lost_or_comes_late(rt: HostRuntime) -> Result<(), Fail> {
     ORDER_IS_THAT_OF_SEQUENCE_NUMBERS.check(&rt, rt.alloc())?;
     PLAYED_BEFORE_WHAT_MAKES_IT_DUE.check(&rt, rt.alloc())?;
     PARITY_BEFORE_ANY_MEDIA.check(&rt, rt.alloc())?;
+    Ok(())
+}
+
+#[test]
+fn restarts(rt: HostRuntime) -> Result<(), Fail> {
+    RESTARTED.check(&rt, rt.alloc())?;
+    PARITY_ON_BOTH_SIDES.check(&rt, rt.alloc())?;
+    FOUR_RUNS.check(&rt, rt.alloc())?;
+    FOUR_RUNS_ALONE.check(&rt, rt.alloc())?;
     Ok(())
 }
 

@@ -65,6 +65,40 @@ fn records_of_another_flow_are_other(rt: HostRuntime) -> Result<(), Fail> {
     Ok(())
 }
 
+/// What flows 5000 and 7000 come to where the sender of the second one restarts.
+const ONE_RESTARTED: &str = "flow 5000 shown 2 repaired 0 missing 0 windows 1 inconsistent 0
+media 5000 admitted 2 duplicate 0 conflict 0 late 0 bad 0
+column 5000 admitted 0 duplicate 0 conflict 0 late 0 notstarted 0 beforestart 0 ahead 0 crowded 0 bad 0
+row 5000 admitted 0 duplicate 0 conflict 0 late 0 notstarted 0 beforestart 0 ahead 0 crowded 0 bad 0
+flow 7000 shown 2 repaired 0 missing 0 windows 2 inconsistent 0
+media 7000 admitted 2 duplicate 0 conflict 0 late 0 bad 0
+column 7000 admitted 0 duplicate 0 conflict 0 late 0 notstarted 0 beforestart 0 ahead 0 crowded 0 bad 0
+row 7000 admitted 0 duplicate 0 conflict 0 late 0 notstarted 0 beforestart 0 ahead 0 crowded 0 bad 0
+runs 7000 2 foreign 0
+other 0
+";
+
+#[test]
+fn one_of_two_flows_restarts(rt: HostRuntime) -> Result<(), Fail> {
+    let mut bytes = Vec::from_slice(rt.alloc(), b"FECTRAC1")?;
+    push_sent(rt.alloc(), &mut bytes, 5000, Sent::Of(1, 1))?;
+    push_sent(rt.alloc(), &mut bytes, 7000, Sent::Of(1, 1))?;
+    push_sent(rt.alloc(), &mut bytes, 5000, Sent::Of(2, 1))?;
+    push_sent(rt.alloc(), &mut bytes, 7000, Sent::Of(9, 2))?;
+    let (ended, outside) = run_line(
+        &rt,
+        rt.alloc(),
+        &PLAIN,
+        "repair flow=5000 flow=7000",
+        &bytes,
+    )?;
+    assert_eq!(rt; ended.status, 0);
+    assert!(rt; outside.out.bytes() == ONE_RESTARTED.as_bytes());
+    outside.check_lane(&rt, rt.alloc(), 5000, Some(&[1, 2]))?;
+    outside.check_lane(&rt, rt.alloc(), 7000, Some(&[1, 9]))?;
+    Ok(())
+}
+
 /// Three datagrams on flow 5000, and one on a port of no flow.
 fn one_more(alloc: Global) -> Result<Vec<u8>, AllocError> {
     let mut bytes = trace(alloc, &TEN, &[])?;

@@ -4,8 +4,12 @@ use std::alloc::{AllocError, Global};
 /// What is sent on a flow.
 #[derive(Clone, Copy)]
 pub enum Sent {
-    /// The media datagram of this number.
+    /// The media datagram of this number, with SSRC 0.
     Media(u16),
+    /// The media datagram of this number, with this SSRC.
+    Of(u16, u32),
+    /// Parity of the four media datagrams from this number on, as a row.
+    From(u16),
     /// Parity of this column of a block of 4 by 4.
     Column(u16),
     /// Parity of this row of it.
@@ -96,12 +100,17 @@ pub fn lane_of(alloc: Global, numbers: &[u16]) -> Result<Vec<u8>, AllocError> {
     Ok(lane)
 }
 
-/// The media datagram of this number, which is its sequence number too.
+/// The media datagram of this number, which is its sequence number too, with SSRC 0.
 pub fn media(alloc: Global, number: u16) -> Result<Vec<u8>, AllocError> {
+    media_of(alloc, number, 0)
+}
+
+/// The media datagram of this number with this SSRC.
+fn media_of(alloc: Global, number: u16, ssrc: u32) -> Result<Vec<u8>, AllocError> {
     let mut bytes = Vec::from_slice(alloc, &[0x80, 0x21])?;
     bytes.extend_from_slice(&number.to_be_bytes())?;
     bytes.extend_from_slice(&stamp(number).to_be_bytes())?;
-    bytes.extend_from_slice(&[0; 4])?;
+    bytes.extend_from_slice(&ssrc.to_be_bytes())?;
     bytes.extend_from_slice(&payload(alloc, number)?)?;
     Ok(bytes)
 }
@@ -164,6 +173,12 @@ pub fn push_sent(
 ) -> Result<(), AllocError> {
     match sent {
         Sent::Media(number) => push_record(bytes, flow, &media(alloc, number)?),
+        Sent::Of(number, ssrc) => push_record(bytes, flow, &media_of(alloc, number, ssrc)?),
+        Sent::From(number) => push_record(
+            bytes,
+            flow.wrapping_add(4),
+            &parity(alloc, 0x40, number, 1)?,
+        ),
         Sent::Column(number) => {
             push_record(bytes, flow.wrapping_add(2), &parity(alloc, 0, number, 4)?)
         }
