@@ -172,6 +172,7 @@ impl Admitter {
 
     /// Whether an SSRC (RFC 3550) is fresh: there is a current run, and the SSRC is neither its own nor that of the run before.
     /// A datagram of it begins a run, once nothing is left to be shown.
+    #[inline]
     pub fn fresh(&self, ssrc: u32) -> bool
         ensures { IsTrue result ↔ IsFresh (desk_of self.now) ssrc }
     {
@@ -182,6 +183,7 @@ impl Admitter {
     }
 
     /// How many runs were begun.
+    #[inline]
     pub fn runs(&self) -> u64
         ensures { result ≡ (desk_of self.now).runs }
     {
@@ -190,6 +192,7 @@ impl Admitter {
 
     /// Whether a play is due before a datagram of this sequence number and SSRC is admitted: it is of the current run, and
     /// lies the depth past the mark, or farther.
+    #[inline]
     pub fn due(&self, seq: u16, ssrc: u32) -> bool
         ensures { IsTrue result ↔ IsDue (desk_of self.now) seq ssrc }
     {

@@ -208,6 +208,7 @@ impl Desk {
     }
 
     /// How many runs of a sender were begun.
+    #[inline]
     pub fn runs(&self) -> u64
         ensures { result ≡ self.now.state.runs }
     {
@@ -251,6 +252,7 @@ impl Desk {
 
     /// Whether an SSRC is fresh: there is a run, and neither it nor the run before has this SSRC. Before its
     /// datagram is admitted the desk is flushed, since a run begins with it.
+    #[inline]
     pub fn fresh(&self, ssrc: u32) -> bool
         ensures { IsTrue result ↔ IsFresh self.now.state ssrc }
     {
@@ -262,6 +264,7 @@ impl Desk {
 
     /// Whether a play is due before a datagram of this sequence number and SSRC is admitted: it is of the
     /// current run, and lies the depth past the mark, or farther.
+    #[inline]
     pub fn due(&self, seq: u16, ssrc: u32) -> bool
         ensures { IsTrue result ↔ IsDue self.now.state seq ssrc }
     {

@@ -97,7 +97,8 @@ closure_counted desk position (given some) = given some
 closure_counted desk position (derived equation listed slot ahead others) =
     derived equation listed slot ahead (λ q c n. closure_counted desk q (others q c n))
 
-no_more_counted : (desk : State) → ¬ HasMore desk → ¬ HasMore (counted desk)
+-- A call that changes nothing else leaves nothing more.
+pub no_more_counted : (desk : State) → ¬ HasMore desk → ¬ HasMore (counted desk)
 no_more_counted desk none more = none (more.0, closure_counted desk more.0 more.1, more.2)
 
 both_fresh : (old new : State) (ssrc : ℕ) → SameSenders old new → IsFresh old ssrc ↔ IsFresh new ssrc

@@ -20,6 +20,7 @@ const HALF: u16 = 0x8000;
 /// `top` is the greatest position so far, and `top_seq` its sequence number. The position is the one
 /// from 32,768 before the top to 32,767 past it that the sequence number can stand for. `None` says
 /// that this lies below 0.
+#[inline]
 pub fn position(top: u64, top_seq: u16, seq: u16) -> Option<u64>
     requires { top ≤ 2 ^ 62 }
     ensures some { IfSome result (λ position. IsPosition top top_seq seq (pos position)) }
