@@ -15,12 +15,13 @@ use Rattle.fg_cli.specs.Lines.{word_of, setting_text, default_of}
 use Rattle.fg_cli.specs.Reading.{greatest_of}
 
 abbrev all_keys : List Key
-all_keys = key.Flow ∷ key.Window ∷ key.Depth ∷ key.Workers ∷ key.Max ∷ key.Columns ∷ key.Rows ∷ key.Fec ∷ key.Layout ∷ key.Packets ∷ key.Rate ∷ key.Port ∷ key.Seq ∷ key.Ssrc ∷ key.Stamp ∷ key.Drop ∷ key.Every ∷ key.Seed ∷ key.Datagrams ∷ key.Loss ∷ []
+all_keys = key.Flow ∷ key.Window ∷ key.Depth ∷ key.Hold ∷ key.Workers ∷ key.Max ∷ key.Columns ∷ key.Rows ∷ key.Fec ∷ key.Layout ∷ key.Packets ∷ key.Rate ∷ key.Port ∷ key.Seq ∷ key.Ssrc ∷ key.Stamp ∷ key.Drop ∷ key.Every ∷ key.Seed ∷ key.Datagrams ∷ key.Loss ∷ []
 
 key_of_place : (k : Key) → get_or all_keys (place k) key.Flow ≡ k
 key_of_place key.Flow = refl
 key_of_place key.Window = refl
 key_of_place key.Depth = refl
+key_of_place key.Hold = refl
 key_of_place key.Workers = refl
 key_of_place key.Max = refl
 key_of_place key.Columns = refl
@@ -63,6 +64,7 @@ place_of_name : (k : Key) → place_named (row k).name ≡ place k
 place_of_name key.Flow = refl
 place_of_name key.Window = refl
 place_of_name key.Depth = refl
+place_of_name key.Hold = refl
 place_of_name key.Workers = refl
 place_of_name key.Max = refl
 place_of_name key.Columns = refl
@@ -93,6 +95,7 @@ pub name_plain : (k : Key) → no_sign (row k).name ≡ true
 name_plain key.Flow = refl
 name_plain key.Window = refl
 name_plain key.Depth = refl
+name_plain key.Hold = refl
 name_plain key.Workers = refl
 name_plain key.Max = refl
 name_plain key.Columns = refl
@@ -152,6 +155,7 @@ pub text_injective : (k : Key) (n m : ℕ) → Allows (row k).range n → Allows
 text_injective key.Flow n m x y e = text_of_number 0 _ n m (lit< tt) x.1 y.1 e
 text_injective key.Window n m x y e = text_of_number 0 _ n m (lit< tt) x.1 y.1 e
 text_injective key.Depth n m x y e = text_of_number 0 _ n m (lit< tt) x.1 y.1 e
+text_injective key.Hold n m x y e = text_of_number 0 _ n m (lit< tt) x.1 y.1 e
 text_injective key.Workers n m x y e = text_of_number 0 _ n m (lit< tt) x.1 y.1 e
 text_injective key.Max n m x y e = text_of_number 0 _ n m (lit< tt) x.1 y.1 e
 text_injective key.Columns n m x y e = text_of_number 0 _ n m (lit< tt) x.1 y.1 e
@@ -190,6 +194,7 @@ pub allowed_bound : (k : Key) (n : ℕ) → Allows (row k).range n → n ≤ gre
 allowed_bound key.Flow n x = x.1
 allowed_bound key.Window n x = x.1
 allowed_bound key.Depth n x = x.1
+allowed_bound key.Hold n x = x.1
 allowed_bound key.Workers n x = x.1
 allowed_bound key.Max n x = x.1
 allowed_bound key.Columns n x = x.1
@@ -212,6 +217,7 @@ pub default_bound : (k : Key) → default_of (row k).absent ≤ greatest_of (row
 default_bound key.Flow = lit≤ tt
 default_bound key.Window = lit≤ tt
 default_bound key.Depth = lit≤ tt
+default_bound key.Hold = lit≤ tt
 default_bound key.Workers = lit≤ tt
 default_bound key.Max = lit≤ tt
 default_bound key.Columns = lit≤ tt

@@ -148,6 +148,7 @@ no_values : (k : Key) → AtMost (row k).most 0
 no_values key.Flow = tt
 no_values key.Window = lit≤ tt
 no_values key.Depth = lit≤ tt
+no_values key.Hold = lit≤ tt
 no_values key.Workers = lit≤ tt
 no_values key.Max = lit≤ tt
 no_values key.Columns = lit≤ tt

@@ -52,9 +52,10 @@ same_plan ss ports other bytes a b e x y =
     let table : a.table ≡ b.table = x.flows ∙ e ∙ sym y.flows in
     let window : a.window ≡ b.window = x.window ∙ sym y.window in
     let depth : a.depth ≡ b.depth = x.depth ∙ sym y.depth in
+    let hold : a.hold ≡ b.hold = x.hold ∙ sym y.hold in
     let workers : a.workers ≡ b.workers = x.workers ∙ sym y.workers in
     let max : a.max ≡ b.max = x.max ∙ sym y.max in
-    λ i. record { table = table i; window = window i; depth = depth i; workers = workers i; max = max i }
+    λ i. record { table = table i; window = window i; depth = depth i; hold = hold i; workers = workers i; max = max i }
 
 same_losses : (ss : List Setting) (a b : Losses) → AreLosses ss a → AreLosses ss b → a ≡ b
 same_losses ss a b x y =

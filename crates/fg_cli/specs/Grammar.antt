@@ -49,6 +49,7 @@ abbrev pub row : Key → TableRow
 row key.Flow = record { name = codes "flow"; range = Number 1 LAST_PORT; absent = Needed name.Flow; most = None }
 row key.Window = optional (codes "window") (Number 1 100) 100
 row key.Depth = optional (codes "depth") (Number 1 1000) 400
+row key.Hold = record { name = codes "hold"; range = Number 1 3600000000; absent = Nothing; most = Some 1 }
 row key.Workers = optional (codes "workers") (Number 0 16) 4
 row key.Max = optional (codes "max") (Number 8 1099511627776) 1099511627776
 row key.Columns = needed (codes "columns") (Number 0 255) (Needed name.Columns)
@@ -106,6 +107,7 @@ abbrev pub about : Key → List ℕ
 about key.Flow = codes "media port P, with P+2 and P+4, up to 64 times"
 about key.Window = codes "positions that are played at once"
 about key.Depth = codes "a datagram so far ahead plays them"
+about key.Hold = codes "microseconds that a datagram may wait"
 about key.Workers = codes "further threads that recover words"
 about key.Max = codes "most bytes of the input"
 about key.Columns = codes "columns of a matrix, with fec=both at least 4"
@@ -126,12 +128,12 @@ about key.Loss = codes "records of a hundred left out"
 
 -- The names that may stand after a command. Where several that must be there aren't, the first is told.
 abbrev pub keys_of : Command → List Key
-keys_of command.Repair = key.Flow ∷ key.Window ∷ key.Depth ∷ key.Workers ∷ key.Max ∷ []
+keys_of command.Repair = key.Flow ∷ key.Window ∷ key.Depth ∷ key.Hold ∷ key.Workers ∷ key.Max ∷ []
 keys_of command.Encode =
     key.Max ∷ key.Columns ∷ key.Rows ∷ key.Fec ∷ key.Layout ∷ key.Packets ∷ key.Rate ∷ key.Port ∷ key.Seq
     ∷ key.Ssrc ∷ key.Stamp ∷ []
 keys_of command.Drill =
-    key.Window ∷ key.Depth ∷ key.Workers ∷ key.Max ∷ key.Columns ∷ key.Rows ∷ key.Fec ∷ key.Layout
+    key.Window ∷ key.Depth ∷ key.Hold ∷ key.Workers ∷ key.Max ∷ key.Columns ∷ key.Rows ∷ key.Fec ∷ key.Layout
     ∷ key.Packets ∷ key.Rate ∷ key.Port ∷ key.Seq ∷ key.Ssrc ∷ key.Stamp ∷ key.Drop ∷ key.Every ∷ []
 keys_of command.Inspect = key.Flow ∷ key.Max ∷ []
 keys_of command.Sample = key.Workers ∷ key.Seed ∷ key.Datagrams ∷ key.Loss ∷ []
@@ -144,23 +146,24 @@ abbrev pub place : Key → ℕ
 place key.Flow = 0
 place key.Window = 1
 place key.Depth = 2
-place key.Workers = 3
-place key.Max = 4
-place key.Columns = 5
-place key.Rows = 6
-place key.Fec = 7
-place key.Layout = 8
-place key.Packets = 9
-place key.Rate = 10
-place key.Port = 11
-place key.Seq = 12
-place key.Ssrc = 13
-place key.Stamp = 14
-place key.Drop = 15
-place key.Every = 16
-place key.Seed = 17
-place key.Datagrams = 18
-place key.Loss = 19
+place key.Hold = 3
+place key.Workers = 4
+place key.Max = 5
+place key.Columns = 6
+place key.Rows = 7
+place key.Fec = 8
+place key.Layout = 9
+place key.Packets = 10
+place key.Rate = 11
+place key.Port = 12
+place key.Seq = 13
+place key.Ssrc = 14
+place key.Stamp = 15
+place key.Drop = 16
+place key.Every = 17
+place key.Seed = 18
+place key.Datagrams = 19
+place key.Loss = 20
 
 abbrev pub same_key : Key → Key → Bool
 same_key a b = nat_eq (place a) (place b)

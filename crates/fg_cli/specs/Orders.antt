@@ -35,13 +35,14 @@ pub record AreWhole (command : Command) (settings : List Setting) : Type 0 where
   pub whole : missing_of command settings ≡ None
   pub deep : ¬ DepthIsBelow settings
 
--- A repair as it is set, of these flows and so many bytes. A sample has no words for window and depth, so
--- it has the defaults.
+-- A repair as it is set, of these flows and so many bytes. Without a word for hold its number is 0, which sets
+-- no limit. A sample has no words for window, depth and hold, so it has the defaults.
 pub record IsPlan (settings : List Setting) (ports : List ℕ) (bytes : ℕ) (plan : Plan) : Type 0 where
   pub flows : plan.table ≡ ports
   pub table : IsTable plan.table
   pub window : plan.window ≡ number_of key.Window settings
   pub depth : plan.depth ≡ number_of key.Depth settings
+  pub hold : plan.hold ≡ number_of key.Hold settings
   pub workers : plan.workers ≡ number_of key.Workers settings
   pub max : plan.max ≡ bytes
 

@@ -25,6 +25,7 @@ pub enum Key {
     Flow,
     Window,
     Depth,
+    Hold,
     Workers,
     Max,
     Columns,
@@ -160,17 +161,17 @@ impl Command {
         ensures { result.now ≡ keys_of self }
     {
         use Key::{
-            Columns, Datagrams, Depth, Drop, Every, Fec, Flow, Layout, Loss, Max, Packets, Port,
-            Rate, Rows, Seed, Seq, Ssrc, Stamp, Window, Workers,
+            Columns, Datagrams, Depth, Drop, Every, Fec, Flow, Hold, Layout, Loss, Max, Packets,
+            Port, Rate, Rows, Seed, Seq, Ssrc, Stamp, Window, Workers,
         };
         match self {
-            Command::Repair => &[Flow, Window, Depth, Workers, Max],
+            Command::Repair => &[Flow, Window, Depth, Hold, Workers, Max],
             Command::Encode => &[
                 Max, Columns, Rows, Fec, Layout, Packets, Rate, Port, Seq, Ssrc, Stamp,
             ],
             Command::Drill => &[
-                Window, Depth, Workers, Max, Columns, Rows, Fec, Layout, Packets, Rate, Port, Seq,
-                Ssrc, Stamp, Drop, Every,
+                Window, Depth, Hold, Workers, Max, Columns, Rows, Fec, Layout, Packets, Rate, Port,
+                Seq, Ssrc, Stamp, Drop, Every,
             ],
             Command::Inspect => &[Flow, Max],
             Command::Sample => &[Workers, Seed, Datagrams, Loss],
@@ -207,6 +208,12 @@ impl Key {
             },
             Key::Window => optional_row("window", Values::Number(1, 100), 100),
             Key::Depth => optional_row("depth", Values::Number(1, 1_000), 400),
+            Key::Hold => Row {
+                name: "hold",
+                values: Values::Number(1, 3_600_000_000),
+                absent: Absent::Nothing,
+                most: Some(1),
+            },
             Key::Workers => optional_row("workers", Values::Number(0, 16), 4),
             Key::Max => optional_row(
                 "max",
@@ -260,6 +267,7 @@ impl Key {
             Key::Flow => "media port P, with P+2 and P+4, up to 64 times",
             Key::Window => "positions that are played at once",
             Key::Depth => "a datagram so far ahead plays them",
+            Key::Hold => "microseconds that a datagram may wait",
             Key::Workers => "further threads that recover words",
             Key::Max => "most bytes of the input",
             Key::Columns => "columns of a matrix, with fec=both at least 4",

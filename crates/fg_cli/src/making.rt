@@ -191,11 +191,13 @@ fn plan(table: Table, settings: &[Setting], max: u64) -> Plan
 {
     let window = number(settings, Key::Window) as u32;
     let depth = number(settings, Key::Depth) as u32;
+    let hold = number(settings, Key::Hold);
     let workers = number(settings, Key::Workers) as u32;
     Plan {
         table,
         window,
         depth,
+        hold,
         workers,
         max,
     }

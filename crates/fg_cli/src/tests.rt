@@ -82,13 +82,13 @@ fn worked_examples(rt: HostRuntime) -> Result<(), Fail> {
 #[test]
 fn least_and_greatest(rt: HostRuntime) {
     for line in [
-        "repair flow=1 window=1 depth=1 workers=0 max=8",
-        "repair flow=65531 window=100 depth=1000 workers=16 max=1099511627776",
+        "repair flow=1 window=1 depth=1 hold=1 workers=0 max=8",
+        "repair flow=65531 window=100 depth=1000 hold=3600000000 workers=16 max=1099511627776",
         "encode columns=1 rows=4 fec=column layout=block packets=1 rate=1 port=1 seq=0 ssrc=0 stamp=0 max=8",
         "encode columns=20 rows=5 fec=both layout=staggered packets=7 rate=10000000000 port=65531 max=1099511627776",
         "encode columns=5 rows=20 seq=65535 ssrc=4294967295 stamp=4294967295",
-        "drill columns=4 rows=4 drop=1 drop=9999999999999 every=2",
-        "drill columns=4 rows=4 every=9999999999999 window=1 depth=1 workers=16",
+        "drill columns=4 rows=4 hold=1 drop=1 drop=9999999999999 every=2",
+        "drill columns=4 rows=4 every=9999999999999 window=1 depth=1 hold=3600000000 workers=16",
         "sample seed=0 datagrams=1 loss=0 workers=0",
         "sample seed=9999999999999 datagrams=20000 loss=20 workers=16",
         "fromcap max=8",
@@ -104,7 +104,7 @@ fn below_and_above(rt: HostRuntime) -> Result<(), Fail> {
     for (command, words) in [
         (
             "repair",
-            "flow=0 flow=65532 window=0 window=101 depth=0 depth=1001 workers=17 max=7 max=1099511627777",
+            "flow=0 flow=65532 window=0 window=101 depth=0 depth=1001 hold=0 hold=3600000001 workers=17 max=7 max=1099511627777",
         ),
         (
             "encode",
@@ -113,7 +113,7 @@ fn below_and_above(rt: HostRuntime) -> Result<(), Fail> {
         ("encode", "seq=65536 ssrc=4294967296 stamp=4294967296 max=7"),
         (
             "drill",
-            "drop=0 drop=10000000000000 every=0 every=1 every=10000000000000",
+            "hold=0 hold=3600000001 drop=0 drop=10000000000000 every=0 every=1 every=10000000000000",
         ),
         (
             "sample",
@@ -137,9 +137,9 @@ fn forms_of_words(rt: HostRuntime) -> Result<(), Fail> {
             "repair",
             "flow=99999999999999999999999999 flow =5000 flow==5000 flow=5000= Flow=5000 seed=1 port=5000",
         ),
-        ("encode", "flow=5000 window=5 fec=Both layout="),
-        ("inspect", "window=5"),
-        ("sample", "depth=5"),
+        ("encode", "flow=5000 window=5 hold=5 fec=Both layout="),
+        ("inspect", "window=5 hold=5"),
+        ("sample", "depth=5 hold=5"),
         ("fromcap", "flow=5000"),
         ("tocap", "port=5000"),
     ] {
@@ -155,6 +155,7 @@ fn forms_of_words(rt: HostRuntime) -> Result<(), Fail> {
 #[test]
 fn names_that_stand_twice(rt: HostRuntime) -> Result<(), Fail> {
     refuse(&rt, rt.alloc(), "repair window=5 window=5", BadWord(2))?;
+    refuse(&rt, rt.alloc(), "drill hold=5 hold=6", BadWord(2))?;
     refuse(
         &rt,
         rt.alloc(),
@@ -270,7 +271,10 @@ fn defaults_of_repair(rt: HostRuntime) -> Result<(), Fail> {
         panic!(rt; "another order");
     };
     assert_eq!(rt; plan.table.find(7000).is_some(), true);
-    assert_eq!(rt; (plan.window, plan.depth, plan.workers), (100, 400, 4));
+    assert_eq!(rt;
+        (plan.window, plan.depth, plan.hold, plan.workers),
+        (100, 400, 0, 4)
+    );
     assert_eq!(rt; plan.max, 1_099_511_627_776);
     Ok(())
 }
@@ -311,7 +315,10 @@ fn defaults_of_drill(rt: HostRuntime) -> Result<(), Fail> {
         (false, true)
     );
     assert!(rt; plan.table.find(9004).is_some());
-    assert_eq!(rt; (plan.window, plan.depth, plan.workers), (100, 400, 4));
+    assert_eq!(rt;
+        (plan.window, plan.depth, plan.hold, plan.workers),
+        (100, 400, 0, 4)
+    );
     assert_eq!(rt; plan.max, 4_398_046_511_104);
     assert_eq!(rt; (losses.drops.count(), losses.every), (1, 0));
     assert_eq!(rt; max, 1_099_511_627_776);
@@ -331,7 +338,10 @@ fn defaults_of_sample(rt: HostRuntime) -> Result<(), Fail> {
     };
     assert_eq!(rt; (seed, datagrams, loss), (3, 1000, 3));
     assert!(rt; plan.table.find(5000).is_some());
-    assert_eq!(rt; (plan.window, plan.depth, plan.workers), (100, 400, 4));
+    assert_eq!(rt;
+        (plan.window, plan.depth, plan.hold, plan.workers),
+        (100, 400, 0, 4)
+    );
     assert_eq!(rt; plan.max, 4_398_046_511_104);
     Ok(())
 }
@@ -348,6 +358,7 @@ fgate repair: writes each flow of a trace, repaired, to PORT.ts
   flow=1..65531           media port P, with P+2 and P+4, up to 64 times; needed
   window=1..100           positions that are played at once; default 100
   depth=1..1000           a datagram so far ahead plays them; default 400
+  hold=1..3600000000      microseconds that a datagram may wait; default none
   workers=0..16           further threads that recover words; default 4
   max=8..1099511627776    most bytes of the input; default 1099511627776
 

@@ -108,7 +108,7 @@ module _ (parts : Parts) (sound : AreSound parts) (none : ¬ HasMore (state_of p
       words_at_mark).0 in
       (or_neither (buffer_received parts.buffer parts.buffer.mark) (get parts.buffer.solved parts.buffer.mark) known).1
 
-  received_at_mark : get parts.buffer.media parts.buffer.mark ≡ None
+  pub received_at_mark : get parts.buffer.media parts.buffer.mark ≡ None
   received_at_mark =
       sym (received_ahead parts.buffer parts.buffer.mark (omega arith))
       ∙ nothing_ahead_is_known (state_of parts) none parts.buffer.mark (omega arith)

@@ -1,10 +1,10 @@
 -- A play, whatever its outcome.
-use Rattle.std.proofs.Common.{◌≡◌, ◌+◌, ◌<◌, ◌≤◌, ◌^◌, ◌↔◌, ◌&&◌, ℕ, Bool, not, is_some, ltb, leb, Option, Some, None, IsTrue, refl, sym, ap, subst, ◌∙◌, ⊎_elim}
+use Rattle.std.proofs.Common.{◌≡◌, ◌+◌, ◌<◌, ◌≤◌, ◌^◌, ◌↔◌, ◌&&◌, ℕ, Bool, cond, not, is_some, ltb, leb, Option, Some, None, IsTrue, refl, sym, ap, subst, ◌∙◌, ⊎_elim}
 use Rattle.std.proofs.lemmas.Bool.{cases_lt}
 use Rattle.std.specs.Prelude.{nat_lt, if◌then◌else◌}
 use Rattle.std.specs.Cmp.{nat_cmp_total}
 use Rattle.std.specs.Ordering.{nat_cmp}
-use Rattle.std.specs.FinMap.{get, empty, get-empty, same_map, nat_cmp-IsAntisymmetric}
+use Rattle.std.specs.FinMap.{FinMap, get, empty, get-empty, same_map, nat_cmp-IsAntisymmetric}
 use Rattle.std.specs.FinSet.{contains}
 use Rattle.fg_words.specs.declared.Word.{Word}
 use Rattle.fg_peel.specs.Laws.{FoundKeepsSolutions, PeelingsAppend, PeelingsKeepWords, SolutionsKeepPeelings}
@@ -41,7 +41,8 @@ module _
     (parts : Parts) (sound : AreSound parts) (buffer : BufferState) (answer : Bool)
     (recovered : IsRecovered (live_equations (state_of parts)) parts.buffer buffer answer)
     (found : FoundKeepsSolutions) (keep : PeelingsKeepWords) (kept : SolutionsKeepPeelings) (is_buffer : IsBuffer buffer)
-    (count : ℕ) (new : BufferState) (left : LiveState) where
+    (count : ℕ) (new : BufferState) (left : LiveState) (times : FinMap nat_cmp ℕ)
+    (times_are : (position : ℕ) → get times position ≡ cond (ltb position new.mark) None (get parts.times position)) where
   again : IsRecovered (live_equations (state_of parts)) parts.buffer (with_found parts buffer.cached) answer
   again = subst (λ (r : BufferState). IsRecovered (live_equations (state_of parts)) parts.buffer r answer) recovered.rest recovered
 
@@ -58,31 +59,31 @@ module _
   pub closed_play :
       (outcome : Outcome) → count ≤ 100 → Closes outcome count buffer parts.lines new left
       → ((outcome ≡ Repaired) ↔ IsTrue answer) → IsPlay count (state_of parts) (record { first = parts.buffer.mark; shown = shown_in new parts.buffer.mark count; outcome = outcome })
-      (state_of (played parts outcome new left))
+      (state_of (played parts outcome new times left))
   closed_play Repaired most closes tells =
       let at = closed Repaired closes in
-      repaired_play parts sound buffer.cached answer again found keep kept buffer_again count new left at.0 most at.1 (tells.0 refl)
+      repaired_play parts sound buffer.cached answer again found keep kept buffer_again count new left times times_are at.0 most at.1 (tells.0 refl)
   closed_play Inconsistent most closes tells =
       let at = closed Inconsistent closes in
-      received_play parts sound buffer.cached answer again found keep kept buffer_again count new left at.0 most at.1 (unsolved tells)
+      received_play parts sound buffer.cached answer again found keep kept buffer_again count new left times times_are at.0 most at.1 (unsolved tells)
 
   pub closed_sound :
       PeelingsAppend → SolvedStaysPeeled → parts.buffer.mark < 2 ^ 61 → parts.calls < 2 ^ 62 → count ≤ 100
       → (outcome : Outcome) → Closes outcome count buffer parts.lines new left → ((outcome ≡ Repaired) ↔ IsTrue answer)
-      → Holds (state_of (played parts outcome new left)) → AreSound (played parts outcome new left)
+      → Holds (state_of (played parts outcome new times left)) → AreSound (played parts outcome new times left)
   closed_sound append stays mark calls most Repaired closes tells facts =
       let at = closed Repaired closes in
-      repaired_sound parts sound buffer.cached answer again found keep kept buffer_again count new left at.0 most at.1 (tells.0 refl) append stays mark
+      repaired_sound parts sound buffer.cached answer again found keep kept buffer_again count new left times times_are at.0 most at.1 (tells.0 refl) append stays mark
       calls facts
   closed_sound append stays mark calls most Inconsistent closes tells facts =
       let at = closed Inconsistent closes in
-      received_sound parts sound buffer.cached answer again found keep kept buffer_again count new left at.0 most at.1 (unsolved tells) mark calls
+      received_sound parts sound buffer.cached answer again found keep kept buffer_again count new left times times_are at.0 most at.1 (unsolved tells) mark calls
       facts
 
   -- What a play makes of the rest of the desk.
   repaired_changes :
       (epoch : ℕ) → epoch ≡ parts.epoch → Closes Repaired count buffer parts.lines new left
-      → ChangesInPlay Repaired (contents_of parts) (contents_of (record (played parts Repaired new left) { epoch = epoch }))
+      → ChangesInPlay Repaired (contents_of parts) (contents_of (record (played parts Repaired new times left) { epoch = epoch }))
   repaired_changes epoch is closes =
       let a = (closed Repaired closes).0 in
       record { bare = a.bare; repaired = a.repaired; solved = a.solved; epoch = is }
@@ -117,7 +118,7 @@ module _
 
   received_changes :
       (epoch : ℕ) → epoch ≡ parts.epoch + 1 → Closes Inconsistent count buffer parts.lines new left
-      → ChangesInPlay Inconsistent (contents_of parts) (contents_of (record (played parts Inconsistent new left) { epoch = epoch }))
+      → ChangesInPlay Inconsistent (contents_of parts) (contents_of (record (played parts Inconsistent new times left) { epoch = epoch }))
   received_changes epoch is closes =
       let a = (closed Inconsistent closes).0 in
       record {
@@ -130,13 +131,13 @@ module _
 
   pub closed_changes :
       (outcome : Outcome) (epoch : ℕ) → epoch ≡ epoch_after parts.epoch outcome → Closes outcome count buffer parts.lines new left
-      → ChangesInPlay outcome (contents_of parts) (contents_of (record (played parts outcome new left) { epoch = epoch }))
+      → ChangesInPlay outcome (contents_of parts) (contents_of (record (played parts outcome new times left) { epoch = epoch }))
   closed_changes Repaired epoch is closes = repaired_changes epoch is closes
   closed_changes Inconsistent epoch is closes = received_changes epoch is closes
 
   -- The epoch as the desk has it.
   pub sound_with_epoch :
-      (outcome : Outcome) (epoch : ℕ) → epoch ≡ epoch_after parts.epoch outcome → AreSound (played parts outcome new left)
-      → AreSound (record (played parts outcome new left) { epoch = epoch })
+      (outcome : Outcome) (epoch : ℕ) → epoch ≡ epoch_after parts.epoch outcome → AreSound (played parts outcome new times left)
+      → AreSound (record (played parts outcome new times left) { epoch = epoch })
   sound_with_epoch outcome epoch is after =
-      subst (λ (e : ℕ). AreSound (record (played parts outcome new left) { epoch = e })) (sym is) after
+      subst (λ (e : ℕ). AreSound (record (played parts outcome new times left) { epoch = e })) (sym is) after

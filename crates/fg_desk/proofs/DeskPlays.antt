@@ -4,7 +4,7 @@ use Rattle.std.specs.Prelude.{nat_le}
 use Rattle.std.proofs.lemmas.Bool.{cases_lt}
 use Rattle.std.proofs.lemmas.Option.{none-some}
 use Rattle.std.proofs.lemmas.List.FromFn.{length-map-range_with_len}
-use Rattle.std.specs.FinMap.{get, get-empty}
+use Rattle.std.specs.FinMap.{FinMap, get, get-empty}
 use Rattle.std.specs.Ordering.{nat_cmp}
 use Rattle.fg_words.specs.declared.Word.{Word}
 use Rattle.fg_words.specs.Word.{HasRoom}
@@ -36,9 +36,10 @@ use Rattle.fg_buffer.proofs.Choices.{if-not_less}
 use Rattle.fg_desk.proofs.SettledWords.{settled_back}
 
 -- The parts after a play.
-abbrev pub played : Parts → Outcome → BufferState → LiveState → Parts
-played parts outcome new left = record parts {
+abbrev pub played : Parts → Outcome → BufferState → FinMap nat_cmp ℕ → LiveState → Parts
+played parts outcome new times left = record parts {
   buffer = new;
+  times = times;
   lines = left;
   calls = parts.calls + 1;
   epoch = epoch_after parts.epoch outcome;
@@ -94,10 +95,11 @@ module _
     (parts : Parts) (sound : AreSound parts) (cached : Words) (answer : Bool)
     (recovered : IsRecovered (live_equations (state_of parts)) parts.buffer (with_found parts cached) answer)
     (found : FoundKeepsSolutions) (keep : PeelingsKeepWords) (kept : SolutionsKeepPeelings)
-    (is_buffer : IsBuffer (with_found parts cached)) (count : ℕ) (new : BufferState) (left : LiveState) where
+    (is_buffer : IsBuffer (with_found parts cached)) (count : ℕ) (new : BufferState) (left : LiveState) (times : FinMap nat_cmp ℕ)
+    (times_are : (position : ℕ) → get times position ≡ cond (ltb position new.mark) None (get parts.times position)) where
   limited :
       (outcome : Outcome) → parts.buffer.mark < 2 ^ 61 → parts.calls < 2 ^ 62 → count ≤ 100 → new.mark ≡ parts.buffer.mark + count
-      → new.reach ≡ parts.buffer.reach → AreLimited (played parts outcome new left)
+      → new.reach ≡ parts.buffer.reach → AreLimited (played parts outcome new times left)
   limited outcome mark calls most mark_is reach_is =
       let runs = sound.limits.runs_limit in
       let admitted = sound.limits.admitted_limit in
@@ -116,7 +118,7 @@ module _
       (keeps : Keeps (buffer_words (with_found parts cached)) new.mark new.kept parts.lines left) (solved : IsTrue answer) where
     pub repaired_play :
         IsPlay count (state_of parts) (record { first = parts.buffer.mark; shown = shown_in new parts.buffer.mark count; outcome = Repaired })
-        (state_of (played parts Repaired new left))
+        (state_of (played parts Repaired new times left))
     repaired_play = record {
       words = buffer_words (with_found parts cached);
       decides = desk_solution parts sound (with_found parts cached) answer recovered found keep solved;
@@ -129,6 +131,7 @@ module _
           ∙ ap (λ (o : Option Word). cond (ltb q new.mark && leb new.mark (q + kept_count)) o None)
           (words_in_play (with_found parts cached) is_buffer q));
       media = advances.media;
+      times = times_are;
       equations = λ serial live. (
         λ is. (let r = (keeps.live serial live).0 is in (r.0, refl, r.1)),
         λ r. (keeps.live serial live).1 (r.0, r.2),
@@ -149,25 +152,25 @@ module _
     later_peeled :
         SolvedStaysPeeled → (words later : ℕ → Option Word) → ComeByPeeling parts words
         → ((q : ℕ) → q < new.mark → later q ≡ get new.kept q) → ((q : ℕ) → new.mark ≤ q → later q ≡ words q)
-        → ComeByPeeling (played parts Repaired new left) later
+        → ComeByPeeling (played parts Repaired new times left) later
     later_peeled stays words later all below_is ahead_is =
-        let s = stays count (state_of parts) (state_of (played parts Repaired new left))
+        let s = stays count (state_of parts) (state_of (played parts Repaired new times left))
         (record { first = parts.buffer.mark; shown = shown_in new parts.buffer.mark count; outcome = Repaired }) all.0 sound.facts repaired_play refl all.1 in
         let rest : List Step = filter (λ (step : Step). nat_le new.mark step.position) all.0 in
-        let same : (q : ℕ) → later q ≡ end_of (known (state_of (played parts Repaired new left))) rest q =
+        let same : (q : ℕ) → later q ≡ end_of (known (state_of (played parts Repaired new times left))) rest q =
         λ q. ⊎_elim
         (λ below.
-        below_is q below ∙ sym (known_below (state_of (played parts Repaired new left)) q below) ∙ sym (s.2 q below))
+        below_is q below ∙ sym (known_below (state_of (played parts Repaired new times left)) q below) ∙ sym (s.2 q below))
         (λ ahead. ahead_is q ahead ∙ ap (λ (f : ℕ → Option Word). f q) all.2 ∙ sym (s.1 q ahead))
         (cases_lt q new.mark) in
         (rest, s.0, λ i q. same q i)
 
-    repaired_solved : SolvedStaysPeeled → ComeByPeeling (played parts Repaired new left) (buffer_known new)
+    repaired_solved : SolvedStaysPeeled → ComeByPeeling (played parts Repaired new times left) (buffer_known new)
     repaired_solved stays =
         later_peeled stays (buffer_known parts.buffer) (buffer_known new) sound.solved
         (known_in_new count (with_found parts cached) new advances) (known_ahead count (with_found parts cached) new advances)
 
-    repaired_peeled : PeelingsAppend → SolvedStaysPeeled → ComeByPeeling (played parts Repaired new left) (buffer_words new)
+    repaired_peeled : PeelingsAppend → SolvedStaysPeeled → ComeByPeeling (played parts Repaired new times left) (buffer_words new)
     repaired_peeled append stays =
         later_peeled stays (buffer_words (with_found parts cached)) (buffer_words new)
         (all_peeled parts sound (with_found parts cached) answer recovered append)
@@ -186,7 +189,7 @@ module _
         (complete q c))
         (cases_lt q new.mark)
 
-    repaired_settled : SettledComeOut (played parts Repaired new left)
+    repaired_settled : SettledComeOut (played parts Repaired new times left)
     repaired_settled serial live is settled =
         let complete = keeps.settled serial live is settled in
         let listed = live_at (state_of parts) serial live ((keeps.live serial live).0 is).0 in
@@ -196,9 +199,9 @@ module _
 
     pub repaired_sound :
         PeelingsAppend → SolvedStaysPeeled → parts.buffer.mark < 2 ^ 61 → parts.calls < 2 ^ 62
-        → Holds (state_of (played parts Repaired new left)) → AreSound (played parts Repaired new left)
+        → Holds (state_of (played parts Repaired new times left)) → AreSound (played parts Repaired new times left)
     repaired_sound append stays mark calls facts =
-        sound_from (played parts Repaired new left)
+        sound_from (played parts Repaired new times left)
         (limited Repaired mark calls most advances.mark advances.reach)
         facts repaired_media (repaired_solved stays) (repaired_peeled append stays) repaired_settled
         (λ serial live is. sound.rooms serial live ((keeps.live serial live).0 is).0)
@@ -223,7 +226,7 @@ module _
 
     pub received_play :
         IsPlay count (state_of parts) (record { first = parts.buffer.mark; shown = shown_in new parts.buffer.mark count; outcome = Inconsistent })
-        (state_of (played parts Inconsistent new left))
+        (state_of (played parts Inconsistent new times left))
     received_play = record {
       words = get parts.buffer.media;
       decides = (
@@ -243,6 +246,7 @@ module _
           ∙ ap (λ (o : Option Word). cond (ltb q new.mark && leb new.mark (q + kept_count)) o None)
           (ap (λ (f : ℕ → Option Word). f q) all_received));
       media = advances.media;
+      times = times_are;
       equations = λ serial live. (
         λ is. absurd (nothing_left serial live is),
         λ r. (let never : Inconsistent ≡ Repaired = r.1 in absurd (cc)),
@@ -252,9 +256,9 @@ module _
 
     pub received_sound :
         parts.buffer.mark < 2 ^ 61 → parts.calls < 2 ^ 62
-        → Holds (state_of (played parts Inconsistent new left)) → AreSound (played parts Inconsistent new left)
+        → Holds (state_of (played parts Inconsistent new times left)) → AreSound (played parts Inconsistent new times left)
     received_sound mark calls facts =
-        sound_without_found (played parts Inconsistent new left)
+        sound_without_found (played parts Inconsistent new times left)
         (limited Inconsistent mark calls most advances.mark advances.reach) facts
         (none_solved count (without_found (with_found parts cached)) new advances refl)
         (none_found count (without_found (with_found parts cached)) new advances refl)

@@ -3,7 +3,7 @@ use Rattle.std.proofs.Common.{◌≡◌, ◌≢◌, ◌+◌, ◌<◌, ◌≤◌,
 use Rattle.std.proofs.lemmas.Bool.{cases_eq, cond-true, cond-false}
 use Rattle.std.proofs.lemmas.Option.{none-some, same_Some}
 use Rattle.std.specs.Cmp.{nat_cmp_total}
-use Rattle.std.specs.FinMap.{FinMap, get, remove, empty, get-empty, same_map, nat_cmp-IsAntisymmetric}
+use Rattle.std.specs.FinMap.{FinMap, get, insert, remove, empty, get-empty, same_map, nat_cmp-IsAntisymmetric}
 use Rattle.std.specs.Ordering.{nat_cmp}
 use Rattle.fg_words.specs.declared.Word.{Word}
 use Rattle.fg_peel.specs.Equation.{AreMedia}
@@ -30,6 +30,7 @@ abbrev pub taken : Parts → ℕ → ℕ → ℕ → Word → BufferState → Li
 taken parts position seq ssrc word between left epoch = record parts {
   top = farther parts.top (record { position = position; seq = seq; ssrc = ssrc });
   buffer = receives between position word;
+  times = insert parts.times position parts.clock;
   lines = left;
   calls = parts.calls + 1;
   epoch = epoch;

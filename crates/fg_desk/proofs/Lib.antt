@@ -1,4 +1,5 @@
 pub mod Advancing
+pub mod Times
 pub mod DeskAdds
 pub mod DeskBegins
 pub mod DeskCounts
@@ -10,6 +11,7 @@ pub mod DeskPlayed
 pub mod DeskPlays
 pub mod DeskReceives
 pub mod DeskRecovers
+pub mod DeskTimes
 pub mod DeskWays
 pub mod DeskWords
 pub mod LiveLines

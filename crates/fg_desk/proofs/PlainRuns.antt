@@ -1,5 +1,5 @@
 -- What the loops of a plain run keep.
-use Rattle.std.proofs.Common.{◌≡◌, ◌+◌, ◌-◌, ◌<◌, ◌≤◌, ◌++◌, ℕ, List, [], ◌∷◌, map, take, length, get_or, Option, Bool, true, false, IsTrue, inl, inr, ⊎_elim, refl, sym, ap, subst, ◌∙◌, arith, append_assoc, length-take}
+use Rattle.std.proofs.Common.{◌≡◌, ◌+◌, ◌-◌, ◌<◌, ◌≤◌, ◌++◌, ℕ, List, [], ◌∷◌, map, take, length, get_or, Option, Some, Bool, true, false, IsTrue, inl, inr, ⊎_elim, refl, sym, ap, subst, ◌∙◌, arith, append_assoc, length-take}
 use Rattle.std.specs.List.{All}
 use Rattle.std.proofs.lemmas.List.{append-nil, length-map, map-append, take_more}
 use Rattle.std.proofs.lemmas.List.Elements.{All-push}
@@ -12,8 +12,9 @@ use Rattle.fg_playout.specs.State.{State, opening}
 use Rattle.fg_playout.specs.Admission.{IsDue}
 use Rattle.fg_desk.specs.declared.run.ShownWord.{ShownWord}
 use Rattle.fg_playout.specs.Play.{Play, Shown, nothing_shown, IsPlay, IsFlushStep}
-use Rattle.fg_playout.specs.Run.{Arrival, Takes, TakesAll}
-use Rattle.fg_playout.specs.Laws.{IsRead, HavePlayed, HavePlayedBefore, AreFlushSteps, PlaysDueJoin, FlushStepsJoin, TakingsJoin}
+use Rattle.fg_playout.specs.Held.{IsHeldStep}
+use Rattle.fg_playout.specs.Run.{Arrival, carries, protects, refused, Takes, TakesAll}
+use Rattle.fg_playout.specs.Laws.{IsRead, HavePlayed, HavePlayedBefore, HavePlayedThen, AreFlushSteps, AreHeldSteps, PlaysDueJoin, FlushStepsJoin, HeldStepsJoin, TakingsJoin}
 use Rattle.fg_desk.specs.Arrivals.{arrival_of, play_of, shown_word}
 use Rattle.fg_playout.proofs.Senders.{fresh_is_decided}
 
@@ -86,6 +87,41 @@ one_more_flushed old between new before plays plays' copy play join so step copi
   steps = join old between new so.flushed (play ∷ []) so.steps (new, step, refl);
   playout = ap (λ (s : State). s.playout) step.plays.rest ∙ so.playout;
 }
+
+-- The held steps by a time so far.
+pub record HaveHeldSo (old : State) (time : ℕ) (before : List ShownPlay) (new : State) (plays : List ShownPlay) : Type 0 where
+  pub held : List Play
+  pub added : map play_of plays ≡ map play_of before ++ held
+  pub steps : AreHeldSteps old time held new
+  pub playout : new.playout ≡ old.playout
+
+pub none_held : (old : State) (time : ℕ) (before : List ShownPlay) → HaveHeldSo old time before old before
+none_held old time before = record {
+  held = [];
+  added = sym (append-nil (map play_of before));
+  steps = refl;
+  playout = refl;
+}
+
+pub one_more_held :
+    (old between new : State) (time : ℕ) (before plays plays' : List ShownPlay) (copy : ShownPlay) (play : Play)
+    → HeldStepsJoin → HaveHeldSo old time before between plays → IsHeldStep between time (Some play) new
+    → play_of copy ≡ play → plays' ≡ plays ++ copy ∷ [] → HaveHeldSo old time before new plays'
+one_more_held old between new time before plays plays' copy play join so step copied more = record {
+  held = so.held ++ play ∷ [];
+  added = added_more before plays plays' copy so.held play so.added copied more;
+  steps = join old between new time so.held (play ∷ []) so.steps (new, step, refl);
+  playout = ap (λ (s : State). s.playout) step.plays.rest ∙ so.playout;
+}
+
+-- A held step moves the mark nearer to its limit.
+pub held_nearer :
+    (limit : ℕ) (old new : State) (time : ℕ) (play : Play) → IsHeldStep old time (Some play) new → 1 ≤ old.playout.window
+    → old.mark < limit → limit - new.mark < limit - old.mark
+held_nearer limit old new time play step some room =
+    let ahead : old.mark ≤ step.greatest = step.greatest_is.inside.1 in
+    let is = step.plays.mark in
+    omega (arith, ahead, is, some, room)
 
 -- A flush step moves the mark nearer to its limit.
 pub step_nearer :
@@ -161,3 +197,8 @@ nothing_before desk seq ssrc = ⊎_elim
     (λ fresh. inl (fresh, refl))
     (λ stale. inr (stale, refl))
     (fresh_is_decided desk ssrc)
+
+pub nothing_played : (arrival : Arrival) (desk : State) → HavePlayedThen desk arrival [] desk
+nothing_played (carries time seq ssrc word) desk = nothing_before desk seq ssrc
+nothing_played (protects time stream parity) desk = (refl, refl)
+nothing_played (refused time stream) desk = (refl, refl)

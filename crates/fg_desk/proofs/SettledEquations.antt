@@ -65,7 +65,7 @@ ends_with_settled takes keep known words few many adds ends = (
 
 -- A desk of which these are the live equations.
 abbrev pub desk_of : LiveState → State
-desk_of lines = record (opening (record { window = 0; depth = 0 })) { equations = lines.live }
+desk_of lines = record (opening (record { window = 0; depth = 0; hold = 0 })) { equations = lines.live }
 
 pub serial_in : (lines : LiveState) (equation : Equation) → Contains (equations_in lines) equation
     → (serial : ℕ) × (live : Live) × (get lines.live serial ≡ Some live) × (live.equation ≡ equation)

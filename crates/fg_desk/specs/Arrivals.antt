@@ -1,5 +1,5 @@
 -- What the datagrams and the plays of a plain run mean.
-use Rattle.std.specs.Prelude.{ℕ, ⊤, List, map}
+use Rattle.std.specs.Prelude.{◌≢◌, ℕ, ⊤, List, map}
 use Rattle.fg_words.specs.Word.{IsMedia}
 use Rattle.fg_shape.specs.Shape.{IsShape}
 use Rattle.fg_desk.specs.declared.run.Datagram.{Datagram}
@@ -12,20 +12,20 @@ use Rattle.fg_playout.specs.Room.{HasRoom}
 use Rattle.fg_playout.specs.Play.{Play, Shown}
 use Rattle.fg_playout.specs.Run.{Arrival, carries, protects, refused}
 use Rattle.fg_playout.specs.Admission.{counted}
-use Rattle.fg_playout.specs.Laws.{HavePlayedBefore, AreFlushSteps}
+use Rattle.fg_playout.specs.Laws.{HavePlayedBefore, HavePlayedThen, HavePlayedFor, AreFlushSteps, AreHeldSteps}
 
 -- The datagram that arrives.
 abbrev pub arrival_of : Datagram → Arrival
-arrival_of (datagram.Media seq ssrc word) = carries seq ssrc word
-arrival_of (datagram.Parity stream base shape word) =
-    protects stream (record { base = base; offset = shape.offset; count = shape.na; word = word })
-arrival_of (datagram.Refused stream) = refused stream
+arrival_of (datagram.Media time seq ssrc word) = carries time seq ssrc word
+arrival_of (datagram.Parity time stream base shape word) =
+    protects time stream (record { base = base; offset = shape.offset; count = shape.na; word = word })
+arrival_of (datagram.Refused time stream) = refused time stream
 
 -- It is as readers give it: a media word, or a shape that is read.
 abbrev pub IsGiven : Datagram → Type 0
-IsGiven (datagram.Media seq ssrc word) = IsMedia word
-IsGiven (datagram.Parity stream base shape word) = IsShape shape.offset shape.na
-IsGiven (datagram.Refused stream) = ⊤
+IsGiven (datagram.Media time seq ssrc word) = IsMedia word
+IsGiven (datagram.Parity time stream base shape word) = IsShape shape.offset shape.na
+IsGiven (datagram.Refused time stream) = ⊤
 
 -- The play that a copy tells.
 abbrev pub shown_word : ShownWord → Shown
@@ -34,12 +34,24 @@ shown_word shown = record { word = shown.word; repaired = shown.repaired }
 abbrev pub play_of : ShownPlay → Play
 play_of play = record { first = play.first; shown = map shown_word play.shown.items; outcome = play.outcome }
 
--- All desks that plays before some media datagram leave keep the facts, and have room, for one more call too: a flush step
--- that finds nothing left is one.
+-- The facts hold of a desk, and it has room, for one more call too: a step of a flush, or a held step, that finds nothing is one.
+abbrev pub HasRoomStill : State → Type 0
+HasRoomStill desk = Holds desk × HasRoom desk × HasRoom (counted desk)
+
+-- So do all desks that the plays which come before some datagram leave.
 abbrev pub StaysWithin : State → Type 0
-StaysWithin old =
-    (seq ssrc : ℕ) (plays : List Play) (new : State)
-    → HavePlayedBefore old seq ssrc plays new → Holds new × HasRoom new × HasRoom (counted new)
+StaysWithin old = (arrival : Arrival) (plays : List Play) (new : State) → HavePlayedFor old arrival plays new → HasRoomStill new
+
+-- Of those plays: the held ones by a time; those that come where no word waits for too long; and those before a media datagram.
+abbrev pub HeldWithin : State → ℕ → Type 0
+HeldWithin old time =
+    old.playout.hold ≢ 0 → (plays : List Play) (new : State) → AreHeldSteps old time plays new → HasRoomStill new
+
+abbrev pub ThenWithin : State → Arrival → Type 0
+ThenWithin old arrival = (plays : List Play) (new : State) → HavePlayedThen old arrival plays new → HasRoomStill new
+
+abbrev pub BeforeWithin : State → ℕ → ℕ → Type 0
+BeforeWithin old seq ssrc = (plays : List Play) (new : State) → HavePlayedBefore old seq ssrc plays new → HasRoomStill new
 
 -- So do all desks that flush steps leave.
 abbrev pub FlushesWithin : State → Type 0

@@ -27,62 +27,16 @@ top_code =
     (λ p. record { position = p.0; seq = p.1.0; ssrc = p.1.1 }) (λ _. refl)
 
 abbrev pub playout_code : Coded Playout
-playout_code = code_by (ℕ × ℕ) (coded× coded_ℕ coded_ℕ) (λ p. (p.window, p.depth)) (λ p. record { window = p.0; depth = p.1 }) (λ _. refl)
+playout_code =
+    code_by (ℕ × (ℕ × ℕ)) (coded× coded_ℕ (coded× coded_ℕ coded_ℕ)) (λ p. (p.window, (p.depth, p.hold)))
+    (λ p. record { window = p.0; depth = p.1.0; hold = p.1.1 }) (λ _. refl)
 
 abbrev pub contents_code : Coded Contents
 contents_code =
-    code_by (Playout × (Option Top × (Option ℕ × (ℕ × (ℕ × (ℕ × (Words × (Words × (map.FinMap nat_cmp Live
-    × (ℕ × (ℕ × (Words × (set.FinSet nat_cmp × (set.FinSet nat_cmp × ℕ))))))))))))))
-    (coded× playout_code (coded× (coded_option top_code) (coded× (coded_option coded_ℕ) (coded× coded_ℕ (coded× coded_ℕ
-    (coded× coded_ℕ (coded× words_code (coded× words_code (coded× (map.code coded_ℕ live_code) (coded× coded_ℕ (coded× coded_ℕ
-    (coded× words_code (coded× (set.code coded_ℕ) (coded× (set.code coded_ℕ) coded_ℕ))))))))))))))
-    (λ c. (
-      c.state.playout,
-      (
-        c.state.top,
-        (
-          c.state.previous,
-          (
-            c.state.origin,
-            (
-              c.state.runs,
-              (
-                c.state.mark,
-                (
-                  c.state.kept,
-                  (
-                    c.state.media,
-                    (
-                      c.state.equations,
-                      (c.state.admitted, (c.state.calls, (c.solved, (c.bare, (c.repaired, c.epoch))))),
-                    ),
-                  ),
-                ),
-              ),
-            ),
-          ),
-        ),
-      ),
-    ))
-    (λ p. record {
-      state = record {
-        playout = p.0;
-        top = p.1.0;
-        previous = p.1.1.0;
-        origin = p.1.1.1.0;
-        runs = p.1.1.1.1.0;
-        mark = p.1.1.1.1.1.0;
-        kept = p.1.1.1.1.1.1.0;
-        media = p.1.1.1.1.1.1.1.0;
-        equations = p.1.1.1.1.1.1.1.1.0;
-        admitted = p.1.1.1.1.1.1.1.1.1.0;
-        calls = p.1.1.1.1.1.1.1.1.1.1.0;
-      };
-      solved = p.1.1.1.1.1.1.1.1.1.1.1.0;
-      bare = p.1.1.1.1.1.1.1.1.1.1.1.1.0;
-      repaired = p.1.1.1.1.1.1.1.1.1.1.1.1.1.0;
-      epoch = p.1.1.1.1.1.1.1.1.1.1.1.1.1.1;
-    })
+    code_by (Playout × (Option Top × (Option ℕ × (ℕ × (ℕ × (ℕ × (Words × (Words × (ℕ × (map.FinMap nat_cmp ℕ × (map.FinMap nat_cmp Live × (ℕ × (ℕ × (Words × (set.FinSet nat_cmp × (set.FinSet nat_cmp × ℕ))))))))))))))))
+    (coded× playout_code (coded× (coded_option top_code) (coded× (coded_option coded_ℕ) (coded× coded_ℕ (coded× coded_ℕ (coded× coded_ℕ (coded× words_code (coded× words_code (coded× coded_ℕ (coded× (map.code coded_ℕ coded_ℕ) (coded× (map.code coded_ℕ live_code) (coded× coded_ℕ (coded× coded_ℕ (coded× words_code (coded× (set.code coded_ℕ) (coded× (set.code coded_ℕ) coded_ℕ))))))))))))))))
+    (λ c. (c.state.playout, (c.state.top, (c.state.previous, (c.state.origin, (c.state.runs, (c.state.mark, (c.state.kept, (c.state.media, (c.state.clock, (c.state.times, (c.state.equations, (c.state.admitted, (c.state.calls, (c.solved, (c.bare, (c.repaired, c.epoch)))))))))))))))))
+    (λ p. record { state = record { playout = p.0; top = p.1.0; previous = p.1.1.0; origin = p.1.1.1.0; runs = p.1.1.1.1.0; mark = p.1.1.1.1.1.0; kept = p.1.1.1.1.1.1.0; media = p.1.1.1.1.1.1.1.0; clock = p.1.1.1.1.1.1.1.1.0; times = p.1.1.1.1.1.1.1.1.1.0; equations = p.1.1.1.1.1.1.1.1.1.1.0; admitted = p.1.1.1.1.1.1.1.1.1.1.1.0; calls = p.1.1.1.1.1.1.1.1.1.1.1.1.0 }; solved = p.1.1.1.1.1.1.1.1.1.1.1.1.1.0; bare = p.1.1.1.1.1.1.1.1.1.1.1.1.1.1.0; repaired = p.1.1.1.1.1.1.1.1.1.1.1.1.1.1.1.0; epoch = p.1.1.1.1.1.1.1.1.1.1.1.1.1.1.1.1 })
     (λ _. refl)
 
 -- The parts of a desk.
@@ -93,6 +47,8 @@ pub record Parts : Type 0 where
   pub origin : ℕ
   pub runs : ℕ
   pub buffer : BufferState
+  pub clock : ℕ
+  pub times : map.FinMap nat_cmp ℕ
   pub lines : LiveState
   pub admitted : ℕ
   pub calls : ℕ
@@ -109,6 +65,8 @@ state_of parts = record {
   mark = parts.buffer.mark;
   kept = parts.buffer.kept;
   media = parts.buffer.media;
+  clock = parts.clock;
+  times = parts.times;
   equations = parts.lines.live;
   admitted = parts.admitted;
   calls = parts.calls;

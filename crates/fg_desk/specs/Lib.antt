@@ -1,5 +1,6 @@
 pub mod Arrivals
 pub mod Contents
+pub mod Holding
 pub mod Inside
 pub mod Parts
 pub mod TrayPlaces

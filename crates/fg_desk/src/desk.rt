@@ -15,12 +15,15 @@ ghost use Rattle.fg_playout.specs.Room.{HasRoom, farthest_limit, call_limit};
 ghost use Rattle.fg_desk.specs.Contents.{opened, AreSolved, CanFill, IsLiveAt, IsPlaceAfter, GivesWay, IsAfterArrival, ChangesInPlay, filled, known_in, shared_at, kept_from, epoch_after};
 ghost use Rattle.fg_playout.specs.Admission.{sender_of, own, another, IsFresh, IsDue, IsReplyAt, IsEquationReply, IsLeastFree, AdmitsMedia, AdmitsParity, base_on, begun, counted, farther as farther_top, with_media, with_equation};
 ghost use Rattle.fg_playout.specs.Play.{IsPlay, Flushes, HasMore};
+ghost use Rattle.fg_playout.specs.Held.{at_time, IsHeld, IsGreatest, IsHeldStep};
 ghost use Rattle.fg_desk.specs.Inside.{IsLateAt, raised};
 ghost use Rattle.fg_desk.specs.Parts.{top_of};
 
+use crate::holding::{move_on, note, tell};
 use crate::storage::{begin, close, publish, receive, recover};
 use crate::tray::Tray;
 use fg_buffer::{KEPT, LIVE_LIMIT, LiveEquations, PlayoutBuffer, Watches, lost_slot};
+use fg_hold::Waiting;
 use fg_peel::Line;
 use fg_peel::laws::{
     confluence, found_words_may_be_known, peelings_fill_the_closure, peelings_stay,
@@ -48,6 +51,8 @@ struct Farthest {
 pub struct Desk {
     window: u32,
     depth: u32,
+    /// Which received words wait, and since when.
+    waiting: Waiting,
     top: Option<Farthest>,
     /// The SSRC of the run before.
     previous: Option<u32>,
@@ -82,27 +87,29 @@ impl Model for Desk {
 
     ghost coded = { contents_code };
 
-    ghost use Rattle.fg_desk.specs.Inside.{contents_of, AreSound};
-    ghost use Rattle.fg_desk.specs.Parts.{parts_of};
+    ghost use Rattle.fg_desk.specs.Inside.{contents_of};
+    ghost use Rattle.fg_desk.specs.Parts.{parts_of, IsDesk};
 
     ghost view = { λ a. contents_of (parts_of a) };
 
-    ghost invariant = { λ a. AreSound (parts_of a) };
+    ghost invariant = { IsDesk };
 }
 
 impl Desk {
     /// An empty desk whose plays close `window` positions, and for which a play is due where a
-    /// datagram lies `depth` positions past the mark.
+    /// datagram lies `depth` positions past the mark. No word waits longer than `hold` microseconds by the
+    /// times that are told, or for 0 as long as it has to.
     ///
     /// All its memory is taken here.
-    pub fn new(alloc: Global, window: u32, depth: u32) -> Result<Desk, AllocError>
+    pub fn new(alloc: Global, window: u32, depth: u32, hold: u64) -> Result<Desk, AllocError>
         requires window { (1 ≤ window) × (window ≤ 100) }
         requires depth { (window ≤ depth) × (depth ≤ 1000) }
-        ensures { IfOk result (λ desk. desk ≡ opened (record { window = window; depth = depth })) }
+        ensures { IfOk result (λ desk. desk ≡ opened (record { window = window; depth = depth; hold = hold })) }
     {
         Ok(Desk {
             window,
             depth,
+            waiting: Waiting::new(alloc, hold)?,
             top: None,
             previous: None,
             origin: 0,
@@ -205,6 +212,14 @@ impl Desk {
         ensures { result ≡ self.now.state.previous }
     {
         self.previous
+    }
+
+    /// How long a received word may wait, in microseconds. 0 where it may wait for ever.
+    #[inline]
+    pub fn hold(&self) -> u64
+        ensures { result ≡ self.now.state.playout.hold }
+    {
+        self.waiting.hold()
     }
 
     /// How many runs of a sender were begun.
@@ -393,29 +408,7 @@ impl Desk {
         ensures count { result.count ≡ self.old.state.playout.window }
         ensures changes { ChangesInPlay result.verdict self.old self.new }
     {
-        // What was found is the end of a peeling, so it is the closure and, where there is one, the solution; and it stays one
-        // past the play.
-        found_words_may_be_known();
-        peelings_fill_the_closure();
-        solved_stays_peeled();
-        confluence();
-        let stuck = self.lines.are_stuck(&mut self.watches, &self.buffer);
-        let solved = recover(&mut self.buffer, &self.lines, stuck);
-        let first = self.buffer.mark();
-        let verdict = close(
-            &mut self.buffer,
-            &mut self.lines,
-            solved,
-            stuck,
-            self.window,
-        );
-        self.calls += 1;
-        self.epoch = next_epoch(self.epoch, verdict);
-        Played {
-            first,
-            count: self.window,
-            verdict,
-        }
+        self.play_first(self.window)
     }
 
     /// Plays up to the highest position that has a word or follows, and at most a window. None
@@ -470,12 +463,61 @@ impl Desk {
         };
         let count = u64::from(self.window).min(highest + 1 - first) as u32;
         let verdict = close(&mut self.buffer, &mut self.lines, solved, stuck, count);
+        move_on(&mut self.waiting, self.buffer.mark());
         self.epoch = next_epoch(self.epoch, verdict);
         Some(Played {
             first,
             count,
             verdict,
         })
+    }
+
+    /// Tells the desk the time of a datagram, in microseconds, and then plays up to the greatest position
+    /// whose word has waited for as long as one may, or longer, and at most a window. None where no word
+    /// has: then the tray is as it was, but the desk has been told the time.
+    pub fn held_step(&mut self, time: u64, tray: &mut Tray) -> Option<Played>
+        requires room { HasRoom self.old.state }
+        requires limited { self.old.state.playout.hold ≢ 0 }
+        requires tray { self.old.state.playout.window ≤ tray.old.window }
+        ensures held { IsHeldStep self.old.state time (option_map (λ played. record {
+          first = played.first;
+          shown = tray.new.shown;
+          outcome = played.verdict;
+        }) result) self.new.state }
+        ensures some { IfSome result (λ played. (played.count ≡ length tray.new.shown)
+            × ChangesInPlay played.verdict self.old self.new) }
+        ensures none { IfNone result ((self.new ≡ record self.old { state = self.new.state })
+            × (tray.new ≡ tray.old)) }
+        ensures tray { tray.new.window ≡ tray.old.window }
+    {
+        let Some(step) = self.held_step_in_place(time) else {
+            return None;
+        };
+        tray.show_kept(&self.buffer, step.first, step.count);
+        Some(step)
+    }
+
+    /// A held step that copies nothing: the desk keeps the words, as after `play_in_place`. None where no
+    /// word has waited long enough.
+    pub fn held_step_in_place(&mut self, time: u64) -> Option<Played>
+        requires room { HasRoom self.old.state }
+        requires limited { self.old.state.playout.hold ≢ 0 }
+        ensures held { IsHeldStep self.old.state time (option_map (λ played. record {
+          first = played.first;
+          shown = kept_from self.new played.first played.count;
+          outcome = played.verdict;
+        }) result) self.new.state }
+        ensures some { IfSome result (λ played. (1 ≤ played.count)
+            × (played.count ≤ self.old.state.playout.window)
+            × ChangesInPlay played.verdict self.old self.new) }
+        ensures none { IfNone result (self.new ≡ record self.old { state = self.new.state }) }
+    {
+        let Some(greatest) = self.tell(time) else {
+            self.count_call();
+            return None;
+        };
+        let count = u64::from(self.window).min(greatest + 1 - self.buffer.mark()) as u32;
+        Some(self.play_first(count))
     }
 
     /// Takes a word that the live equation at a place gives at its one slot without a known word. It is
@@ -497,6 +539,62 @@ impl Desk {
         ensures { self.new ≡ self.old }
     {
         self.lines.settle_at(place);
+    }
+
+    /// Tells the desk a time, and answers the greatest position whose word has waited for as long as one
+    /// may, or longer.
+    fn tell(&mut self, time: u64) -> Option<u64>
+        requires { self.old.state.playout.hold ≢ 0 }
+        ensures state { self.new ≡ record self.old { state = at_time self.old.state time } }
+        ensures some { IfSome result (IsGreatest (IsHeld self.new.state)) }
+        ensures none { IfNone result ((position : ℕ) → ¬ IsHeld self.new.state position) }
+        ensures near { IfSome result (λ greatest. (self.new.state.mark ≤ greatest)
+            × (greatest < self.new.state.mark + 1000)) }
+    {
+        let mark = self.buffer.mark();
+        tell(&mut self.waiting, time, mark)
+    }
+
+    /// Counts a call that changes nothing else.
+    fn count_call(&mut self)
+        requires { self.old.state.calls < call_limit }
+        ensures { self.new ≡ record self.old { state = counted self.old.state } }
+    {
+        self.calls += 1;
+    }
+
+    /// Plays the first `count` positions, of which 100 are kept at most.
+    fn play_first(&mut self, count: u32) -> Played
+        requires room { HasRoom self.old.state }
+        requires started { IsSome self.old.state.top }
+        requires some { 1 ≤ count }
+        requires most { count ≤ 100 }
+        ensures play { IsPlay count self.old.state (record {
+          first = result.first;
+          shown = kept_from self.new result.first result.count;
+          outcome = result.verdict;
+        }) self.new.state }
+        ensures count { result.count ≡ count }
+        ensures changes { ChangesInPlay result.verdict self.old self.new }
+    {
+        // What was found is the end of a peeling, so it is the closure and, where there is one, the solution; and it stays one
+        // past the play.
+        found_words_may_be_known();
+        peelings_fill_the_closure();
+        solved_stays_peeled();
+        confluence();
+        let stuck = self.lines.are_stuck(&mut self.watches, &self.buffer);
+        let solved = recover(&mut self.buffer, &self.lines, stuck);
+        let first = self.buffer.mark();
+        let verdict = close(&mut self.buffer, &mut self.lines, solved, stuck, count);
+        move_on(&mut self.waiting, self.buffer.mark());
+        self.calls += 1;
+        self.epoch = next_epoch(self.epoch, verdict);
+        Played {
+            first,
+            count,
+            verdict,
+        }
     }
 
     /// Counts a call that refused a share, which is let go.
@@ -548,6 +646,7 @@ impl Desk {
     {
         peelings_stay();
         let withdrawn = receive(&mut self.buffer, &mut self.lines, position, share);
+        note(&mut self.waiting, position);
         let datagram = Farthest {
             position,
             seq,
@@ -572,6 +671,7 @@ impl Desk {
         let previous = self.current();
         let mark = self.buffer.mark();
         begin(&mut self.buffer, &mut self.lines, share);
+        note(&mut self.waiting, mark);
         self.previous = previous;
         self.top = Some(Farthest {
             position: mark,

@@ -2,6 +2,7 @@
 #![tactic(auto)]
 
 mod desk;
+mod holding;
 mod run;
 mod storage;
 #[cfg(test)]

@@ -7,8 +7,8 @@ ghost use Rattle.fg_playout.specs.Admission.{IsDue, IsFresh, counted};
 ghost use Rattle.fg_playout.specs.Play.{Play, HasMore};
 ghost use Rattle.fg_playout.specs.Room.{HasRoom};
 ghost use Rattle.fg_playout.specs.Laws.{IsRead};
-ghost use Rattle.fg_playout.specs.Run.{Takes, ArePlaysBefore, IsFlush, IsRun, came_by, is_counted, count_of};
-ghost use Rattle.fg_desk.specs.Arrivals.{arrival_of, play_of, IsGiven, StaysWithin, FlushesWithin};
+ghost use Rattle.fg_playout.specs.Run.{Takes, TakesThen, ArePlaysHeld, ArePlaysBefore, IsFlush, IsRun, time_of, came_by, is_counted, count_of};
+ghost use Rattle.fg_desk.specs.Arrivals.{arrival_of, play_of, IsGiven, StaysWithin, HeldWithin, ThenWithin, BeforeWithin, FlushesWithin};
 
 use crate::desk::{Desk, Played};
 use crate::tray::Tray;
@@ -23,6 +23,8 @@ use std::alloc::{AllocError, Global};
 pub enum Datagram {
     /// A media datagram.
     Media {
+        /// When it came, in microseconds.
+        time: u64,
         /// Its sequence number.
         seq: u16,
         /// The SSRC of its sender.
@@ -32,6 +34,8 @@ pub enum Datagram {
     },
     /// A parity datagram.
     Parity {
+        /// When it came, in microseconds.
+        time: u64,
         /// The stream that it came by.
         stream: Kind,
         /// The sequence number of its base.
@@ -41,8 +45,13 @@ pub enum Datagram {
         /// Its parity word.
         word: Word,
     },
-    /// A datagram of this stream that its reader refused.
-    Refused(Kind),
+    /// A datagram that its reader refused.
+    Refused {
+        /// When it came, in microseconds.
+        time: u64,
+        /// The stream that it came by.
+        stream: Kind,
+    },
 }
 
 impl Datagram {
@@ -53,7 +62,18 @@ impl Datagram {
         match self {
             Datagram::Media { word, .. } => word.is_media(),
             Datagram::Parity { shape, .. } => shape_ok(*shape),
-            Datagram::Refused(_) => true,
+            Datagram::Refused { .. } => true,
+        }
+    }
+
+    /// When it came, in microseconds.
+    pub fn time(&self) -> u64
+        ensures { result ≡ time_of (arrival_of self.now) }
+    {
+        match self {
+            Datagram::Media { time, .. } => *time,
+            Datagram::Parity { time, .. } => *time,
+            Datagram::Refused { time, .. } => *time,
         }
     }
 
@@ -64,7 +84,7 @@ impl Datagram {
         match self {
             Datagram::Media { .. } => Kind::Media,
             Datagram::Parity { stream, .. } => *stream,
-            Datagram::Refused(stream) => *stream,
+            Datagram::Refused { stream, .. } => *stream,
         }
     }
 }
@@ -135,6 +155,7 @@ pub fn run_flow(
     alloc: Global,
     window: u32,
     depth: u32,
+    hold: u64,
     datagrams: &[Datagram],
 ) -> Result<FlowRun, AllocError>
     requires window { (1 ≤ window) × (window ≤ 100) }
@@ -142,12 +163,12 @@ pub fn run_flow(
     requires given { All IsGiven datagrams.now }
     requires limit { length datagrams.now < 2 ^ 44 }
     ensures { IfOk result (λ run.
-        (is : IsRun (record { window = window; depth = depth }) (map arrival_of datagrams.now) (map play_of run.plays.items)
+        (is : IsRun (record { window = window; depth = depth; hold = hold }) (map arrival_of datagrams.now) (map play_of run.plays.items)
         run.replies.items) × (run.runs ≡ is.filled.runs)) }
 {
     runs_join();
     runs_stay_within();
-    let mut desk = Desk::new(alloc, window, depth)?;
+    let mut desk = Desk::new(alloc, window, depth, hold)?;
     let mut tray = Tray::new(alloc, window)?;
     let mut plays = Vec::new(alloc);
     let mut replies = Vec::new(alloc);
@@ -182,8 +203,61 @@ fn take(
     ensures playout { IfOk result (λ _. desk.new.state.playout ≡ desk.old.state.playout) }
     ensures tray { tray.new.window ≡ tray.old.window }
 {
+    play_held(alloc, desk, tray, plays, datagram.time())?;
+    take_then(alloc, desk, tray, plays, datagram)
+}
+
+/// Plays what has waited for too long by a time.
+fn play_held(
+    alloc: Global,
+    desk: &mut Desk,
+    tray: &mut Tray,
+    plays: &mut Vec<ShownPlay>,
+    time: u64,
+) -> Result<(), AllocError>
+    requires within { HeldWithin desk.old.state time }
+    requires tray { desk.old.state.playout.window ≤ tray.old.window }
+    ensures plays { IfOk result (λ _. (held : List Play)
+        × (map play_of plays.new.items ≡ map play_of plays.old.items ++ held)
+        × ArePlaysHeld desk.old.state time held desk.new.state) }
+    ensures playout { IfOk result (λ _. desk.new.state.playout ≡ desk.old.state.playout) }
+    ensures tray { tray.new.window ≡ tray.old.window }
+{
+    runs_join();
+    if desk.hold() == 0 {
+        return Ok(());
+    }
+    while let Some(played) = desk.held_step(time, tray) {
+        plays.push(copied(alloc, played, tray)?)?;
+    }
+    Ok(())
+}
+
+/// Takes one datagram where no word has waited for too long.
+fn take_then(
+    alloc: Global,
+    desk: &mut Desk,
+    tray: &mut Tray,
+    plays: &mut Vec<ShownPlay>,
+    datagram: &Datagram,
+) -> Result<Option<Reply>, AllocError>
+    requires within { ThenWithin desk.old.state (arrival_of datagram.now) }
+    requires tray { desk.old.state.playout.window ≤ tray.old.window }
+    requires given { IsGiven datagram.now }
+    ensures takes { IfOk result (λ reply. (before : List Play)
+        × (map play_of plays.new.items ≡ map play_of plays.old.items ++ before)
+        × TakesThen desk.old.state (arrival_of datagram.now) before reply desk.new.state) }
+    ensures read { IfOk result (λ _. IsRead (arrival_of datagram.now)) }
+    ensures playout { IfOk result (λ _. desk.new.state.playout ≡ desk.old.state.playout) }
+    ensures tray { tray.new.window ≡ tray.old.window }
+{
     match *datagram {
-        Datagram::Media { seq, ssrc, word } => {
+        Datagram::Media {
+            seq,
+            ssrc,
+            word,
+            ..
+        } => {
             let share = word.share(alloc)?;
             play_before(alloc, desk, tray, plays, seq, ssrc)?;
             Ok(Some(desk.admit_media(seq, ssrc, share)))
@@ -197,7 +271,7 @@ fn take(
             let share = word.share(alloc)?;
             Ok(Some(desk.admit_parity(base, shape, share)))
         }
-        Datagram::Refused(_) => Ok(None),
+        Datagram::Refused { .. } => Ok(None),
     }
 }
 
@@ -211,7 +285,7 @@ fn play_before(
     seq: u16,
     ssrc: u32,
 ) -> Result<(), AllocError>
-    requires within { StaysWithin desk.old.state }
+    requires within { BeforeWithin desk.old.state seq ssrc }
     requires tray { desk.old.state.playout.window ≤ tray.old.window }
     ensures plays { IfOk result (λ _. (before : List Play)
         × (map play_of plays.new.items ≡ map play_of plays.old.items ++ before)
@@ -240,7 +314,7 @@ fn play_due(
     seq: u16,
     ssrc: u32,
 ) -> Result<(), AllocError>
-    requires within { StaysWithin desk.old.state }
+    requires within { BeforeWithin desk.old.state seq ssrc }
     requires stale { ¬ IsFresh desk.old.state ssrc }
     requires tray { desk.old.state.playout.window ≤ tray.old.window }
     ensures plays { IfOk result (λ _. (due : List Play)

@@ -1,6 +1,7 @@
 //! Desks that follow scripts: what comes, what the desk answers, and what its plays show.
 
 mod blocks;
+mod holds;
 mod plain;
 mod plays;
 mod random;

@@ -1,5 +1,5 @@
 -- Which UDP port belongs to which flow.
-use Rattle.std.specs.Prelude.{◌≡◌, ◌+◌, ◌<◌, ◌≤◌, ℕ, List, length, slice_index}
+use Rattle.std.specs.Prelude.{◌≡◌, ◌<◌, ◌≤◌, ℕ, List, length, slice_index}
 use Rattle.fg_shape.specs.declared.kind.Kind.{Kind}
 use Rattle.fg_shape.specs.Kind.{IsFlowPort, port_of}
 use Rattle.fg_flows.specs.declared.FlowFault.{FlowFault}

@@ -119,10 +119,15 @@ impl Table {
     }
 
     /// The flow that has the port, by its number from 0, and what the port carries.
+    #[inline]
     pub fn find(&self, port: u16) -> Option<(usize, Kind)>
         ensures found { IfSome result (λ owner. IsPortOf self.now port owner.0 owner.1) }
         ensures none { IfNone result ((i : ℕ) (kind : Kind) → IsPortOf self.now port i kind → ⊥) }
     {
+        // Most records of a lone flow come by its own port.
+        if port == self.flows[0] {
+            return Some((0, Kind::Media));
+        }
         self.owners.get(&port).copied()
     }
 
@@ -180,6 +185,9 @@ pub struct Plan {
     /// A window is played once a media datagram comes that is so far past its first position, from
     /// the window to 1000 positions.
     pub depth: u32,
+    /// How long, in microseconds by the times of the records, a received word may wait until its
+    /// position is closed. 0 sets no limit.
+    pub hold: u64,
     /// Threads beside the one that reads, 0 to 16.
     pub workers: u32,
     /// The most bytes that the trace may have.

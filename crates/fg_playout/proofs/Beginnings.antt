@@ -1,18 +1,19 @@
 -- What a flow has played so far is how its run begins.
-use Rattle.std.proofs.Common.{◌≡◌, ◌+◌, ◌-◌, ◌++◌, ℕ, min, List, [], ◌∷◌, Option, Some, None, sym, ap, subst, ◌∙◌, ⊎_elim, append_assoc}
+use Rattle.std.proofs.Common.{◌≡◌, ◌≢◌, ◌+◌, ◌-◌, ◌++◌, ℕ, min, List, [], ◌∷◌, Option, Some, None, sym, ap, subst, ◌∙◌, ⊎_elim, append_assoc}
 use Rattle.std.specs.List.{All}
-use Rattle.fg_words.specs.declared.Word.{Word}
 use Rattle.fg_shape.specs.Playout.{Playout}
 use Rattle.fg_peel.specs.Laws.{Uniqueness}
 use Rattle.fg_playout.specs.declared.reply.Reply.{Reply}
 use Rattle.fg_playout.specs.State.{State, opening}
 use Rattle.fg_playout.specs.Play.{Play}
-use Rattle.fg_playout.specs.Run.{Arrival, carries, ArePlaysDue, ArePlaysBefore, by_flush, by_due, TakesAll, IsFlush}
-use Rattle.fg_playout.specs.Laws.{IsRead, HavePlayed, HavePlayedBefore, AreFlushSteps, OneTaking, TakenPlaysComeFirst, DuePlaysComeNext, FlushStepsComeNext}
+use Rattle.fg_playout.specs.Held.{at_time}
+use Rattle.fg_playout.specs.Run.{Arrival, carries, protects, refused, time_of, AreHeldPlays, ArePlaysHeld, unlimited, limited, ArePlaysDue, ArePlaysBefore, by_flush, by_due, TakesThen, Takes, TakesAll, IsFlush}
+use Rattle.fg_playout.specs.Laws.{IsRead, HavePlayed, HavePlayedBefore, HavePlayedThen, HavePlayedFor, still_held, then_played, AreFlushSteps, AreHeldSteps, OneTaking, TakenPlaysComeFirst, PlaysBeforeComeNext, FlushStepsComeNext}
 use Rattle.fg_playout.proofs.Orderly.{IsOrderly, orderly_opening}
 use Rattle.fg_playout.proofs.Plays.{orderly_after_play}
 use Rattle.fg_playout.proofs.OnePlay.{one_play, one_state_after, one_flush_step, one_state_after_step}
-use Rattle.fg_playout.proofs.OneRun.{one_taking_all}
+use Rattle.fg_playout.proofs.Held.{at_time_orderly, one_held_play, one_state_after_held}
+use Rattle.fg_playout.proofs.OneRun.{one_holding, one_taking_all}
 use Rattle.fg_playout.proofs.Following.{later_changes_nothing}
 
 -- The first of the plays are these.
@@ -100,30 +101,73 @@ module _ (unique : Uniqueness) where
         run.plays_are ∙ ap (λ (ps : List Play). ps ++ run.flushed) rest.is ∙ append_assoc before rest.after run.flushed,
       )
 
+  held_begin :
+      (old : State) (time : ℕ) (so_far plays : List Play) (now new : State) → IsOrderly old → AreHeldSteps old time so_far now
+      → AreHeldPlays old time plays new → BeginWith plays so_far
+  held_begin old time [] plays now new orderly a b = (plays, λ i. plays)
+  held_begin old time (play ∷ so_far) [] now new orderly a b = absurd (b.0 a.1.greatest a.1.greatest_is.inside)
+  held_begin old time (play ∷ so_far) (play' ∷ plays) now new orderly a b =
+      let at = at_time_orderly old time orderly in
+      let state : b.0 ≡ a.0 = one_state_after_held unique (at_time old time) at play' play b.0 a.0 b.1 a.1 in
+      one_more play play' plays so_far (one_held_play unique (at_time old time) at play' play b.0 a.0 b.1 a.1)
+      (held_begin a.0 time so_far plays now new
+      (orderly_after_play (min old.playout.window (a.1.greatest + 1 - old.mark)) (at_time old time) play a.0 a.1.plays at)
+      a.2 (subst (λ (s : State). AreHeldPlays s time plays new) state b.2))
+
+  limited_begin :
+      (old : State) (time : ℕ) (so_far plays : List Play) (now new : State) → IsOrderly old → old.playout.hold ≢ 0
+      → AreHeldSteps old time so_far now → ArePlaysHeld old time plays new → BeginWith plays so_far
+  limited_begin old time so_far plays now new orderly some a (unlimited none no_plays same) = absurd (some none)
+  limited_begin old time so_far plays now new orderly some a (limited some' b) = held_begin old time so_far plays now new orderly a b
+
+  then_begin :
+      (old : State) (arrival : Arrival) (so_far plays : List Play) (reply : Option Reply) (now new : State) → IsOrderly old
+      → HavePlayedThen old arrival so_far now → TakesThen old arrival plays reply new → BeginWith plays so_far
+  then_begin old (carries time seq ssrc word) so_far plays None now new orderly a b = absurd b
+  then_begin old (carries time seq ssrc word) so_far plays (Some reply) now new orderly a b =
+      before_begin old seq ssrc so_far plays now b.0 orderly a b.1
+  then_begin old (protects time stream parity) so_far plays reply now new orderly a b =
+      subst (λ (ps : List Play). BeginWith plays ps) (sym a.0) (plays, λ i. plays)
+  then_begin old (refused time stream) so_far plays reply now new orderly a b =
+      subst (λ (ps : List Play). BeginWith plays ps) (sym a.0) (plays, λ i. plays)
+
+  -- What a datagram plays begins with what it has played so far.
+  taking_begins :
+      (old : State) (arrival : Arrival) (so_far plays : List Play) (reply : Option Reply) (now new : State) → IsOrderly old
+      → HavePlayedFor old arrival so_far now → Takes old arrival plays reply new → BeginWith plays so_far
+  taking_begins old arrival so_far plays reply now new orderly (still_held some steps) takes =
+      let begin = limited_begin old (time_of arrival) so_far takes.held now takes.ready orderly some steps takes.holds in (
+        begin.0 ++ takes.after,
+        takes.plays_are ∙ ap (λ (ps : List Play). ps ++ takes.after) begin.1 ∙ append_assoc so_far begin.0 takes.after,
+      )
+  taking_begins old arrival so_far plays reply now new orderly (then_played held after ready holds are played) takes =
+      let same = one_holding unique old arrival takes.held held takes.ready ready orderly takes.holds holds in
+      let begin = then_begin ready arrival after takes.after reply now new (subst IsOrderly same.state same.orderly) played
+      (subst (λ (s : State). TakesThen s arrival takes.after reply new) same.state takes.takes) in (
+        begin.0,
+        takes.plays_are
+            ∙ (λ i. same.play i ++ begin.1 i)
+            ∙ sym (append_assoc held after begin.0)
+            ∙ ap (λ (ps : List Play). ps ++ begin.0) (sym are),
+      )
+
   -- The plays before the next datagram begin with those that were played.
   next_begins :
-      (taken now filled : State) (seq ssrc : ℕ) (word : Word) (later : List Arrival) (due after : List Play)
-      (second : List (Option Reply)) → IsOrderly taken → HavePlayedBefore taken seq ssrc due now
-      → TakesAll taken (carries seq ssrc word ∷ later) after second filled → BeginWith after due
-  next_begins taken now filled seq ssrc word later due after [] orderly played takes = absurd takes
-  next_begins taken now filled seq ssrc word later due after (None ∷ second) orderly played takes = absurd takes.4
-  next_begins taken now filled seq ssrc word later due after (Some reply ∷ second) orderly played takes =
-      let begin = before_begin taken seq ssrc due takes.0 now takes.4.0 orderly played takes.4.1 in (
+      (taken now filled : State) (next : Arrival) (later : List Arrival) (due after : List Play)
+      (second : List (Option Reply)) → IsOrderly taken → HavePlayedFor taken next due now
+      → TakesAll taken (next ∷ later) after second filled → BeginWith after due
+  next_begins taken now filled next later due after [] orderly played takes = absurd takes
+  next_begins taken now filled next later due after (reply ∷ second) orderly played takes =
+      let begin = taking_begins taken next due takes.0 reply now takes.2 orderly played takes.4 in (
         begin.0 ++ takes.1,
         takes.3 ∙ ap (λ (ps : List Play). ps ++ takes.1) begin.1 ∙ append_assoc due begin.0 takes.1,
       )
 
-  pub due_plays_come_next : DuePlaysComeNext
-  due_plays_come_next playout seq ssrc word earlier later before due plays first replies taken now read a played run =
-      let rest = goes_on playout earlier (carries seq ssrc word ∷ later) before run.taken first replies taken run.filled read a run.takes in
-      let begin = next_begins taken now run.filled seq ssrc word later due rest.after rest.second rest.orderly played rest.takes in (
-        begin.0 ++ run.flushed,
-        run.plays_are
-            ∙ ap (λ (ps : List Play). ps ++ run.flushed) rest.is
-            ∙ append_assoc before rest.after run.flushed
-            ∙ ap (λ (ps : List Play). before ++ (ps ++ run.flushed)) begin.1
-            ∙ ap (λ (ps : List Play). before ++ ps) (append_assoc due begin.0 run.flushed),
-      )
+  pub plays_before_come_next : PlaysBeforeComeNext
+  plays_before_come_next playout next earlier later before due plays first replies taken now new read a played takes =
+      let rest = goes_on playout earlier (next ∷ later) before plays first replies taken new read a takes in
+      let begin = next_begins taken now new next later due rest.after rest.second rest.orderly played rest.takes in
+      (begin.0, rest.is ∙ ap (λ (ps : List Play). before ++ ps) begin.1)
 
   pub flush_steps_come_next : FlushStepsComeNext
   flush_steps_come_next playout arrivals before flushed plays first replies taken now read a steps run =

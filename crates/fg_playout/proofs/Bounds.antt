@@ -15,9 +15,9 @@ use Rattle.fg_playout.specs.Play.{Play, IsPlay}
 use Rattle.fg_playout.proofs.Senders.{SaysOf, says_of}
 use Rattle.fg_playout.proofs.Parities.{position_most}
 
--- A datagram lies at most 32,767 past the top, and a flush moves the mark at most 1,100 positions on, so `most` of them bring the
--- top this far. The mark has passed what was played before `due` of them. A play moves the mark, and a flush ends with one
--- call more, so the calls are no more than two a datagram and one a position played.
+-- A datagram lies at most 32,767 past the top, held plays move the mark at most 1,000 positions on and a flush 1,100, so `most`
+-- of them bring the top this far. The mark has passed what was played before `due` of them. A play moves the mark, and held plays
+-- and a flush end with one call more each, so the calls are no more than three a datagram and one a position played.
 pub record Within (deep most due : ℕ) (desk : State) : Type 0 where
   pub window : 1 ≤ desk.playout.window
   pub fits : desk.playout.window ≤ desk.playout.depth
@@ -25,7 +25,7 @@ pub record Within (deep most due : ℕ) (desk : State) : Type 0 where
   pub shallow : deep ≤ 1000
   pub top : (t : Top) → desk.top ≡ Some t → t.position ≤ 40000 * most
   pub mark : desk.mark ≤ 40000 * due
-  pub calls : desk.calls ≤ most + due + desk.mark
+  pub calls : desk.calls ≤ most + due + due + desk.mark
 
 pub within_opening : (playout : Playout) → 1 ≤ playout.window → playout.window ≤ playout.depth → playout.depth ≤ 1000
     → Within playout.depth 0 0 (opening playout)
@@ -39,14 +39,35 @@ within_opening playout some fits shallow = record {
   calls = omega arith;
 }
 
-pub within_next : (deep most : ℕ) (desk : State) → Within deep most most desk → Within deep most (most + 1) desk
-within_next deep most desk w = record {
+-- Between the held plays before a datagram, and after them.
+pub record WithinHeld (deep most : ℕ) (desk : State) : Type 0 where
+  pub window : 1 ≤ desk.playout.window
+  pub fits : desk.playout.window ≤ desk.playout.depth
+  pub depth_is : desk.playout.depth ≡ deep
+  pub shallow : deep ≤ 1000
+  pub top : (t : Top) → desk.top ≡ Some t → t.position ≤ 40000 * most
+  pub mark : desk.mark ≤ 40000 * most + deep
+  pub calls : desk.calls ≤ most + most + most + 1 + desk.mark
+
+pub within_held : (deep most : ℕ) (desk : State) → Within deep most most desk → WithinHeld deep most desk
+within_held deep most desk w = record {
   window = w.window;
   fits = w.fits;
   depth_is = w.depth_is;
   shallow = w.shallow;
   top = w.top;
   mark = (let m = w.mark in omega (arith, m));
+  calls = (let c = w.calls in omega (arith, c));
+}
+
+pub within_next : (deep most : ℕ) (desk : State) → WithinHeld deep most desk → Within deep most (most + 1) desk
+within_next deep most desk w = record {
+  window = w.window;
+  fits = w.fits;
+  depth_is = w.depth_is;
+  shallow = w.shallow;
+  top = w.top;
+  mark = (let m = w.mark in let s = w.shallow in omega (arith, m, s));
   calls = (let c = w.calls in omega (arith, c));
 }
 

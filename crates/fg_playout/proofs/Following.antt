@@ -7,7 +7,8 @@ use Rattle.fg_playout.specs.declared.reply.Reply.TheVariants.{Admitted}
 use Rattle.fg_playout.specs.State.{State, opening}
 use Rattle.fg_playout.specs.Admission.{Parity, IsAfterMedia, IsAfterParity, IsLeastFree, Sender, former, own, another, sender_of, run_by, run_on, position_on, base_on, with_media, with_equation, equation_at}
 use Rattle.fg_playout.specs.Play.{Play, IsPlay}
-use Rattle.fg_playout.specs.Run.{Arrival, carries, protects, refused, ArePlaysDue, ArePlaysBefore, by_flush, by_due, Takes, TakesAll, IsFlush}
+use Rattle.fg_playout.specs.Held.{at_time}
+use Rattle.fg_playout.specs.Run.{Arrival, carries, protects, refused, time_of, AreHeldPlays, ArePlaysHeld, unlimited, limited, ArePlaysDue, ArePlaysBefore, by_flush, by_due, TakesThen, Takes, TakesAll, IsFlush}
 use Rattle.fg_playout.specs.Laws.{LaterChangesNothing, AreInSuccession, PlaysFollow}
 
 pub later_changes_nothing : LaterChangesNothing
@@ -88,19 +89,37 @@ before_spans old seq ssrc plays new (by_flush empty fresh flush counts) =
     subst (λ (n : ℕ). Spans old.mark plays n) (sym (ap (λ (s : State). s.mark) counts)) (flush_spans old plays empty flush)
 before_spans old seq ssrc plays new (by_due stale due) = due_spans old seq ssrc plays new due
 
-takes_spans : (old : State) (arrival : Arrival) (plays : List Play) (reply : Option Reply) (new : State) → Takes old arrival plays reply new → Spans old.mark plays new.mark
-takes_spans old (carries seq ssrc word) plays None new takes = absurd takes
-takes_spans old (carries seq ssrc word) plays (Some reply) new takes =
+steps_held_span : (old : State) (time : ℕ) (plays : List Play) (new : State) → AreHeldPlays old time plays new → Spans old.mark plays new.mark
+steps_held_span old time [] new is = spans_none old.mark new.mark (ap (λ (s : State). s.mark) is.1)
+steps_held_span old time (play ∷ plays) new is =
+    spans_play _ (at_time old time) play is.0 plays new.mark is.1.plays (steps_held_span is.0 time plays new is.2)
+
+held_spans : (old : State) (time : ℕ) (plays : List Play) (new : State) → ArePlaysHeld old time plays new → Spans old.mark plays new.mark
+held_spans old time plays new (unlimited none no_plays same) =
+    subst (λ (ps : List Play). Spans old.mark ps new.mark) (sym no_plays)
+    (spans_none old.mark new.mark (ap (λ (s : State). s.mark) same))
+held_spans old time plays new (limited some steps) = steps_held_span old time plays new steps
+
+then_spans : (old : State) (arrival : Arrival) (plays : List Play) (reply : Option Reply) (new : State) → TakesThen old arrival plays reply new → Spans old.mark plays new.mark
+then_spans old (carries time seq ssrc word) plays None new takes = absurd takes
+then_spans old (carries time seq ssrc word) plays (Some reply) new takes =
     let same : new.mark ≡ takes.0.mark = media_keeps_mark takes.0 new seq ssrc word reply takes.2.after in
     subst (λ (n : ℕ). Spans old.mark plays n) (sym same) (before_spans old seq ssrc plays takes.0 takes.1)
-takes_spans old (protects stream parity) plays None new takes = absurd takes
-takes_spans old (protects stream parity) plays (Some reply) new takes =
+then_spans old (protects time stream parity) plays None new takes = absurd takes
+then_spans old (protects time stream parity) plays (Some reply) new takes =
     subst (λ (ps : List Play). Spans old.mark ps new.mark) (sym takes.0)
     (spans_none old.mark new.mark (parity_keeps_mark old new parity reply takes.1.after))
-takes_spans old (refused stream) plays None new takes =
+then_spans old (refused time stream) plays None new takes =
     subst (λ (ps : List Play). Spans old.mark ps new.mark) (sym takes.0)
     (spans_none old.mark new.mark (ap (λ (s : State). s.mark) takes.1))
-takes_spans old (refused stream) plays (Some reply) new takes = absurd takes
+then_spans old (refused time stream) plays (Some reply) new takes = absurd takes
+
+takes_spans : (old : State) (arrival : Arrival) (plays : List Play) (reply : Option Reply) (new : State) → Takes old arrival plays reply new → Spans old.mark plays new.mark
+takes_spans old arrival plays reply new takes =
+    subst (λ (ps : List Play). Spans old.mark ps new.mark) (sym takes.plays_are)
+    (spans_append old.mark takes.ready.mark new.mark takes.held takes.after
+    (held_spans old (time_of arrival) takes.held takes.ready takes.holds)
+    (then_spans takes.ready arrival takes.after reply new takes.takes))
 
 all_spans : (old : State) (arrivals : List Arrival) (plays : List Play) (replies : List (Option Reply)) (new : State) → TakesAll old arrivals plays replies new → Spans old.mark plays new.mark
 all_spans old [] plays replies new takes =

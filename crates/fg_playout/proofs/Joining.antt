@@ -1,13 +1,14 @@
 -- Parts of a run join, and end where nothing more is to be done.
-use Rattle.std.proofs.Common.{◌≡◌, ◌↔◌, ◌++◌, ℕ, List, [], ◌∷◌, Option, sym, ap, subst, ◌∙◌, append_assoc}
+use Rattle.std.proofs.Common.{◌≡◌, ◌↔◌, ◌++◌, ℕ, List, [], ◌∷◌, Option, None, sym, ap, subst, ◌∙◌, append_assoc}
 use Rattle.fg_playout.specs.declared.reply.Reply.{Reply}
 use Rattle.fg_playout.specs.State.{State}
 use Rattle.fg_playout.specs.Admission.{IsDue, IsFresh, counted}
 use Rattle.fg_playout.specs.Solution.{InClosure, given, derived}
 use Rattle.fg_playout.specs.Play.{Play, HasMore}
-use Rattle.fg_playout.specs.Run.{ArePlaysDue, by_flush, by_due, TakesAll, IsFlush}
+use Rattle.fg_playout.specs.Held.{IsHeldStep}
+use Rattle.fg_playout.specs.Run.{AreHeldPlays, limited, ArePlaysDue, by_flush, by_due, TakesAll, IsFlush}
 use Rattle.fg_playout.proofs.Senders.{same_fresh, due_is_stale}
-use Rattle.fg_playout.specs.Laws.{AreFlushSteps, HavePlayed, FlushEndsBefore, DueEndBefore, ReadyAfterPlays, TakingsJoin, PlaysDueJoin, PlaysDueEnd, FlushStepsJoin, FlushStepsEnd}
+use Rattle.fg_playout.specs.Laws.{AreFlushSteps, AreHeldSteps, HavePlayed, FlushEndsBefore, DueEndBefore, ReadyAfterPlays, TakingsJoin, PlaysDueJoin, PlaysDueEnd, FlushStepsJoin, FlushStepsEnd, HeldStepsJoin, HeldStepsEnd}
 
 pub takings_join : TakingsJoin
 takings_join old between new [] later before after first second one other =
@@ -66,6 +67,18 @@ steps_are_flush old new (play ∷ plays) steps none = (steps.0, steps.1, steps_a
 
 pub flush_steps_end : FlushStepsEnd
 flush_steps_end old new plays = (flush_is_steps old new plays, λ h. steps_are_flush old new plays h.0 h.1)
+
+pub held_steps_join : HeldStepsJoin
+held_steps_join old between new time [] after one other = subst (λ (s : State). AreHeldSteps s time after new) one other
+held_steps_join old between new time (play ∷ before) after one other =
+    (one.0, one.1, held_steps_join one.0 between new time before after one.2 other)
+
+steps_are_held : (old last new : State) (time : ℕ) (plays : List Play) → AreHeldSteps old time plays last → IsHeldStep last time None new → AreHeldPlays old time plays new
+steps_are_held old last new time [] steps none = subst (λ (s : State). IsHeldStep s time None new) steps none
+steps_are_held old last new time (play ∷ plays) steps none = (steps.0, steps.1, steps_are_held steps.0 last new time plays steps.2 none)
+
+pub held_steps_end : HeldStepsEnd
+held_steps_end old last new time plays some steps none = limited some (steps_are_held old last new time plays steps none)
 
 -- Plays keep the top and the run before.
 record SameSenders (old new : State) : Type 0 where

@@ -8,6 +8,7 @@ pub mod DecidedSolutions
 pub mod Equations
 pub mod Flushing
 pub mod Following
+pub mod Held
 pub mod Joining
 pub mod MadeMaps
 pub mod NothingLeft

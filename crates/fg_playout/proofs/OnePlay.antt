@@ -33,14 +33,16 @@ one_decision unique desk orderly Repaired Inconsistent words words' a b = absurd
 one_decision unique desk orderly Inconsistent Repaired words words' a b = absurd (a.0 words' b)
 one_decision unique desk orderly Inconsistent Inconsistent words words' a b = record { outcomes = refl; word = a.1 ∙ sym b.1 }
 
-abbrev moved : State → ℕ → Words → Words → FinMap nat_cmp Live → State
-moved old mark kept media equations = record (counted old) { mark = mark; kept = kept; media = media; equations = equations }
+abbrev moved : State → ℕ → Words → Words → FinMap nat_cmp ℕ → FinMap nat_cmp Live → State
+moved old mark kept media times equations =
+    record (counted old) { mark = mark; kept = kept; media = media; times = times; equations = equations }
 
 moved_same :
-    (old : State) (mark mark' : ℕ) (kept kept' media media' : Words) (equations equations' : FinMap nat_cmp Live)
-    → mark ≡ mark' → kept ≡ kept' → media ≡ media' → equations ≡ equations'
-    → moved old mark kept media equations ≡ moved old mark' kept' media' equations'
-moved_same old mark mark' kept kept' media media' equations equations' m k d q = λ i. moved old (m i) (k i) (d i) (q i)
+    (old : State) (mark mark' : ℕ) (kept kept' media media' : Words) (times times' : FinMap nat_cmp ℕ)
+    (equations equations' : FinMap nat_cmp Live)
+    → mark ≡ mark' → kept ≡ kept' → media ≡ media' → times ≡ times' → equations ≡ equations'
+    → moved old mark kept media times equations ≡ moved old mark' kept' media' times' equations'
+moved_same old mark mark' kept kept' media media' times times' equations equations' m k d t q = λ i. moved old (m i) (k i) (d i) (t i) (q i)
 
 play_same :
     (first first' : ℕ) (shown shown' : List Shown) (outcome outcome' : Outcome) → first ≡ first' → shown ≡ shown' → outcome ≡ outcome'
@@ -70,6 +72,10 @@ module _
   same_media : new.media ≡ new'.media
   same_media = same_map nat_cmp_total nat_cmp-IsAntisymmetric new.media new'.media
       (λ p. a.media p ∙ ap (λ (m : ℕ). cond (ltb p m) None (get old.media p)) same_mark ∙ sym (b.media p))
+
+  same_times : new.times ≡ new'.times
+  same_times = same_map nat_cmp_total nat_cmp-IsAntisymmetric new.times new'.times
+      (λ p. a.times p ∙ ap (λ (m : ℕ). cond (ltb p m) None (get old.times p)) same_mark ∙ sym (b.times p))
 
   same_equations : new.equations ≡ new'.equations
   same_equations = same_map nat_cmp_total nat_cmp-IsAntisymmetric new.equations new'.equations
@@ -108,8 +114,8 @@ module _
   pub one_state_after : new ≡ new'
   one_state_after =
       a.rest
-      ∙ moved_same old new.mark new'.mark new.kept new'.kept new.media new'.media new.equations new'.equations
-      same_mark same_kept same_media same_equations
+      ∙ moved_same old new.mark new'.mark new.kept new'.kept new.media new'.media new.times new'.times
+      new.equations new'.equations same_mark same_kept same_media same_times same_equations
       ∙ sym b.rest
 
 -- And one flush step.

@@ -10,12 +10,14 @@ use Rattle.fg_playout.specs.declared.reply.Reply.TheVariants.{Admitted}
 use Rattle.fg_playout.specs.State.{State, opening}
 use Rattle.fg_playout.specs.Admission.{Parity, IsLeastFree, IsAfterMedia, IsAfterParity, AdmitsMedia, AdmitsParity, position_on, base_on, run_on, counted, with_media, with_equation, equation_at}
 use Rattle.fg_playout.specs.Play.{Play}
-use Rattle.fg_playout.specs.Run.{Arrival, carries, protects, refused, ArePlaysDue, ArePlaysBefore, by_flush, by_due, Takes, TakesAll, IsFlush}
+use Rattle.fg_playout.specs.Held.{at_time}
+use Rattle.fg_playout.specs.Run.{Arrival, carries, protects, refused, time_of, AreHeldPlays, ArePlaysHeld, unlimited, limited, ArePlaysDue, ArePlaysBefore, by_flush, by_due, TakesThen, Takes, TakesAll, IsFlush}
 use Rattle.fg_playout.specs.Laws.{IsRead, OneRun}
 use Rattle.fg_playout.proofs.Orderly.{IsOrderly, orderly_opening}
 use Rattle.fg_playout.proofs.OrderlyAdmissions.{orderly_counted, orderly_after_media, orderly_after_parity}
 use Rattle.fg_playout.proofs.Plays.{orderly_after_play}
 use Rattle.fg_playout.proofs.Replies.{one_media_reply, one_parity_reply}
+use Rattle.fg_playout.proofs.Held.{at_time_orderly, one_held_play, one_state_after_held}
 use Rattle.fg_playout.proofs.OnePlay.{one_play, one_state_after, one_flush_step, one_state_after_step}
 
 pub one_after_media :
@@ -60,10 +62,10 @@ pub record SameStep (plays plays' : List Play) (reply reply' : Option Reply) (ne
   pub state : new ≡ new'
   pub orderly : IsOrderly new
 
-record SamePlays (plays plays' : List Play) (new new' : State) : Type 0 where
-  play : plays ≡ plays'
-  state : new ≡ new'
-  orderly : IsOrderly new
+pub record SamePlays (plays plays' : List Play) (new new' : State) : Type 0 where
+  pub play : plays ≡ plays'
+  pub state : new ≡ new'
+  pub orderly : IsOrderly new
 
 same_cons : (play play' : Play) (plays plays' : List Play) → play ≡ play' → plays ≡ plays' → play ∷ plays ≡ play' ∷ plays'
 same_cons play play' plays plays' p q = λ i. p i ∷ q i
@@ -146,26 +148,74 @@ module _ (unique : Uniqueness) where
         orderly = orderly_after_parity old new parity reply orderly some_offset a.reply_is a.after;
       }
 
-  pub one_taking :
+  one_steps_held :
+      (old : State) (time : ℕ) (plays plays' : List Play) (new new' : State) → IsOrderly old
+      → AreHeldPlays old time plays new → AreHeldPlays old time plays' new' → SamePlays plays plays' new new'
+  one_steps_held old time [] [] new new' orderly a b = record {
+    play = refl;
+    state = a.1 ∙ sym b.1;
+    orderly = subst IsOrderly (sym a.1) (orderly_counted (at_time old time) (at_time_orderly old time orderly));
+  }
+  one_steps_held old time [] (play' ∷ plays') new new' orderly a b = absurd (a.0 b.1.greatest b.1.greatest_is.inside)
+  one_steps_held old time (play ∷ plays) [] new new' orderly a b = absurd (b.0 a.1.greatest a.1.greatest_is.inside)
+  one_steps_held old time (play ∷ plays) (play' ∷ plays') new new' orderly a b =
+      let at = at_time_orderly old time orderly in
+      let state : a.0 ≡ b.0 = one_state_after_held unique (at_time old time) at play play' a.0 b.0 a.1 b.1 in
+      let rest : SamePlays plays plays' new new' =
+      one_steps_held a.0 time plays plays' new new' (orderly_after_play _ (at_time old time) play a.0 a.1.plays at) a.2
+      (subst (λ (s : State). AreHeldPlays s time plays' new') (sym state) b.2) in
+      record {
+        play = same_cons play play' plays plays' (one_held_play unique (at_time old time) at play play' a.0 b.0 a.1 b.1) rest.play;
+        state = rest.state;
+        orderly = rest.orderly;
+      }
+
+  pub one_holding :
+      (old : State) (arrival : Arrival) (plays plays' : List Play) (new new' : State) → IsOrderly old
+      → ArePlaysHeld old (time_of arrival) plays new → ArePlaysHeld old (time_of arrival) plays' new' → SamePlays plays plays' new new'
+  one_holding old arrival plays plays' new new' orderly (unlimited none no_plays same) (unlimited none' no_plays' same') =
+      record { play = no_plays ∙ sym no_plays'; state = same ∙ sym same'; orderly = subst IsOrderly (sym same) orderly }
+  one_holding old arrival plays plays' new new' orderly (unlimited none no_plays same) (limited some steps) = absurd (some none)
+  one_holding old arrival plays plays' new new' orderly (limited some steps) (unlimited none no_plays same) = absurd (some none)
+  one_holding old arrival plays plays' new new' orderly (limited some a) (limited some' b) =
+      one_steps_held old (time_of arrival) plays plays' new new' orderly a b
+
+  one_then :
       (old : State) (arrival : Arrival) (plays plays' : List Play) (reply reply' : Option Reply) (new new' : State) → IsOrderly old
-      → IsRead arrival → Takes old arrival plays reply new → Takes old arrival plays' reply' new'
+      → IsRead arrival → TakesThen old arrival plays reply new → TakesThen old arrival plays' reply' new'
       → SameStep plays plays' reply reply' new new'
-  one_taking old (carries seq ssrc word) plays plays' None reply' new new' orderly read a b = absurd a
-  one_taking old (carries seq ssrc word) plays plays' (Some reply) None new new' orderly read a b = absurd b
-  one_taking old (carries seq ssrc word) plays plays' (Some reply) (Some reply') new new' orderly read a b =
+  one_then old (carries time seq ssrc word) plays plays' None reply' new new' orderly read a b = absurd a
+  one_then old (carries time seq ssrc word) plays plays' (Some reply) None new new' orderly read a b = absurd b
+  one_then old (carries time seq ssrc word) plays plays' (Some reply) (Some reply') new new' orderly read a b =
       let due = one_before old seq ssrc plays plays' a.0 b.0 orderly a.1 b.1 in
       let step = one_media a.0 seq ssrc word reply reply' new new' due.orderly read.2 a.2
       (subst (λ (s : State). AdmitsMedia s seq ssrc word reply' new') (sym due.state) b.2) in
       record { play = due.play; answer = step.answer; state = step.state; orderly = step.orderly }
-  one_taking old (protects stream parity) plays plays' None reply' new new' orderly read a b = absurd a
-  one_taking old (protects stream parity) plays plays' (Some reply) None new new' orderly read a b = absurd b
-  one_taking old (protects stream parity) plays plays' (Some reply) (Some reply') new new' orderly read a b =
+  one_then old (protects time stream parity) plays plays' None reply' new new' orderly read a b = absurd a
+  one_then old (protects time stream parity) plays plays' (Some reply) None new new' orderly read a b = absurd b
+  one_then old (protects time stream parity) plays plays' (Some reply) (Some reply') new new' orderly read a b =
       let step = one_parity old parity reply reply' new new' orderly read.1.some_offset a.1 b.1 in
       record { play = a.0 ∙ sym b.0; answer = step.answer; state = step.state; orderly = step.orderly }
-  one_taking old (refused stream) plays plays' None None new new' orderly read a b =
+  one_then old (refused time stream) plays plays' None None new new' orderly read a b =
       record { play = a.0 ∙ sym b.0; answer = refl; state = a.1 ∙ sym b.1; orderly = subst IsOrderly (sym a.1) orderly }
-  one_taking old (refused stream) plays plays' None (Some reply') new new' orderly read a b = absurd b
-  one_taking old (refused stream) plays plays' (Some reply) reply' new new' orderly read a b = absurd a
+  one_then old (refused time stream) plays plays' None (Some reply') new new' orderly read a b = absurd b
+  one_then old (refused time stream) plays plays' (Some reply) reply' new new' orderly read a b = absurd a
+
+  pub one_taking :
+      (old : State) (arrival : Arrival) (plays plays' : List Play) (reply reply' : Option Reply) (new new' : State) → IsOrderly old
+      → IsRead arrival → Takes old arrival plays reply new → Takes old arrival plays' reply' new'
+      → SameStep plays plays' reply reply' new new'
+  one_taking old arrival plays plays' reply reply' new new' orderly read a b =
+      let held = one_holding old arrival a.held b.held a.ready b.ready orderly a.holds b.holds in
+      let step : SameStep a.after b.after reply reply' new new' =
+      one_then a.ready arrival a.after b.after reply reply' new new' held.orderly read a.takes
+      (subst (λ (s : State). TakesThen s arrival b.after reply' new') (sym held.state) b.takes) in
+      record {
+        play = a.plays_are ∙ (λ i. held.play i ++ step.play i) ∙ sym b.plays_are;
+        answer = step.answer;
+        state = step.state;
+        orderly = step.orderly;
+      }
 
   pub record SameRun (plays plays' : List Play) (replies replies' : List (Option Reply)) (new new' : State) : Type 0 where
     pub play : plays ≡ plays'

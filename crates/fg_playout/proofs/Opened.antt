@@ -1,8 +1,9 @@
 -- The facts hold at first, and media datagrams keep them.
-use Rattle.std.proofs.Common.{◌≡◌, ◌≢◌, ◌+◌, ◌<◌, ◌≤◌, ℕ, Bool, true, false, cond, ltb, Option, Some, None, MatchOption, option_map, refl, sym, ap, subst, ◌∙◌, ⊎_elim, arith}
+use Rattle.std.proofs.Common.{◌≡◌, ◌≢◌, ◌+◌, ◌<◌, ◌≤◌, ℕ, Bool, true, false, cond, ltb, Option, Some, None, MatchOption, option_map, is_some, refl, sym, ap, subst, ◌∙◌, ⊎_elim, arith}
 use Rattle.std.proofs.lemmas.Bool.{cases_lt, cases_eq}
 use Rattle.std.proofs.lemmas.Option.{none-some, same_Some}
-use Rattle.std.specs.FinMap.{get}
+use Rattle.std.specs.Ordering.{nat_cmp}
+use Rattle.std.specs.FinMap.{get, get-empty}
 use Rattle.fg_words.specs.declared.Word.{Word}
 use Rattle.fg_words.specs.Word.{IsMedia}
 use Rattle.fg_unwrap.specs.Position.{position_of}
@@ -22,6 +23,8 @@ opening_holds playout one most fits = record {
   depth = fits;
   kept = λ p w is. absurd (nothing_in_empty p w is);
   media = λ p w is. absurd (nothing_in_empty p w is);
+  timed = λ p. ap is_some (get-empty {X = ℕ} nat_cmp p) ∙ sym (ap is_some (get-empty {X = Word} nat_cmp p));
+  clocked = λ p t is. absurd (nothing_in_empty p t is);
   live = λ s l is. absurd (nothing_in_empty s l is);
   apart = λ s t one other is. absurd (nothing_in_empty s one is);
   origin = omega arith;
@@ -37,6 +40,8 @@ counted_holds old holds = record {
   depth = holds.depth;
   kept = holds.kept;
   media = λ p w is. (let k = holds.media p w is in record { media = k.media; ahead = k.ahead; near = k.near });
+  timed = holds.timed;
+  clocked = holds.clocked;
   live = holds.live;
   apart = holds.apart;
   origin = holds.origin;
@@ -69,6 +74,8 @@ record HoldsInRun (desk : State) (ssrc : ℕ) : Type 0 where
   depth : desk.playout.window ≤ desk.playout.depth
   kept : (position : ℕ) (word : Word) → get desk.kept position ≡ Some word → IsKept desk position word
   media : (position : ℕ) (word : Word) → get desk.media position ≡ Some word → IsReceived desk position word
+  timed : (position : ℕ) → is_some (get desk.times position) ≡ is_some (get desk.media position)
+  clocked : (position time : ℕ) → get desk.times position ≡ Some time → time ≤ desk.clock
   live : (serial : ℕ) (live : Live) → get desk.equations serial ≡ Some live → IsLive desk serial live
   apart :
       (serial serial' : ℕ) (one other : Live) → get desk.equations serial ≡ Some one
@@ -96,6 +103,17 @@ with_media_holds desk seq ssrc position word holds received =
           (λ beside. holds.media p w (sym (beside_inserted desk.media position word p beside) ∙ is))
           (cases_eq p position) in
           record { media = k.media; ahead = k.ahead; near = k.near });
+      timed = λ p. ⊎_elim
+          (λ here. ap is_some (inserted desk.times position desk.clock p here) ∙ sym (ap is_some (inserted desk.media position word p here)))
+          (λ beside.
+          ap is_some (beside_inserted desk.times position desk.clock p beside)
+          ∙ holds.timed p
+          ∙ sym (ap is_some (beside_inserted desk.media position word p beside)))
+          (cases_eq p position);
+      clocked = λ p t is. ⊎_elim
+          (λ here. (let same : desk.clock ≡ t = same_Some desk.clock t (sym (inserted desk.times position desk.clock p here) ∙ is) in omega (arith, same)))
+          (λ beside. holds.clocked p t (sym (beside_inserted desk.times position desk.clock p beside) ∙ is))
+          (cases_eq p position);
       live = holds.live;
       apart = holds.apart;
       origin = holds.origin;
@@ -112,6 +130,8 @@ holds_in_run old ssrc top holds is same = record {
   depth = holds.depth;
   kept = holds.kept;
   media = holds.media;
+  timed = holds.timed;
+  clocked = holds.clocked;
   live = holds.live;
   apart = holds.apart;
   origin = holds.origin;
@@ -135,6 +155,8 @@ holds_begun old ssrc holds others = record {
   depth = holds.depth;
   kept = λ p w is. (let k = holds.kept p w is in record { media = k.media; below = k.below; near = k.near });
   media = λ p w is. (let k = holds.media p w is in record { media = k.media; ahead = k.ahead; near = k.near });
+  timed = holds.timed;
+  clocked = holds.clocked;
   live = λ s l is. absurd (nothing_in_empty s l is);
   apart = λ s t one other is. absurd (nothing_in_empty s one is);
   origin = omega arith;

@@ -102,6 +102,8 @@ module _ (old : State) (place : ℕ) (equation : Equation) (holds : Holds old) (
     depth = holds.depth;
     kept = λ p w is. (let k = holds.kept p w is in record { media = k.media; below = k.below; near = k.near });
     media = λ p w is. (let k = holds.media p w is in record { media = k.media; ahead = k.ahead; near = k.near });
+    timed = holds.timed;
+    clocked = holds.clocked;
     live = λ s l is. added_or_old old place equation (IsLive (with_equation old place equation) s) s l is
         (λ here. subst (λ (n : ℕ). IsLive (with_equation old place equation) n (added place equation)) (sym here) added_is_live)
         (λ was. stays_live s l (holds.live s l was));

@@ -1,6 +1,7 @@
 -- Plays keep the facts.
-use Rattle.std.proofs.Common.{◌≡◌, ◌≢◌, ℕ, Option, Some, None, IsSome, sym, ap, subst, ◌∙◌, ⊎_elim, arith}
+use Rattle.std.proofs.Common.{◌≡◌, ◌≢◌, ◌≤◌, ℕ, Bool, true, false, cond, ltb, Option, Some, None, IsSome, is_some, refl, sym, ap, subst, ◌∙◌, ⊎_elim, arith}
 use Rattle.std.proofs.lemmas.Bool.{cases_lt}
+use Rattle.std.proofs.lemmas.Option.{none-some}
 use Rattle.std.specs.List.{Contains}
 use Rattle.std.specs.FinMap.{get, empty}
 use Rattle.fg_words.specs.declared.Word.{Word}
@@ -52,6 +53,24 @@ module _ (count : ℕ) (old : State) (play : Play) (new : State) (plays : IsPlay
       let rises = mark_rises count old play new plays in
       record { media = k.media; ahead = before.0; near = omega (arith, near, rises, same_depth) }
 
+  is_timed : (position : ℕ) → is_some (get new.times position) ≡ is_some (get new.media position)
+  is_timed position = ap is_some (plays.times position) ∙ go (ltb position new.mark) ∙ sym (ap is_some (plays.media position))
+    where
+      go : (b : Bool) → is_some (cond b None (get old.times position)) ≡ is_some (cond b None (get old.media position))
+      go true = refl
+      go false = holds.timed position
+
+  is_clocked : (position time : ℕ) → get new.times position ≡ Some time → time ≤ new.clock
+  is_clocked position time is =
+      let before = go (ltb position new.mark) (sym (plays.times position) ∙ is) in
+      let below = holds.clocked position time before in
+      let same : new.clock ≡ old.clock = ap (λ (s : State). s.clock) plays.rest in
+      omega (arith, below, same)
+    where
+      go : (b : Bool) → cond b None (get old.times position) ≡ Some time → get old.times position ≡ Some time
+      go true none = absurd (none-some time none)
+      go false some = some
+
   is_live : (serial : ℕ) (live : Live) → get new.equations serial ≡ Some live → IsLive new serial live
   is_live serial live is =
       let left = (plays.equations serial live).0 is in
@@ -75,6 +94,8 @@ module _ (count : ℕ) (old : State) (play : Play) (new : State) (plays : IsPlay
     depth = (let d = holds.depth in omega (arith, d, same_window, same_depth));
     kept = is_kept;
     media = is_received;
+    timed = is_timed;
+    clocked = is_clocked;
     live = is_live;
     apart = λ s t one other is is'. holds.apart s t one other ((plays.equations s one).0 is).0 ((plays.equations t other).0 is').0;
     origin = (let o = holds.origin in let rises = mark_rises count old play new plays in omega (arith, o, rises, same_origin));

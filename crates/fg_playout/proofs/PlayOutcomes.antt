@@ -63,10 +63,17 @@ module _ (count : ℕ) (old : State) (decision : Decision old) where
   played =
       let kept = made_where (λ p. cond (ltb p old.mark) (get old.kept p) (decision.words p)) (λ p. leb after (p + kept_count)) after in
       let media = left_from old.media after in
+      let times = left_from old.times after in
       let equations = filtered (IsLeft kept.0) (decided_left kept.0) old.equations in
       record {
         play = record { first = old.mark; shown = shows; outcome = decision.outcome };
-        new = record (counted old) { mark = after; kept = kept.0; media = media.0; equations = equations.0 };
+        new = record (counted old) {
+          mark = after;
+          kept = kept.0;
+          media = media.0;
+          times = times.0;
+          equations = equations.0;
+        };
         plays = record {
           words = decision.words;
           decides = decision.decides;
@@ -76,6 +83,7 @@ module _ (count : ℕ) (old : State) (decision : Decision old) where
           mark = refl;
           kept = kept.1;
           media = media.1;
+          times = times.1;
           equations = λ serial live. (
             λ is. (let l = (equations.1 serial live).0 is in (l.0, l.1.0, l.1.1)),
             λ l. (equations.1 serial live).1 (l.0, (l.1, l.2)),

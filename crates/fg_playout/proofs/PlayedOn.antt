@@ -8,13 +8,15 @@ use Rattle.fg_playout.specs.declared.reply.Reply.{Reply}
 use Rattle.fg_playout.specs.State.{State, opening}
 use Rattle.fg_playout.specs.Admission.{IsDue, IsFresh}
 use Rattle.fg_playout.specs.Play.{Play, IsPlay, IsFlushStep}
-use Rattle.fg_playout.specs.Run.{Arrival, carries, protects, refused, ArePlaysDue, ArePlaysBefore, by_flush, by_due, Takes, TakesAll, IsFlush}
+use Rattle.fg_playout.specs.Held.{at_time, IsHeldPlay}
+use Rattle.fg_playout.specs.Run.{Arrival, carries, protects, refused, time_of, AreHeldPlays, ArePlaysHeld, unlimited, limited, ArePlaysDue, ArePlaysBefore, by_flush, by_due, TakesThen, Takes, TakesAll, IsFlush}
 use Rattle.fg_playout.specs.Laws.{IsRead}
-use Rattle.fg_playout.specs.PlayedOn.{PlayOn, due_on, before_on, taken_on, all_taken_on, flushed_on, PlaysAreTheRuns, DesksMakeThePlays, OneListOfDesks}
+use Rattle.fg_playout.specs.PlayedOn.{PlayOn, steps_held_on, held_on, due_on, before_on, taken_then_on, taken_on, all_taken_on, flushed_on, PlaysAreTheRuns, DesksMakeThePlays, OneListOfDesks}
 use Rattle.fg_playout.proofs.Orderly.{IsOrderly, orderly_opening}
 use Rattle.fg_playout.proofs.Plays.{orderly_after_play}
 use Rattle.fg_playout.proofs.OnePlay.{one_play, one_state_after, one_flush_step, one_state_after_step}
-use Rattle.fg_playout.proofs.OneRun.{one_taking, one_taking_all}
+use Rattle.fg_playout.proofs.Held.{at_time_orderly, one_held_play, one_state_after_held}
+use Rattle.fg_playout.proofs.OneRun.{one_holding, one_taking, one_taking_all}
 
 -- Its plays
 
@@ -35,15 +37,37 @@ before_plays :
 before_plays old seq ssrc plays new (by_flush empty fresh flush counts) = flushed_plays old plays empty flush
 before_plays old seq ssrc plays new (by_due stale due) = due_plays old seq ssrc plays new due
 
+then_plays :
+    (old : State) (arrival : Arrival) (plays : List Play) (reply : Option Reply) (new : State) (takes : TakesThen old arrival plays reply new)
+    → plays_of (taken_then_on old arrival plays reply new takes) ≡ plays
+then_plays old (carries time seq ssrc word) plays None new takes = absurd takes
+then_plays old (carries time seq ssrc word) plays (Some reply) new takes = before_plays old seq ssrc plays takes.0 takes.1
+then_plays old (protects time stream parity) plays None new takes = absurd takes
+then_plays old (protects time stream parity) plays (Some reply) new takes = sym takes.0
+then_plays old (refused time stream) plays None new takes = sym takes.0
+then_plays old (refused time stream) plays (Some reply) new takes = absurd takes
+
+steps_held_plays :
+    (old : State) (time : ℕ) (plays : List Play) (new : State) (steps : AreHeldPlays old time plays new)
+    → plays_of (steps_held_on old time plays new steps) ≡ plays
+steps_held_plays old time [] new steps = refl
+steps_held_plays old time (play ∷ plays) new steps = ap (λ (ps : List Play). play ∷ ps) (steps_held_plays steps.0 time plays new steps.2)
+
+held_plays :
+    (old : State) (time : ℕ) (plays : List Play) (new : State) (holds : ArePlaysHeld old time plays new)
+    → plays_of (held_on old time plays new holds) ≡ plays
+held_plays old time plays new (unlimited none no_plays same) = sym no_plays
+held_plays old time plays new (limited some steps) = steps_held_plays old time plays new steps
+
 taken_plays :
     (old : State) (arrival : Arrival) (plays : List Play) (reply : Option Reply) (new : State) (takes : Takes old arrival plays reply new)
     → plays_of (taken_on old arrival plays reply new takes) ≡ plays
-taken_plays old (carries seq ssrc word) plays None new takes = absurd takes
-taken_plays old (carries seq ssrc word) plays (Some reply) new takes = before_plays old seq ssrc plays takes.0 takes.1
-taken_plays old (protects stream parity) plays None new takes = absurd takes
-taken_plays old (protects stream parity) plays (Some reply) new takes = sym takes.0
-taken_plays old (refused stream) plays None new takes = sym takes.0
-taken_plays old (refused stream) plays (Some reply) new takes = absurd takes
+taken_plays old arrival plays reply new takes =
+    let held = held_plays old (time_of arrival) takes.held takes.ready takes.holds in
+    let rest = then_plays takes.ready arrival takes.after reply new takes.takes in
+    map-append (λ (made : PlayOn). made.play) (held_on old (time_of arrival) takes.held takes.ready takes.holds)
+    (taken_then_on takes.ready arrival takes.after reply new takes.takes)
+    ∙ (λ i. held i ++ rest i) ∙ sym takes.plays_are
 
 all_taken_plays :
     (old : State) (arrivals : List Arrival) (plays : List Play) (replies : List (Option Reply)) (new : State)
@@ -88,13 +112,36 @@ before_made :
 before_made old seq ssrc plays new (by_flush empty fresh flush counts) = flushed_made old plays empty flush
 before_made old seq ssrc plays new (by_due stale due) = due_made old seq ssrc plays new due
 
+then_made :
+    (old : State) (arrival : Arrival) (plays : List Play) (reply : Option Reply) (new : State) (takes : TakesThen old arrival plays reply new)
+    → All IsMade (taken_then_on old arrival plays reply new takes)
+then_made old (carries time seq ssrc word) plays None new takes = absurd takes
+then_made old (carries time seq ssrc word) plays (Some reply) new takes = before_made old seq ssrc plays takes.0 takes.1
+then_made old (protects time stream parity) plays reply new takes = All-nil IsMade
+then_made old (refused time stream) plays reply new takes = All-nil IsMade
+
+steps_held_made :
+    (old : State) (time : ℕ) (plays : List Play) (new : State) (steps : AreHeldPlays old time plays new)
+    → All IsMade (steps_held_on old time plays new steps)
+steps_held_made old time [] new steps = All-nil IsMade
+steps_held_made old time (play ∷ plays) new steps =
+    All-cons IsMade (record { desk = at_time old time; play = play }) (steps_held_on steps.0 time plays new steps.2)
+    (_, steps.0, steps.1.plays) (steps_held_made steps.0 time plays new steps.2)
+
+held_made :
+    (old : State) (time : ℕ) (plays : List Play) (new : State) (holds : ArePlaysHeld old time plays new)
+    → All IsMade (held_on old time plays new holds)
+held_made old time plays new (unlimited none no_plays same) = All-nil IsMade
+held_made old time plays new (limited some steps) = steps_held_made old time plays new steps
+
 taken_made :
     (old : State) (arrival : Arrival) (plays : List Play) (reply : Option Reply) (new : State) (takes : Takes old arrival plays reply new)
     → All IsMade (taken_on old arrival plays reply new takes)
-taken_made old (carries seq ssrc word) plays None new takes = absurd takes
-taken_made old (carries seq ssrc word) plays (Some reply) new takes = before_made old seq ssrc plays takes.0 takes.1
-taken_made old (protects stream parity) plays reply new takes = All-nil IsMade
-taken_made old (refused stream) plays reply new takes = All-nil IsMade
+taken_made old arrival plays reply new takes =
+    All-append IsMade (held_on old (time_of arrival) takes.held takes.ready takes.holds)
+    (taken_then_on takes.ready arrival takes.after reply new takes.takes)
+    (held_made old (time_of arrival) takes.held takes.ready takes.holds)
+    (then_made takes.ready arrival takes.after reply new takes.takes)
 
 all_taken_made :
     (old : State) (arrivals : List Arrival) (plays : List Play) (replies : List (Option Reply)) (new : State)
@@ -169,16 +216,60 @@ module _ (unique : Uniqueness) where
   one_before_on old old' seq ssrc plays plays' new new' same orderly (by_due stale a) (by_due stale' b) =
       one_due_on old old' seq ssrc plays plays' new new' same orderly a b
 
+  one_then_on :
+      (old old' : State) (arrival : Arrival) (plays plays' : List Play) (reply reply' : Option Reply) (new new' : State)
+      → old ≡ old' → IsOrderly old → (a : TakesThen old arrival plays reply new) (b : TakesThen old' arrival plays' reply' new')
+      → taken_then_on old arrival plays reply new a ≡ taken_then_on old' arrival plays' reply' new' b
+  one_then_on old old' (carries time seq ssrc word) plays plays' None reply' new new' same orderly a b = absurd a
+  one_then_on old old' (carries time seq ssrc word) plays plays' (Some reply) None new new' same orderly a b = absurd b
+  one_then_on old old' (carries time seq ssrc word) plays plays' (Some reply) (Some reply') new new' same orderly a b =
+      one_before_on old old' seq ssrc plays plays' a.0 b.0 same orderly a.1 b.1
+  one_then_on old old' (protects time stream parity) plays plays' reply reply' new new' same orderly a b = refl
+  one_then_on old old' (refused time stream) plays plays' reply reply' new new' same orderly a b = refl
+
+  one_steps_held_on :
+      (old old' : State) (time : ℕ) (plays plays' : List Play) (new new' : State) → old ≡ old' → IsOrderly old
+      → (a : AreHeldPlays old time plays new) (b : AreHeldPlays old' time plays' new')
+      → steps_held_on old time plays new a ≡ steps_held_on old' time plays' new' b
+  one_steps_held_on old old' time [] [] new new' same orderly a b = refl
+  one_steps_held_on old old' time [] (play' ∷ plays') new new' same orderly a b =
+      let step = subst (λ (s : State). IsHeldPlay (at_time s time) play' b.0) (sym same) b.1 in
+      absurd (a.0 step.greatest step.greatest_is.inside)
+  one_steps_held_on old old' time (play ∷ plays) [] new new' same orderly a b =
+      let step = subst (λ (s : State). IsHeldPlay (at_time s time) play a.0) same a.1 in
+      absurd (b.0 step.greatest step.greatest_is.inside)
+  one_steps_held_on old old' time (play ∷ plays) (play' ∷ plays') new new' same orderly a b =
+      let step = subst (λ (s : State). IsHeldPlay (at_time s time) play' b.0) (sym same) b.1 in
+      let at = at_time_orderly old time orderly in
+      same_made (at_time old time) (at_time old' time) play play' (steps_held_on a.0 time plays new a.2)
+      (steps_held_on b.0 time plays' new' b.2) (ap (λ (s : State). at_time s time) same)
+      (one_held_play unique (at_time old time) at play play' a.0 b.0 a.1 step)
+      (one_steps_held_on a.0 b.0 time plays plays' new new'
+      (one_state_after_held unique (at_time old time) at play play' a.0 b.0 a.1 step)
+      (orderly_after_play _ (at_time old time) play a.0 a.1.plays at) a.2 b.2)
+
+  one_held_on :
+      (old old' : State) (time : ℕ) (plays plays' : List Play) (new new' : State) → old ≡ old' → IsOrderly old
+      → (a : ArePlaysHeld old time plays new) (b : ArePlaysHeld old' time plays' new')
+      → held_on old time plays new a ≡ held_on old' time plays' new' b
+  one_held_on old old' time plays plays' new new' same orderly (unlimited none no_plays is) (unlimited none' no_plays' is') = refl
+  one_held_on old old' time plays plays' new new' same orderly (unlimited none no_plays is) (limited some steps) =
+      absurd (some (ap (λ (s : State). s.playout.hold) (sym same) ∙ none))
+  one_held_on old old' time plays plays' new new' same orderly (limited some steps) (unlimited none no_plays is) =
+      absurd (some (ap (λ (s : State). s.playout.hold) same ∙ none))
+  one_held_on old old' time plays plays' new new' same orderly (limited some a) (limited some' b) =
+      one_steps_held_on old old' time plays plays' new new' same orderly a b
+
   one_taken_on :
       (old old' : State) (arrival : Arrival) (plays plays' : List Play) (reply reply' : Option Reply) (new new' : State)
       → old ≡ old' → IsOrderly old → (a : Takes old arrival plays reply new) (b : Takes old' arrival plays' reply' new')
       → taken_on old arrival plays reply new a ≡ taken_on old' arrival plays' reply' new' b
-  one_taken_on old old' (carries seq ssrc word) plays plays' None reply' new new' same orderly a b = absurd a
-  one_taken_on old old' (carries seq ssrc word) plays plays' (Some reply) None new new' same orderly a b = absurd b
-  one_taken_on old old' (carries seq ssrc word) plays plays' (Some reply) (Some reply') new new' same orderly a b =
-      one_before_on old old' seq ssrc plays plays' a.0 b.0 same orderly a.1 b.1
-  one_taken_on old old' (protects stream parity) plays plays' reply reply' new new' same orderly a b = refl
-  one_taken_on old old' (refused stream) plays plays' reply reply' new new' same orderly a b = refl
+  one_taken_on old old' arrival plays plays' reply reply' new new' same orderly a b =
+      let ready = one_holding unique old arrival a.held b.held a.ready b.ready orderly a.holds
+      (subst (λ (s : State). ArePlaysHeld s (time_of arrival) b.held b.ready) (sym same) b.holds) in
+      let held = one_held_on old old' (time_of arrival) a.held b.held a.ready b.ready same orderly a.holds b.holds in
+      let rest = one_then_on a.ready b.ready arrival a.after b.after reply reply' new new' ready.state ready.orderly a.takes b.takes in
+      λ i. held i ++ rest i
 
   one_all_taken_on :
       (old old' : State) (arrivals : List Arrival) (plays plays' : List Play) (replies replies' : List (Option Reply))

@@ -8,8 +8,9 @@ use Rattle.fg_playout.specs.declared.reply.Reply.TheVariants.{Admitted}
 use Rattle.fg_playout.specs.State.{State}
 use Rattle.fg_playout.specs.Admission.{Parity, IsAfterMedia, IsAfterParity, IsLeastFree, Sender, former, own, another, sender_of, run_by, run_on, position_on, base_on, with_media, with_equation, equation_at}
 use Rattle.fg_playout.specs.Play.{Play, IsPlay}
-use Rattle.fg_playout.specs.Run.{Arrival, carries, protects, refused, ArePlaysBefore, by_flush, by_due, Takes}
-use Rattle.fg_playout.specs.Laws.{HavePlayed, AreFlushSteps, Reach, played_count, PlaysReachTheMark, DuePlaysReachTheMark, FlushStepsReachTheMark, EachGetsAReply}
+use Rattle.fg_playout.specs.Held.{at_time}
+use Rattle.fg_playout.specs.Run.{Arrival, carries, protects, refused, time_of, AreHeldPlays, ArePlaysHeld, unlimited, limited, ArePlaysBefore, by_flush, by_due, TakesThen, Takes}
+use Rattle.fg_playout.specs.Laws.{HavePlayed, AreFlushSteps, Reach, played_count, PlaysReachTheMark, DuePlaysReachTheMark, FlushStepsReachTheMark, HeldStepsReachTheMark, EachGetsAReply}
 use Rattle.fg_playout.proofs.Following.{media_keeps_mark, parity_keeps_mark}
 use Rattle.fg_playout.proofs.Joining.{plays_due_end, flush_steps_end}
 
@@ -65,6 +66,16 @@ steps_reach old new (play ∷ plays) some steps =
     reach_play (min old.playout.window (step.highest + 1 - old.mark)) old play steps.0 plays new (omega (arith, some, more)) step.plays
     (steps_reach steps.0 new plays (omega (arith, some, window)) steps.2)
 
+-- Held steps.
+pub held_reach : HeldStepsReachTheMark
+held_reach old new time [] some steps = reach_none old new (ap (λ (s : State). s.mark) steps)
+held_reach old new time (play ∷ plays) some steps =
+    let step = steps.1 in
+    let ahead : old.mark ≤ step.greatest = step.greatest_is.inside.1 in
+    let window = play_keeps_window (min old.playout.window (step.greatest + 1 - old.mark)) (at_time old time) play steps.0 step.plays in
+    reach_play (min old.playout.window (step.greatest + 1 - old.mark)) (at_time old time) play steps.0 plays new (omega (arith, some, ahead)) step.plays
+    (held_reach steps.0 new time plays (omega (arith, some, window)) steps.2)
+
 run_keeps_window : (old : State) (sender : Sender) → (run_by old sender).playout.window ≡ old.playout.window
 run_keeps_window old former = refl
 run_keeps_window old (own top) = refl
@@ -107,26 +118,63 @@ before_reaches old seq ssrc plays new some (by_due stale due) =
     let played = ((plays_due_end old new seq ssrc plays).0 due).0 in
     (due_reach old new seq ssrc plays some played, due_keep_window old seq ssrc plays new played)
 
-taking_reaches :
+-- So do held plays.
+steps_held_reach :
+    (old : State) (time : ℕ) (plays : List Play) (new : State) → 1 ≤ old.playout.window
+    → AreHeldPlays old time plays new → Reach old plays new × (new.playout.window ≡ old.playout.window)
+steps_held_reach old time [] new some steps =
+    (reach_none old new (ap (λ (s : State). s.mark) steps.1), ap (λ (s : State). s.playout.window) steps.1)
+steps_held_reach old time (play ∷ plays) new some steps =
+    let step = steps.1 in
+    let ahead : old.mark ≤ step.greatest = step.greatest_is.inside.1 in
+    let window = play_keeps_window (min old.playout.window (step.greatest + 1 - old.mark)) (at_time old time) play steps.0 step.plays in
+    let rest = steps_held_reach steps.0 time plays new (omega (arith, some, window)) steps.2 in (
+      reach_play (min old.playout.window (step.greatest + 1 - old.mark)) (at_time old time) play steps.0 plays new (omega (arith, some, ahead)) step.plays
+          rest.0,
+      rest.1 ∙ window,
+    )
+
+held_reaches :
+    (old : State) (time : ℕ) (plays : List Play) (new : State) → 1 ≤ old.playout.window
+    → ArePlaysHeld old time plays new → Reach old plays new × (new.playout.window ≡ old.playout.window)
+held_reaches old time plays new some (unlimited none no_plays same) = (
+  subst (λ (ps : List Play). Reach old ps new) (sym no_plays) (reach_none old new (ap (λ (s : State). s.mark) same)),
+  ap (λ (s : State). s.playout.window) same,
+)
+held_reaches old time plays new some (limited held steps) = steps_held_reach old time plays new some steps
+
+then_reaches :
     (old : State) (arrival : Arrival) (plays : List Play) (reply : Option Reply) (new : State) → 1 ≤ old.playout.window
-    → Takes old arrival plays reply new → Reach old plays new × (new.playout.window ≡ old.playout.window)
-taking_reaches old (carries seq ssrc word) plays None new some takes = absurd takes
-taking_reaches old (carries seq ssrc word) plays (Some reply) new some takes =
+    → TakesThen old arrival plays reply new → Reach old plays new × (new.playout.window ≡ old.playout.window)
+then_reaches old (carries time seq ssrc word) plays None new some takes = absurd takes
+then_reaches old (carries time seq ssrc word) plays (Some reply) new some takes =
     let ready = takes.0 in
     let before = before_reaches old seq ssrc plays ready some takes.1 in (
       reach_same old ready new plays (media_keeps_mark ready new seq ssrc word reply takes.2.after) before.0,
       media_keeps_window ready new seq ssrc word reply takes.2.after ∙ before.1,
     )
-taking_reaches old (protects stream parity) plays None new some takes = absurd takes
-taking_reaches old (protects stream parity) plays (Some reply) new some takes = (
+then_reaches old (protects time stream parity) plays None new some takes = absurd takes
+then_reaches old (protects time stream parity) plays (Some reply) new some takes = (
   subst (λ (ps : List Play). Reach old ps new) (sym takes.0) (reach_none old new (parity_keeps_mark old new parity reply takes.1.after)),
   parity_keeps_window old new parity reply takes.1.after,
 )
-taking_reaches old (refused stream) plays None new some takes = (
+then_reaches old (refused time stream) plays None new some takes = (
   subst (λ (ps : List Play). Reach old ps new) (sym takes.0) (reach_none old new (ap (λ (s : State). s.mark) takes.1)),
   ap (λ (s : State). s.playout.window) takes.1,
 )
-taking_reaches old (refused stream) plays (Some reply) new some takes = absurd takes
+then_reaches old (refused time stream) plays (Some reply) new some takes = absurd takes
+
+taking_reaches :
+    (old : State) (arrival : Arrival) (plays : List Play) (reply : Option Reply) (new : State) → 1 ≤ old.playout.window
+    → Takes old arrival plays reply new → Reach old plays new × (new.playout.window ≡ old.playout.window)
+taking_reaches old arrival plays reply new some takes =
+    let held = held_reaches old (time_of arrival) takes.held takes.ready some takes.holds in
+    let window = held.1 in
+    let rest = then_reaches takes.ready arrival takes.after reply new (omega (arith, some, window)) takes.takes in (
+      subst (λ (ps : List Play). Reach old ps new) (sym takes.plays_are)
+          (reach_append old takes.ready new takes.held takes.after held.0 rest.0),
+      rest.1 ∙ held.1,
+    )
 
 pub plays_reach : PlaysReachTheMark
 plays_reach old new [] plays replies some takes =

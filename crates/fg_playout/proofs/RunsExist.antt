@@ -12,16 +12,18 @@ use Rattle.fg_playout.specs.State.{State, Top, opening}
 use Rattle.fg_playout.specs.Admission.{IsDue, counted}
 use Rattle.fg_playout.specs.Solution.{InClosure}
 use Rattle.fg_playout.specs.Play.{Play, IsPlay}
-use Rattle.fg_playout.specs.Run.{Arrival, carries, protects, refused, ArePlaysDue, ArePlaysBefore, by_flush, by_due, Takes, TakesAll, IsFlush}
+use Rattle.fg_playout.specs.Held.{at_time, IsHeld}
+use Rattle.fg_playout.specs.Run.{Arrival, carries, protects, refused, time_of, AreHeldPlays, ArePlaysHeld, unlimited, limited, ArePlaysDue, ArePlaysBefore, by_flush, by_due, TakesThen, Takes, TakesAll, IsFlush}
 use Rattle.fg_playout.specs.Laws.{IsRead}
 use Rattle.fg_playout.specs.Facts.{Holds}
-use Rattle.fg_playout.specs.Existence.{PeelingLaws, PlaysDueExist, PlaysBeforeExist, FlushExists, TakingsExist, RunsExist}
+use Rattle.fg_playout.specs.Existence.{PeelingLaws, PlaysDueExist, PlaysHeldExist, PlaysBeforeExist, FlushExists, TakingsExist, RunsExist}
 use Rattle.fg_playout.proofs.Decided.{IsDecided, decided_both, decided_most}
 use Rattle.fg_playout.proofs.DecidedSolutions.{closure_limit}
 use Rattle.fg_playout.proofs.Orderly.{IsOrderly, orderly_from_holds, orderly_opening}
 use Rattle.fg_playout.proofs.OrderlyAdmissions.{orderly_counted, orderly_after_media, orderly_after_parity}
 use Rattle.fg_playout.proofs.Plays.{orderly_after_play, followed_before}
 use Rattle.fg_playout.proofs.PlayOutcomes.{play_outcomes, more_or_none}
+use Rattle.fg_playout.proofs.Held.{at_time_orderly, held_limit, held_before, held_or_none}
 use Rattle.fg_playout.proofs.Senders.{fresh_is_decided}
 use Rattle.fg_playout.proofs.ReplyOutcomes.{media_outcome, parity_outcome}
 
@@ -87,11 +89,31 @@ record Due (old : State) (seq ssrc : ℕ) : Type 0 where
   ready : IsReady new
 
 -- What a datagram does.
+record TakenThen (old : State) (arrival : Arrival) : Type 0 where
+  plays : List Play
+  reply : Option Reply
+  new : State
+  takes : TakesThen old arrival plays reply new
+  ready : IsReady new
+
 record Taken (old : State) (arrival : Arrival) : Type 0 where
   plays : List Play
   reply : Option Reply
   new : State
   takes : Takes old arrival plays reply new
+  ready : IsReady new
+
+-- Held plays until none is defined, and what is played since words have waited for too long.
+record HeldFor (old : State) (time : ℕ) : Type 0 where
+  plays : List Play
+  new : State
+  held : AreHeldPlays old time plays new
+  ready : IsReady new
+
+record Held (old : State) (time : ℕ) : Type 0 where
+  plays : List Play
+  new : State
+  held : ArePlaysHeld old time plays new
   ready : IsReady new
 
 record AllTaken (old : State) (arrivals : List Arrival) : Type 0 where
@@ -179,6 +201,12 @@ module _ (laws : PeelingLaws) where
   ready_counted : (old : State) → IsReady old → IsReady (counted old)
   ready_counted old ready = record { orderly = orderly_counted old ready.orderly; window = ready.window }
 
+  ready_told : (old : State) (time : ℕ) → IsReady old → IsReady (at_time old time)
+  ready_told old time ready = record { orderly = at_time_orderly old time ready.orderly; window = ready.window }
+
+  ready_at_time : (old : State) (time : ℕ) → IsReady old → IsReady (counted (at_time old time))
+  ready_at_time old time ready = ready_counted (at_time old time) (ready_told old time ready)
+
   before_of : (old : State) (seq ssrc : ℕ) → IsReady old → Before old seq ssrc
   before_of old seq ssrc ready = ⊎_elim
       (λ fresh.
@@ -194,8 +222,41 @@ module _ (laws : PeelingLaws) where
       record { plays = due.plays; new = due.new; before = by_due stale due.are_due; ready = due.ready })
       (fresh_is_decided old ssrc)
 
-  taken : (old : State) (arrival : Arrival) → IsReady old → IsRead arrival → Taken old arrival
-  taken old (carries seq ssrc word) ready read =
+  held_exist :
+      (left : ℕ) (old : State) (time : ℕ) → IsReady old
+      → ((position : ℕ) → IsHeld (at_time old time) position → position < old.mark + left) → HeldFor old time
+  held_exist zero old time ready inside = record {
+    plays = [];
+    new = counted (at_time old time);
+    held = (λ p held. (let less = inside p held in let least = held.1 in omega (arith, less, least)), refl);
+    ready = ready_at_time old time ready;
+  }
+  held_exist (suc left) old time ready inside = ⊎_elim
+      (λ s.
+      let step = s.held in
+      let count : ℕ = min old.playout.window (step.greatest + 1 - old.mark) in
+      let some = ready.window in
+      let ahead : old.mark ≤ step.greatest = step.greatest_is.inside.1 in
+      let mark : s.new.mark ≡ old.mark + min old.playout.window (step.greatest + 1 - old.mark) = step.plays.mark in
+      let rest = held_exist left s.new time (ready_after_play count (at_time old time) s.play s.new step.plays (ready_told old time ready))
+      (λ p held.
+      let less = inside p (held_before count old time s.play s.new step.plays p held) in
+      omega (arith, less, mark, some, ahead)) in
+      record { plays = s.play ∷ rest.plays; new = rest.new; held = (s.new, step, rest.held); ready = rest.ready })
+      (λ none. record { plays = []; new = counted (at_time old time); held = (none, refl); ready = ready_at_time old time ready })
+      (held_or_none laws (at_time old time) (at_time_orderly old time ready.orderly))
+
+  held_of : (old : State) (time : ℕ) → IsReady old → Held old time
+  held_of old time ready = ⊎_elim
+      (λ none. record { plays = []; new = old; held = unlimited none refl refl; ready = ready })
+      (λ some.
+      let limit = held_limit (at_time old time) in
+      let h = held_exist limit.0 old time ready (λ p held. (let less = limit.1 p held in omega (arith, less))) in
+      record { plays = h.plays; new = h.new; held = limited some h.held; ready = h.ready })
+      (cases_eq old.playout.hold 0)
+
+  taken_then : (old : State) (arrival : Arrival) → IsReady old → IsRead arrival → TakenThen old arrival
+  taken_then old (carries time seq ssrc word) ready read =
       let due = before_of old seq ssrc ready in
       let o = media_outcome due.new seq ssrc word in
       let some = due.ready.window in
@@ -210,7 +271,7 @@ module _ (laws : PeelingLaws) where
           window = omega (arith, some, same);
         };
       }
-  taken old (protects stream parity) ready read =
+  taken_then old (protects time stream parity) ready read =
       let o = parity_outcome old parity in
       let some = ready.window in
       let same = o.window in
@@ -224,8 +285,20 @@ module _ (laws : PeelingLaws) where
           window = omega (arith, some, same);
         };
       }
-  taken old (refused stream) ready read =
+  taken_then old (refused time stream) ready read =
       record { plays = []; reply = None; new = old; takes = (refl, refl); ready = ready }
+
+  taken : (old : State) (arrival : Arrival) → IsReady old → IsRead arrival → Taken old arrival
+  taken old arrival ready read =
+      let h = held_of old (time_of arrival) ready in
+      let t = taken_then h.new arrival h.ready read in
+      record {
+        plays = h.plays ++ t.plays;
+        reply = t.reply;
+        new = t.new;
+        takes = record { held = h.plays; after = t.plays; ready = h.new; plays_are = refl; holds = h.held; takes = t.takes };
+        ready = t.ready;
+      }
 
   all_taken : (old : State) (arrivals : List Arrival) → IsReady old → All IsRead arrivals → AllTaken old arrivals
   all_taken old [] ready read = record { plays = []; replies = []; new = old; takes = (refl, refl, refl); ready = ready }
@@ -253,6 +326,10 @@ module _ (laws : PeelingLaws) where
   pub plays_before_exist : PlaysBeforeExist
   plays_before_exist old seq ssrc holds =
       let b = before_of old seq ssrc (ready_from_holds old holds) in (b.plays, b.new, b.before)
+
+  pub plays_held_exist : PlaysHeldExist
+  plays_held_exist old time holds =
+      let h = held_of old time (ready_from_holds old holds) in (h.plays, h.new, h.held)
 
   pub flush_exists : FlushExists
   flush_exists old holds = let f = flushed old (ready_from_holds old holds) in (f.plays, f.new, f.flush)

@@ -107,11 +107,12 @@ abbrev pub farther : Option Top → Top → Option Top
 farther None new = Some new
 farther (Some top) new = (if nat_lt top.position new.position then Some new else Some top)
 
--- The desk with a word at a position.
+-- The desk with a word at a position, which comes at the time of its clock.
 abbrev pub with_media : State → ℕ → ℕ → ℕ → Word → State
 with_media desk seq ssrc position word = record desk {
   top = farther desk.top (record { position = position; seq = seq; ssrc = ssrc });
   media = insert desk.media position word;
+  times = insert desk.times position desk.clock;
   calls = desk.calls + 1;
 }
 

@@ -9,7 +9,8 @@ use Rattle.fg_playout.specs.State.{State, opening}
 use Rattle.fg_playout.specs.Solution.{IsSolution}
 use Rattle.fg_playout.specs.Admission.{Parity, AdmitsMedia, AdmitsParity}
 use Rattle.fg_playout.specs.Play.{Play, IsPlay, Flushes}
-use Rattle.fg_playout.specs.Run.{Arrival, ArePlaysDue, ArePlaysBefore, TakesAll, IsFlush, IsRun}
+use Rattle.fg_playout.specs.Held.{IsHeldStep}
+use Rattle.fg_playout.specs.Run.{Arrival, ArePlaysHeld, ArePlaysDue, ArePlaysBefore, TakesAll, IsFlush, IsRun}
 use Rattle.fg_playout.specs.Facts.{Holds}
 use Rattle.fg_playout.specs.Laws.{IsRead}
 
@@ -43,6 +44,9 @@ PlayHasOutcome = (count : ℕ) (old : State) → Holds old → (play : Play) × 
 abbrev pub FlushHasOutcome : Type 0
 FlushHasOutcome = (old : State) → Holds old → (play : Option Play) × (new : State) × Flushes old play new
 
+abbrev pub HeldStepHasOutcome : Type 0
+HeldStepHasOutcome = (old : State) (time : ℕ) → Holds old → (play : Option Play) × (new : State) × IsHeldStep old time play new
+
 -- Before each datagram only so many windows are due, and a flush ends. So what is played before a datagram comes to an end.
 
 abbrev pub PlaysDueExist : Type 0
@@ -55,6 +59,10 @@ FlushExists = (old : State) → Holds old → (plays : List Play) × (new : Stat
 abbrev pub PlaysBeforeExist : Type 0
 PlaysBeforeExist =
     (old : State) (seq ssrc : ℕ) → Holds old → (plays : List Play) × (new : State) × ArePlaysBefore old seq ssrc plays new
+
+abbrev pub PlaysHeldExist : Type 0
+PlaysHeldExist =
+    (old : State) (time : ℕ) → Holds old → (plays : List Play) × (new : State) × ArePlaysHeld old time plays new
 
 -- Datagrams are taken by a new desk, whatever they are.
 abbrev pub TakingsExist : Type 0

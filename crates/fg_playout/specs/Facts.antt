@@ -1,5 +1,5 @@
 -- What is true of every desk that calls can leave.
-use Rattle.std.specs.Prelude.{◌≡◌, ◌≢◌, ◌+◌, ◌<◌, ◌≤◌, ℕ, Some, None, IsSome}
+use Rattle.std.specs.Prelude.{◌≡◌, ◌≢◌, ◌+◌, ◌<◌, ◌≤◌, ℕ, Some, None, IsSome, is_some}
 use Rattle.std.specs.List.{Contains}
 use Rattle.std.specs.FinMap.{get, empty}
 use Rattle.fg_words.specs.declared.Word.{Word}
@@ -48,6 +48,9 @@ pub record Holds (desk : State) : Type 0 where
   pub depth : desk.playout.window ≤ desk.playout.depth
   pub kept : (position : ℕ) (word : Word) → get desk.kept position ≡ Some word → IsKept desk position word
   pub media : (position : ℕ) (word : Word) → get desk.media position ≡ Some word → IsReceived desk position word
+  -- Each received word has a time, no other position has one, and none is past the clock.
+  pub timed : (position : ℕ) → is_some (get desk.times position) ≡ is_some (get desk.media position)
+  pub clocked : (position time : ℕ) → get desk.times position ≡ Some time → time ≤ desk.clock
   pub live : (serial : ℕ) (live : Live) → get desk.equations serial ≡ Some live → IsLive desk serial live
   pub apart :
       (serial serial' : ℕ) (one other : Live) → get desk.equations serial ≡ Some one

@@ -19,8 +19,9 @@ use Rattle.fg_playout.specs.Room.{HasRoom}
 use Rattle.fg_playout.specs.Solution.{InClosure, IsSolution}
 use Rattle.fg_playout.specs.Admission.{Parity, AdmitsMedia, AdmitsParity, IsDue, IsFresh, position_on, base_on, begun, with_media, equation_at, counted}
 use Rattle.fg_playout.specs.Play.{Play, Shown, IsPlay, IsFlushStep, IsHighest, HasMore, Flushes}
+use Rattle.fg_playout.specs.Held.{IsHeldStep}
 use Rattle.fg_shape.specs.declared.kind.Kind.{Kind}
-use Rattle.fg_playout.specs.Run.{Arrival, carries, protects, refused, came_by, is_counted, count_of, ArePlaysDue, ArePlaysBefore, TakesAll, IsFlush, IsRun}
+use Rattle.fg_playout.specs.Run.{Arrival, carries, protects, refused, time_of, came_by, is_counted, count_of, ArePlaysHeld, ArePlaysDue, ArePlaysBefore, TakesAll, IsFlush, IsRun}
 use Rattle.fg_playout.specs.Facts.{Holds}
 
 -- The live equations are those that stand under some serial number.
@@ -53,6 +54,9 @@ PlayKeeps =
 
 abbrev pub FlushStepKeeps : Type 0
 FlushStepKeeps = (old new : State) (play : Option Play) → Holds old → Flushes old play new → Holds new
+
+abbrev pub HeldStepKeeps : Type 0
+HeldStepKeeps = (old new : State) (time : ℕ) (play : Option Play) → Holds old → IsHeldStep old time play new → Holds new
 
 -- Whether an SSRC is fresh can be told.
 abbrev pub FreshIsDecided : Type 0
@@ -230,6 +234,37 @@ ReadyAfterPlays =
     (old new : State) (seq ssrc : ℕ) (plays : List Play) → ArePlaysBefore old seq ssrc plays new
     → (¬ IsDue new seq ssrc) × (IsFresh new ssrc → ¬ HasMore new) × (IsFresh old ssrc ↔ IsFresh new ssrc)
 
+-- Held steps at a time, so far.
+abbrev pub AreHeldSteps : State → ℕ → List Play → State → Type 0
+AreHeldSteps old time [] new = new ≡ old
+AreHeldSteps old time (play ∷ plays) new =
+    (next : State) × IsHeldStep old time (Some play) next × AreHeldSteps next time plays new
+
+abbrev pub HeldStepsJoin : Type 0
+HeldStepsJoin =
+    (old between new : State) (time : ℕ) (before after : List Play)
+    → AreHeldSteps old time before between → AreHeldSteps between time after new → AreHeldSteps old time (before ++ after) new
+
+-- They are all where then a held step finds nothing.
+abbrev pub HeldStepsEnd : Type 0
+HeldStepsEnd =
+    (old last new : State) (time : ℕ) (plays : List Play) → old.playout.hold ≢ 0 → AreHeldSteps old time plays last
+    → IsHeldStep last time None new → ArePlaysHeld old time plays new
+
+-- What an arrival has played so far, once no word waits for too long. Only a media datagram plays anything then.
+abbrev pub HavePlayedThen : State → Arrival → List Play → State → Type 0
+HavePlayedThen old (carries time seq ssrc word) plays new = HavePlayedBefore old seq ssrc plays new
+HavePlayedThen old (protects time stream parity) plays new = (plays ≡ []) × (new ≡ old)
+HavePlayedThen old (refused time stream) plays new = (plays ≡ []) × (new ≡ old)
+
+-- What an arrival has played so far: held plays, or all of them and some of what comes then.
+pub data HavePlayedFor (old : State) (arrival : Arrival) (plays : List Play) (new : State) : Type 0 where
+  still_held :
+      old.playout.hold ≢ 0 → AreHeldSteps old (time_of arrival) plays new → HavePlayedFor old arrival plays new
+  then_played :
+      (held after : List Play) (ready : State) → ArePlaysHeld old (time_of arrival) held ready → plays ≡ held ++ after
+      → HavePlayedThen ready arrival after new → HavePlayedFor old arrival plays new
+
 abbrev pub FlushStepsJoin : Type 0
 FlushStepsJoin =
     (old between new : State) (before after : List Play)
@@ -248,19 +283,19 @@ PlaysFollow =
 
 -- Datagrams as the readers give them: media words, and shapes that are read.
 abbrev pub IsRead : Arrival → Type 0
-IsRead (carries seq ssrc word) = (seq < 2 ^ 16) × (ssrc < 2 ^ 32) × IsMedia word
-IsRead (protects stream parity) = (parity.base < 2 ^ 16) × IsShape parity.offset parity.count
-IsRead (refused stream) = ⊤
+IsRead (carries time seq ssrc word) = (seq < 2 ^ 16) × (ssrc < 2 ^ 32) × IsMedia word
+IsRead (protects time stream parity) = (parity.base < 2 ^ 16) × IsShape parity.offset parity.count
+IsRead (refused time stream) = ⊤
 
 -- As long as a flow's datagrams are fewer than 2^44, the facts hold all along its run, and there is room: before each
--- datagram, between the plays before it, and after a flush step that finds nothing left.
+-- datagram, between the plays before it, and after a step of a flush, or a held step, that finds nothing.
 abbrev pub RunsStayWithin : Type 0
 RunsStayWithin =
-    (playout : Playout) (seq ssrc : ℕ) (arrivals : List Arrival) (plays due : List Play) (replies : List (Option Reply))
+    (playout : Playout) (next : Arrival) (arrivals : List Arrival) (plays due : List Play) (replies : List (Option Reply))
     (taken new : State)
     → 1 ≤ playout.window → playout.window ≤ 100 → playout.window ≤ playout.depth → playout.depth ≤ 1000
     → All IsRead arrivals → length arrivals < 2 ^ 44
-    → TakesAll (opening playout) arrivals plays replies taken → HavePlayedBefore taken seq ssrc due new
+    → TakesAll (opening playout) arrivals plays replies taken → HavePlayedFor taken next due new
     → Holds new × HasRoom new × HasRoom (counted new)
 
 -- And so they do between the steps of its flush.
@@ -312,6 +347,11 @@ FlushIsOne =
     (old one other : State) (play play' : Option Play) → Holds old
     → Flushes old play one → Flushes old play' other → (play ≡ play') × (one ≡ other)
 
+abbrev pub HeldStepIsOne : Type 0
+HeldStepIsOne =
+    (old one other : State) (time : ℕ) (play play' : Option Play) → Holds old
+    → IsHeldStep old time play one → IsHeldStep old time play' other → (play ≡ play') × (one ≡ other)
+
 -- What a play shows is one list: two lists that a call over one desk is told to show are equal, whatever else is told.
 
 abbrev pub PlaysShowOneList : Type 0
@@ -330,6 +370,14 @@ FlushStepsShowOneList =
     → Flushes old (Some (record { first = first'; shown = shown'; outcome = outcome' })) other
     → shown ≡ shown'
 
+abbrev pub HeldStepsShowOneList : Type 0
+HeldStepsShowOneList =
+    (old one other : State) (time first first' : ℕ) (shown shown' : List Shown) (outcome outcome' : Outcome)
+    → Holds old
+    → IsHeldStep old time (Some (record { first = first; shown = shown; outcome = outcome })) one
+    → IsHeldStep old time (Some (record { first = first'; shown = shown'; outcome = outcome' })) other
+    → shown ≡ shown'
+
 -- The plays of a run's first datagrams come first in it.
 abbrev pub TakenPlaysComeFirst : Type 0
 TakenPlaysComeFirst =
@@ -338,14 +386,14 @@ TakenPlaysComeFirst =
     → All IsRead earlier → TakesAll (opening playout) earlier before first taken
     → IsRun playout (earlier ++ later) plays replies → (after : List Play) × (plays ≡ before ++ after)
 
--- Then come those before the next datagram.
-abbrev pub DuePlaysComeNext : Type 0
-DuePlaysComeNext =
-    (playout : Playout) (seq ssrc : ℕ) (word : Word) (earlier later : List Arrival) (before due plays : List Play)
-    (first replies : List (Option Reply)) (taken now : State)
+-- Then come those that the next datagram brings, also where it is still being taken.
+abbrev pub PlaysBeforeComeNext : Type 0
+PlaysBeforeComeNext =
+    (playout : Playout) (next : Arrival) (earlier later : List Arrival) (before due plays : List Play)
+    (first replies : List (Option Reply)) (taken now new : State)
     → All IsRead earlier → TakesAll (opening playout) earlier before first taken
-    → HavePlayedBefore taken seq ssrc due now
-    → IsRun playout (earlier ++ carries seq ssrc word ∷ later) plays replies
+    → HavePlayedFor taken next due now
+    → TakesAll (opening playout) (earlier ++ next ∷ later) plays replies new
     → (after : List Play) × (plays ≡ before ++ (due ++ after))
 
 -- After the last datagram come the steps of the flush.
@@ -376,6 +424,11 @@ abbrev pub DuePlaysReachTheMark : Type 0
 DuePlaysReachTheMark =
     (old new : State) (seq ssrc : ℕ) (plays : List Play)
     → 1 ≤ old.playout.window → HavePlayed old seq ssrc plays new → Reach old plays new
+
+abbrev pub HeldStepsReachTheMark : Type 0
+HeldStepsReachTheMark =
+    (old new : State) (time : ℕ) (plays : List Play)
+    → 1 ≤ old.playout.window → AreHeldSteps old time plays new → Reach old plays new
 
 abbrev pub FlushStepsReachTheMark : Type 0
 FlushStepsReachTheMark =
@@ -417,6 +470,7 @@ pub record FactsAreKept : Type 0 where
   pub parity : ParityKeeps
   pub play : PlayKeeps
   pub flush : FlushStepKeeps
+  pub held : HeldStepKeeps
 
 -- A call has one outcome.
 pub record OneOutcome : Type 0 where
@@ -424,6 +478,7 @@ pub record OneOutcome : Type 0 where
   pub parity : ParityIsOne
   pub play : PlayIsOne
   pub flush : FlushIsOne
+  pub held : HeldStepIsOne
 
 -- A flush ends.
 pub record FlushesEnd : Type 0 where

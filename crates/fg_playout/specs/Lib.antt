@@ -1,6 +1,7 @@
 pub mod Admission
 pub mod Existence
 pub mod Facts
+pub mod Held
 pub mod Laws
 pub mod Play
 pub mod PlayedOn

@@ -49,12 +49,20 @@ pub record IsPlay (count : ℕ) (old : State) (play : Play) (new : State) : Type
   -- Received words are left at the new mark and past it.
   pub media :
       (position : ℕ) → get new.media position ≡ (if nat_lt position new.mark then None else get old.media position)
+  pub times :
+      (position : ℕ) → get new.times position ≡ (if nat_lt position new.mark then None else get old.times position)
   -- After a repaired play those equations that survive it are left, and after an inconsistent one none.
   pub equations :
       (serial : ℕ) (live : Live) → (get new.equations serial ≡ Some live)
       ↔ ((get old.equations serial ≡ Some live) × (play.outcome ≡ Repaired) × Survives new.mark new.kept live.equation)
   pub rest :
-      new ≡ record (counted old) { mark = new.mark; kept = new.kept; media = new.media; equations = new.equations }
+      new ≡ record (counted old) {
+        mark = new.mark;
+        kept = new.kept;
+        media = new.media;
+        times = new.times;
+        equations = new.equations;
+      }
 
 -- The closure has a position that isn't played yet: a flush step is defined.
 abbrev pub HasMore : State → Type 0

@@ -5,7 +5,8 @@ use Rattle.fg_shape.specs.Playout.{Playout}
 use Rattle.fg_playout.specs.declared.reply.Reply.{Reply}
 use Rattle.fg_playout.specs.State.{State, opening}
 use Rattle.fg_playout.specs.Play.{Play, IsPlay}
-use Rattle.fg_playout.specs.Run.{Arrival, carries, protects, refused, ArePlaysDue, ArePlaysBefore, by_flush, by_due, Takes, TakesAll, IsFlush, IsRun}
+use Rattle.fg_playout.specs.Held.{at_time}
+use Rattle.fg_playout.specs.Run.{Arrival, carries, protects, refused, time_of, AreHeldPlays, ArePlaysHeld, unlimited, limited, ArePlaysDue, ArePlaysBefore, by_flush, by_due, TakesThen, Takes, TakesAll, IsFlush, IsRun}
 use Rattle.fg_playout.specs.Laws.{IsRead}
 
 -- A play, and the desk that it is made on.
@@ -26,20 +27,40 @@ flushed_on old [] new flush = []
 flushed_on old (play ∷ plays) new flush =
     record { desk = old; play = play } ∷ flushed_on flush.0 plays new flush.2
 
+-- A held step's play is made on the desk once it is told the time.
+abbrev pub steps_held_on :
+    (old : State) (time : ℕ) (plays : List Play) (new : State) → AreHeldPlays old time plays new → List PlayOn
+steps_held_on old time [] new steps = []
+steps_held_on old time (play ∷ plays) new steps =
+    record { desk = at_time old time; play = play } ∷ steps_held_on steps.0 time plays new steps.2
+
+abbrev pub held_on :
+    (old : State) (time : ℕ) (plays : List Play) (new : State) → ArePlaysHeld old time plays new → List PlayOn
+held_on old time plays new (unlimited none no_plays same) = []
+held_on old time plays new (limited some steps) = steps_held_on old time plays new steps
+
 -- What is played before a media datagram.
 abbrev pub before_on :
     (old : State) (seq ssrc : ℕ) (plays : List Play) (new : State) → ArePlaysBefore old seq ssrc plays new → List PlayOn
 before_on old seq ssrc plays new (by_flush empty fresh flush counts) = flushed_on old plays empty flush
 before_on old seq ssrc plays new (by_due stale due) = due_on old seq ssrc plays new due
 
--- What one datagram has played: nothing, but for a media datagram.
+-- What one datagram has played where no word waits for too long: nothing, but for a media datagram.
+abbrev pub taken_then_on :
+    (old : State) (arrival : Arrival) (plays : List Play) (reply : Option Reply) (new : State)
+    → TakesThen old arrival plays reply new → List PlayOn
+taken_then_on old (carries time seq ssrc word) plays None new takes = []
+taken_then_on old (carries time seq ssrc word) plays (Some reply) new takes = before_on old seq ssrc plays takes.0 takes.1
+taken_then_on old (protects time stream parity) plays reply new takes = []
+taken_then_on old (refused time stream) plays reply new takes = []
+
+-- What one datagram has played.
 abbrev pub taken_on :
     (old : State) (arrival : Arrival) (plays : List Play) (reply : Option Reply) (new : State)
     → Takes old arrival plays reply new → List PlayOn
-taken_on old (carries seq ssrc word) plays None new takes = []
-taken_on old (carries seq ssrc word) plays (Some reply) new takes = before_on old seq ssrc plays takes.0 takes.1
-taken_on old (protects stream parity) plays reply new takes = []
-taken_on old (refused stream) plays reply new takes = []
+taken_on old arrival plays reply new takes =
+    held_on old (time_of arrival) takes.held takes.ready takes.holds
+    ++ taken_then_on takes.ready arrival takes.after reply new takes.takes
 
 -- What a list of datagrams has played.
 abbrev pub all_taken_on :

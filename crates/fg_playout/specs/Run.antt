@@ -1,5 +1,5 @@
 -- A flow's run over datagrams that are read. This project's own. It knows no worker, and no words found before a play.
-use Rattle.std.specs.Prelude.{◌≡◌, ◌==◌, ◌+◌, ◌++◌, ◌&&◌, ℕ, Bool, List, [], ◌∷◌, Option, Some, None, if◌then◌else◌}
+use Rattle.std.specs.Prelude.{◌≡◌, ◌≢◌, ◌==◌, ◌+◌, ◌++◌, ◌&&◌, ℕ, Bool, List, [], ◌∷◌, Option, Some, None, if◌then◌else◌}
 use Rattle.fg_words.specs.declared.Word.{Word}
 use Rattle.fg_shape.specs.Playout.{Playout}
 use Rattle.fg_playout.specs.declared.reply.Reply.{Reply}
@@ -9,19 +9,35 @@ use Rattle.fg_shape.specs.declared.kind.Kind.TheVariants.{Media, Column, Row}
 use Rattle.fg_playout.specs.State.{State, opening}
 use Rattle.fg_playout.specs.Admission.{Parity, AdmitsMedia, AdmitsParity, IsDue, IsFresh, counted}
 use Rattle.fg_playout.specs.Play.{Play, IsPlay, IsFlushStep, HasMore}
+use Rattle.fg_playout.specs.Held.{IsHeldStep}
 
--- A datagram as it is read: a media datagram's sequence number, SSRC and word; a parity datagram of a stream; or one that
--- its reader refused.
+-- A datagram as it is read, and its time in microseconds: a media datagram's sequence number, SSRC and word; a parity datagram of a
+-- stream; or one that its reader refused.
 pub data Arrival : Type 0 where
-  carries : ℕ → ℕ → Word → Arrival
-  protects : Kind → Parity → Arrival
-  refused : Kind → Arrival
+  carries : (time seq ssrc : ℕ) → Word → Arrival
+  protects : (time : ℕ) → Kind → Parity → Arrival
+  refused : (time : ℕ) → Kind → Arrival
 
--- The stream that an arrival came by.
+-- The time at which an arrival came, and the stream that it came by.
+abbrev pub time_of : Arrival → ℕ
+time_of (carries time seq ssrc word) = time
+time_of (protects time stream parity) = time
+time_of (refused time stream) = time
+
 abbrev pub came_by : Arrival → Kind
-came_by (carries seq ssrc word) = Media
-came_by (protects stream parity) = stream
-came_by (refused stream) = stream
+came_by (carries time seq ssrc word) = Media
+came_by (protects time stream parity) = stream
+came_by (refused time stream) = stream
+
+-- Held plays are made at a time until none is defined. The step that finds none is a call, too.
+abbrev pub AreHeldPlays : State → ℕ → List Play → State → Type 0
+AreHeldPlays old time [] new = IsHeldStep old time None new
+AreHeldPlays old time (play ∷ plays) new = (next : State) × IsHeldStep old time (Some play) next × AreHeldPlays next time plays new
+
+-- What is played before a datagram of this time since words have waited for too long. Without a limit to that it is nothing.
+pub data ArePlaysHeld (old : State) (time : ℕ) (plays : List Play) (new : State) : Type 0 where
+  unlimited : old.playout.hold ≡ 0 → plays ≡ [] → new ≡ old → ArePlaysHeld old time plays new
+  limited : old.playout.hold ≢ 0 → AreHeldPlays old time plays new → ArePlaysHeld old time plays new
 
 -- Windows are played while one is due before a media datagram of this sequence number and SSRC.
 abbrev pub ArePlaysDue : State → ℕ → ℕ → List Play → State → Type 0
@@ -42,16 +58,25 @@ pub data ArePlaysBefore (old : State) (seq ssrc : ℕ) (plays : List Play) (new 
       → ArePlaysBefore old seq ssrc plays new
   by_due : ¬ IsFresh old ssrc → ArePlaysDue old seq ssrc plays new → ArePlaysBefore old seq ssrc plays new
 
--- What one datagram does: the plays before it, and the reply to it. A refused one does nothing and gets none. A parity
--- datagram plays nothing.
-abbrev pub Takes : State → Arrival → List Play → Option Reply → State → Type 0
-Takes old (carries seq ssrc word) plays None new = ⊥
-Takes old (carries seq ssrc word) plays (Some reply) new =
+-- What one datagram does where no word waits for too long any more: the plays before it, and the reply to it. A refused one does
+-- nothing and gets none. A parity datagram plays nothing.
+abbrev pub TakesThen : State → Arrival → List Play → Option Reply → State → Type 0
+TakesThen old (carries time seq ssrc word) plays None new = ⊥
+TakesThen old (carries time seq ssrc word) plays (Some reply) new =
     (ready : State) × ArePlaysBefore old seq ssrc plays ready × AdmitsMedia ready seq ssrc word reply new
-Takes old (protects stream parity) plays None new = ⊥
-Takes old (protects stream parity) plays (Some reply) new = (plays ≡ []) × AdmitsParity old parity reply new
-Takes old (refused stream) plays None new = (plays ≡ []) × (new ≡ old)
-Takes old (refused stream) plays (Some reply) new = ⊥
+TakesThen old (protects time stream parity) plays None new = ⊥
+TakesThen old (protects time stream parity) plays (Some reply) new = (plays ≡ []) × AdmitsParity old parity reply new
+TakesThen old (refused time stream) plays None new = (plays ≡ []) × (new ≡ old)
+TakesThen old (refused time stream) plays (Some reply) new = ⊥
+
+-- What one datagram does: first what has waited for too long by its time is played, whatever the datagram is.
+pub record Takes (old : State) (arrival : Arrival) (plays : List Play) (reply : Option Reply) (new : State) : Type 0 where
+  pub held : List Play
+  pub after : List Play
+  pub ready : State
+  pub plays_are : plays ≡ held ++ after
+  pub holds : ArePlaysHeld old (time_of arrival) held ready
+  pub takes : TakesThen ready arrival after reply new
 
 -- What a list of datagrams does, in its order.
 abbrev pub TakesAll : State → List Arrival → List Play → List (Option Reply) → State → Type 0

@@ -33,12 +33,16 @@ pub record State : Type 0 where
   pub kept : Words
   -- The received words at the mark and past it.
   pub media : Words
+  -- The greatest time of a datagram that was told so far, in microseconds.
+  pub clock : ℕ
+  -- The clock at the admission of each of the received words.
+  pub times : FinMap nat_cmp ℕ
   -- The live equations by their serial numbers. That is how many were admitted before, so they stand in the order of
   -- admission.
   pub equations : FinMap nat_cmp Live
   -- How many equations were ever admitted.
   pub admitted : ℕ
-  -- How many calls were made that may change a desk: admissions, plays and flush steps, whatever they answered.
+  -- How many calls were made that may change a desk: admissions, plays, flush steps and held steps, whatever they answered.
   pub calls : ℕ
 
 -- The desk at first.
@@ -52,6 +56,8 @@ opening playout = record {
   mark = 0;
   kept = empty;
   media = empty;
+  clock = 0;
+  times = empty;
   equations = empty;
   admitted = 0;
   calls = 0;

@@ -5,15 +5,15 @@ ghost use Rattle.fg_playout.specs.Laws.{LiveStandUnderSerials, FactsAreKept, Med
 ghost use Rattle.fg_playout.specs.Laws.{FreshIsDecided, FreshBegins, FirstBegins, OthersGoOn, NothingAheadIsKnown, NothingIsPeeled};
 ghost use Rattle.fg_playout.specs.Laws.{ClosureIsPeelings, SolutionsArePeelings, StepsAreAhead, OneSolution};
 ghost use Rattle.fg_playout.specs.Laws.{FlushesEnd, SolvedStaysPeeled};
-ghost use Rattle.fg_playout.specs.Laws.{LaterChangesNothing, TakingsJoin, PlaysDueJoin, PlaysDueEnd, FlushEndsBefore, DueEndBefore, ReadyAfterPlays, PlaysFollow, RunsStayWithin, FlushesStayWithin, OneRun};
+ghost use Rattle.fg_playout.specs.Laws.{LaterChangesNothing, TakingsJoin, PlaysDueJoin, PlaysDueEnd, FlushEndsBefore, DueEndBefore, ReadyAfterPlays, HeldStepsJoin, HeldStepsEnd, PlaysFollow, RunsStayWithin, FlushesStayWithin, OneRun};
 ghost use Rattle.fg_playout.specs.Laws.{OneOutcome};
-ghost use Rattle.fg_playout.specs.Laws.{PlaysShowOneList, FlushStepsShowOneList};
-ghost use Rattle.fg_playout.specs.Laws.{OneTaking, TakenPlaysComeFirst, DuePlaysComeNext, FlushStepsComeNext};
-ghost use Rattle.fg_playout.specs.Laws.{PlaysReachTheMark, DuePlaysReachTheMark, FlushStepsReachTheMark};
+ghost use Rattle.fg_playout.specs.Laws.{PlaysShowOneList, FlushStepsShowOneList, HeldStepsShowOneList};
+ghost use Rattle.fg_playout.specs.Laws.{OneTaking, TakenPlaysComeFirst, PlaysBeforeComeNext, FlushStepsComeNext};
+ghost use Rattle.fg_playout.specs.Laws.{PlaysReachTheMark, DuePlaysReachTheMark, FlushStepsReachTheMark, HeldStepsReachTheMark};
 ghost use Rattle.fg_playout.specs.Laws.{EachGetsAReply, CountsAreOfReplies, CountsAdd, CountsStayWithin};
-ghost use Rattle.fg_playout.specs.Existence.{PeelingLaws, SolutionsAreDecided, MediaHasOutcome, ParityHasOutcome, PlayHasOutcome, FlushHasOutcome};
+ghost use Rattle.fg_playout.specs.Existence.{PeelingLaws, SolutionsAreDecided, MediaHasOutcome, ParityHasOutcome, PlayHasOutcome, FlushHasOutcome, HeldStepHasOutcome};
 ghost use Rattle.fg_playout.specs.PlayedOn.{PlaysAreTheRuns, DesksMakeThePlays, OneListOfDesks};
-ghost use Rattle.fg_playout.specs.Existence.{PlaysDueExist, FlushExists, PlaysBeforeExist, TakingsExist, RunsExist};
+ghost use Rattle.fg_playout.specs.Existence.{PlaysDueExist, FlushExists, PlaysBeforeExist, PlaysHeldExist, TakingsExist, RunsExist};
 
 use fg_peel::laws::{
     confluence, maximal_peelings_are_tested, peelings_fill_the_closure, peelings_stay, uniqueness,
@@ -97,6 +97,8 @@ pub fn runs_join()
     ensures flushed { FlushEndsBefore }
     ensures played { DueEndBefore }
     ensures ready { ReadyAfterPlays }
+    ensures held { HeldStepsJoin }
+    ensures all_held { HeldStepsEnd }
 {}
 
 /// As long as a flow's datagrams are fewer than 2^44, the facts hold all along its run, and there is
@@ -117,6 +119,7 @@ pub fn one_outcome()
 pub fn one_list_is_shown()
     ensures play { PlaysShowOneList }
     ensures flush { FlushStepsShowOneList }
+    ensures held { HeldStepsShowOneList }
 {
     uniqueness();
 }
@@ -143,15 +146,17 @@ pub fn outcomes_exist()
     ensures parity { ParityHasOutcome }
     ensures play { PlayHasOutcome }
     ensures flush { FlushHasOutcome }
+    ensures held { HeldStepHasOutcome }
 {
     peelings_are_told();
 }
 
-/// The plays that are due before a datagram come to an end, and so does a flush.
+/// The plays that are due before a datagram come to an end, and so do held plays and a flush.
 pub fn plays_come_to_an_end()
     ensures due { PlaysDueExist }
     ensures flush { FlushExists }
     ensures before { PlaysBeforeExist }
+    ensures held { PlaysHeldExist }
 {
     peelings_are_told();
 }
@@ -200,9 +205,9 @@ pub fn taken_plays_come_first()
     uniqueness();
 }
 
-/// Then come the plays that are due before the next datagram.
-pub fn due_plays_come_next()
-    ensures { DuePlaysComeNext }
+/// Then come the plays that the next datagram brings.
+pub fn plays_before_come_next()
+    ensures { PlaysBeforeComeNext }
 {
     uniqueness();
 }
@@ -219,6 +224,7 @@ pub fn plays_reach_the_mark()
     ensures taken { PlaysReachTheMark }
     ensures due { DuePlaysReachTheMark }
     ensures flushed { FlushStepsReachTheMark }
+    ensures held { HeldStepsReachTheMark }
 {}
 
 /// Each datagram of a run gets a reply, or none where its reader refused it.

@@ -7,6 +7,9 @@ pub record Playout : Type 0 where
   pub window : ℕ
   -- How far past the first position that isn't played yet a media datagram makes a play due.
   pub depth : ℕ
+  -- How long a received word may wait for its position to be closed, in microseconds by the times of the flow's datagrams. 0 where
+  -- it may wait for ever.
+  pub hold : ℕ
 
 -- A window of 1 to 100 positions, and a depth from the window to 1000 positions.
 pub record PlayoutFits (playout : Playout) : Type 0 where

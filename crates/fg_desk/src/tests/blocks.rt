@@ -62,7 +62,7 @@ fn flushes(
     second_row: u32,
     want: &[Step],
 ) -> Result<(), Fail> {
-    let mut desk = Desk::new(alloc, 100, 400)?;
+    let mut desk = Desk::new(alloc, 100, 400, 0)?;
     goes_on(rt, alloc, &mut desk, &whole_block(lost, second_row))?;
     goes_on(rt, alloc, &mut desk, want)
 }

@@ -20,6 +20,10 @@ pub(super) struct Sum {
 pub(super) struct Plain {
     pub window: usize,
     pub depth: usize,
+    /// How long a word may wait. 0 where it may wait for ever.
+    pub hold: u64,
+    /// The greatest time that was told.
+    pub clock: u64,
     /// The SSRC of the current run, and of the run before.
     pub current: Option<u32>,
     pub previous: Option<u32>,
@@ -31,6 +35,8 @@ pub(super) struct Plain {
     pub epoch: u64,
     /// Each word that was received, and each that was shown.
     pub media: Vec<Option<u32>>,
+    /// The clock when each of them came.
+    pub came: Vec<u64>,
     pub shown: Vec<Option<u32>>,
     pub live: Vec<Sum>,
 }
@@ -118,16 +124,25 @@ fn is_lost(sum: Sum, mark: usize, shown: &[Option<u32>]) -> bool {
 }
 
 impl Plain {
-    pub(super) fn new(alloc: Global, window: usize, depth: usize) -> Result<Plain, AllocError> {
+    pub(super) fn new(
+        alloc: Global,
+        window: usize,
+        depth: usize,
+        hold: u64,
+    ) -> Result<Plain, AllocError> {
         let mut media = Vec::new(alloc);
+        let mut came = Vec::new(alloc);
         let mut shown = Vec::new(alloc);
         for _ in 0..POSITIONS {
             media.push(None)?;
+            came.push(0)?;
             shown.push(None)?;
         }
         Ok(Plain {
             window,
             depth,
+            hold,
+            clock: 0,
             current: None,
             previous: None,
             origin: 0,
@@ -136,6 +151,7 @@ impl Plain {
             mark: 0,
             epoch: 0,
             media,
+            came,
             shown,
             live: Vec::new(alloc),
         })
@@ -174,6 +190,29 @@ impl Plain {
         end.saturating_sub(self.mark).min(self.window)
     }
 
+    /// A time is told. How many positions a held step plays then.
+    pub(super) fn held(&mut self, time: u64) -> usize {
+        self.clock = self.clock.max(time);
+        if self.hold == 0 {
+            return 0;
+        }
+        let mut end = self.mark;
+        for (position, came) in self.came.iter().enumerate() {
+            let waits = position >= self.mark && at(&self.media, position).is_some();
+            if waits && came.saturating_add(self.hold) <= self.clock {
+                end = position.saturating_add(1);
+            }
+        }
+        end.saturating_sub(self.mark).min(self.window)
+    }
+
+    fn receive(&mut self, position: usize, word: u32) {
+        put(&mut self.media, position, Some(word));
+        if let Some(came) = self.came.get_mut(position) {
+            *came = self.clock;
+        }
+    }
+
     /// A sender's first datagram has the mark, whatever its sequence number.
     fn begin_run(&mut self, seq: u16, ssrc: u32) {
         self.previous = self.current;
@@ -197,7 +236,7 @@ impl Plain {
         }
         if self.current != Some(ssrc) {
             self.begin_run(seq, ssrc);
-            put(&mut self.media, self.mark, Some(word));
+            self.receive(self.mark, word);
             return Reply::Admitted;
         }
         let Some(position) = position else {
@@ -210,7 +249,7 @@ impl Plain {
             Some(other) if other == word => Reply::Duplicate,
             Some(_) => Reply::Conflict,
             None => {
-                put(&mut self.media, position, Some(word));
+                self.receive(position, word);
                 Reply::Admitted
             }
         }

@@ -1,7 +1,7 @@
 //! Random calls of a desk and of one in another style.
 
 use super::plain::{Plain, Sum, at};
-use super::script::{admit_media, admit_parity, flush, play};
+use super::script::{admit_media, admit_parity, flush, held, play};
 use crate::{Desk, Outcome, Played, Reply, Tray};
 use fg_shape::Shape;
 use fg_words::Word;
@@ -84,24 +84,35 @@ fn tell_same(desk: &Desk, plain: &Plain) -> bool {
     true
 }
 
-/// Both desks play a window, or a flush step. Whether they agree.
+/// A way to play.
+#[derive(Clone, Copy)]
+enum Way {
+    /// A window.
+    Window,
+    /// A flush step.
+    Flush,
+    /// A held step at a time.
+    Held(u64),
+}
+
+/// Both desks play. Whether they agree.
 fn both_play(
     desk: &mut Desk,
     plain: &mut Plain,
     alloc: Global,
-    whole: bool,
+    way: Way,
 ) -> Result<bool, AllocError> {
     let words = plain.closure(alloc)?;
-    let count = if whole {
-        plain.window
-    } else {
-        plain.rest(&words)
+    let count = match way {
+        Way::Window => plain.window,
+        Way::Flush => plain.rest(&words),
+        Way::Held(time) => plain.held(time),
     };
     let first = plain.mark;
-    let done = if whole {
-        play(desk, alloc)?
-    } else {
-        flush(desk, alloc)?
+    let done = match way {
+        Way::Window => play(desk, alloc)?,
+        Way::Flush => flush(desk, alloc)?,
+        Way::Held(time) => held(desk, alloc, time)?,
     };
     let Some(done) = done else {
         return Ok(count == 0);
@@ -131,7 +142,7 @@ fn both_take_another(
         if !fresh || plain.rest(&words) == 0 {
             break;
         }
-        if !both_play(desk, plain, alloc, false)? {
+        if !both_play(desk, plain, alloc, Way::Flush)? {
             return Ok(false);
         }
     }
@@ -159,7 +170,7 @@ fn both_take_own(
         if desk.due(seq, ssrc) != due {
             return Ok(false);
         }
-        if due && !both_play(desk, plain, alloc, true)? {
+        if due && !both_play(desk, plain, alloc, Way::Window)? {
             return Ok(false);
         }
     }
@@ -240,6 +251,23 @@ fn both_take_parity(
     Ok(reply == Some(want))
 }
 
+/// Both are told a time, which may be before the last one, and play what has waited for too long by then.
+fn both_are_told(
+    desk: &mut Desk,
+    plain: &mut Plain,
+    alloc: Global,
+    random: &mut Pcg32,
+) -> Result<bool, AllocError> {
+    let later = u64::from(random.next_word() % 100);
+    let time = plain.clock.saturating_add(later).saturating_sub(30);
+    for _ in 0..4 {
+        if !both_play(desk, plain, alloc, Way::Held(time))? {
+            return Ok(false);
+        }
+    }
+    Ok(true)
+}
+
 /// One call of both. Whether they agree.
 fn both_go_on(
     desk: &mut Desk,
@@ -247,11 +275,12 @@ fn both_go_on(
     alloc: Global,
     random: &mut Pcg32,
 ) -> Result<bool, AllocError> {
-    let agree = match random.next_word() % 32 {
-        0 => both_play(desk, plain, alloc, true)?,
-        1 => both_play(desk, plain, alloc, false)?,
+    let agree = match random.next_word() % 40 {
+        0 => both_play(desk, plain, alloc, Way::Window)?,
+        1 => both_play(desk, plain, alloc, Way::Flush)?,
         2..20 => both_take_media(desk, plain, alloc, random)?,
-        _ => both_take_parity(desk, plain, alloc, random)?,
+        20..32 => both_take_parity(desk, plain, alloc, random)?,
+        _ => both_are_told(desk, plain, alloc, random)?,
     };
     Ok(agree && desk.live() as usize == plain.live.len())
 }
@@ -261,11 +290,12 @@ fn try_flow(rt: &impl Abort, alloc: Global, random: &mut Pcg32) -> Result<(), Fa
     let window = 1 + random.next_word() % 6;
     let depth = window + random.next_word() % 12;
     assert!(rt; 1 <= window && window <= 100 && window <= depth && depth <= 1000);
-    let mut desk = Desk::new(alloc, window, depth)?;
-    let mut plain = Plain::new(alloc, window as usize, depth as usize)?;
+    let hold = u64::from(random.next_word() % 4) * 25;
+    let mut desk = Desk::new(alloc, window, depth, hold)?;
+    let mut plain = Plain::new(alloc, window as usize, depth as usize, hold)?;
     let first = admit_media(&mut desk, FIRST, 0, stamped(sent(0)).share(alloc)?);
     assert!(rt; first == Some(plain.admit_media(FIRST, 0, None, sent(0))));
-    for i in 0..80 {
+    for i in 0..100 {
         assert!(rt;
             both_go_on(&mut desk, &mut plain, alloc, random)?,
             "call {i}"
@@ -273,7 +303,7 @@ fn try_flow(rt: &impl Abort, alloc: Global, random: &mut Pcg32) -> Result<(), Fa
     }
     for i in 0..20 {
         assert!(rt;
-            both_play(&mut desk, &mut plain, alloc, false)?,
+            both_play(&mut desk, &mut plain, alloc, Way::Flush)?,
             "flush step {i}"
         );
     }

@@ -12,7 +12,12 @@ use std::process::Abort;
 use std::test::Fail;
 
 fn media(seq: u16, ssrc: u32) -> Datagram {
+    media_at(0, seq, ssrc)
+}
+
+pub(super) fn media_at(time: u64, seq: u16, ssrc: u32) -> Datagram {
     Datagram::Media {
+        time,
         seq,
         ssrc,
         word: word_of(u32::from(seq)),
@@ -21,8 +26,13 @@ fn media(seq: u16, ssrc: u32) -> Datagram {
 
 /// A row of two.
 fn row(base: u16) -> Datagram {
+    row_at(0, base)
+}
+
+pub(super) fn row_at(time: u64, base: u16) -> Datagram {
     let shape = Shape { offset: 1, na: 2 };
     Datagram::Parity {
+        time,
         stream: Kind::Row,
         base,
         shape,
@@ -30,7 +40,7 @@ fn row(base: u16) -> Datagram {
     }
 }
 
-fn are_given(datagrams: &[Datagram]) -> bool
+pub(super) fn are_given(datagrams: &[Datagram]) -> bool
     ensures { IsTrue result → All IsGiven datagrams.now }
 {
     for datagram in datagrams {
@@ -73,12 +83,15 @@ fn late_datagram(rt: HostRuntime) -> Result<(), Fail> {
         media(0, 0),
         media(1, 0),
         media(3, 0),
-        Datagram::Refused(Kind::Row),
+        Datagram::Refused {
+            time: 0,
+            stream: Kind::Row,
+        },
         media(4, 0),
         media(2, 0),
     ];
     assert!(rt; are_given(&datagrams));
-    let run = run_flow(rt.alloc(), 4, 4, &datagrams)?;
+    let run = run_flow(rt.alloc(), 4, 4, 0, &datagrams)?;
     assert_eq!(rt; run.plays.len(), 2);
     assert!(rt; shows(&run.plays[0], 0, 4, 0b0100));
     assert!(rt; shows(&run.plays[1], 4, 1, 0));
@@ -106,7 +119,7 @@ fn restarts(
     want: [u64; 4],
 ) -> Result<(), Fail> {
     assert!(rt; are_given(datagrams) && datagrams.len() < 100);
-    let run = run_flow(alloc, 4, 8, datagrams)?;
+    let run = run_flow(alloc, 4, 8, 0, datagrams)?;
     let foreign = run.count(datagrams, Kind::Media, Some(Reply::Foreign));
     let before = run.count(datagrams, Kind::Row, Some(Reply::BeforeStart));
     assert!(rt; [run.runs, shown_words(&run), foreign, before] == want);

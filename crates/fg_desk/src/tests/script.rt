@@ -45,6 +45,11 @@ pub(super) enum Step {
     /// A flush step that copies nothing: its outcome, and how many positions it has. With none it plays
     /// nothing.
     FlushInPlace(Outcome, u32),
+    /// A held step at a time that plays.
+    Held(u64, Outcome, u32, u128, u128, u128),
+    /// A held step at a time that copies nothing: its outcome, and how many positions it has. With none it
+    /// plays nothing.
+    HeldInPlace(u64, Outcome, u32),
     /// The mark.
     Mark(u64),
     /// How many equations are live.
@@ -141,6 +146,19 @@ pub(super) fn flush(desk: &mut Desk, alloc: Global) -> Result<Option<(Played, Tr
     Ok(desk.flush_step(&mut tray).map(|played| (played, tray)))
 }
 
+/// Plays a held step. None where a word may wait for ever.
+pub(super) fn held(
+    desk: &mut Desk,
+    alloc: Global,
+    time: u64,
+) -> Result<Option<(Played, Tray)>, AllocError> {
+    let mut tray = Tray::new(alloc, 100)?;
+    if !desk.room() || desk.hold() == 0 {
+        return Ok(None);
+    }
+    Ok(desk.held_step(time, &mut tray).map(|played| (played, tray)))
+}
+
 /// Whether a window of this many positions is played in place.
 fn plays_in_place(desk: &mut Desk, outcome: Outcome, count: u32) -> bool {
     if !desk.room() || desk.top().is_none() {
@@ -162,7 +180,21 @@ fn flushes_in_place(desk: &mut Desk, outcome: Outcome, count: u32) -> bool {
         return false;
     }
     let first = desk.mark();
-    match desk.flush_step_in_place() {
+    is_step(first, desk.flush_step_in_place(), outcome, count)
+}
+
+/// Whether a held step plays this many positions in place.
+fn plays_held_in_place(desk: &mut Desk, time: u64, outcome: Outcome, count: u32) -> bool {
+    if !desk.room() || desk.hold() == 0 {
+        return false;
+    }
+    let first = desk.mark();
+    is_step(first, desk.held_step_in_place(time), outcome, count)
+}
+
+/// Whether a step played this many positions from the mark before it on, or nothing where they are none.
+fn is_step(first: u64, done: Option<Played>, outcome: Outcome, count: u32) -> bool {
+    match done {
         Some(played) => {
             played
                 == Played {
@@ -340,6 +372,13 @@ fn answers(desk: &mut Desk, alloc: Global, step: Step) -> Result<bool, AllocErro
             Ok(is_shown(desk.mark(), flush(desk, alloc)?, want))
         }
         Step::Flushed => Ok(flush(desk, alloc)?.is_none()),
+        Step::Held(time, outcome, count, missing, repaired, flipped) => {
+            let want = to_show(outcome, count, missing, repaired, flipped);
+            Ok(is_shown(desk.mark(), held(desk, alloc, time)?, want))
+        }
+        Step::HeldInPlace(time, outcome, count) => {
+            Ok(plays_held_in_place(desk, time, outcome, count))
+        }
         Step::PlayInPlace(outcome, count) => Ok(plays_in_place(desk, outcome, count)),
         Step::FlushInPlace(outcome, count) => Ok(flushes_in_place(desk, outcome, count)),
         _ => Ok(tells(desk, step)),
@@ -370,8 +409,20 @@ pub(super) fn follows(
     depth: u32,
     script: &[Step],
 ) -> Result<(), Fail> {
+    follows_within(rt, alloc, window, depth, 0, script)
+}
+
+/// A desk on which no word waits longer than this follows a script.
+pub(super) fn follows_within(
+    rt: &impl Abort,
+    alloc: Global,
+    window: u32,
+    depth: u32,
+    hold: u64,
+    script: &[Step],
+) -> Result<(), Fail> {
     assert!(rt; 1 <= window && window <= 100 && window <= depth && depth <= 1000);
-    let mut desk = Desk::new(alloc, window, depth)?;
+    let mut desk = Desk::new(alloc, window, depth, hold)?;
     goes_on(rt, alloc, &mut desk, script)
 }
 

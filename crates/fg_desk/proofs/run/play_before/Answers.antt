@@ -6,7 +6,7 @@ use Rattle.fg_desk.proofs.run.play_before.Goals.{In_ok-flush}
 
 pub flush-requires-clause-within : goal.flush-requires-clause-within
 flush-requires-clause-within c flushed new steps =
-    let within = c.requires.within c.args.seq c.args.ssrc flushed new (inl (c.fresh.ensures.0 c.if-fresh.true, steps)) in
+    let within = c.requires.within flushed new (inl (c.fresh.ensures.0 c.if-fresh.true, steps)) in
     (within.0, within.1)
 
 -- What the flush played is all that is played before the datagram.
@@ -34,5 +34,5 @@ pub returns-then-fresh-clause-room : goal.returns-then-fresh-clause-room
 returns-then-fresh-clause-room c =
     let flush = c.in_ok-flush.ensures.plays in
     let steps = (c.flushes_end.ensures.nothing_left c.args.desk.now.state flush.1 flush.0).0 flush.3 in
-    let within = c.requires.within c.args.seq c.args.ssrc flush.0 flush.1 (inl (c.fresh.ensures.0 c.if-fresh.true, steps.0)) in
+    let within = c.requires.within flush.0 flush.1 (inl (c.fresh.ensures.0 c.if-fresh.true, steps.0)) in
     subst HasRoom (sym flush.4) within.2

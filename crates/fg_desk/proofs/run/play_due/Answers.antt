@@ -10,7 +10,7 @@ loop-alloc-init c = record { so = none_played c.args.desk.now.state c.args.seq c
 pub play-played-requires-clause-room : goal.play-played-requires-clause-room
 play-played-requires-clause-room c =
     let so = c.loop-alloc.invariant.so in
-    (c.requires.within c.args.seq c.args.ssrc so.due c.loop-alloc.desk.state (inr (c.requires.stale, so.played))).1
+    (c.requires.within so.due c.loop-alloc.desk.state (inr (c.requires.stale, so.played))).1
 
 pub play-played-requires-clause-tray : goal.play-played-requires-clause-tray
 play-played-requires-clause-tray c =
@@ -24,7 +24,7 @@ returns-in_err-copied-clause-tray c = c.play-played.ensures.tray ∙ c.loop-allo
 pub loop-alloc-smaller : goal.loop-alloc-smaller
 loop-alloc-smaller c =
     let so = c.loop-alloc.invariant.so in
-    let within = c.requires.within c.args.seq c.args.ssrc so.due c.loop-alloc.desk.state (inr (c.requires.stale, so.played)) in
+    let within = c.requires.within so.due c.loop-alloc.desk.state (inr (c.requires.stale, so.played)) in
     nearer (2 ^ 61) c.loop-alloc.desk.state.mark c.play-played.new.self.state.mark c.loop-alloc.desk.state.playout.window
     c.play-played.ensures.play.mark within.0.window.0 within.1.mark
 
@@ -55,7 +55,7 @@ returns-clause-plays c =
 pub returns-clause-room : goal.returns-clause-room
 returns-clause-room c =
     let so = c.loop-alloc.invariant.so in
-    (c.requires.within c.args.seq c.args.ssrc so.due c.loop-alloc.desk.state (inr (c.requires.stale, so.played))).1
+    (c.requires.within so.due c.loop-alloc.desk.state (inr (c.requires.stale, so.played))).1
 
 pub returns-clause-playout : goal.returns-clause-playout
 returns-clause-playout c = c.loop-alloc.invariant.so.playout

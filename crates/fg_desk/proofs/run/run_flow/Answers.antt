@@ -13,7 +13,7 @@ use Rattle.fg_desk.proofs.PlainRuns.{one_more_taken, few_arrivals}
 use Rattle.fg_desk.proofs.run.run_flow.Goals as goal
 
 abbrev no_datagram : Datagram
-no_datagram = datagram.Media 0 0 (record { pt = 0; ts = 0; len = 0; bytes = [] })
+no_datagram = datagram.Media 0 0 0 (record { pt = 0; ts = 0; len = 0; bytes = [] })
 
 pub loop-datagram-init : goal.loop-datagram-init
 loop-datagram-init c = record {
@@ -30,9 +30,9 @@ loop-datagram-init c = record {
 }
 
 pub take-requires-clause-within : goal.take-requires-clause-within
-take-requires-clause-within c seq ssrc due new played =
+take-requires-clause-within c next due new played =
     let so = c.loop-datagram.invariant.so in
-    c.runs_stay_within.ensures.taking (record { window = c.args.window; depth = c.args.depth }) seq ssrc
+    c.runs_stay_within.ensures.taking (record { window = c.args.window; depth = c.args.depth; hold = c.args.hold }) next
     (map arrival_of (take c.loop-datagram.datagram-index c.args.datagrams.now))
     (map play_of c.loop-datagram.plays.items) due c.loop-datagram.replies.items c.loop-datagram.desk.state new
     c.requires.window.0 c.requires.window.1 c.requires.depth.0 c.requires.depth.1 so.read
@@ -48,7 +48,7 @@ pub loop-datagram-preserved : goal.loop-datagram-preserved
 loop-datagram-preserved c =
     let takes = c.in_ok-reply.ensures.takes in
     record {
-      so = one_more_taken (record { window = c.args.window; depth = c.args.depth }) (take c.loop-datagram.datagram-index c.args.datagrams.now)
+      so = one_more_taken (record { window = c.args.window; depth = c.args.depth; hold = c.args.hold }) (take c.loop-datagram.datagram-index c.args.datagrams.now)
           (take (c.loop-datagram.datagram-index + 1) c.args.datagrams.now)
           (get_or c.args.datagrams.now c.loop-datagram.datagram-index no_datagram)
           c.loop-datagram.desk.state c.take.new.desk.state c.loop-datagram.plays.items c.take.new.plays.items takes.0
@@ -61,7 +61,7 @@ loop-datagram-preserved c =
 pub flush-requires-clause-within : goal.flush-requires-clause-within
 flush-requires-clause-within c flushed new steps =
     let so = c.loop-datagram.invariant.so in
-    c.runs_stay_within.ensures.flushing (record { window = c.args.window; depth = c.args.depth }) (map arrival_of (take c.loop-datagram.datagram-index c.args.datagrams.now))
+    c.runs_stay_within.ensures.flushing (record { window = c.args.window; depth = c.args.depth; hold = c.args.hold }) (map arrival_of (take c.loop-datagram.datagram-index c.args.datagrams.now))
     (map play_of c.loop-datagram.plays.items) flushed c.loop-datagram.replies.items c.loop-datagram.desk.state new
     c.requires.window.0 c.requires.window.1 c.requires.depth.0 c.requires.depth.1 so.read
     (few_arrivals (2 ^ 44) c.loop-datagram.datagram-index c.args.datagrams.now c.requires.limit) so.takes steps
@@ -84,7 +84,7 @@ returns c =
         filled = c.loop-datagram.desk.state;
         empty = flush.1;
         takes =
-            subst (λ (ds : List Datagram). TakesAll (opening (record { window = c.args.window; depth = c.args.depth }))
+            subst (λ (ds : List Datagram). TakesAll (opening (record { window = c.args.window; depth = c.args.depth; hold = c.args.hold }))
             (map arrival_of ds) (map play_of c.loop-datagram.plays.items) c.loop-datagram.replies.items
             c.loop-datagram.desk.state)
             all so.takes;

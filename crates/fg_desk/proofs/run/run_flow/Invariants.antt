@@ -4,6 +4,6 @@ use Rattle.fg_desk.proofs.run.run_flow.Given as goal
 
 abbrev pub invariant-loop-datagram : goal.invariant-loop-datagram
 invariant-loop-datagram l = record {
-  so : HaveTakenSo (record { window = l.window; depth = l.depth }) (take l.datagram-index l.datagrams) l.desk.state l.plays.items l.replies.items;
+  so : HaveTakenSo (record { window = l.window; depth = l.depth; hold = l.hold }) (take l.datagram-index l.datagrams) l.desk.state l.plays.items l.replies.items;
   tray : l.tray.window ≡ l.window;
 }

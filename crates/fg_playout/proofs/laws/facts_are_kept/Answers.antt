@@ -1,6 +1,7 @@
 use Rattle.fg_playout.proofs.Opened.{opening_holds, media_keeps}
 use Rattle.fg_playout.proofs.Parities.{parity_keeps}
 use Rattle.fg_playout.proofs.PlayKeeps.{play_keeps, flush_step_keeps}
+use Rattle.fg_playout.proofs.Held.{held_step_keeps}
 use Rattle.fg_playout.proofs.laws.facts_are_kept.Goals as goal
 
 pub returns : goal.returns
@@ -10,4 +11,5 @@ returns c = record {
   parity = parity_keeps;
   play = play_keeps;
   flush = flush_step_keeps;
+  held = held_step_keeps;
 }

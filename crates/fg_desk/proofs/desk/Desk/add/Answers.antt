@@ -11,7 +11,7 @@ use Rattle.fg_desk.proofs.DeskAdds.{next_is_fresh, with_line, sound_with_line}
 use Rattle.fg_desk.proofs.desk.Desk.add.Goals as goal
 
 pub insert-place-requires-clause-fresh : goal.insert-place-requires-clause-fresh
-insert-place-requires-clause-fresh c = next_is_fresh (parts_of c.self.inside) c.self.invariant
+insert-place-requires-clause-fresh c = next_is_fresh (parts_of c.self.inside) c.self.invariant.sound
 
 pub invariant_of-self : goal.invariant_of-self
 invariant_of-self c =
@@ -27,6 +27,9 @@ invariant_of-self c =
     subst (λ (s : Contents). s.state.origin ≤ c.args.base) (sym c.self.view_is) c.requires.origin in
     let calls : c.self.inside.calls < 2 ^ 62 =
     subst (λ (s : Contents). s.state.calls < 2 ^ 62) (sym c.self.view_is) c.requires.calls in
-    subst (λ (l : LiveState). AreSound (with_line parts l)) (sym added.1)
-    (sound_with_line parts c.self.invariant c.insert-place.ensures.facts c.insert-place.result equation c.requires.shape c.requires.base replies added.0
-    opened from calls c.peelings_stay.ensures.equations c.requires.room)
+    record {
+      sound = subst (λ (l : LiveState). AreSound (with_line parts l)) (sym added.1)
+          (sound_with_line parts c.self.invariant.sound c.insert-place.ensures.facts c.insert-place.result equation c.requires.shape c.requires.base
+          replies added.0 opened from calls c.peelings_stay.ensures.equations c.requires.room);
+      timed = c.self.invariant.timed;
+    }

@@ -1,9 +1,12 @@
-use Rattle.std.proofs.Common.{◌≡◌, ℕ, sym, ap, subst, ◌∙◌}
+use Rattle.std.proofs.Common.{◌≡◌, ℕ, false, sym, ap, subst, ◌∙◌}
 use Rattle.fg_desk.specs.Contents.{Contents, CanFill, IsLiveAt, filled}
+use Rattle.fg_playout.specs.State.{Words}
+use Rattle.fg_desk.specs.Holding.{times_in, AreTimed}
 use Rattle.fg_desk.specs.Inside.{AreSound, state_of, contents_of}
 use Rattle.fg_buffer.specs.LiveEquations.{SettlesAt}
 use Rattle.fg_desk.specs.Parts.{parts_of}
 use Rattle.fg_buffer.specs.PlayoutBuffer.{BufferState, publishes}
+use Rattle.fg_desk.proofs.DeskTimes.{SameReceived, way_keeps}
 use Rattle.fg_desk.proofs.DeskFills.{fills_here, can_put, filled_sound, filled_contents}
 use Rattle.fg_desk.proofs.DeskWays.{with_buffer}
 use Rattle.fg_desk.proofs.desk.Desk.fill.Goals as goal
@@ -11,19 +14,19 @@ use Rattle.fg_desk.proofs.desk.Desk.fill.Goals.{After-settle_at}
 
 pub publish-requires-clause-ahead : goal.publish-requires-clause-ahead
 publish-requires-clause-ahead c =
-    (can_put (parts_of c.self.inside) c.self.invariant c.args.self.now c.args.place c.args.slot c.args.share c.self.view_is c.requires).ahead
+    (can_put (parts_of c.self.inside) c.self.invariant.sound c.args.self.now c.args.place c.args.slot c.args.share c.self.view_is c.requires).ahead
 
 pub publish-requires-clause-near : goal.publish-requires-clause-near
 publish-requires-clause-near c =
-    (can_put (parts_of c.self.inside) c.self.invariant c.args.self.now c.args.place c.args.slot c.args.share c.self.view_is c.requires).near
+    (can_put (parts_of c.self.inside) c.self.invariant.sound c.args.self.now c.args.place c.args.slot c.args.share c.self.view_is c.requires).near
 
 pub publish-requires-clause-none : goal.publish-requires-clause-none
 publish-requires-clause-none c =
-    (can_put (parts_of c.self.inside) c.self.invariant c.args.self.now c.args.place c.args.slot c.args.share c.self.view_is c.requires).none
+    (can_put (parts_of c.self.inside) c.self.invariant.sound c.args.self.now c.args.place c.args.slot c.args.share c.self.view_is c.requires).none
 
 pub publish-requires-clause-unsolved : goal.publish-requires-clause-unsolved
 publish-requires-clause-unsolved c =
-    (can_put (parts_of c.self.inside) c.self.invariant c.args.self.now c.args.place c.args.slot c.args.share c.self.view_is c.requires).unsolved
+    (can_put (parts_of c.self.inside) c.self.invariant.sound c.args.self.now c.args.place c.args.slot c.args.share c.self.view_is c.requires).unsolved
 
 module _ (c : After-settle_at) where
   -- The live equation that gives the word.
@@ -42,7 +45,7 @@ module _ (c : After-settle_at) where
   sound : AreSound (with_buffer (parts_of c.self.inside) c.publish.new.buffer c.settle_at.new.self)
   sound =
       subst (λ (r : BufferState). AreSound (with_buffer (parts_of c.self.inside) r c.settle_at.new.self)) (sym buffer_is)
-      (filled_sound (parts_of c.self.inside) c.self.invariant at.0 at.1 at.2 c.args.slot at.4.missing c.args.share
+      (filled_sound (parts_of c.self.inside) c.self.invariant.sound at.0 at.1 at.2 c.args.slot at.4.missing c.args.share
       c.publish.ensures.publishes.0 c.publish.new.lines c.settle_at.new.self c.publish.ensures.publishes.1 settles
       at.4.word_is c.publish.ensures.room c.peelings_fill_the_closure.ensures.appended
       (record {
@@ -57,12 +60,38 @@ module _ (c : After-settle_at) where
       ≡ filled c.args.self.now c.args.slot c.args.share
   contents =
       ap (λ (r : BufferState). contents_of (with_buffer (parts_of c.self.inside) r c.settle_at.new.self)) buffer_is
-      ∙ filled_contents (parts_of c.self.inside) c.self.invariant at.0 at.1 at.2 c.args.slot at.4.missing c.args.share
+      ∙ filled_contents (parts_of c.self.inside) c.self.invariant.sound at.0 at.1 at.2 c.args.slot at.4.missing c.args.share
       c.publish.ensures.publishes.0 c.publish.new.lines c.settle_at.new.self c.publish.ensures.publishes.1 settles
       ∙ ap (λ (s : Contents). filled s c.args.slot c.args.share) c.self.view_is
 
+  -- A solved word changes nothing of those received.
+  same : SameReceived c.self.inside.buffer c.publish.ensures.publishes.0
+  same = way_keeps false c.args.slot c.args.share c.self.inside.buffer c.publish.ensures.publishes.0 c.self.inside.lines c.publish.new.lines
+      c.publish.ensures.publishes.1
+
+  media_is : c.publish.new.buffer.media ≡ c.self.inside.buffer.media
+  media_is = ap (λ (b : BufferState). b.media) buffer_is ∙ same.media
+
+  timed : AreTimed c.self.inside.waiting c.publish.new.buffer.mark c.publish.new.buffer.media
+  timed =
+      subst (λ (m : Words). AreTimed c.self.inside.waiting c.publish.new.buffer.mark m) (sym media_is)
+      (subst (λ (mark : ℕ). AreTimed c.self.inside.waiting mark c.self.inside.buffer.media)
+      (sym (ap (λ (b : BufferState). b.mark) buffer_is ∙ same.mark)) c.self.invariant.timed)
+
+  -- So their times are the same.
+  parts_are :
+      record (parts_of c.self.inside) {
+        buffer = c.publish.new.buffer;
+        times = times_in c.self.inside.waiting c.publish.new.buffer.media;
+        lines = c.settle_at.new.self;
+      }
+      ≡ with_buffer (parts_of c.self.inside) c.publish.new.buffer c.settle_at.new.self
+  parts_are =
+      let times = ap (times_in c.self.inside.waiting) media_is in
+      λ i. record (parts_of c.self.inside) { buffer = c.publish.new.buffer; times = times i; lines = c.settle_at.new.self }
+
 pub invariant_of-self : goal.invariant_of-self
-invariant_of-self c = sound c
+invariant_of-self c = record { sound = subst AreSound (sym (parts_are c)) (sound c); timed = timed c }
 
 pub returns : goal.returns
-returns c = contents c
+returns c = ap contents_of (parts_are c) ∙ contents c

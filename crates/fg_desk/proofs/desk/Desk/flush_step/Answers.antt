@@ -25,7 +25,7 @@ module _ (c : After-show_kept) where
       let within : c.in-Some.step.first + c.in-Some.step.count ≤ c.self.inside.buffer.mark =
       omega (arith, mark, moved, begins, count, all) in
       ap (λ (h : Holding). h.shown) c.show_kept.ensures
-      ∙ shown_is_kept c.self.inside.buffer c.in-Some.step.first c.in-Some.step.count (λ q some. (c.self.invariant.beside q some).0) within
+      ∙ shown_is_kept c.self.inside.buffer c.in-Some.step.first c.in-Some.step.count (λ q some. (c.self.invariant.sound.beside q some).0) within
       ∙ ap (λ (s : Contents). kept_from s c.in-Some.step.first c.in-Some.step.count) c.self.view_is
 
 pub returns-clause-some : goal.returns-clause-some

@@ -14,5 +14,5 @@ returns-clause-live c line =
 
 pub returns-clause-within : goal.returns-clause-within
 returns-clause-within c line =
-    within_among (parts_of c.self.inside) c.self.invariant.facts c.open.result.now c.settled.result.now
+    within_among (parts_of c.self.inside) c.self.invariant.sound.facts c.open.result.now c.settled.result.now
     c.open.ensures c.settled.ensures line

@@ -17,7 +17,7 @@ returns-clause-play c =
     let within : first + count ≤ c.self.inside.buffer.mark = omega (arith, mark, moved, begins, played.ensures.count) in
     let shown : c.show_kept.new.self.shown ≡ kept_from new first count =
     ap (λ (h : Holding). h.shown) c.show_kept.ensures
-    ∙ shown_is_kept c.self.inside.buffer first count (λ q some. (c.self.invariant.beside q some).0) within
+    ∙ shown_is_kept c.self.inside.buffer first count (λ q some. (c.self.invariant.sound.beside q some).0) within
     ∙ ap (λ (s : Contents). kept_from s first count) c.self.view_is in
     subst
     (λ (xs : List Shown). IsPlay c.args.self.now.state.playout.window c.args.self.now.state

@@ -15,8 +15,11 @@ invariant_of-self c =
     let parts = parts_of c.self.inside in
     let at : IsLiveAt (state_of parts) c.args.place (IsSettled (known_in (contents_of parts))) =
     subst (λ (s : Contents). IsLiveAt s.state c.args.place (IsSettled (known_in s))) (sym c.self.view_is) c.requires in
-    vouched_sound parts c.self.invariant at.0 at.1 at.2 at.4 c.settle_at.new.self
-    (subst (λ (place : ℕ). SettlesAt place c.self.inside.lines c.settle_at.new.self) (sym at.3) c.settle_at.ensures)
+    record {
+      sound = vouched_sound parts c.self.invariant.sound at.0 at.1 at.2 at.4 c.settle_at.new.self
+          (subst (λ (place : ℕ). SettlesAt place c.self.inside.lines c.settle_at.new.self) (sym at.3) c.settle_at.ensures);
+      timed = c.self.invariant.timed;
+    }
 
 pub returns : goal.returns
 returns c =

@@ -8,7 +8,7 @@ use Rattle.fg_desk.specs.Arrivals.{IsGiven}
 use Rattle.fg_desk.proofs.tests.runs.are_given.Goals as goal
 
 abbrev no_datagram : Datagram
-no_datagram = datagram.Media 0 0 (record { pt = 0; ts = 0; len = 0; bytes = [] })
+no_datagram = datagram.Media 0 0 0 (record { pt = 0; ts = 0; len = 0; bytes = [] })
 
 pub loop-datagram-preserved : goal.loop-datagram-preserved
 loop-datagram-preserved c =

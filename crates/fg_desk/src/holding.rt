@@ -1,0 +1,35 @@
+//! Which received words wait, and since when.
+
+ghost use Rattle.std.specs.Prelude.{◌<◌, ◌^◌};
+ghost use Rattle.fg_desk.specs.Holding.{Notes, Moves, Tells};
+
+use fg_hold::Waiting;
+
+/// A word comes at a position. Where words may wait for ever nothing is noted.
+#[inline]
+pub(crate) fn note(waiting: &mut Waiting, position: u64)
+    requires { position < 2 ^ 62 }
+    ensures { Notes waiting.old position waiting.new }
+{
+    if waiting.hold() > 0 {
+        waiting.put(position);
+    }
+}
+
+/// The mark moves on. Where words may wait for ever nothing was noted.
+#[inline]
+pub(crate) fn move_on(waiting: &mut Waiting, mark: u64)
+    ensures { Moves waiting.old mark waiting.new }
+{
+    if waiting.hold() > 0 {
+        waiting.advance(mark);
+    }
+}
+
+/// Tells a time, and answers the greatest position whose word has waited for as long as one may, or longer.
+pub(crate) fn tell(waiting: &mut Waiting, time: u64, mark: u64) -> Option<u64>
+    requires { 0 < waiting.old.hold }
+    ensures { Tells waiting.old time mark result waiting.new }
+{
+    waiting.pass_time(time, mark)
+}

@@ -1,0 +1,5 @@
+pub mod HasWaited
+pub mod Inside
+pub mod Ring
+pub mod Steps
+pub mod Waiting

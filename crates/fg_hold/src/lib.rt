@@ -1,0 +1,202 @@
+//! How long words wait: which position is the greatest whose word has waited as long as an operator
+//! lets it, by the times of a flow's records, found without a scan of the window.
+#![tactic(auto)]
+
+ghost use Rattle.std.specs.Prelude.{◌≡◌, ◌≢◌, ◌+◌, ◌<◌, ◌≤◌, ◌^◌, ℕ, length, max, false, None, IsTrue, IsOk, IfOk, IfSome, IfNone};
+ghost use Rattle.std.specs.FinMap.{get, empty, insert};
+ghost use Rattle.fg_peel.specs.Words.{IsGreatest};
+ghost use Rattle.fg_hold.specs.HasWaited.{Times, HasWaited};
+ghost use Rattle.fg_hold.specs.Ring.{ring_at};
+ghost use Rattle.fg_hold.specs.Steps.{TakesHeld, TakesPassed, OldestIsUnheld, OldestIsUnpassed, queue_len};
+ghost use Rattle.fg_hold.specs.Waiting.{Waits, AreFrom, since};
+
+mod ring;
+#[cfg(test)]
+mod tests;
+
+use ring::Ring;
+use std::alloc::{AllocError, Global};
+use std::marker::Model;
+
+/// The words that wait at the mark of a window and past it, each since it came. Positions are below
+/// 2^62, and times are in microseconds.
+#[derive(Drop)]
+pub struct Waiting {
+    hold: u64,
+    clock: u64,
+    came: Ring,
+    highs: Ring,
+    first: u64,
+    next: u64,
+    high_end: u64,
+    held_end: u64,
+}
+
+impl Model for Waiting {
+    ghost use Rattle.fg_hold.specs.Waiting.{WaitingState, waiting_code};
+
+    ghost Value = { WaitingState };
+
+    ghost coded = { waiting_code };
+
+    ghost use Rattle.fg_hold.specs.Inside.{state_of};
+    ghost use Rattle.fg_hold.specs.Waiting.{HasRoom};
+
+    ghost view = { state_of };
+
+    ghost invariant = { λ a. HasRoom (state_of a) };
+}
+
+impl Waiting {
+    /// No word waits, and the clock is 0. A word waits no longer than `hold` microseconds. For 0 no
+    /// word may be put, and no memory is taken.
+    pub fn new(alloc: Global, hold: u64) -> Result<Waiting, AllocError>
+        ensures hold { IfOk result (λ waiting. waiting.hold ≡ hold) }
+        ensures clock { IfOk result (λ waiting. waiting.clock ≡ 0) }
+        ensures since { IfOk result (λ waiting. (position : ℕ) → since waiting position ≡ 0) }
+        ensures waits { IfOk result (λ waiting. Waits waiting 0 empty) }
+        ensures free { hold ≡ 0 → IsOk result }
+    {
+        Ok(Waiting {
+            hold,
+            clock: 0,
+            came: ring_for(alloc, hold)?,
+            highs: ring_for(alloc, hold)?,
+            first: 0,
+            next: 0,
+            high_end: 0,
+            held_end: 0,
+        })
+    }
+
+    /// How long a word waits at most, in microseconds.
+    #[inline]
+    pub fn hold(&self) -> u64
+        ensures { result ≡ self.now.hold }
+    {
+        self.hold
+    }
+
+    /// The greatest record time so far, in microseconds.
+    #[inline]
+    pub fn clock(&self) -> u64
+        ensures { result ≡ self.now.clock }
+    {
+        self.clock
+    }
+
+    /// A record of this time comes, in microseconds. Answers the greatest position whose word has
+    /// waited long enough. A time that goes back does not set the clock back.
+    #[inline]
+    pub fn pass_time(&mut self, time: u64, mark: u64) -> Option<u64>
+        ensures hold { self.new.hold ≡ self.old.hold }
+        ensures clock { self.new.clock ≡ max self.old.clock time }
+        ensures since { (position : ℕ) → since self.new position ≡ since self.old position }
+        ensures waits { (times : Times) → Waits self.old mark times → Waits self.new mark times }
+        ensures some { (times : Times) → Waits self.old mark times →
+            IfSome result (IsGreatest (HasWaited self.new.hold self.new.clock times)) }
+        ensures none { (times : Times) → Waits self.old mark times →
+            IfNone result ((position : ℕ) → ¬ HasWaited self.new.hold self.new.clock times position) }
+    {
+        self.clock = self.clock.max(time);
+        self.take_all_held();
+        if mark < self.held_end {
+            Some(self.held_end - 1)
+        } else {
+            None
+        }
+    }
+
+    /// A word comes at a position where none waits, in the window of 1,000 positions from the mark on.
+    #[inline]
+    pub fn put(&mut self, position: u64)
+        requires hold { 0 < self.old.hold }
+        requires limit { position < 2 ^ 62 }
+        ensures hold { self.new.hold ≡ self.old.hold }
+        ensures clock { self.new.clock ≡ self.old.clock }
+        ensures here { since self.new position ≡ self.old.clock }
+        ensures others { (other : ℕ) → other ≢ position → other < position + 1024 → position < other + 1024 →
+            since self.new other ≡ since self.old other }
+        ensures waits { (mark : ℕ) (times : Times) → Waits self.old mark times →
+            mark ≤ position → position < mark + 1000 → get times position ≡ None →
+            Waits self.new mark (insert times position self.old.clock) }
+    {
+        self.came.set(position, self.clock);
+        if position >= self.high_end {
+            self.highs.set(self.next, position);
+            self.next += 1;
+            self.high_end = position + 1;
+        }
+    }
+
+    /// The mark moves on. All words below it leave.
+    #[inline]
+    pub fn advance(&mut self, mark: u64)
+        ensures hold { self.new.hold ≡ self.old.hold }
+        ensures clock { self.new.clock ≡ self.old.clock }
+        ensures since { (position : ℕ) → since self.new position ≡ since self.old position }
+        ensures waits { (old_mark : ℕ) (times left : Times) → Waits self.old old_mark times →
+            old_mark ≤ mark → AreFrom mark times left → Waits self.new mark left }
+    {
+        while self.take_passed(mark) {}
+    }
+
+    /// Takes off the queue the highs that have waited long enough.
+    #[inline]
+    fn take_all_held(&mut self)
+        ensures takes { TakesHeld self.old self.new }
+        ensures oldest { OldestIsUnheld self.new }
+    {
+        while self.take_held() {}
+    }
+
+    /// Takes the oldest high off the queue where it has waited long enough, and tells whether.
+    #[inline]
+    fn take_held(&mut self) -> bool
+        ensures takes { TakesHeld self.old self.new }
+        ensures fewer { IsTrue result → queue_len self.new < queue_len self.old }
+        ensures oldest { result ≡ false → OldestIsUnheld self.new }
+    {
+        if self.first >= self.next {
+            return false;
+        }
+        // A high came at a time of the clock, and is far below 2^64: nothing saturates.
+        let high = self.highs.at(self.first);
+        if self.clock.saturating_sub(self.came.at(high)) < self.hold {
+            return false;
+        }
+        self.first += 1;
+        self.held_end = high.saturating_add(1);
+        true
+    }
+
+    /// Takes the oldest high off the queue where it is below the mark, and tells whether.
+    #[inline]
+    fn take_passed(&mut self, mark: u64) -> bool
+        ensures takes { TakesPassed mark self.old self.new }
+        ensures fewer { IsTrue result → queue_len self.new < queue_len self.old }
+        ensures oldest { result ≡ false → OldestIsUnpassed mark self.new }
+    {
+        if self.first >= self.next {
+            return false;
+        }
+        if self.highs.at(self.first) >= mark {
+            return false;
+        }
+        self.first += 1;
+        true
+    }
+}
+
+/// A ring of zeros where words may wait, and else none.
+fn ring_for(alloc: Global, hold: u64) -> Result<Ring, AllocError>
+    ensures room { IfOk result (λ ring. 0 < hold → length ring ≡ 1024) }
+    ensures zeros { IfOk result (λ ring. (index : ℕ) → ring_at ring index ≡ 0) }
+    ensures free { hold ≡ 0 → IsOk result }
+{
+    if hold == 0 {
+        Ok(Ring::none(alloc))
+    } else {
+        Ring::new(alloc)
+    }
+}
