@@ -1,5 +1,5 @@
 -- Where a flush step finds nothing left, nothing is left after it.
-use Rattle.std.proofs.Common.{◌≡◌, ℕ, false, true≢false, Option, Some, None, is_some, option_map, sym, subst}
+use Rattle.std.proofs.Common.{◌≡◌, false, true≢false, Option, Some, None, is_some, option_map, sym, subst}
 use Rattle.fg_desk.specs.declared.desk.Played.{Played}
 use Rattle.fg_playout.specs.State.{State}
 use Rattle.fg_playout.specs.Play.{Play, HasMore, Flushes}

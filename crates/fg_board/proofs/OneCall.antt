@@ -8,9 +8,9 @@ use Rattle.fg_shape.specs.Playout.{Playout}
 use Rattle.fg_desk.specs.declared.desk.Played.{Played}
 use Rattle.fg_playout.specs.Play.{Shown}
 use Rattle.fg_turn.specs.Standing.{Standing}
-use Rattle.fg_core.specs.Board.{BoardState, PlaysOn, FlushesOn, mark_of}
+use Rattle.fg_core.specs.Board.{BoardState, PlaysOn, FlushesOn, PlaysHeldOn, mark_of}
 use Rattle.fg_core.specs.Views.{Told, IsBorneOut, seen_of}
-use Rattle.fg_core.specs.Core.{Call, play, flush, play_of, IsOwned, CanCall, IsCall}
+use Rattle.fg_core.specs.Core.{Call, play, flush, held, play_of, IsOwned, CanCall, IsCall}
 use Rattle.fg_core.specs.Codes.{Entry, call_code, call_from, told_code, told_from, IsOwnedBy, GrowsFrom, CallsAreReadBack, ToldIsReadBack}
 use Rattle.fg_core.specs.Laws.{CallsExtend, CallsKeepTold}
 use Rattle.fg_core.specs.Steps.{CarriesOn, IsStep}
@@ -26,10 +26,11 @@ module _
   call_extends [] is = absurd is
   call_extends ([] ∷ entries) is = absurd is
   call_extends ((window ∷ []) ∷ entries) is = absurd is
-  call_extends ((window ∷ depth ∷ rest) ∷ entries) is =
-      subst (λ (calls : List Call). IsOwned (record { window = window; depth = depth }) calls new)
+  call_extends ((window ∷ depth ∷ []) ∷ entries) is = absurd is
+  call_extends ((window ∷ depth ∷ hold ∷ rest) ∷ entries) is =
+      subst (λ (calls : List Call). IsOwned (record { window = window; depth = depth; hold = hold }) calls new)
       (ap (λ (c : Call). map call_from entries ++ c ∷ []) (sym (back call)) ∙ sym (map-append call_from entries (call_code call ∷ [])))
-      (extend (record { window = window; depth = depth }) (map call_from entries) call old new is can does)
+      (extend (record { window = window; depth = depth; hold = hold }) (map call_from entries) call old new is can does)
 
   call_carries_on : CarriesOn (Some (call_code call)) old new
   call_carries_on = record {
@@ -101,7 +102,7 @@ call_made call said playout old inner new entered left same own goes_in goes_out
       ∙ ap (λ (s : Standing BoardState). s.told ++ told_code (seen_of left) ∷ []) goes_in;
 }
 
--- A play and a flush step, with what the tray shows.
+-- A play, a flush step and a held step, with what the tray shows.
 pub play_is :
     (old new : BoardState) (played : Played) (shown : List Shown) → PlaysOn old (play_of played shown) new
     → played.count ≡ length shown → IsCall old (play played) new
@@ -113,3 +114,10 @@ pub flush_is :
     → IfSome played (λ p. p.count ≡ length shown) → IsCall old (flush played) new
 flush_is old new shown None flushes count = flushes
 flush_is old new shown (Some played) flushes count = (shown, flushes, count)
+
+pub held_is :
+    (old new : BoardState) (time : ℕ) (shown : List Shown) (played : Option Played)
+    → PlaysHeldOn old time (option_map (λ (p : Played). play_of p shown) played) new
+    → IfSome played (λ p. p.count ≡ length shown) → IsCall old (held time played) new
+held_is old new time shown None plays count = plays
+held_is old new time shown (Some played) plays count = (shown, plays, count)

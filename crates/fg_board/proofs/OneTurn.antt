@@ -46,8 +46,9 @@ pub owning : (entries : List Entry) (board : BoardState) → IsOwnedBy entries b
 owning [] board is = absurd is
 owning ([] ∷ entries) board is = absurd is
 owning ((window ∷ []) ∷ entries) board is = absurd is
-owning ((window ∷ depth ∷ rest) ∷ entries) board is =
-    record { playout = record { window = window; depth = depth }; calls = map call_from entries; owned = is }
+owning ((window ∷ depth ∷ []) ∷ entries) board is = absurd is
+owning ((window ∷ depth ∷ hold ∷ rest) ∷ entries) board is =
+    record { playout = record { window = window; depth = depth; hold = hold }; calls = map call_from entries; owned = is }
 
 -- The same entries make another board what they make of this one, if each list of calls does.
 owned_stays :
@@ -56,7 +57,9 @@ owned_stays :
 owned_stays old new keeps [] is = absurd is
 owned_stays old new keeps ([] ∷ entries) is = absurd is
 owned_stays old new keeps ((window ∷ []) ∷ entries) is = absurd is
-owned_stays old new keeps ((window ∷ depth ∷ rest) ∷ entries) is = keeps (record { window = window; depth = depth }) (map call_from entries) is
+owned_stays old new keeps ((window ∷ depth ∷ []) ∷ entries) is = absurd is
+owned_stays old new keeps ((window ∷ depth ∷ hold ∷ rest) ∷ entries) is =
+    keeps (record { window = window; depth = depth; hold = hold }) (map call_from entries) is
 
 -- Each event carries on both.
 pub event_carries_on :

@@ -1,6 +1,6 @@
 //! The admitter: the one seat that takes datagrams in and plays windows.
 
-ghost use Rattle.std.specs.Prelude.{◌≡◌, ◌↔◌, ◌+◌, ◌<◌, ◌≤◌, ◌^◌, [], ◌∷◌, length, false, true, Some, None, IsTrue, IsSome, IfSome, IfNone, option_map};
+ghost use Rattle.std.specs.Prelude.{◌≡◌, ◌≢◌, ◌↔◌, ◌+◌, ◌<◌, ◌≤◌, ◌^◌, [], ◌∷◌, length, false, true, Some, None, IsTrue, IsSome, IfSome, IfNone, option_map};
 ghost use Rattle.fg_words.specs.Word.{IsMedia};
 ghost use Rattle.fg_shape.specs.Shape.{IsShape};
 ghost use Rattle.fg_playout.specs.Admission.{IsDue, IsFresh, AdmitsMedia, AdmitsParity};
@@ -8,9 +8,10 @@ ghost use Rattle.fg_playout.specs.Room.{HasRoom, call_limit};
 ghost use Rattle.fg_desk.specs.Contents.{AreSolved};
 ghost use Rattle.fg_playout.specs.Facts.{Holds};
 ghost use Rattle.fg_playout.specs.Play.{IsPlay, Flushes, HasMore};
+ghost use Rattle.fg_playout.specs.Held.{IsHeldStep};
 ghost use Rattle.fg_board.specs.Actors.{MakesCall, board_of, desk_of, IsOwnBoard, GivesKeyOf};
 ghost use Rattle.fg_core.specs.Codes.{opening_code, IsOwnedBy, GrowsFrom};
-ghost use Rattle.fg_core.specs.Core.{media, parity, play, flush, play_of};
+ghost use Rattle.fg_core.specs.Core.{media, parity, play, flush, held, play_of};
 ghost use Rattle.fg_board.specs.Knowing.{top_of};
 
 use crate::board::Board;
@@ -78,6 +79,7 @@ pub struct Admitter {
     pub(crate) owner: Owner<Flow>,
     window: u32,
     depth: u32,
+    hold: u64,
     near: Near,
     /// A share that the desk let go, for the payload of the next datagram.
     spare: Option<Shared>,
@@ -92,9 +94,10 @@ impl Model for Admitter {
 
     ghost coded = { admitter_code };
 
-    ghost view = { λ a. record { seat = a.owner; playout = record { window = a.window; depth = a.depth } } };
+    ghost view = { λ a. record { seat = a.owner; playout = record { window = a.window; depth = a.depth; hold = a.hold } } };
 
-    ghost invariant = { λ a. KnowsItsDesk (record { seat = a.owner; playout = record { window = a.window; depth = a.depth } })
+    ghost invariant = { λ a. KnowsItsDesk
+        (record { seat = a.owner; playout = record { window = a.window; depth = a.depth; hold = a.hold } })
         a.near.top a.near.previous a.near.runs a.near.mark a.near.calls };
 }
 
@@ -106,12 +109,13 @@ fn enter_own(
     spare: &mut Option<Shared>,
     window: u32,
     depth: u32,
+    hold: u64,
 ) -> Flow
     requires turn { (owner.old.turn ≡ turn.now.name) × (owner.old.inside ≡ false) }
     requires window { (1 ≤ window) × (window ≤ 100) × (window ≤ depth) }
-    requires own { IsOwnBoard (record { seat = owner.old; playout = record { window = window; depth = depth } }) }
+    requires own { IsOwnBoard (record { seat = owner.old; playout = record { window = window; depth = depth; hold = hold } }) }
     ensures own { result.desk.state
-        ≡ desk_of (record { seat = owner.old; playout = record { window = window; depth = depth } }) }
+        ≡ desk_of (record { seat = owner.old; playout = record { window = window; depth = depth; hold = hold } }) }
     ensures owner { IsOwnedBy owner.old.calls result }
     ensures grows { GrowsFrom owner.old.told result }
     ensures seat { owner.new
@@ -131,12 +135,12 @@ fn enter_own(
 
 impl Admitter {
     /// The owner of a new board.
-    pub(crate) fn new(owner: Owner<Flow>, window: u32, depth: u32) -> Admitter
+    pub(crate) fn new(owner: Owner<Flow>, window: u32, depth: u32, hold: u64) -> Admitter
         requires outside { owner.inside ≡ false }
         requires window { (1 ≤ window) × (window ≤ 100) × (window ≤ depth) }
-        requires calls { owner.calls ≡ opening_code (record { window = window; depth = depth }) ∷ [] }
+        requires calls { owner.calls ≡ opening_code (record { window = window; depth = depth; hold = hold }) ∷ [] }
         requires left { owner.left ≡ None }
-        ensures { result ≡ record { seat = owner; playout = record { window = window; depth = depth } } }
+        ensures { result ≡ record { seat = owner; playout = record { window = window; depth = depth; hold = hold } } }
     {
         opening_is_owned();
         let near = Near {
@@ -150,6 +154,7 @@ impl Admitter {
             owner,
             window,
             depth,
+            hold,
             near,
             spare: None,
         }
@@ -164,6 +169,7 @@ impl Admitter {
             owner,
             window: _,
             depth: _,
+            hold: _,
             near: _,
             spare: _,
         } = self;
@@ -188,6 +194,14 @@ impl Admitter {
         ensures { result ≡ (desk_of self.now).runs }
     {
         self.near.runs
+    }
+
+    /// How long a received word may wait, in microseconds. 0 where it may wait for ever.
+    #[inline]
+    pub fn hold(&self) -> u64
+        ensures { result ≡ (desk_of self.now).playout.hold }
+    {
+        self.hold
     }
 
     /// Whether a play is due before a datagram of this sequence number and SSRC is admitted: it is of the current run, and
@@ -266,6 +280,7 @@ impl Admitter {
             &mut self.spare,
             self.window,
             self.depth,
+            self.hold,
         );
         let word = Snapshot::of(&share);
         let reply = flow.admit_media(seq, ssrc, share);
@@ -306,6 +321,7 @@ impl Admitter {
             &mut self.spare,
             self.window,
             self.depth,
+            self.hold,
         );
         let word = Snapshot::of(&share);
         let (reply, key) = flow.admit_parity(base, shape, share);
@@ -337,6 +353,7 @@ impl Admitter {
             &mut self.spare,
             self.window,
             self.depth,
+            self.hold,
         );
         let played = flow.play(tray);
         self.near = self.near.after(&flow);
@@ -362,10 +379,46 @@ impl Admitter {
             &mut self.spare,
             self.window,
             self.depth,
+            self.hold,
         );
         let played = flow.flush_step(tray);
         self.near = self.near.after(&flow);
         settle_owner(&board.turn, &mut self.owner, flow, Made::Flush(played));
+        played
+    }
+
+    /// Tells the desk the time of a datagram, in microseconds, and makes a held play, where one is defined: all of it in one
+    /// turn. The tray then has what it shows.
+    pub fn held_step(
+        &mut self,
+        wait: &impl Wait,
+        board: &Board,
+        time: u64,
+        tray: &mut Tray,
+    ) -> Option<Played>
+        requires board { self.old.seat.turn ≡ board.now.name }
+        requires room { HasRoom (desk_of self.old) }
+        requires limited { (desk_of self.old).playout.hold ≢ 0 }
+        requires tray { self.old.playout.window ≤ tray.old.window }
+        ensures call { MakesCall (held time result) self.old self.new }
+        ensures held { IsHeldStep (desk_of self.old) time (option_map (λ played. play_of played tray.new.shown) result)
+            (desk_of self.new) }
+        ensures count { IfSome result (λ played. played.count ≡ length tray.new.shown) }
+        ensures none { IfNone result (tray.new ≡ tray.old) }
+        ensures tray { tray.new.window ≡ tray.old.window }
+    {
+        let mut flow = enter_own(
+            wait,
+            &board.turn,
+            &mut self.owner,
+            &mut self.spare,
+            self.window,
+            self.depth,
+            self.hold,
+        );
+        let played = flow.held_step(time, tray);
+        self.near = self.near.after(&flow);
+        settle_owner(&board.turn, &mut self.owner, flow, Made::Held(time, played));
         played
     }
 }

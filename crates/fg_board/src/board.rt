@@ -200,11 +200,13 @@ fn ask_inside(wait: &impl Wait, turn: &Turn<Flow>, seat: &mut Seat<Flow>, key: K
 
 impl Board {
     /// A new board for a flow whose plays close `window` positions, and for which a play is due where a datagram lies
-    /// `depth` positions past the mark, with its admitter. It can have up to `passes` passes at once.
+    /// `depth` positions past the mark, with its admitter. No word waits longer than `hold` microseconds by the times that are
+    /// told, or for 0 as long as it has to. The board can have up to `passes` passes at once.
     pub fn new(
         alloc: Global,
         window: u32,
         depth: u32,
+        hold: u64,
         passes: u32,
     ) -> Result<(Board, Admitter), AllocError>
         requires window { (1 ≤ window) × (window ≤ 100) }
@@ -213,14 +215,17 @@ impl Board {
         ensures seats { IfOk result (λ r. r.0.seats ≡ passes + 1) }
         ensures admitter { IfOk result (λ r. r.1
             ≡ record {
-              seat = owner_of r.0.name (opening_code (record { window = window; depth = depth }) ∷ []);
-              playout = record { window = window; depth = depth };
+              seat = owner_of r.0.name (opening_code (record { window = window; depth = depth; hold = hold }) ∷ []);
+              playout = record { window = window; depth = depth; hold = hold };
             }) }
     {
         opening_is_owned();
-        let flow = Flow::new(alloc, window, depth)?;
+        let flow = Flow::new(alloc, window, depth, hold)?;
         let (turn, owner) = Turn::new::<Brand>(alloc, flow, passes + 1)?;
-        Ok((Board { turn, alloc }, Admitter::new(owner, window, depth)))
+        Ok((
+            Board { turn, alloc },
+            Admitter::new(owner, window, depth, hold),
+        ))
     }
 
     /// A further pass, which was told nothing. Its number is one that no pass of this board had before.

@@ -5,6 +5,7 @@ mod ask;
 mod bare;
 mod crossing;
 mod fates;
+mod holds;
 mod jobs;
 mod random;
 mod scene;

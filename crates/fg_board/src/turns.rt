@@ -39,6 +39,8 @@ pub(crate) enum Made {
     Parity(u16, Shape, Snapshot<Shared>, Reply, Option<Key>),
     Play(Played),
     Flush(Option<Played>),
+    /// A held step at a time.
+    Held(u64, Option<Played>),
 }
 
 // Leaves what the deed made of the state, and is told what it tells.

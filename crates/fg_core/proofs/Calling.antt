@@ -15,13 +15,14 @@ use Rattle.fg_playout.specs.Facts.{Holds}
 use Rattle.fg_playout.specs.Admission.{Parity, AdmitsParity}
 use Rattle.fg_buffer.specs.BufferEntries.{positions_below}
 use Rattle.fg_playout.specs.Play.{Play, Shown, IsPlay, Flushes}
+use Rattle.fg_playout.specs.Held.{IsHeldStep}
 use Rattle.fg_desk.specs.Contents.{Contents, IsPlaceAfter, ChangesInPlay, opened}
-use Rattle.fg_core.specs.Board.{IsCurrent, IsHeld, AdmitsParityOn, PlaysOn, FlushesOn, GivesKey, opened_board, with_vouched}
+use Rattle.fg_core.specs.Board.{IsCurrent, IsHeld, AdmitsParityOn, PlaysOn, FlushesOn, PlaysHeldOn, GivesKey, opened_board, with_vouched}
 use Rattle.fg_core.specs.Core.{play_of}
 use Rattle.fg_core.specs.Flow.{no_note, note_at, says, is_vouched, is_handed_out, board_of, with_handed, AreKept}
 use Rattle.fg_core.specs.declared.key.Key.{Key}
 use Rattle.fg_core.specs.declared.notes.Note.{Note}
-use Rattle.fg_core.proofs.Follows.{counted_follows, parity_follows, play_follows}
+use Rattle.fg_core.proofs.Follows.{counted_follows, told_follows, parity_follows, play_follows, held_follows}
 use Rattle.fg_core.proofs.Noting.{keeps_notes, put_same, put_as, put_kept}
 
 -- Nothing is noted at first.
@@ -94,6 +95,20 @@ module _ (old new : Contents) (notes : List Note) (kept : AreKept old notes) whe
       (flushes, none, keeps_notes notes old new kept (counted_follows old new kept.bare none flushes.1))
   flushes_on (Some played) shown flushes some none =
       (flushes, some.1, keeps_notes notes old new kept (play_follows old new kept.bare _ (play_of played shown) flushes.plays some.1))
+
+  pub plays_held_on :
+      (time : ℕ) (result : Option Played) (shown : List Shown)
+      → IsHeldStep old.state time (option_map (λ played. play_of played shown) result) new.state
+      → IfSome result (λ played. (played.count ≡ length shown) × ChangesInPlay played.verdict old new)
+      → IfNone result (new ≡ record old { state = new.state })
+      → PlaysHeldOn (board_of old notes) time (option_map (λ played. play_of played shown) result) (board_of new notes)
+  plays_held_on time None shown held some none =
+      (held, none, keeps_notes notes old new kept (told_follows old new kept.bare time none held.1))
+  plays_held_on time (Some played) shown held some none = (
+    held,
+    some.1,
+    keeps_notes notes old new kept (held_follows old new kept.bare time _ (play_of played shown) held.plays some.1),
+  )
 
 -- A note is put at the place of a key.
 module _

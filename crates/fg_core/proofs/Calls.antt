@@ -8,14 +8,15 @@ use Rattle.fg_peel.specs.Equation.{IsSettled}
 use Rattle.fg_peel.proofs.Options.{value_of, none_has_no_value}
 use Rattle.fg_playout.specs.State.{State, Live}
 use Rattle.fg_playout.specs.Facts.{Holds}
+use Rattle.fg_playout.proofs.Held.{at_time_holds}
 use Rattle.fg_desk.specs.Contents.{AreSolved, known_in}
 use Rattle.fg_core.specs.Board.{BoardState, IsLive, KeepsNotes}
 use Rattle.fg_core.specs.Views.{Told, saw, word_at, equation_is, IsBorneOut}
-use Rattle.fg_core.specs.Core.{Call, media, parity, play, flush, play_of, IsCallOn, CanCallOn, AreCallsOn, KeyIsOf, CanCall, IsCall}
+use Rattle.fg_core.specs.Core.{Call, media, parity, play, flush, held, play_of, IsCallOn, CanCallOn, AreCallsOn, KeyIsOf, CanCall, IsCall}
 use Rattle.fg_core.specs.Below.{CallLaws}
 use Rattle.fg_core.specs.Laws.{CallsExtend, CallsKeepTold}
 use Rattle.fg_core.proofs.Known.{slot_is_kept, stays_settled}
-use Rattle.fg_core.proofs.Next.{IsNext, AreBareKept, is_next_counted}
+use Rattle.fg_core.proofs.Next.{IsNext, AreBareKept, is_next_counted, is_next_told, desk_told, told_solved, told_changes, next_of_told}
 use Rattle.fg_core.proofs.Played.{play_is_next}
 use Rattle.fg_core.proofs.Protected.{parity_is_next}
 use Rattle.fg_core.proofs.Received.{media_is_next}
@@ -35,6 +36,8 @@ call_on old new (parity datagram reply key) is = (is.state, is.key_is)
 call_on old new (play played) is = (is.0, is.1.state, is.2)
 call_on old new (flush None) is = is.0
 call_on old new (flush (Some played)) is = (is.0, is.1.0, is.2)
+call_on old new (held time None) is = is.0
+call_on old new (held time (Some played)) is = (is.0, is.1.0, is.2)
 
 -- Its notes stay as each call says.
 notes_kept : (old new : BoardState) (call : Call) → IsCall old call new → KeepsNotes old new
@@ -43,6 +46,8 @@ notes_kept old new (parity datagram reply key) is = is.notes
 notes_kept old new (play played) is = is.1.notes
 notes_kept old new (flush None) is = is.2
 notes_kept old new (flush (Some played)) is = is.1.2
+notes_kept old new (held time None) is = is.2
+notes_kept old new (held time (Some played)) is = is.1.2
 
 -- The key that it gives is of the board's epoch.
 key_is_of : (old new : BoardState) (call : Call) → IsCall old call new → KeyIsOf new.desk.epoch call
@@ -51,6 +56,7 @@ key_is_of old new (parity datagram reply None) is = tt
 key_is_of old new (parity datagram reply (Some key)) is = let e = is.key_epoch in omega (arith, e)
 key_is_of old new (play played) is = tt
 key_is_of old new (flush played) is = tt
+key_is_of old new (held time played) is = tt
 
 later_epoch : (epoch later : ℕ) → epoch ≤ later → (call : Call) → KeyIsOf epoch call → KeyIsOf later call
 later_epoch epoch later rises (media seq ssrc word reply) is = tt
@@ -58,6 +64,7 @@ later_epoch epoch later rises (parity datagram reply None) is = tt
 later_epoch epoch later rises (parity datagram reply (Some key)) is = omega (arith, rises, is)
 later_epoch epoch later rises (play played) is = tt
 later_epoch epoch later rises (flush played) is = tt
+later_epoch epoch later rises (held time played) is = tt
 
 -- The facts hold after it.
 facts_hold :
@@ -73,6 +80,9 @@ facts_hold laws old new (play played) holds can is =
 facts_hold laws old new (flush None) holds can is = laws.facts.flush old.desk.state new.desk.state None holds is.0
 facts_hold laws old new (flush (Some played)) holds can is =
     laws.facts.flush old.desk.state new.desk.state (Some (play_of played is.0)) holds is.1.0
+facts_hold laws old new (held time None) holds can is = laws.facts.held old.desk.state new.desk.state time None holds is.0
+facts_hold laws old new (held time (Some played)) holds can is =
+    laws.facts.held old.desk.state new.desk.state time (Some (play_of played is.0)) holds is.1.0
 
 -- What it keeps of the board's desk.
 desk_is_next :
@@ -87,6 +97,12 @@ desk_is_next laws old new (play played) holds solved bare can is =
 desk_is_next laws old new (flush None) holds solved bare can is = is_next_counted old.desk new.desk solved bare is.1 is.0.1
 desk_is_next laws old new (flush (Some played)) holds solved bare can is =
     play_is_next laws.plays _ old.desk new.desk (play_of played is.0) holds solved is.1.0.plays is.1.1
+desk_is_next laws old new (held time None) holds solved bare can is =
+    is_next_told old.desk new.desk time solved bare is.1 is.0.1
+desk_is_next laws old new (held time (Some played)) holds solved bare can is =
+    next_of_told old.desk new.desk time
+    (play_is_next laws.plays _ (desk_told old.desk time) new.desk (play_of played is.0) (at_time_holds old.desk.state time holds)
+    (told_solved old.desk new.desk time solved) is.1.0.plays (told_changes old.desk new.desk time played.verdict is.1.1))
 
 module _
     (old new : BoardState) (holds : Holds old.desk.state) (holds' : Holds new.desk.state) (next : IsNext old.desk new.desk) where

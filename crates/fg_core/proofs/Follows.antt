@@ -11,8 +11,9 @@ use Rattle.fg_playout.specs.declared.reply.Outcome.TheVariants.{Repaired, Incons
 use Rattle.fg_playout.specs.State.{State, Live}
 use Rattle.fg_playout.specs.Admission.{Parity, AdmitsMedia, AdmitsParity, IsAfterMedia, IsAfterParity, IsLeastFree, counted, position_on, base_on, with_equation, equation_at}
 use Rattle.fg_playout.specs.Play.{Play, IsPlay}
+use Rattle.fg_playout.specs.Held.{at_time}
 use Rattle.fg_desk.specs.Contents.{Contents, GivesWay, IsAfterArrival, ChangesInPlay, epoch_after}
-use Rattle.fg_core.proofs.Next.{AreBareKept}
+use Rattle.fg_core.proofs.Next.{AreBareKept, desk_told, told_changes}
 use Rattle.fg_core.proofs.Played.{bare_is_kept}
 use Rattle.fg_core.proofs.Received.{Leaves, media_leaves, contradicted_or_not, not_contradicted}
 
@@ -25,9 +26,17 @@ pub record Follows (old new : Contents) : Type 0 where
       → get old.state.equations serial ≡ Some live
   pub bare : AreBareKept new
 
--- A call that is only counted leaves all.
+-- A call that is only counted leaves all, also where it tells a time.
 counted_leaves : (old new : State) → new ≡ counted old → Leaves old new
 counted_leaves old new is = record {
+  mark_is = ap (λ (s : State). s.mark) is;
+  kept_is = ap (λ (s : State). s.kept) is;
+  admitted_is = ap (λ (s : State). s.admitted) is;
+  still_live = λ serial live lives. sym (ap (λ (s : State). get s.equations serial) is) ∙ lives;
+}
+
+told_leaves : (old new : State) (time : ℕ) → new ≡ counted (at_time old time) → Leaves old new
+told_leaves old new time is = record {
   mark_is = ap (λ (s : State). s.mark) is;
   kept_is = ap (λ (s : State). s.kept) is;
   admitted_is = ap (λ (s : State). s.admitted) is;
@@ -47,6 +56,12 @@ module _ (old new : Contents) (bare : AreBareKept old) where
   counted_follows rest is =
       let e = ap (λ (d : Contents). d.epoch) rest in
       leaves_follow (counted_leaves old.state new.state is) (omega (arith, e)) (ap (λ (d : Contents). d.bare) rest)
+
+  pub told_follows :
+      (time : ℕ) → new ≡ record old { state = new.state } → new.state ≡ counted (at_time old.state time) → Follows old new
+  told_follows time rest is =
+      let e = ap (λ (d : Contents). d.epoch) rest in
+      leaves_follow (told_leaves old.state new.state time is) (omega (arith, e)) (ap (λ (d : Contents). d.bare) rest)
 
   gave_way :
       (position : ℕ) (word : Word) → GivesWay old position word new → (old.epoch ≤ new.epoch) × (new.bare ≡ old.bare)
@@ -112,3 +127,11 @@ module _ (old new : Contents) (bare : AreBareKept old) where
         lives = λ serial live _ is. ((plays.equations serial live).0 is).0;
         bare = bare_is_kept old new play.outcome changes;
       }
+
+-- A play that follows on the time that a desk was told.
+pub held_follows :
+    (old new : Contents) (bare : AreBareKept old) (time count : ℕ) (play : Play)
+    → IsPlay count (at_time old.state time) play new.state → ChangesInPlay play.outcome old new → Follows old new
+held_follows old new bare time count play plays changes =
+    let follows = play_follows (desk_told old time) new bare count play plays (told_changes old new time play.outcome changes) in
+    record { admitted = follows.admitted; epoch = follows.epoch; lives = follows.lives; bare = follows.bare }

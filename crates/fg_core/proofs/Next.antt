@@ -3,9 +3,12 @@ use Rattle.std.proofs.Common.{◌≡◌, ◌+◌, ◌<◌, ◌≤◌, ℕ, true,
 use Rattle.std.specs.FinMap.{get}
 use Rattle.std.specs.FinSet.{contains}
 use Rattle.fg_words.specs.declared.Word.{Word}
+use Rattle.fg_playout.specs.declared.reply.Outcome.{Outcome}
+use Rattle.fg_playout.specs.declared.reply.Outcome.TheVariants.{Repaired, Inconsistent}
 use Rattle.fg_playout.specs.State.{State, Live}
 use Rattle.fg_playout.specs.Admission.{kept_count, counted}
-use Rattle.fg_desk.specs.Contents.{Contents, AreSolved, known_in}
+use Rattle.fg_playout.specs.Held.{at_time}
+use Rattle.fg_desk.specs.Contents.{Contents, AreSolved, ChangesInPlay, known_in}
 
 -- Each bare position is a kept one.
 abbrev pub AreBareKept : Contents → Type 0
@@ -28,12 +31,15 @@ pub record IsNext (old new : Contents) : Type 0 where
   pub solved : AreSolved new
   pub bare : AreBareKept new
 
--- A call that is counted, and changes nothing else.
-pub is_next_counted :
-    (old new : Contents) → AreSolved old → AreBareKept old → new ≡ record old { state = new.state }
-    → new.state ≡ counted old.state → IsNext old new
-is_next_counted old new solved bare rest is =
-    let same : new ≡ record old { state = counted old.state } = rest ∙ ap (λ (s : State). record old { state = s }) is in
+-- The desk with the clock at a time, after a call that is counted.
+abbrev counted_at : State → ℕ → State
+counted_at desk clock = record (counted desk) { clock = clock }
+
+counted_is_next :
+    (old new : Contents) (clock : ℕ) → AreSolved old → AreBareKept old → new ≡ record old { state = new.state }
+    → new.state ≡ counted_at old.state clock → IsNext old new
+counted_is_next old new clock solved bare rest is =
+    let same : new ≡ record old { state = counted_at old.state clock } = rest ∙ ap (λ (s : State). record old { state = s }) is in
     subst (λ (d : Contents). IsNext old d) (sym same) (record {
       mark = omega arith;
       admitted = omega arith;
@@ -44,3 +50,43 @@ is_next_counted old new solved bare rest is =
       solved = record { peeled = solved.peeled; beside = solved.beside };
       bare = bare;
     })
+
+-- A call that is counted, and changes nothing else.
+pub is_next_counted :
+    (old new : Contents) → AreSolved old → AreBareKept old → new ≡ record old { state = new.state }
+    → new.state ≡ counted old.state → IsNext old new
+is_next_counted old new solved bare rest is = counted_is_next old new old.state.clock solved bare rest is
+
+-- The desk once it is told a time.
+abbrev pub desk_told : Contents → ℕ → Contents
+desk_told desk time = record desk { state = at_time desk.state time }
+
+-- A call that is counted, and tells a time.
+pub is_next_told :
+    (old new : Contents) (time : ℕ) → AreSolved old → AreBareKept old → new ≡ record old { state = new.state }
+    → new.state ≡ counted (at_time old.state time) → IsNext old new
+is_next_told old new time solved bare rest is =
+    counted_is_next old new (at_time old.state time).clock solved bare rest is
+
+-- What is solved and known is so whatever the clock tells.
+module _ (old new : Contents) (time : ℕ) where
+  pub told_solved : AreSolved old → AreSolved (desk_told old time)
+  told_solved solved = record { peeled = solved.peeled; beside = solved.beside }
+
+  pub told_changes : (outcome : Outcome) → ChangesInPlay outcome old new → ChangesInPlay outcome (desk_told old time) new
+  told_changes Repaired changes =
+      record { bare = changes.bare; repaired = changes.repaired; solved = changes.solved; epoch = changes.epoch }
+  told_changes Inconsistent changes =
+      record { bare = changes.bare; repaired = changes.repaired; solved = changes.solved; epoch = changes.epoch }
+
+  pub next_of_told : IsNext (desk_told old time) new → IsNext old new
+  next_of_told next = record {
+    mark = next.mark;
+    admitted = next.admitted;
+    epoch = next.epoch;
+    one_more = next.one_more;
+    words = next.words;
+    lives = next.lives;
+    solved = next.solved;
+    bare = next.bare;
+  }

@@ -3,7 +3,7 @@ use Rattle.std.proofs.Common.{◌≡◌, List, [], ◌∷◌, Some, None, sym, s
 use Rattle.fg_peel.proofs.Options.{none_has_no_value}
 use Rattle.fg_playout.specs.State.{State, opening}
 use Rattle.fg_playout.specs.Facts.{Holds}
-use Rattle.fg_core.specs.Core.{Call, media, parity, play, flush, play_of, IsCallOn, CanCallOn, AreCallsOn}
+use Rattle.fg_core.specs.Core.{Call, media, parity, play, flush, held, play_of, IsCallOn, CanCallOn, AreCallsOn}
 use Rattle.fg_core.specs.Below.{CallLaws}
 use Rattle.fg_core.specs.Laws.{CallsMakeOneDesk}
 
@@ -17,6 +17,9 @@ module _ (laws : CallLaws) where
   holds_after old new (flush None) holds can is = laws.facts.flush old new None holds is
   holds_after old new (flush (Some played)) holds can is =
       laws.facts.flush old new (Some (play_of played is.0)) holds is.1
+  holds_after old new (held time None) holds can is = laws.facts.held old new time None holds is
+  holds_after old new (held time (Some played)) holds can is =
+      laws.facts.held old new time (Some (play_of played is.0)) holds is.1
 
   -- and it has one outcome.
   one_after :
@@ -30,6 +33,9 @@ module _ (laws : CallLaws) where
   one_after old one other (flush None) holds is is' = (laws.one.flush old one other None None holds is is').1
   one_after old one other (flush (Some played)) holds is is' =
       (laws.one.flush old one other (Some (play_of played is.0)) (Some (play_of played is'.0)) holds is.1 is'.1).1
+  one_after old one other (held time None) holds is is' = (laws.one.held old one other time None None holds is is').1
+  one_after old one other (held time (Some played)) holds is is' =
+      (laws.one.held old one other time (Some (play_of played is.0)) (Some (play_of played is'.0)) holds is.1 is'.1).1
 
   -- So do calls one after another.
   one_after_all :

@@ -18,6 +18,7 @@ use Rattle.fg_playout.specs.State.{State, Live, Words}
 use Rattle.fg_playout.specs.Admission.{Parity, AdmitsMedia, AdmitsParity}
 use Rattle.fg_desk.specs.Contents.{Contents, opened, known_in, filled, IsAfterArrival, ChangesInPlay}
 use Rattle.fg_playout.specs.Play.{Play, IsPlay, IsFlushStep, Flushes}
+use Rattle.fg_playout.specs.Held.{IsHeldStep}
 use Rattle.fg_core.specs.declared.key.Key.{Key}
 use Rattle.fg_core.specs.declared.fate.Fate.{Fate}
 use Rattle.fg_core.specs.declared.fate.Fate.TheVariants.{Done, Beaten, Gone}
@@ -108,6 +109,15 @@ FlushesOn old None new =
     × KeepsNotes old new
 FlushesOn old (Some play) new =
     IsFlushStep old.desk.state play new.desk.state × ChangesInPlay play.outcome old.desk new.desk × KeepsNotes old new
+
+-- It tells the desk a time, and makes a held play, where one is defined.
+abbrev pub PlaysHeldOn : BoardState → ℕ → Option Play → BoardState → Type 0
+PlaysHeldOn old time None new =
+    IsHeldStep old.desk.state time None new.desk.state × (new.desk ≡ record old.desk { state = new.desk.state })
+    × KeepsNotes old new
+PlaysHeldOn old time (Some play) new =
+    IsHeldStep old.desk.state time (Some play) new.desk.state × ChangesInPlay play.outcome old.desk new.desk
+    × KeepsNotes old new
 
 -- What passes do
 

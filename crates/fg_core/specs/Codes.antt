@@ -12,7 +12,7 @@ use Rattle.fg_desk.specs.declared.desk.Played.{Played}
 use Rattle.fg_playout.specs.Admission.{Parity}
 use Rattle.fg_core.specs.Board.{BoardState}
 use Rattle.fg_core.specs.Views.{Told, saw, word_at, equation_is, Grows}
-use Rattle.fg_core.specs.Core.{Call, media, parity, play, flush, IsOwned}
+use Rattle.fg_core.specs.Core.{Call, media, parity, play, flush, held, IsOwned}
 
 -- A list of numbers.
 abbrev pub Entry : Type 0
@@ -72,7 +72,7 @@ abbrev pub outcome_from : ℕ → Outcome
 outcome_from zero = Repaired
 outcome_from _ = Inconsistent
 
--- Calls: a media datagram, a parity datagram, a play, a flush step.
+-- Calls: a media datagram, a parity datagram, a play, a flush step, a held step.
 
 abbrev pub played_code : Played → Entry
 played_code played = played.first ∷ played.count ∷ outcome_code played.verdict ∷ []
@@ -87,6 +87,8 @@ call_code (parity given reply (Some key)) =
 call_code (play played) = 3 ∷ played_code played
 call_code (flush None) = 4 ∷ []
 call_code (flush (Some played)) = 5 ∷ played_code played
+call_code (held time None) = 6 ∷ time ∷ []
+call_code (held time (Some played)) = 7 ∷ time ∷ played_code played
 
 abbrev pub parity_from : ℕ → ℕ → ℕ → Entry → Parity
 parity_from base offset count word =
@@ -103,18 +105,21 @@ call_from (suc (suc zero) ∷ place ∷ serial ∷ epoch ∷ base ∷ offset ∷
     parity (parity_from base offset count word) (reply_from reply)
     (Some (record { place = place; serial = serial; epoch = epoch }))
 call_from (suc (suc (suc zero)) ∷ first ∷ count ∷ outcome ∷ rest) = play (played_from first count outcome)
-call_from (suc (suc (suc (suc (suc kind)))) ∷ first ∷ count ∷ outcome ∷ rest) =
+call_from (suc (suc (suc (suc (suc zero)))) ∷ first ∷ count ∷ outcome ∷ rest) =
     flush (Some (played_from first count outcome))
+call_from (suc (suc (suc (suc (suc (suc zero))))) ∷ time ∷ rest) = held time None
+call_from (suc (suc (suc (suc (suc (suc (suc kind)))))) ∷ time ∷ first ∷ count ∷ outcome ∷ rest) =
+    held time (Some (played_from first count outcome))
 call_from _ = flush None
 
--- The list with which the admitter's calls begin: the window and the depth.
+-- The list with which the admitter's calls begin: the window, the depth and the hold.
 abbrev pub opening_code : Playout → Entry
-opening_code playout = playout.window ∷ playout.depth ∷ []
+opening_code playout = playout.window ∷ playout.depth ∷ playout.hold ∷ []
 
 -- What entries, the first of them the opening, make of a board.
 abbrev pub IsOwnedBy : List Entry → BoardState → Type 0
-IsOwnedBy ((window ∷ depth ∷ rest) ∷ entries) board =
-    IsOwned (record { window = window; depth = depth }) (map call_from entries) board
+IsOwnedBy ((window ∷ depth ∷ hold ∷ rest) ∷ entries) board =
+    IsOwned (record { window = window; depth = depth; hold = hold }) (map call_from entries) board
 IsOwnedBy _ board = ⊥
 
 -- A board has grown from what these lists tell.

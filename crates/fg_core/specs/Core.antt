@@ -1,5 +1,5 @@
 -- The core events of a board, the calls of its admitter, and runs of the core. This project's own.
-use Rattle.std.specs.Prelude.{◌≡◌, ◌≤◌, ◌==◌, ⊤, ℕ, Bool, true, List, [], ◌∷◌, ◌++◌, length, Option, Some, None, IsSome, if◌then◌else◌}
+use Rattle.std.specs.Prelude.{◌≡◌, ◌≢◌, ◌≤◌, ◌==◌, ⊤, ℕ, Bool, true, List, [], ◌∷◌, ◌++◌, length, Option, Some, None, IsSome, if◌then◌else◌}
 use Rattle.std.specs.List.{All}
 use Rattle.std.specs.FinMap.{get}
 use Rattle.std.specs.FinSet.{contains}
@@ -16,7 +16,8 @@ use Rattle.fg_playout.specs.Room.{HasRoom}
 use Rattle.fg_desk.specs.Contents.{AreSolved, known_in}
 use Rattle.fg_playout.specs.Facts.{Holds}
 use Rattle.fg_playout.specs.Play.{Play, Shown, IsPlay, Flushes, HasMore}
-use Rattle.fg_core.specs.Board.{BoardState, JobState, IsLive, opened_board, GivesKey, AdmitsMediaOn, AdmitsParityOn, PlaysOn, FlushesOn, Takes, Publishes, Offers, Vouches, Attests, GivesBack, Looks}
+use Rattle.fg_playout.specs.Held.{IsHeldStep}
+use Rattle.fg_core.specs.Board.{BoardState, JobState, IsLive, opened_board, GivesKey, AdmitsMediaOn, AdmitsParityOn, PlaysOn, FlushesOn, PlaysHeldOn, Takes, Publishes, Offers, Vouches, Attests, GivesBack, Looks}
 use Rattle.fg_core.specs.Views.{Told, word_at, equation_is, seen_of, IsWorked, IsChecked, told_of_job}
 use Rattle.fg_core.specs.declared.key.Key.{Key}
 use Rattle.fg_core.specs.declared.fate.Fate.{Fate}
@@ -27,12 +28,13 @@ use Rattle.fg_core.specs.declared.fate.Look.TheVariants as looked
 -- The admitter's calls
 
 -- A call of the admitter, with its arguments and its answer: a media datagram of a sequence number and an SSRC, a parity
--- datagram, a play, a flush step.
+-- datagram, a play, a flush step, a held step at a time.
 pub data Call : Type 0 where
   media : ℕ → ℕ → Word → Reply → Call
   parity : Parity → Reply → Option Key → Call
   play : Played → Call
   flush : Option Played → Call
+  held : ℕ → Option Played → Call
 
 -- A play, as its answer and what it shows tell it.
 abbrev pub play_of : Played → List Shown → Play
@@ -50,14 +52,19 @@ IsCallOn old (play played) new =
 IsCallOn old (flush None) new = Flushes old None new
 IsCallOn old (flush (Some played)) new =
     (shown : List Shown) × Flushes old (Some (play_of played shown)) new × CountIs played shown
+IsCallOn old (held time None) new = IsHeldStep old time None new
+IsCallOn old (held time (Some played)) new =
+    (shown : List Shown) × IsHeldStep old time (Some (play_of played shown)) new × CountIs played shown
 
--- The conditions of a call. A datagram of a fresh SSRC begins a run, so nothing may be left to be shown.
+-- The conditions of a call. A datagram of a fresh SSRC begins a run, so nothing may be left to be shown. Held steps are made where
+-- a word may not wait for ever.
 abbrev pub CanCallOn : State → Call → Type 0
 CanCallOn desk (media seq ssrc word reply) =
     HasRoom desk × (¬ IsDue desk seq ssrc) × (IsFresh desk ssrc → ¬ HasMore desk) × IsMedia word
 CanCallOn desk (parity given reply key) = HasRoom desk × IsShape given.offset given.count
 CanCallOn desk (play played) = HasRoom desk × IsSome desk.top
 CanCallOn desk (flush played) = HasRoom desk
+CanCallOn desk (held time played) = HasRoom desk × (desk.playout.hold ≢ 0)
 
 -- What calls make of it one after another, each where its conditions are met.
 abbrev pub AreCallsOn : State → List Call → State → Type 0
@@ -72,6 +79,7 @@ KeyIsOf epoch (parity given reply None) = ⊤
 KeyIsOf epoch (parity given reply (Some key)) = key.epoch ≤ epoch
 KeyIsOf epoch (play played) = ⊤
 KeyIsOf epoch (flush played) = ⊤
+KeyIsOf epoch (held time played) = ⊤
 
 -- What the admitter's calls make of a board, whatever passes did between them.
 pub record IsOwned (playout : Playout) (calls : List Call) (board : BoardState) : Type 0 where
@@ -102,6 +110,9 @@ IsCall old (play played) new =
 IsCall old (flush None) new = FlushesOn old None new
 IsCall old (flush (Some played)) new =
     (shown : List Shown) × FlushesOn old (Some (play_of played shown)) new × CountIs played shown
+IsCall old (held time None) new = PlaysHeldOn old time None new
+IsCall old (held time (Some played)) new =
+    (shown : List Shown) × PlaysHeldOn old time (Some (play_of played shown)) new × CountIs played shown
 
 -- The passes' events
 

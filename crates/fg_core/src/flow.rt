@@ -1,6 +1,6 @@
 //! The state of a board: a desk, and which of its live equations are handed out and which were vouched for.
 
-ghost use Rattle.std.specs.Prelude.{◌≡◌, ◌↔◌, ◌<◌, ◌≤◌, length, Some, None, Option, IsSome, IfOk, IfErr, IfSome, IfNone, IsTrue, option_map};
+ghost use Rattle.std.specs.Prelude.{◌≡◌, ◌≢◌, ◌↔◌, ◌<◌, ◌≤◌, length, Some, None, Option, IsSome, IfOk, IfErr, IfSome, IfNone, IsTrue, option_map};
 ghost use Rattle.std.specs.FinMap.{get};
 ghost use Rattle.fg_words.specs.Word.{IsMedia};
 ghost use Rattle.fg_shape.specs.Shape.{IsShape};
@@ -10,7 +10,7 @@ ghost use Rattle.fg_playout.specs.Admission.{IsDue, IsFresh};
 ghost use Rattle.fg_playout.specs.Play.{HasMore};
 ghost use Rattle.fg_playout.specs.Room.{HasRoom};
 ghost use Rattle.fg_desk.specs.Contents.{CanFill, known_in};
-ghost use Rattle.fg_core.specs.Board.{opened_board, IsCurrent, IsHeld, AdmitsMediaOn, AdmitsParityOn, PlaysOn, FlushesOn, Takes, Offers, Publishes, Attests, Vouches, GivesBack, Looks, Asks, TellsReadable, with_vouched, VouchedAreComplete};
+ghost use Rattle.fg_core.specs.Board.{opened_board, IsCurrent, IsHeld, AdmitsMediaOn, AdmitsParityOn, PlaysOn, FlushesOn, PlaysHeldOn, Takes, Offers, Publishes, Attests, Vouches, GivesBack, Looks, Asks, TellsReadable, with_vouched, VouchedAreComplete};
 ghost use Rattle.fg_core.specs.Flow.{with_handed};
 ghost use Rattle.fg_core.specs.Core.{play_of};
 
@@ -68,14 +68,15 @@ fn is_held(desk: &Desk, key: Key) -> bool
 }
 
 impl Flow {
-    /// A new board's state. All its memory is taken here.
-    pub fn new(alloc: Global, window: u32, depth: u32) -> Result<Flow, AllocError>
+    /// A new board's state. No word waits longer than `hold` microseconds by the times that are told, or for 0 as long as it
+    /// has to. All its memory is taken here.
+    pub fn new(alloc: Global, window: u32, depth: u32, hold: u64) -> Result<Flow, AllocError>
         requires window { (1 ≤ window) × (window ≤ 100) }
         requires depth { (window ≤ depth) × (depth ≤ 1000) }
-        ensures { IfOk result (λ flow. flow ≡ opened_board (record { window = window; depth = depth })) }
+        ensures { IfOk result (λ flow. flow ≡ opened_board (record { window = window; depth = depth; hold = hold })) }
     {
         let held = Held {
-            desk: Desk::new(alloc, window, depth)?,
+            desk: Desk::new(alloc, window, depth, hold)?,
             notes: Notes::new(alloc)?,
         };
         Ok(Flow {
@@ -102,6 +103,13 @@ impl Flow {
         ensures { result ≡ self.now.desk.state.previous }
     {
         self.held.desk.previous()
+    }
+
+    /// How long a received word may wait, in microseconds. 0 where it may wait for ever.
+    pub fn hold(&self) -> u64
+        ensures { result ≡ self.now.desk.state.playout.hold }
+    {
+        self.held.desk.hold()
     }
 
     /// How many runs were begun.
@@ -185,6 +193,19 @@ impl Flow {
         ensures tray { tray.new.window ≡ tray.old.window }
     {
         self.held.desk.flush_step(tray)
+    }
+
+    /// Tells the desk the time of a datagram, in microseconds, and makes a held play, where one is defined.
+    pub fn held_step(&mut self, time: u64, tray: &mut Tray) -> Option<Played>
+        requires room { HasRoom self.old.desk.state }
+        requires limited { self.old.desk.state.playout.hold ≢ 0 }
+        requires tray { self.old.desk.state.playout.window ≤ tray.old.window }
+        ensures held { PlaysHeldOn self.old time (option_map (λ played. play_of played tray.new.shown) result) self.new }
+        ensures count { IfSome result (λ played. played.count ≡ length tray.new.shown) }
+        ensures none { IfNone result (tray.new ≡ tray.old) }
+        ensures tray { tray.new.window ≡ tray.old.window }
+    {
+        self.held.desk.held_step(time, tray)
     }
 
     /// Hands out the open equation of the least serial number, with a share of each word known at its slots. Want of

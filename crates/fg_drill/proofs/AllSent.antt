@@ -8,16 +8,16 @@ use Rattle.fg_shape.specs.Laws.{LayoutsAreRead}
 use Rattle.fg_rtp.specs.Laws.{WrittenIsRead as MediaWrittenIsRead}
 use Rattle.fg_fechead.specs.Laws.{WrittenIsRead as ParityWrittenIsRead}
 use Rattle.fg_trace.specs.Trace.{Record}
-use Rattle.fg_playout.specs.Run.{Arrival, carries}
+use Rattle.fg_playout.specs.Run.{Arrival}
 use Rattle.fg_encode.specs.Ends.{column_bases, columns_ending, row_bases, rows_ending}
-use Rattle.fg_encode.specs.Encoding.{column_record, encoding, records_at, row_record, sequence_of, word_at}
+use Rattle.fg_encode.specs.Encoding.{column_record, encoding, records_at, row_record}
 use Rattle.fg_encode.specs.Payloads.{ArePayloads}
 use Rattle.fg_results.specs.Flow.{Arrives, records_of}
 use Rattle.fg_results.proofs.ArrivalLemmas.{is_of_its_flow}
 use Rattle.fg_thin.specs.Thinned.{without}
 use Rattle.fg_drill.specs.Sent.{source_sent}
 use Rattle.fg_drill.specs.True.{AreInFull}
-use Rattle.fg_drill.proofs.Reading.{column_arrival, column_can_arrive, media_can_arrive, row_arrival, row_can_arrive}
+use Rattle.fg_drill.proofs.Reading.{column_arrival, column_can_arrive, media_arrival, media_can_arrive, row_arrival, row_can_arrive}
 
 -- Nothing is left out
 
@@ -60,9 +60,9 @@ module _ (settings : Settings) (payloads : List (List ℕ)) (most : settings.pac
   -- What is sent for a slot arrives as this.
   abbrev arrivals_at : ℕ → List Arrival
   arrivals_at slot =
-      carries (sequence_of settings slot) (source_sent settings) (word_at settings payloads slot)
-      ∷ map (column_arrival settings payloads most are) (columns_ending settings.layout slot)
-      ++ map (row_arrival settings payloads most are) (rows_ending settings.layout slot)
+      media_arrival settings payloads most are slot
+      ∷ map (column_arrival settings payloads most are slot) (columns_ending settings.layout slot)
+      ++ map (row_arrival settings payloads most are slot) (rows_ending settings.layout slot)
 
   abbrev pub all_arrivals : List Arrival
   all_arrivals = flat_map arrivals_at (range_with_len 0 (length payloads))
@@ -71,10 +71,11 @@ module _ (settings : Settings) (payloads : List (List ℕ)) (most : settings.pac
     columns_arrive :
         (slot : ℕ) → slot < length payloads
         → AllZip (Arrives settings.port) (map (column_record settings payloads slot) (columns_ending settings.layout slot))
-        (map (column_arrival settings payloads most are) (columns_ending settings.layout slot))
+        (map (column_arrival settings payloads most are slot) (columns_ending settings.layout slot))
     columns_arrive slot below =
-        let R : ℕ → Type 0 = λ base. Arrives settings.port (column_record settings payloads slot base) (column_arrival settings payloads most are base) in
-        zip_map (Arrives settings.port) (column_record settings payloads slot) (column_arrival settings payloads most are)
+        let R : ℕ → Type 0 = λ base. Arrives settings.port (column_record settings payloads slot base)
+        (column_arrival settings payloads most are slot base) in
+        zip_map (Arrives settings.port) (column_record settings payloads slot) (column_arrival settings payloads most are slot)
         (columns_ending settings.layout slot)
         (All-weaker (λ base. ((base + (settings.layout.d - 1) * settings.layout.l) == slot) ≡ true) R
         (λ base passes.
@@ -86,11 +87,13 @@ module _ (settings : Settings) (payloads : List (List ℕ)) (most : settings.pac
     some_rows_arrive :
         (slot : ℕ) (sent : Bool) → slot < length payloads
         → let bases : List ℕ = cond sent (filter (λ base. (base + (settings.layout.l - 1)) == slot) (row_bases settings.layout (slot + 1))) [] in
-        AllZip (Arrives settings.port) (map (row_record settings payloads slot) bases) (map (row_arrival settings payloads most are) bases)
+        AllZip (Arrives settings.port) (map (row_record settings payloads slot) bases)
+        (map (row_arrival settings payloads most are slot) bases)
     some_rows_arrive slot true below =
-        let R : ℕ → Type 0 = λ base. Arrives settings.port (row_record settings payloads slot base) (row_arrival settings payloads most are base) in
+        let R : ℕ → Type 0 = λ base. Arrives settings.port (row_record settings payloads slot base)
+        (row_arrival settings payloads most are slot base) in
         let bases : List ℕ = filter (λ base. (base + (settings.layout.l - 1)) == slot) (row_bases settings.layout (slot + 1)) in
-        zip_map (Arrives settings.port) (row_record settings payloads slot) (row_arrival settings payloads most are) bases
+        zip_map (Arrives settings.port) (row_record settings payloads slot) (row_arrival settings payloads most are slot) bases
         (All-weaker (λ base. ((base + (settings.layout.l - 1)) == slot) ≡ true) R
         (λ base passes.
         let ends : base + (settings.layout.l - 1) ≡ slot = eqb-true (base + (settings.layout.l - 1)) slot passes in
@@ -105,8 +108,8 @@ module _ (settings : Settings) (payloads : List (List ℕ)) (most : settings.pac
       zip_append (Arrives settings.port)
           (map (column_record settings payloads slot) (columns_ending settings.layout slot))
           (map (row_record settings payloads slot) (rows_ending settings.layout slot))
-          (map (column_arrival settings payloads most are) (columns_ending settings.layout slot))
-          (map (row_arrival settings payloads most are) (rows_ending settings.layout slot))
+          (map (column_arrival settings payloads most are slot) (columns_ending settings.layout slot))
+          (map (row_arrival settings payloads most are slot) (rows_ending settings.layout slot))
           (columns_arrive slot below) (some_rows_arrive slot settings.layout.rows below),
     )
 
@@ -128,16 +131,17 @@ module _ (settings : Settings) (payloads : List (List ℕ)) (most : settings.pac
 
   -- Parities are passed over.
   columns_passed :
-      (count next : ℕ) (bases : List ℕ) (rest : List Arrival) → AreInFull settings.seq (source_sent settings) count next rest
-      → AreInFull settings.seq (source_sent settings) count next (map (column_arrival settings payloads most are) bases ++ rest)
-  columns_passed count next [] rest full = full
-  columns_passed count next (base ∷ bases) rest full = columns_passed count next bases rest full
+      (slot count next : ℕ) (bases : List ℕ) (rest : List Arrival) → AreInFull settings.seq (source_sent settings) count next rest
+      → AreInFull settings.seq (source_sent settings) count next
+      (map (column_arrival settings payloads most are slot) bases ++ rest)
+  columns_passed slot count next [] rest full = full
+  columns_passed slot count next (base ∷ bases) rest full = columns_passed slot count next bases rest full
 
   rows_passed :
-      (count next : ℕ) (bases : List ℕ) (rest : List Arrival) → AreInFull settings.seq (source_sent settings) count next rest
-      → AreInFull settings.seq (source_sent settings) count next (map (row_arrival settings payloads most are) bases ++ rest)
-  rows_passed count next [] rest full = full
-  rows_passed count next (base ∷ bases) rest full = rows_passed count next bases rest full
+      (slot count next : ℕ) (bases : List ℕ) (rest : List Arrival) → AreInFull settings.seq (source_sent settings) count next rest
+      → AreInFull settings.seq (source_sent settings) count next (map (row_arrival settings payloads most are slot) bases ++ rest)
+  rows_passed slot count next [] rest full = full
+  rows_passed slot count next (base ∷ bases) rest full = rows_passed slot count next bases rest full
 
   slots_in_full :
       (slot n count : ℕ) → slot + n ≡ count → AreInFull settings.seq (source_sent settings) count slot (flat_map arrivals_at (range_with_len slot n))
@@ -149,9 +153,10 @@ module _ (settings : Settings) (payloads : List (List ℕ)) (most : settings.pac
         refl,
         refl,
         subst (λ (more : List Arrival). AreInFull settings.seq (source_sent settings) count (slot + 1) more)
-            (sym (append_assoc (map (column_arrival settings payloads most are) columns) (map (row_arrival settings payloads most are) rows) rest))
-            (columns_passed count (slot + 1) columns (map (row_arrival settings payloads most are) rows ++ rest)
-            (rows_passed count (slot + 1) rows rest (slots_in_full (slot + 1) n count (omega (arith, same))))),
+            (sym (append_assoc (map (column_arrival settings payloads most are slot) columns)
+            (map (row_arrival settings payloads most are slot) rows) rest))
+            (columns_passed slot count (slot + 1) columns (map (row_arrival settings payloads most are slot) rows ++ rest)
+            (rows_passed slot count (slot + 1) rows rest (slots_in_full (slot + 1) n count (omega (arith, same))))),
       )
 
   pub all_in_full : AreInFull settings.seq (source_sent settings) (length payloads) 0 all_arrivals

@@ -14,7 +14,7 @@ use Rattle.fg_fechead.specs.Laws.{WrittenIsRead as ParityWrittenIsRead}
 use Rattle.fg_shape.specs.declared.kind.Kind.{Kind}
 use Rattle.fg_shape.specs.declared.kind.Kind.TheVariants as kind
 use Rattle.fg_shape.specs.Kind.{port_of}
-use Rattle.fg_playout.specs.Run.{Arrival, carries, protects, refused}
+use Rattle.fg_playout.specs.Run.{Arrival, carries, protects, refused, time_of}
 use Rattle.fg_encode.specs.Encoding.{bits_before, column_record, column_shape, longest, media_record, parity_at, row_record, row_shape, sequence_of, timestamp_of, word_at}
 use Rattle.fg_encode.specs.Ends.{columns_before, rows_before}
 use Rattle.fg_encode.specs.Payloads.{ArePayloads}
@@ -42,24 +42,24 @@ on_row flow kind.Row bytes a on read = read
 -- One reading
 
 pub read_as_media :
-    (bytes : List ℕ) (seq ssrc : ℕ) (word : Word) → IsMediaDatagram bytes seq ssrc word
+    (bytes : List ℕ) (time seq ssrc : ℕ) (word : Word) → IsMediaDatagram bytes seq ssrc word
     → ((seq' ssrc' : ℕ) (word' : Word) → IsMediaDatagram bytes seq' ssrc' word' → (seq ≡ seq') × (ssrc ≡ ssrc') × (word ≡ word'))
-    → (a : Arrival) → IsReadAs kind.Media bytes a → a ≡ carries seq ssrc word
-read_as_media bytes seq ssrc word is one (carries seq' ssrc' word') read =
+    → (a : Arrival) → time_of a ≡ time → IsReadAs kind.Media bytes a → a ≡ carries time seq ssrc word
+read_as_media bytes time seq ssrc word is one (carries time' seq' ssrc' word') at read =
     let same = one seq' ssrc' word' read in
-    λ i. carries (sym same.0 i) (sym same.1 i) (sym same.2 i)
-read_as_media bytes seq ssrc word is one (protects by parity) read = absurd read
-read_as_media bytes seq ssrc word is one (refused by) read = absurd (read.1 seq ssrc word is)
+    λ i. carries (at i) (sym same.0 i) (sym same.1 i) (sym same.2 i)
+read_as_media bytes time seq ssrc word is one (protects time' by parity) at read = absurd read
+read_as_media bytes time seq ssrc word is one (refused time' by) at read = absurd (read.1 seq ssrc word is)
 
 pub read_as_parity :
-    (by : Kind) (bytes : List ℕ) (p : ParityRead) → IsParityDatagram bytes p
+    (by : Kind) (bytes : List ℕ) (time : ℕ) (p : ParityRead) → IsParityDatagram bytes p
     → ((other : ParityRead) → IsParityDatagram bytes other → p ≡ other)
-    → (a : Arrival) → IsReadAsParity by bytes a → a ≡ protects by (parity_of p)
-read_as_parity by bytes p is one (carries seq ssrc word) read = absurd read
-read_as_parity by bytes p is one (protects other parity) read =
+    → (a : Arrival) → time_of a ≡ time → IsReadAsParity by bytes a → a ≡ protects time by (parity_of p)
+read_as_parity by bytes time p is one (carries time' seq ssrc word) at read = absurd read
+read_as_parity by bytes time p is one (protects time' other parity) at read =
     let same : parity ≡ parity_of p = read.1.2 ∙ ap parity_of (sym (one read.1.0 read.1.1)) in
-    λ i. protects (read.0 i) (same i)
-read_as_parity by bytes p is one (refused other) read = absurd (read.1 p is)
+    λ i. protects (at i) (read.0 i) (same i)
+read_as_parity by bytes time p is one (refused time' other) at read = absurd (read.1 p is)
 
 module _ (settings : Settings) (payloads : List (List ℕ)) (most : settings.packets ≤ 7) (are : ArePayloads settings.packets payloads) where
   number_is_small : (slot : ℕ) → sequence_of settings slot < 2 ^ 16
@@ -85,23 +85,27 @@ module _ (settings : Settings) (payloads : List (List ℕ)) (most : settings.pac
       (law seq ssrc word (number_is_small slot) (time_is_small settings payloads slot) (mod_below settings.ssrc (2 ^ 32) (lit< tt))
       (word_is_media settings payloads most are slot below))
 
+  -- What it arrives as.
+  abbrev pub media_arrival : ℕ → Arrival
+  media_arrival slot =
+      carries (media_record settings payloads slot).time (sequence_of settings slot) (source_sent settings)
+      (word_at settings payloads slot)
+
   -- So it is read, and as nothing else.
   pub media_can_arrive :
       MediaWrittenIsRead → (slot : ℕ) → slot < length payloads
-      → Arrives settings.port (media_record settings payloads slot)
-      (carries (sequence_of settings slot) (source_sent settings) (word_at settings payloads slot))
-  media_can_arrive law slot below = (kind.Media, refl, (media_is_written law slot below).0)
+      → Arrives settings.port (media_record settings payloads slot) (media_arrival slot)
+  media_can_arrive law slot below = (kind.Media, refl, (media_is_written law slot below).0, refl)
 
   pub media_arrives :
       MediaWrittenIsRead → (slot : ℕ) → slot < length payloads → (a : Arrival)
-      → Arrives settings.port (media_record settings payloads slot) a
-      → a ≡ carries (sequence_of settings slot) (source_sent settings) (word_at settings payloads slot)
+      → Arrives settings.port (media_record settings payloads slot) a → a ≡ media_arrival slot
   media_arrives law slot below a arrives =
       let seq : ℕ = sequence_of settings slot in
       let word : Word = word_at settings payloads slot in
       let bytes : List ℕ = media_bytes seq settings.ssrc word in
       let written = media_is_written law slot below in
-      read_as_media bytes seq (source_sent settings) word written.0 written.1 a
+      read_as_media bytes (media_record settings payloads slot).time seq (source_sent settings) word written.0 written.1 a arrives.3
       (on_media settings.port arrives.0 bytes a arrives.1 arrives.2)
 
   -- A record of parity is a parity datagram of the parity of its equation.
@@ -118,44 +122,50 @@ module _ (settings : Settings) (payloads : List (List ℕ)) (most : settings.pac
       (sum_len settings payloads most are slots) (sum_ts settings payloads most are slots) (sum_room settings payloads most are slots)
 
   -- What a column and a row arrive as.
-  abbrev pub column_arrival : ℕ → Arrival
-  column_arrival base = protects kind.Column (parity_of (parity_at settings payloads base (column_shape settings.layout) false))
+  abbrev pub column_arrival : ℕ → ℕ → Arrival
+  column_arrival slot base =
+      protects (column_record settings payloads slot base).time kind.Column
+      (parity_of (parity_at settings payloads base (column_shape settings.layout) false))
 
-  abbrev pub row_arrival : ℕ → Arrival
-  row_arrival base = protects kind.Row (parity_of (parity_at settings payloads base (row_shape settings.layout) true))
+  abbrev pub row_arrival : ℕ → ℕ → Arrival
+  row_arrival slot base =
+      protects (row_record settings payloads slot base).time kind.Row
+      (parity_of (parity_at settings payloads base (row_shape settings.layout) true))
 
   pub column_can_arrive :
       ParityWrittenIsRead → (slot base : ℕ) → IsShape settings.layout.l settings.layout.d → base < length payloads
-      → Arrives settings.port (column_record settings payloads slot base) (column_arrival base)
+      → Arrives settings.port (column_record settings payloads slot base) (column_arrival slot base)
   column_can_arrive law slot base read below =
       let shape : Shape = column_shape settings.layout in
       let written = parity_is_written law slot base (columns_before settings.layout slot) shape false read below in
-      (kind.Column, refl, (refl, (parity_at settings payloads base shape false, written.0, refl)))
+      (kind.Column, refl, (refl, (parity_at settings payloads base shape false, written.0, refl)), refl)
 
   pub row_can_arrive :
       ParityWrittenIsRead → (slot base : ℕ) → IsShape 1 settings.layout.l → base < length payloads
-      → Arrives settings.port (row_record settings payloads slot base) (row_arrival base)
+      → Arrives settings.port (row_record settings payloads slot base) (row_arrival slot base)
   row_can_arrive law slot base read below =
       let shape : Shape = row_shape settings.layout in
       let written = parity_is_written law slot base (rows_before settings.layout slot) shape true read below in
-      (kind.Row, refl, (refl, (parity_at settings payloads base shape true, written.0, refl)))
+      (kind.Row, refl, (refl, (parity_at settings payloads base shape true, written.0, refl)), refl)
 
   pub column_arrives :
       ParityWrittenIsRead → (slot base : ℕ) → IsShape settings.layout.l settings.layout.d → base < length payloads → (a : Arrival)
-      → Arrives settings.port (column_record settings payloads slot base) a → a ≡ column_arrival base
+      → Arrives settings.port (column_record settings payloads slot base) a → a ≡ column_arrival slot base
   column_arrives law slot base read below a arrives =
       let shape : Shape = column_shape settings.layout in
       let written = parity_is_written law slot base (columns_before settings.layout slot) shape false read below in
       let bytes : List ℕ = (column_record settings payloads slot base).datagram in
-      read_as_parity kind.Column bytes (parity_at settings payloads base shape false) written.0 written.1 a
+      read_as_parity kind.Column bytes (column_record settings payloads slot base).time
+      (parity_at settings payloads base shape false) written.0 written.1 a arrives.3
       (on_column settings.port arrives.0 bytes a arrives.1 arrives.2)
 
   pub row_arrives :
       ParityWrittenIsRead → (slot base : ℕ) → IsShape 1 settings.layout.l → base < length payloads → (a : Arrival)
-      → Arrives settings.port (row_record settings payloads slot base) a → a ≡ row_arrival base
+      → Arrives settings.port (row_record settings payloads slot base) a → a ≡ row_arrival slot base
   row_arrives law slot base read below a arrives =
       let shape : Shape = row_shape settings.layout in
       let written = parity_is_written law slot base (rows_before settings.layout slot) shape true read below in
       let bytes : List ℕ = (row_record settings payloads slot base).datagram in
-      read_as_parity kind.Row bytes (parity_at settings payloads base shape true) written.0 written.1 a
+      read_as_parity kind.Row bytes (row_record settings payloads slot base).time
+      (parity_at settings payloads base shape true) written.0 written.1 a arrives.3
       (on_row settings.port arrives.0 bytes a arrives.1 arrives.2)

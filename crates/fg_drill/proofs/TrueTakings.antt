@@ -1,9 +1,9 @@
 -- True datagrams leave a true desk, and the plays before them are true.
-use Rattle.std.proofs.Common.{◌≡◌, ◌≢◌, ◌+◌, ◌≤◌, ◌==◌, ℕ, cond, ltb, List, [], ◌∷◌, Option, Some, None, IsSomeAnd, MatchOption, refl, sym, ap, subst, ◌∙◌, ⊎_elim, arith, ne_eqb, eq-eqb, le-ltb, lt-ltb}
+use Rattle.std.proofs.Common.{◌≡◌, ◌≢◌, ◌+◌, ◌-◌, ◌<◌, ◌≤◌, ◌==◌, ℕ, min, cond, ltb, List, [], ◌∷◌, Option, Some, None, IsSomeAnd, MatchOption, refl, sym, ap, subst, ◌∙◌, ⊎_elim, arith, ne_eqb, eq-eqb, le-ltb, lt-ltb}
 use Rattle.std.specs.Option.{option_map}
-use Rattle.std.proofs.lemmas.Bool.{cases_eq, cond-true, cond-false}
+use Rattle.std.proofs.lemmas.Bool.{cases_lt, cases_eq, cond-true, cond-false}
 use Rattle.std.proofs.lemmas.Option.{none-some, same_Some}
-use Rattle.std.proofs.lemmas.List.Elements.{All-nil, All-cons}
+use Rattle.std.proofs.lemmas.List.Elements.{All-nil, All-cons, All-append}
 use Rattle.std.specs.List.{All, Contains}
 use Rattle.std.specs.FinMap.{get}
 use Rattle.fg_words.specs.declared.Word.{Word}
@@ -15,13 +15,15 @@ use Rattle.fg_shape.specs.declared.kind.Kind.{Kind}
 use Rattle.fg_playout.specs.State.{State, Top, known}
 use Rattle.fg_playout.specs.Admission.{Parity, Sender, former, own, another, is_number, sender_beside, sender_of, IsDue, IsFresh, IsReplyAt, IsReplyBy, IsMediaReply, IsTakenBy, IsLeastFree, AdmitsMedia, AdmitsParity, position_by, position_on, not_before, base_on, farther, counted, with_media, with_equation, equation_at}
 use Rattle.fg_playout.specs.Play.{Play, IsPlay}
-use Rattle.fg_playout.specs.Run.{Arrival, carries, protects, refused, ArePlaysDue, ArePlaysBefore, by_flush, by_due, Takes}
+use Rattle.fg_playout.specs.Held.{at_time, IsHeldPlay}
+use Rattle.fg_playout.specs.Run.{Arrival, carries, protects, refused, time_of, AreHeldPlays, ArePlaysHeld, unlimited, limited, ArePlaysDue, ArePlaysBefore, by_flush, by_due, TakesThen, Takes}
 use Rattle.fg_playout.specs.Facts.{Holds}
-use Rattle.fg_playout.specs.Laws.{LiveStandUnderSerials, SolutionsArePeelings, MediaAdds, ParityAdds, HavePlayed}
+use Rattle.fg_playout.specs.Laws.{LiveStandUnderSerials, SolutionsArePeelings, MediaAdds, ParityAdds, FactsAreKept}
 use Rattle.fg_drill.specs.True.{number_of, IsTrueParity, IsTrueArrival, ComesInTurn, last_after}
 use Rattle.fg_drill.proofs.TrueNumbers.{position_is}
 use Rattle.fg_peel.proofs.Options.{none_or_some, some_and}
 use Rattle.fg_playout.proofs.Orderly.{known_ahead}
+use Rattle.fg_playout.proofs.Held.{at_time_holds, held_is_received}
 use Rattle.fg_drill.proofs.TrueDesks.{IsTrueWindow, IsTruePlay, play_is_true, received_before, true_after_play}
 
 -- The slot after the last media datagram.
@@ -47,16 +49,16 @@ InReach None slot = slot ≡ 0
 InReach (Some before) slot = (before ≤ slot + 32768) × (slot ≤ before + 32767)
 
 pub media_reaches :
-    (last : Option ℕ) (slot number source : ℕ) (word : Word) → ComesInTurn last slot (carries number source word)
+    (last : Option ℕ) (slot time number source : ℕ) (word : Word) → ComesInTurn last slot (carries time number source word)
     → InReach last slot
-media_reaches None slot number source word turn = turn
-media_reaches (Some before) slot number source word turn = (omega (arith, turn.0), omega (arith, turn.1))
+media_reaches None slot time number source word turn = turn
+media_reaches (Some before) slot time number source word turn = (omega (arith, turn.0), omega (arith, turn.1))
 
 pub media_is_next :
-    (last : Option ℕ) (slot number source : ℕ) (word : Word) → ComesInTurn last slot (carries number source word)
+    (last : Option ℕ) (slot time number source : ℕ) (word : Word) → ComesInTurn last slot (carries time number source word)
     → next_slot last ≤ slot
-media_is_next None slot number source word turn = omega arith
-media_is_next (Some before) slot number source word turn = omega (arith, turn.0)
+media_is_next None slot time number source word turn = omega arith
+media_is_next (Some before) slot time number source word turn = omega (arith, turn.0)
 
 -- Whose a media datagram of the one sender is: before the first one another's, and then the run's own.
 abbrev sender_at : ℕ → ℕ → Option ℕ → Sender
@@ -253,16 +255,16 @@ module _ (truth : ℕ → Option Word) (seq ssrc : ℕ) where
 
   -- A parity datagram comes after a media datagram.
   some_before :
-      (slot : ℕ) (last : Option ℕ) (stream : Kind) (parity : Parity) → ComesInTurn last slot (protects stream parity)
+      (slot time : ℕ) (last : Option ℕ) (stream : Kind) (parity : Parity) → ComesInTurn last slot (protects time stream parity)
       → (before : ℕ) × (last ≡ Some before)
-  some_before slot None stream parity turn = absurd turn
-  some_before slot (Some before) stream parity turn = (before, refl)
+  some_before slot time None stream parity turn = absurd turn
+  some_before slot time (Some before) stream parity turn = (before, refl)
 
   parity_reaches :
-      (slot : ℕ) (last : Option ℕ) (stream : Kind) (parity : Parity) (is : IsTrueParity seq truth slot parity)
-      → ComesInTurn last slot (protects stream parity) → InReach last is.base
-  parity_reaches slot None stream parity is turn = absurd turn
-  parity_reaches slot (Some before) stream parity is turn =
+      (slot time : ℕ) (last : Option ℕ) (stream : Kind) (parity : Parity) (is : IsTrueParity seq truth slot parity)
+      → ComesInTurn last slot (protects time stream parity) → InReach last is.base
+  parity_reaches slot time None stream parity is turn = absurd turn
+  parity_reaches slot time (Some before) stream parity is turn =
       let ends = is.ends in
       let span = is.shape.span in
       (omega (arith, ends, span, turn.0), omega (arith, ends, span, turn.1))
@@ -288,6 +290,13 @@ module _ (truth : ℕ → Option Word) (seq ssrc : ℕ) where
     pub window : IsTrueWindow truth desk
     pub top : IsTrueTop seq ssrc last (next_slot last) desk
 
+  -- A time that is told changes nothing of it, and nor does a call.
+  told_leaves_truth : (old : State) (time : ℕ) (last : Option ℕ) → LeavesTruth last old → LeavesTruth last (at_time old time)
+  told_leaves_truth old time last is = record {
+    window = record { known_true = is.window.known_true; settled = is.window.settled };
+    top = parity_leaves_top old (at_time old time) (next_slot last) last is.top refl refl refl refl refl;
+  }
+
   counted_leaves_truth : (old new : State) (last : Option ℕ) → LeavesTruth last old → new ≡ counted old → LeavesTruth last new
   counted_leaves_truth old new last is same =
       subst (LeavesTruth last) (sym same)
@@ -297,16 +306,16 @@ module _ (truth : ℕ → Option Word) (seq ssrc : ℕ) where
       })
 
   parity_leaves_truth :
-      (old new : State) (slot : ℕ) (last : Option ℕ) (stream : Kind) (parity : Parity) (reply : Reply) → ParityAdds
+      (old new : State) (slot time : ℕ) (last : Option ℕ) (stream : Kind) (parity : Parity) (reply : Reply) → ParityAdds
       → Holds old → LeavesTruth last old → IsTrueParity seq truth slot parity
-      → ComesInTurn last slot (protects stream parity) → AdmitsParity old parity reply new → LeavesTruth last new
-  parity_leaves_truth old new slot last stream parity Admitted adds holds is true_parity turn admits =
+      → ComesInTurn last slot (protects time stream parity) → AdmitsParity old parity reply new → LeavesTruth last new
+  parity_leaves_truth old new slot time last stream parity Admitted adds holds is true_parity turn admits =
       let a = adds old new parity holds admits in
-      let before = some_before slot last stream parity turn in
+      let before = some_before slot time last stream parity turn in
       let at : base_on old parity.base ≡ Some true_parity.base =
       ap (base_on old) true_parity.base_is
       ∙ base_is_slot seq ssrc last (next_slot last) old is.top true_parity.base before.0 before.1
-      (parity_reaches slot last stream parity true_parity turn) in
+      (parity_reaches slot time last stream parity true_parity turn) in
       let same : a.0 ≡ true_parity.base = same_Some a.0 true_parity.base (sym a.1 ∙ at) in
       let after = some_and (base_on old parity.base)
       (λ position. (place : ℕ) × IsLeastFree old.equations place × (new ≡ with_equation old place (equation_at position parity)))
@@ -323,12 +332,13 @@ module _ (truth : ℕ → Option Word) (seq ssrc : ℕ) where
         top = parity_leaves_top old new (next_slot last) last is.top (ap (λ (s : State). s.top) desk)
             (ap (λ (s : State). s.previous) desk) (ap (λ (s : State). s.origin) desk) (ap (λ (s : State). s.mark) desk) a.3;
       }
-  parity_leaves_truth old new slot last stream parity reply adds holds is true_parity turn admits =
+  parity_leaves_truth old new slot time last stream parity reply adds holds is true_parity turn admits =
       counted_leaves_truth old new last is admits.after
 
--- The facts hold on each desk that plays before a datagram of this number leave.
-abbrev pub HoldsWhilePlayed : State → ℕ → ℕ → Type 0
-HoldsWhilePlayed old number source = (due : List Play) (now : State) → HavePlayed old number source due now → Holds now
+-- Where a play is due there is a top.
+due_has_top : (desk : State) (number source : ℕ) → IsDue desk number source → desk.top ≢ None
+due_has_top desk number source due none =
+    subst (λ (t : Option Top). IsDue (record desk { top = t }) number source) none due
 
 -- What is true after the plays that are due before the media datagram of a slot.
 pub record ArePlayedTrue
@@ -340,7 +350,8 @@ pub record ArePlayedTrue
 
 module _
     (stand : LiveStandUnderSerials) (peelings : SolutionsArePeelings) (solvable : TruthIsSolvable) (found : SolutionsAreTrue)
-    (media_adds : MediaAdds) (parity_adds : ParityAdds) (truth : ℕ → Option Word) (media : AreMedia truth) (seq ssrc : ℕ) where
+    (keeps : FactsAreKept) (media_adds : MediaAdds) (parity_adds : ParityAdds) (truth : ℕ → Option Word)
+    (media : AreMedia truth) (seq ssrc : ℕ) where
   play_leaves_top :
       (last : Option ℕ) (slot : ℕ) (old : State) (play : Play) (new : State) → Holds old → IsTrueWindow truth old
       → IsTrueTop seq ssrc last slot old → InReach last slot → IsDue old (number_of seq slot) ssrc
@@ -364,18 +375,17 @@ module _
 
   pub due_plays_are_true :
       (last : Option ℕ) (slot : ℕ) (old : State) (plays : List Play) (new : State)
-      → HoldsWhilePlayed old (number_of seq slot) ssrc → IsTrueWindow truth old → IsTrueTop seq ssrc last slot old
+      → Holds old → IsTrueWindow truth old → IsTrueTop seq ssrc last slot old
       → InReach last slot → ArePlaysDue old (number_of seq slot) ssrc plays new
       → ArePlayedTrue seq ssrc truth last slot plays new
-  due_plays_are_true last slot old [] new stays is top reach due =
+  due_plays_are_true last slot old [] new holds is top reach due =
       subst (ArePlayedTrue seq ssrc truth last slot []) (sym due.1)
-      (record { made = All-nil (IsTruePlay truth); holds = stays [] old refl; window = is; top = top })
-  due_plays_are_true last slot old (play ∷ plays) new stays is top reach due =
+      (record { made = All-nil (IsTruePlay truth); holds = holds; window = is; top = top })
+  due_plays_are_true last slot old (play ∷ plays) new holds is top reach due =
       let next = due.1.0 in
-      let holds = stays [] old refl in
       let rest : ArePlayedTrue seq ssrc truth last slot plays new =
       due_plays_are_true last slot next plays new
-      (λ more now played. stays (play ∷ more) now (due.0, (next, due.1.1, played)))
+      (keeps.play old.playout.window old next play holds (due_has_top old (number_of seq slot) ssrc due.0) due.1.1)
       (true_after_play stand peelings solvable found truth media old.playout.window old play next holds is due.1.1)
       (play_leaves_top last slot old play next holds is top reach due.0 due.1.1) reach due.1.2 in
       record {
@@ -389,12 +399,12 @@ module _
   -- What is true after the plays before a media datagram: these are those that are due.
   pub plays_before_are_true :
       (last : Option ℕ) (slot : ℕ) (old : State) (plays : List Play) (ready : State)
-      → HoldsWhilePlayed old (number_of seq slot) ssrc → LeavesTruth truth seq ssrc last old → InReach last slot
+      → Holds old → LeavesTruth truth seq ssrc last old → InReach last slot
       → next_slot last ≤ slot → ArePlaysBefore old (number_of seq slot) ssrc plays ready
       → ArePlayedTrue seq ssrc truth last slot plays ready
-  plays_before_are_true last slot old plays ready stays is reach next before =
+  plays_before_are_true last slot old plays ready holds is reach next before =
       let mark = is.top.mark in
-      due_plays_are_true last slot old plays ready stays is.window
+      due_plays_are_true last slot old plays ready holds is.window
       (record {
         top = is.top.top;
         previous = is.top.previous;
@@ -404,21 +414,92 @@ module _
       })
       reach (plays_are_due seq ssrc last (next_slot last) old is.top (number_of seq slot) plays ready before)
 
+  -- A held play leaves the mark at the slot after the last media datagram, or before it: what is held was received.
+  held_play_leaves_top :
+      (last : Option ℕ) (old : State) (play : Play) (new : State) → Holds old → LeavesTruth truth seq ssrc last old
+      → IsHeldPlay old play new → IsTrueTop seq ssrc last (next_slot last) new
+  held_play_leaves_top last old play new holds is held =
+      let count : ℕ = min old.playout.window (held.greatest + 1 - old.mark) in
+      let ahead : old.mark ≤ held.greatest = held.greatest_is.inside.1 in
+      let mark : new.mark ≡ old.mark + min old.playout.window (held.greatest + 1 - old.mark) = held.plays.mark in
+      let some = held_is_received old held.greatest holds held.greatest_is.inside in
+      let near : held.greatest < next_slot last = ⊎_elim
+      (λ near. near)
+      (λ past. absurd (some (sym (known_ahead old held.greatest ahead) ∙ is.top.unknown held.greatest past ahead)))
+      (cases_lt held.greatest (next_slot last)) in
+      record {
+        top = ap (λ (s : State). s.top) held.plays.rest ∙ is.top.top;
+        previous = ap (λ (s : State). s.previous) held.plays.rest ∙ is.top.previous;
+        origin = ap (λ (s : State). s.origin) held.plays.rest ∙ is.top.origin;
+        mark = omega (arith, mark, ahead, near);
+        unknown = λ p past beyond. ⊎_elim
+            (λ none. none)
+            (λ some. absurd (none-some some.0
+            (sym (is.top.unknown p past (omega (arith, mark, beyond)))
+            ∙ received_before stand peelings solvable found truth media count old play new holds is.window held.plays p some.0
+            beyond some.1)))
+            (none_or_some (known new p));
+      }
+
+  -- What is true after held plays.
+  pub record AreHeldTrue (last : Option ℕ) (plays : List Play) (desk : State) : Type 0 where
+    pub made : All (IsTruePlay truth) plays
+    pub holds : Holds desk
+    pub leaves : LeavesTruth truth seq ssrc last desk
+
+  steps_held_are_true :
+      (last : Option ℕ) (old : State) (time : ℕ) (plays : List Play) (new : State) → Holds old
+      → LeavesTruth truth seq ssrc last old → AreHeldPlays old time plays new → AreHeldTrue last plays new
+  steps_held_are_true last old time [] new holds is steps = record {
+    made = All-nil (IsTruePlay truth);
+    holds = keeps.held old new time None holds steps;
+    leaves = counted_leaves_truth truth seq ssrc (at_time old time) new last
+        (told_leaves_truth truth seq ssrc old time last is) steps.1;
+  }
+  steps_held_are_true last old time (play ∷ plays) new holds is steps =
+      let next = steps.0 in
+      let held = steps.1 in
+      let count : ℕ = min old.playout.window (held.greatest + 1 - old.mark) in
+      let told = at_time_holds old time holds in
+      let at = told_leaves_truth truth seq ssrc old time last is in
+      let rest = steps_held_are_true last next time plays new (keeps.held old next time (Some play) holds held)
+      (record {
+        window = true_after_play stand peelings solvable found truth media count (at_time old time) play next told at.window
+            held.plays;
+        top = held_play_leaves_top last (at_time old time) play next told at held;
+      })
+      steps.2 in
+      record {
+        made = All-cons (IsTruePlay truth) play plays
+            (play_is_true stand peelings solvable found truth media count (at_time old time) play next told at.window held.plays)
+            rest.made;
+        holds = rest.holds;
+        leaves = rest.leaves;
+      }
+
+  pub held_are_true :
+      (last : Option ℕ) (old : State) (time : ℕ) (plays : List Play) (new : State) → Holds old
+      → LeavesTruth truth seq ssrc last old → ArePlaysHeld old time plays new → AreHeldTrue last plays new
+  held_are_true last old time plays new holds is (unlimited none no_plays same) =
+      subst (AreHeldTrue last plays) (sym same)
+      (record { made = subst (All (IsTruePlay truth)) (sym no_plays) (All-nil (IsTruePlay truth)); holds = holds; leaves = is })
+  held_are_true last old time plays new holds is (limited some steps) = steps_held_are_true last old time plays new holds is steps
+
   -- What one datagram leaves.
   pub record TakesTruly (last : Option ℕ) (plays : List Play) (new : State) : Type 0 where
     pub made : All (IsTruePlay truth) plays
     pub leaves : LeavesTruth truth seq ssrc last new
 
   media_is_taken_truly :
-      (last : Option ℕ) (slot : ℕ) (old : State) (word : Word) (plays : List Play) (reply : Reply) (ready new : State)
-      → HoldsWhilePlayed old (number_of seq slot) ssrc → LeavesTruth truth seq ssrc last old → truth slot ≡ Some word
-      → ComesInTurn last slot (carries (number_of seq slot) ssrc word)
+      (last : Option ℕ) (slot time : ℕ) (old : State) (word : Word) (plays : List Play) (reply : Reply) (ready new : State)
+      → Holds old → LeavesTruth truth seq ssrc last old → truth slot ≡ Some word
+      → ComesInTurn last slot (carries time (number_of seq slot) ssrc word)
       → ArePlaysBefore old (number_of seq slot) ssrc plays ready
       → AdmitsMedia ready (number_of seq slot) ssrc word reply new → TakesTruly (Some slot) plays new
-  media_is_taken_truly last slot old word plays reply ready new stays is true_word turn played admits =
-      let reach = media_reaches last slot (number_of seq slot) ssrc word turn in
-      let next = media_is_next last slot (number_of seq slot) ssrc word turn in
-      let d = plays_before_are_true last slot old plays ready stays is reach next played in
+  media_is_taken_truly last slot time old word plays reply ready new holds is true_word turn played admits =
+      let reach = media_reaches last slot time (number_of seq slot) ssrc word turn in
+      let next = media_is_next last slot time (number_of seq slot) ssrc word turn in
+      let d = plays_before_are_true last slot old plays ready holds is reach next played in
       let same : reply ≡ Admitted =
       media_is_admitted seq ssrc last slot ready d.top slot word reply reach d.top.mark next admits.reply_is in
       let admitted : AdmitsMedia ready (number_of seq slot) ssrc word Admitted new =
@@ -434,22 +515,38 @@ module _
         };
       }
 
-  pub is_taken_truly :
+  then_is_taken_truly :
       (last : Option ℕ) (slot : ℕ) (old : State) (arrival : Arrival) (plays : List Play) (reply : Option Reply) (new : State)
-      → ((number : ℕ) → HoldsWhilePlayed old number ssrc) → LeavesTruth truth seq ssrc last old
-      → IsTrueArrival seq ssrc truth slot arrival → ComesInTurn last slot arrival → Takes old arrival plays reply new
+      → Holds old → LeavesTruth truth seq ssrc last old
+      → IsTrueArrival seq ssrc truth slot arrival → ComesInTurn last slot arrival → TakesThen old arrival plays reply new
       → TakesTruly (last_after last slot arrival) plays new
-  is_taken_truly last slot old (carries number source word) plays None new stays is true_word turn takes = absurd takes
-  is_taken_truly last slot old (carries number source word) plays (Some reply) new stays is true_word turn takes =
-      media_is_taken_truly last slot old word plays reply takes.0 new (stays (number_of seq slot)) is true_word.2 turn
+  then_is_taken_truly last slot old (carries time number source word) plays None new holds is true_word turn takes = absurd takes
+  then_is_taken_truly last slot old (carries time number source word) plays (Some reply) new holds is true_word turn takes =
+      media_is_taken_truly last slot time old word plays reply takes.0 new holds is true_word.2 turn
       (subst (λ (s : ℕ). ArePlaysBefore old (number_of seq slot) s plays takes.0) true_word.1
       (subst (λ (n : ℕ). ArePlaysBefore old n source plays takes.0) true_word.0 takes.1))
       (subst (λ (s : ℕ). AdmitsMedia takes.0 (number_of seq slot) s word reply new) true_word.1
       (subst (λ (n : ℕ). AdmitsMedia takes.0 n source word reply new) true_word.0 takes.2))
-  is_taken_truly last slot old (protects stream parity) plays None new stays is true_parity turn takes = absurd takes
-  is_taken_truly last slot old (protects stream parity) plays (Some reply) new stays is true_parity turn takes = record {
+  then_is_taken_truly last slot old (protects time stream parity) plays None new holds is true_parity turn takes = absurd takes
+  then_is_taken_truly last slot old (protects time stream parity) plays (Some reply) new holds is true_parity turn takes = record {
     made = subst (All (IsTruePlay truth)) (sym takes.0) (All-nil (IsTruePlay truth));
-    leaves = parity_leaves_truth truth seq ssrc old new slot last stream parity reply parity_adds
-        (stays 0 [] old refl) is true_parity turn takes.1;
+    leaves = parity_leaves_truth truth seq ssrc old new slot time last stream parity reply parity_adds holds is true_parity
+        turn takes.1;
   }
-  is_taken_truly last slot old (refused stream) plays reply new stays is true_arrival turn takes = absurd turn
+  then_is_taken_truly last slot old (refused time stream) plays reply new holds is true_arrival turn takes = absurd turn
+
+  -- First come the held plays.
+  pub is_taken_truly :
+      (last : Option ℕ) (slot : ℕ) (old : State) (arrival : Arrival) (plays : List Play) (reply : Option Reply) (new : State)
+      → Holds old → LeavesTruth truth seq ssrc last old
+      → IsTrueArrival seq ssrc truth slot arrival → ComesInTurn last slot arrival → Takes old arrival plays reply new
+      → TakesTruly (last_after last slot arrival) plays new
+  is_taken_truly last slot old arrival plays reply new holds is true_arrival turn takes =
+      let held = held_are_true last old (time_of arrival) takes.held takes.ready holds is takes.holds in
+      let rest = then_is_taken_truly last slot takes.ready arrival takes.after reply new held.holds held.leaves true_arrival turn
+      takes.takes in
+      record {
+        made = subst (All (IsTruePlay truth)) (sym takes.plays_are)
+            (All-append (IsTruePlay truth) takes.held takes.after held.made rest.made);
+        leaves = rest.leaves;
+      }

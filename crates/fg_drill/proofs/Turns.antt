@@ -13,9 +13,9 @@ use Rattle.fg_trace.specs.Trace.{Record}
 use Rattle.fg_shape.specs.declared.kind.Kind.{Kind}
 use Rattle.fg_shape.specs.declared.kind.Kind.TheVariants as kind
 use Rattle.fg_playout.specs.Admission.{Parity}
-use Rattle.fg_playout.specs.Run.{Arrival, carries, protects}
+use Rattle.fg_playout.specs.Run.{Arrival, protects}
 use Rattle.fg_encode.specs.Ends.{column_bases, columns_before, columns_ending, row_bases, rows_before, rows_ending}
-use Rattle.fg_encode.specs.Encoding.{column_record, column_shape, media_record, parity_at, records_at, row_record, row_shape, sequence_of, word_at}
+use Rattle.fg_encode.specs.Encoding.{column_record, column_shape, media_record, parity_at, records_at, row_record, row_shape}
 use Rattle.fg_encode.specs.Payloads.{ArePayloads}
 use Rattle.fg_encode.proofs.ListLemmas.{flat_more_at}
 use Rattle.fg_results.specs.Flow.{Arrives, is_of, parity_of, records_of}
@@ -23,7 +23,7 @@ use Rattle.fg_results.proofs.ArrivalLemmas.{is_of_its_flow}
 use Rattle.fg_drill.specs.Sent.{source_sent, words_sent}
 use Rattle.fg_thin.specs.Thinned.{AreFew, media_number, without}
 use Rattle.fg_drill.specs.True.{AreTrueArrivals, ComesInTurn, IsTrueArrival, IsTrueParity, last_after}
-use Rattle.fg_drill.proofs.Reading.{column_arrives, media_arrives, row_arrives}
+use Rattle.fg_drill.proofs.Reading.{column_arrives, media_arrival, media_arrives, row_arrives}
 use Rattle.fg_drill.proofs.Truth.{parity_is_true, word_sent}
 
 -- Numbers of records
@@ -92,7 +92,7 @@ module _ (settings : Settings) (payloads : List (List ℕ)) (lost : ℕ → Bool
   abbrev ArrivesTrue : (ℕ → Record) → ℕ → ℕ → Type 0
   ArrivesTrue record_of slot base =
       (a : Arrival) → Arrives settings.port (record_of base) a
-      → (by : Kind) × (parity : Parity) × (a ≡ protects by parity)
+      → (time : ℕ) × (by : Kind) × (parity : Parity) × (a ≡ protects time by parity)
       × IsTrueParity settings.seq (words_sent settings payloads) slot parity
 
   parities_more :
@@ -112,7 +112,7 @@ module _ (settings : Settings) (payloads : List (List ℕ)) (lost : ℕ → Bool
       (λ gone more. after arrivals more)
       (λ kept a more arrives more'.
       let true = All-head (ArrivesTrue record_of slot) base bases each a arrives in
-      subst (Comes (Some before) slot more) (sym true.2) (true.3, (low, high), after more more'))
+      subst (Comes (Some before) slot more) (sym true.3) (true.4, (low, high), after more more'))
       zip
 
   module _ (most : settings.packets ≤ 7) (are : ArePayloads settings.packets payloads) (law : ParityWrittenIsRead) (shapes : LayoutsAreRead) where
@@ -122,6 +122,7 @@ module _ (settings : Settings) (payloads : List (List ℕ)) (lost : ℕ → Bool
         (λ base passes a arrives.
         let ends : base + (settings.layout.d - 1) * settings.layout.l ≡ slot = eqb-true (base + (settings.layout.d - 1) * settings.layout.l) slot passes in
         let read = (shapes settings.layout).0 in (
+          (column_record settings payloads slot base).time,
           kind.Column,
           parity_of (parity_at settings payloads base (column_shape settings.layout) false),
           column_arrives settings payloads most are law slot base read (omega arith) a arrives,
@@ -137,6 +138,7 @@ module _ (settings : Settings) (payloads : List (List ℕ)) (lost : ℕ → Bool
         (λ base passes a arrives.
         let ends : base + (settings.layout.l - 1) ≡ slot = eqb-true (base + (settings.layout.l - 1)) slot passes in
         let read = (shapes settings.layout).1 in (
+          (row_record settings payloads slot base).time,
           kind.Row,
           parity_of (parity_at settings payloads base (row_shape settings.layout) true),
           row_arrives settings payloads most are law slot base read (omega arith) a arrives,
@@ -179,7 +181,7 @@ module _ (settings : Settings) (payloads : List (List ℕ)) (lost : ℕ → Bool
 
       turn :
           (slot : ℕ) (last : Option ℕ) → slot < length payloads → StandsBefore slot last
-          → ComesInTurn last slot (carries (sequence_of settings slot) (source_sent settings) (word_at settings payloads slot))
+          → ComesInTurn last slot (media_arrival settings payloads most are slot)
       turn slot None below stands = stands
       turn slot (Some before) below stands = (stands.0, gap before slot (omega arith) stands.1)
 

@@ -22,27 +22,27 @@ pub record IsTrueParity (seq : ℕ) (truth : ℕ → Option Word) (slot : ℕ) (
   pub settled : IsSettled truth (equation_at base parity)
 
 -- What arrives for a slot is true: a media datagram has the slot's number and true word, and the SSRC of the one sender (RFC
--- 3550); and a parity datagram is a sum of true words. Nothing is refused.
+-- 3550); and a parity datagram is a sum of true words. Nothing is refused. At what time is of no matter.
 abbrev pub IsTrueArrival : ℕ → ℕ → (ℕ → Option Word) → ℕ → Arrival → Type 0
-IsTrueArrival seq ssrc truth slot (carries number source word) =
+IsTrueArrival seq ssrc truth slot (carries time number source word) =
     (number ≡ number_of seq slot) × (source ≡ ssrc) × (truth slot ≡ Some word)
-IsTrueArrival seq ssrc truth slot (protects stream parity) = IsTrueParity seq truth slot parity
-IsTrueArrival seq ssrc truth slot (refused stream) = ⊥
+IsTrueArrival seq ssrc truth slot (protects time stream parity) = IsTrueParity seq truth slot parity
+IsTrueArrival seq ssrc truth slot (refused time stream) = ⊥
 
 -- It comes for the slot in its turn, where the media datagram of the slot `last` came last, or none so far. The first is the
 -- media datagram of slot 0. Never are more than 32,000 media datagrams missing in succession.
 abbrev pub ComesInTurn : Option ℕ → ℕ → Arrival → Type 0
-ComesInTurn last slot (carries number source word) =
+ComesInTurn last slot (carries time number source word) =
     MatchOption last (slot ≡ 0) (λ before. (before < slot) × (slot ≤ before + 32001))
-ComesInTurn last slot (protects stream parity) =
+ComesInTurn last slot (protects time stream parity) =
     IsSomeAnd last (λ before. (before ≤ slot) × (slot ≤ before + 32000))
-ComesInTurn last slot (refused stream) = ⊥
+ComesInTurn last slot (refused time stream) = ⊥
 
 -- The slot of the last media datagram afterwards.
 abbrev pub last_after : Option ℕ → ℕ → Arrival → Option ℕ
-last_after last slot (carries number source word) = Some slot
-last_after last slot (protects stream parity) = last
-last_after last slot (refused stream) = last
+last_after last slot (carries time number source word) = Some slot
+last_after last slot (protects time stream parity) = last
+last_after last slot (refused time stream) = last
 
 -- The datagrams arrive in the order of sending, each true for some slot and in its turn.
 abbrev pub AreTrueArrivals : ℕ → ℕ → (ℕ → Option Word) → Option ℕ → List Arrival → Type 0
@@ -54,10 +54,10 @@ AreTrueArrivals seq ssrc truth last (arrival ∷ arrivals) =
 -- No media datagram is missing: they are those of the slots from `next` on, each once and in order, up to `count`.
 abbrev pub AreInFull : ℕ → ℕ → ℕ → ℕ → List Arrival → Type 0
 AreInFull seq ssrc count next [] = next ≡ count
-AreInFull seq ssrc count next (carries number source word ∷ arrivals) =
+AreInFull seq ssrc count next (carries time number source word ∷ arrivals) =
     (number ≡ number_of seq next) × (source ≡ ssrc) × AreInFull seq ssrc count (next + 1) arrivals
-AreInFull seq ssrc count next (protects stream parity ∷ arrivals) = AreInFull seq ssrc count next arrivals
-AreInFull seq ssrc count next (refused stream ∷ arrivals) = AreInFull seq ssrc count next arrivals
+AreInFull seq ssrc count next (protects time stream parity ∷ arrivals) = AreInFull seq ssrc count next arrivals
+AreInFull seq ssrc count next (refused time stream ∷ arrivals) = AreInFull seq ssrc count next arrivals
 
 -- True datagrams of one flow, all of one sender, and a playout for them. The true words are media words. An SSRC has 32 bits.
 pub record AreSentTrue (playout : Playout) (seq ssrc : ℕ) (truth : ℕ → Option Word) (arrivals : List Arrival) : Type 0 where

@@ -13,7 +13,7 @@ use Rattle.fg_shape.specs.declared.kind.Kind.{Kind}
 use Rattle.fg_shape.specs.declared.kind.Kind.TheVariants as kind
 use Rattle.fg_shape.specs.Kind.{port_of}
 use Rattle.fg_playout.specs.Admission.{Parity}
-use Rattle.fg_playout.specs.Run.{Arrival, carries, protects, refused}
+use Rattle.fg_playout.specs.Run.{Arrival, carries, protects, refused, time_of}
 use Rattle.fg_playout.specs.Laws.{IsRead}
 use Rattle.fg_results.specs.Flow.{is_of, records_of, parity_of, IsReadAsMedia, IsReadAsParity, IsReadAs, Arrives}
 use Rattle.fg_results.proofs.Zips.{zip_one, zip_begins, zip_length, zip_all}
@@ -61,19 +61,21 @@ few_arrive flow records arrivals arrive =
 
 -- What is read is a media word or a shape that is read.
 
-parity_is_good : (parity : Parity) (read : ParityRead) {bytes : List ℕ} → IsParityDatagram bytes read → parity ≡ parity_of read → IsRead (protects kind.Column parity)
+parity_is_good :
+    (parity : Parity) (read : ParityRead) {bytes : List ℕ} → IsParityDatagram bytes read → parity ≡ parity_of read
+    → IsRead (protects 0 kind.Column parity)
 parity_is_good parity read is same =
-    subst (λ (p : Parity). IsRead (protects kind.Column p)) (sym same) (is.base_size, is.shape)
+    subst (λ (p : Parity). IsRead (protects 0 kind.Column p)) (sym same) (is.base_size, is.shape)
 
 media_is_read : (bytes : List ℕ) (arrival : Arrival) → IsReadAsMedia bytes arrival → IsRead arrival
-media_is_read bytes (carries seq ssrc word) read = (read.seq_size, read.ssrc_size, read.media)
-media_is_read bytes (protects by parity) read = absurd read
-media_is_read bytes (refused by) read = tt
+media_is_read bytes (carries time seq ssrc word) read = (read.seq_size, read.ssrc_size, read.media)
+media_is_read bytes (protects time by parity) read = absurd read
+media_is_read bytes (refused time by) read = tt
 
 parity_is_read : (kind : Kind) (bytes : List ℕ) (arrival : Arrival) → IsReadAsParity kind bytes arrival → IsRead arrival
-parity_is_read kind bytes (carries seq ssrc word) read = absurd read
-parity_is_read kind bytes (protects by parity) read = parity_is_good parity read.1.0 read.1.1 read.1.2
-parity_is_read kind bytes (refused by) read = tt
+parity_is_read kind bytes (carries time seq ssrc word) read = absurd read
+parity_is_read kind bytes (protects time by parity) read = parity_is_good parity read.1.0 read.1.1 read.1.2
+parity_is_read kind bytes (refused time by) read = tt
 
 is_read : (kind : Kind) (bytes : List ℕ) (arrival : Arrival) → IsReadAs kind bytes arrival → IsRead arrival
 is_read kind.Media bytes arrival read = media_is_read bytes arrival read
@@ -89,7 +91,7 @@ arrivals_are_read flow records arrivals arrive =
 
 -- Each record is read in one way.
 
-one_kind : (flow port : ℕ) (one other : Kind) → port_of flow one ≡ port → port_of flow other ≡ port → one ≡ other
+pub one_kind : (flow port : ℕ) (one other : Kind) → port_of flow one ≡ port → port_of flow other ≡ port → one ≡ other
 one_kind flow port kind.Media kind.Media a b = refl
 one_kind flow port kind.Media kind.Column a b = absurd (omega (arith, a, b))
 one_kind flow port kind.Media kind.Row a b = absurd (omega (arith, a, b))
@@ -102,52 +104,59 @@ one_kind flow port kind.Row kind.Row a b = refl
 
 module _ (media : MediaReadsOneWay) (parity : ParityReadsOneWay) where
   one_parity :
-      (bytes : List ℕ) (by by' is : Kind) (one other : Parity) → by ≡ is → by' ≡ is
+      (bytes : List ℕ) (time time' : ℕ) (by by' is : Kind) (one other : Parity) → time ≡ time' → by ≡ is → by' ≡ is
       → (read : ParityRead) × IsParityDatagram bytes read × (one ≡ parity_of read)
       → (read : ParityRead) × IsParityDatagram bytes read × (other ≡ parity_of read)
-      → protects by one ≡ protects by' other
-  one_parity bytes by by' is one other p q a b =
+      → protects time by one ≡ protects time' by' other
+  one_parity bytes time time' by by' is one other times p q a b =
       let streams : by ≡ by' = p ∙ sym q in
       let parities : one ≡ other = a.2 ∙ ap parity_of (parity bytes a.0 b.0 a.1 b.1) ∙ sym b.2 in
-      λ i. protects (streams i) (parities i)
+      λ i. protects (times i) (streams i) (parities i)
 
-  one_refused : (by by' is : Kind) → by ≡ is → by' ≡ is → refused by ≡ refused by'
-  one_refused by by' is p q = ap refused (p ∙ sym q)
+  one_refused :
+      (time time' : ℕ) (by by' is : Kind) → time ≡ time' → by ≡ is → by' ≡ is → refused time by ≡ refused time' by'
+  one_refused time time' by by' is times p q =
+      let streams : by ≡ by' = p ∙ sym q in
+      λ i. refused (times i) (streams i)
 
   one_media_reading :
-      (bytes : List ℕ) (one other : Arrival) → IsReadAsMedia bytes one → IsReadAsMedia bytes other → one ≡ other
-  one_media_reading bytes (carries seq ssrc word) (carries seq' ssrc' word') a b =
+      (bytes : List ℕ) (one other : Arrival) → time_of one ≡ time_of other → IsReadAsMedia bytes one → IsReadAsMedia bytes other
+      → one ≡ other
+  one_media_reading bytes (carries time seq ssrc word) (carries time' seq' ssrc' word') times a b =
       let same = media bytes seq ssrc seq' ssrc' word word' a b in
-      λ i. carries (same.0 i) (same.1 i) (same.2 i)
-  one_media_reading bytes (carries seq ssrc word) (protects by' parity') a b = absurd b
-  one_media_reading bytes (carries seq ssrc word) (refused by') a b = absurd (b.1 seq ssrc word a)
-  one_media_reading bytes (protects by parity) other a b = absurd a
-  one_media_reading bytes (refused by) (carries seq' ssrc' word') a b = absurd (a.1 seq' ssrc' word' b)
-  one_media_reading bytes (refused by) (protects by' parity') a b = absurd b
-  one_media_reading bytes (refused by) (refused by') a b = one_refused by by' kind.Media a.0 b.0
+      λ i. carries (times i) (same.0 i) (same.1 i) (same.2 i)
+  one_media_reading bytes (carries time seq ssrc word) (protects time' by' parity') times a b = absurd b
+  one_media_reading bytes (carries time seq ssrc word) (refused time' by') times a b = absurd (b.1 seq ssrc word a)
+  one_media_reading bytes (protects time by parity) other times a b = absurd a
+  one_media_reading bytes (refused time by) (carries time' seq' ssrc' word') times a b = absurd (a.1 seq' ssrc' word' b)
+  one_media_reading bytes (refused time by) (protects time' by' parity') times a b = absurd b
+  one_media_reading bytes (refused time by) (refused time' by') times a b = one_refused time time' by by' kind.Media times a.0 b.0
 
   one_parity_reading :
-      (kind : Kind) (bytes : List ℕ) (one other : Arrival) → IsReadAsParity kind bytes one → IsReadAsParity kind bytes other
-      → one ≡ other
-  one_parity_reading kind bytes (carries seq ssrc word) other a b = absurd a
-  one_parity_reading kind bytes (protects by parity) (carries seq' ssrc' word') a b = absurd b
-  one_parity_reading kind bytes (protects by parity) (protects by' parity') a b =
-      one_parity bytes by by' kind parity parity' a.0 b.0 a.1 b.1
-  one_parity_reading kind bytes (protects by parity) (refused by') a b = absurd (b.1 a.1.0 a.1.1)
-  one_parity_reading kind bytes (refused by) (carries seq' ssrc' word') a b = absurd b
-  one_parity_reading kind bytes (refused by) (protects by' parity') a b = absurd (a.1 b.1.0 b.1.1)
-  one_parity_reading kind bytes (refused by) (refused by') a b = one_refused by by' kind a.0 b.0
+      (kind : Kind) (bytes : List ℕ) (one other : Arrival) → time_of one ≡ time_of other → IsReadAsParity kind bytes one
+      → IsReadAsParity kind bytes other → one ≡ other
+  one_parity_reading kind bytes (carries time seq ssrc word) other times a b = absurd a
+  one_parity_reading kind bytes (protects time by parity) (carries time' seq' ssrc' word') times a b = absurd b
+  one_parity_reading kind bytes (protects time by parity) (protects time' by' parity') times a b =
+      one_parity bytes time time' by by' kind parity parity' times a.0 b.0 a.1 b.1
+  one_parity_reading kind bytes (protects time by parity) (refused time' by') times a b = absurd (b.1 a.1.0 a.1.1)
+  one_parity_reading kind bytes (refused time by) (carries time' seq' ssrc' word') times a b = absurd b
+  one_parity_reading kind bytes (refused time by) (protects time' by' parity') times a b = absurd (a.1 b.1.0 b.1.1)
+  one_parity_reading kind bytes (refused time by) (refused time' by') times a b =
+      one_refused time time' by by' kind times a.0 b.0
 
+  -- Bytes are read in one way, but for the time at which they came.
   pub one_reading :
-      (kind : Kind) (bytes : List ℕ) (one other : Arrival) → IsReadAs kind bytes one → IsReadAs kind bytes other → one ≡ other
-  one_reading kind.Media bytes one other a b = one_media_reading bytes one other a b
-  one_reading kind.Column bytes one other a b = one_parity_reading kind.Column bytes one other a b
-  one_reading kind.Row bytes one other a b = one_parity_reading kind.Row bytes one other a b
+      (kind : Kind) (bytes : List ℕ) (one other : Arrival) → time_of one ≡ time_of other → IsReadAs kind bytes one
+      → IsReadAs kind bytes other → one ≡ other
+  one_reading kind.Media bytes one other times a b = one_media_reading bytes one other times a b
+  one_reading kind.Column bytes one other times a b = one_parity_reading kind.Column bytes one other times a b
+  one_reading kind.Row bytes one other times a b = one_parity_reading kind.Row bytes one other times a b
 
   pub one_arrival : (flow : ℕ) (r : Record) (one other : Arrival) → Arrives flow r one → Arrives flow r other → one ≡ other
   one_arrival flow r one other a b =
       let kinds : a.0 ≡ b.0 = one_kind flow r.port a.0 b.0 a.1 b.1 in
-      one_reading b.0 r.datagram one other (subst (λ (k : Kind). IsReadAs k r.datagram one) kinds a.2) b.2
+      one_reading b.0 r.datagram one other (a.3 ∙ sym b.3) (subst (λ (k : Kind). IsReadAs k r.datagram one) kinds a.2) b.2
 
   -- The same records are the same arrivals.
   pub one_list_arrives :

@@ -35,24 +35,24 @@ module _ (media : MediaIsDecided) (parity : ParityIsDecided) (flow : ℕ) where
   taken_as_media : (r : Record) → port_of flow kind.Media ≡ r.port → IsTaken flow r
   taken_as_media r port = ⊎_elim
       (λ d. record {
-        arrival = carries d.0 d.1 d.2;
-        arrives = (kind.Media, port, d.3);
+        arrival = carries r.time d.0 d.1 d.2;
+        arrives = (kind.Media, port, d.3, refl);
         read = (d.3.seq_size, d.3.ssrc_size, d.3.media);
       })
-      (λ none. record { arrival = refused kind.Media; arrives = (kind.Media, port, (refl, none)); read = tt })
+      (λ none. record { arrival = refused r.time kind.Media; arrives = (kind.Media, port, (refl, none), refl); read = tt })
       (media r.datagram)
 
   taken_as_parity :
       (by : Kind) (r : Record) → port_of flow by ≡ r.port
-      → ((read : ParityRead) → IsParityDatagram r.datagram read → IsReadAs by r.datagram (protects by (parity_of read)))
-      → (((read : ParityRead) → ¬ IsParityDatagram r.datagram read) → IsReadAs by r.datagram (refused by)) → IsTaken flow r
+      → ((read : ParityRead) → IsParityDatagram r.datagram read → IsReadAs by r.datagram (protects r.time by (parity_of read)))
+      → (((read : ParityRead) → ¬ IsParityDatagram r.datagram read) → IsReadAs by r.datagram (refused r.time by)) → IsTaken flow r
   taken_as_parity by r port protected none = ⊎_elim
       (λ d. record {
-        arrival = protects by (parity_of d.0);
-        arrives = (by, port, protected d.0 d.1);
+        arrival = protects r.time by (parity_of d.0);
+        arrives = (by, port, protected d.0 d.1, refl);
         read = (d.1.base_size, d.1.shape);
       })
-      (λ not. record { arrival = refused by; arrives = (by, port, none not); read = tt })
+      (λ not. record { arrival = refused r.time by; arrives = (by, port, none not, refl); read = tt })
       (parity r.datagram)
 
   taken_as : (r : Record) → is_of flow r ≡ true → IsTaken flow r

@@ -16,7 +16,7 @@ use Rattle.fg_playout.specs.declared.reply.Reply.TheVariants.{Admitted, Duplicat
 use Rattle.fg_playout.specs.declared.reply.Outcome.TheVariants.{Repaired, Inconsistent}
 use Rattle.fg_playout.specs.Admission.{Parity}
 use Rattle.fg_playout.specs.Play.{Play, Shown}
-use Rattle.fg_playout.specs.Run.{Arrival, carries, protects, refused, IsRun, count_of}
+use Rattle.fg_playout.specs.Run.{Arrival, carries, protects, refused, time_of, IsRun, count_of}
 use Rattle.fg_report.specs.declared.marks.Marks.{Marks}
 use Rattle.fg_report.specs.declared.flow_sum.FlowSum.{FlowSum}
 use Rattle.fg_report.specs.Gaps.{with_gap}
@@ -45,17 +45,17 @@ parity_of parity = record {
 
 -- A datagram on the media port is read so: as a media datagram. One that is none is refused.
 abbrev pub IsReadAsMedia : List ℕ → Arrival → Type 0
-IsReadAsMedia bytes (carries seq ssrc word) = IsMediaDatagram bytes seq ssrc word
-IsReadAsMedia bytes (protects by parity) = ⊥
-IsReadAsMedia bytes (refused by) =
+IsReadAsMedia bytes (carries time seq ssrc word) = IsMediaDatagram bytes seq ssrc word
+IsReadAsMedia bytes (protects time by parity) = ⊥
+IsReadAsMedia bytes (refused time by) =
     (by ≡ kind.Media) × ((seq ssrc : ℕ) (word : Word) → ¬ IsMediaDatagram bytes seq ssrc word)
 
 -- And so is one on a port for parity, which is told by its kind: as a parity datagram.
 abbrev pub IsReadAsParity : Kind → List ℕ → Arrival → Type 0
-IsReadAsParity kind bytes (carries seq ssrc word) = ⊥
-IsReadAsParity kind bytes (protects by parity) =
+IsReadAsParity kind bytes (carries time seq ssrc word) = ⊥
+IsReadAsParity kind bytes (protects time by parity) =
     (by ≡ kind) × ((read : ParityRead) × IsParityDatagram bytes read × (parity ≡ parity_of read))
-IsReadAsParity kind bytes (refused by) =
+IsReadAsParity kind bytes (refused time by) =
     (by ≡ kind) × ((read : ParityRead) → ¬ IsParityDatagram bytes read)
 
 -- A datagram on a port of this kind is read so.
@@ -63,9 +63,10 @@ abbrev pub IsReadAs : Kind → List ℕ → Arrival → Type 0
 IsReadAs kind.Media bytes arrival = IsReadAsMedia bytes arrival
 IsReadAs kind bytes arrival = IsReadAsParity kind bytes arrival
 
--- A record of the flow arrives so.
+-- A record of the flow arrives so, at its time.
 abbrev pub Arrives : ℕ → Record → Arrival → Type 0
-Arrives flow r arrival = (kind : Kind) × (port_of flow kind ≡ r.port) × IsReadAs kind r.datagram arrival
+Arrives flow r arrival =
+    (kind : Kind) × (port_of flow kind ≡ r.port) × IsReadAs kind r.datagram arrival × (time_of arrival ≡ r.time)
 
 -- What its plays show
 

@@ -119,3 +119,26 @@ pub(super) fn flush(
         None => Ok(None),
     }
 }
+
+/// Plays a held step at a time. None where there is none, or where a word may wait for ever.
+pub(super) fn held(
+    wait: &impl Wait,
+    alloc: Global,
+    board: &Board,
+    admitter: &mut Admitter,
+    time: u64,
+) -> Result<Option<(Played, Tray)>, AllocError>
+    requires turn { admitter.old.seat.turn ≡ board.now.name }
+    requires window { admitter.old.playout.window ≤ 100 }
+    ensures turn { admitter.new.seat.turn ≡ admitter.old.seat.turn }
+    ensures window { admitter.new.playout.window ≡ admitter.old.playout.window }
+{
+    let mut tray = Tray::new(alloc, 100)?;
+    if !admitter.room() || admitter.hold() == 0 {
+        return Ok(None);
+    }
+    match admitter.held_step(wait, board, time, &mut tray) {
+        Some(played) => Ok(Some((played, tray))),
+        None => Ok(None),
+    }
+}

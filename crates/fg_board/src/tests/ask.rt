@@ -45,7 +45,7 @@ fn is_row_of_four(answer: Asked) -> bool {
 
 // Whether a pass is told the row.
 fn row_is_told(wait: &impl Wait, alloc: Global) -> Result<bool, AllocError> {
-    let (board, mut admitter) = open(alloc, 10, 40)?;
+    let (board, mut admitter) = open(alloc, 10, 40, 0)?;
     let mut pass = board.pass(&mut admitter);
     let Some(key) = row_of_four(wait, alloc, &board, &mut admitter)? else {
         return Ok(false);

@@ -60,6 +60,19 @@ pub(super) fn flush(desk: &mut Desk, alloc: Global) -> Result<Option<(Played, Tr
     Ok(desk.flush_step(&mut tray).map(|played| (played, tray)))
 }
 
+/// Plays a held step at a time. None where there is none, or where a word may wait for ever.
+pub(super) fn held(
+    desk: &mut Desk,
+    alloc: Global,
+    time: u64,
+) -> Result<Option<(Played, Tray)>, AllocError> {
+    let mut tray = Tray::new(alloc, 100)?;
+    if !desk.room() || desk.hold() == 0 {
+        return Ok(None);
+    }
+    Ok(desk.held_step(time, &mut tray).map(|played| (played, tray)))
+}
+
 /// Whether two plays show the same, or neither was made.
 pub(super) fn same_plays(one: &Option<(Played, Tray)>, other: &Option<(Played, Tray)>) -> bool {
     match (one, other) {

@@ -13,7 +13,7 @@ fn use_at_once<T: Sync>(_value: &T) {}
 
 // A board, its admitter, a pass and, where one is open, a job of it.
 fn all_cross(wait: &impl Wait, alloc: Global) -> Result<(), AllocError> {
-    let (board, mut admitter) = Board::new(alloc, 10, 40, 1)?;
+    let (board, mut admitter) = Board::new(alloc, 10, 40, 0, 1)?;
     let mut pass = board.pass(&mut admitter);
     let job = board.take(wait, &mut pass)?;
     use_at_once::<Board>(&board);

@@ -21,7 +21,7 @@ use std::test::Fail;
 const SEED: u64 = 2022;
 
 /// How many flows there are.
-const FLOWS: u32 = 20;
+const FLOWS: u32 = 30;
 
 /// How many steps a flow has before it is flushed.
 const STEPS: u32 = 120;
@@ -43,6 +43,8 @@ struct Came {
     /// Runs that were begun.
     runs: u64,
     foreign: u32,
+    /// Held plays.
+    held: u32,
 }
 
 /// A board, and a desk that takes the same.
@@ -54,6 +56,8 @@ struct Both {
     /// The SSRC of the current run, and the sequence number that position 0 has in it.
     ssrc: u32,
     first: u16,
+    /// The time that was told last, in microseconds.
+    time: u64,
     came: Came,
 }
 
@@ -116,6 +120,23 @@ fn both_play(
 fn both_flush(wait: &impl Wait, alloc: Global, both: &mut Both) -> Result<bool, AllocError> {
     let shared = both.scene.flush(wait)?;
     let alone = bare::flush(&mut both.desk, alloc)?;
+    Ok(same_plays(&shared, &alone))
+}
+
+/// Both make a held step at a time, which may go back. Whether they agree.
+fn both_hold(
+    wait: &impl Wait,
+    alloc: Global,
+    both: &mut Both,
+    random: &mut Pcg32,
+) -> Result<bool, AllocError> {
+    let time = both.time.saturating_add(one_of(random, 40));
+    both.time = time.saturating_sub(10);
+    let shared = both.scene.held(wait, both.time)?;
+    let alone = bare::held(&mut both.desk, alloc, both.time)?;
+    if shared.is_some() {
+        both.came.held = both.came.held.saturating_add(1);
+    }
     Ok(same_plays(&shared, &alone))
 }
 
@@ -350,6 +371,8 @@ fn go_on(
     let kind = random.next_word() % 40;
     if kind == 39 {
         both_flush(wait, alloc, both)
+    } else if kind > 35 {
+        both_hold(wait, alloc, both, random)
     } else if kind < 21 {
         admitter_goes_on(wait, alloc, both, random, kind)
     } else {
@@ -358,18 +381,25 @@ fn go_on(
 }
 
 /// A new board and a new desk.
-fn new_both(alloc: Global, window: u32, depth: u32, came: Came) -> Result<Both, AllocError>
+fn new_both(
+    alloc: Global,
+    window: u32,
+    depth: u32,
+    hold: u64,
+    came: Came,
+) -> Result<Both, AllocError>
     requires window { (1 ≤ window) × (window ≤ 100) }
     requires depth { (window ≤ depth) × (depth ≤ 1000) }
 {
-    let scene = Scene::new(alloc, window, depth)?;
-    let desk = Desk::new(alloc, window, depth)?;
+    let scene = Scene::new(alloc, window, depth, hold)?;
+    let desk = Desk::new(alloc, window, depth, hold)?;
     Ok(Both {
         scene,
         desk,
         depth,
         ssrc: 0,
         first: FIRST,
+        time: 0,
         came,
     })
 }
@@ -400,8 +430,9 @@ fn try_flow(
 ) -> Result<Came, Fail> {
     let window = 1 + random.next_word() % 8;
     let depth = window + random.next_word() % 20;
+    let hold = u64::from(random.next_word() % 4 * 20);
     assert!(rt; 1 <= window && window <= 100 && window <= depth && depth <= 1000);
-    let mut both = new_both(alloc, window, depth, came)?;
+    let mut both = new_both(alloc, window, depth, hold, came)?;
     assert!(rt; both_start(rt, alloc, &mut both)?);
     steps(rt, alloc, &mut both, random)?;
     assert!(rt; both_flush_on(rt, alloc, &mut both)?);
@@ -426,6 +457,7 @@ fn try_flows(rt: &(impl Abort + Wait), alloc: Global, random: &mut Pcg32) -> Res
         withdrawn: 0,
         runs: 0,
         foreign: 0,
+        held: 0,
     };
     for _ in 0..FLOWS {
         came = try_flow(rt, alloc, came, random)?;
@@ -433,10 +465,10 @@ fn try_flows(rt: &(impl Abort + Wait), alloc: Global, random: &mut Pcg32) -> Res
     Ok(came)
 }
 
-/// Whether each answer came, and runs were begun beside the first one of each flow.
+/// Whether each answer came, held plays were made, and runs were begun beside the first one of each flow.
 fn all_came(came: Came) -> bool {
     let passes = came.done > 0 && came.beaten > 0 && came.gone > 0 && came.withdrawn > 0;
-    passes && came.foreign > 0 && came.runs > u64::from(FLOWS)
+    passes && came.foreign > 0 && came.held > 0 && came.runs > u64::from(FLOWS)
 }
 
 #[test]

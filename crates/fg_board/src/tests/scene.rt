@@ -274,13 +274,18 @@ pub(super) fn put_back(board: &Board, admitter: &mut Admitter, hand: Hand)
 }
 
 /// A board with room for three passes.
-pub(super) fn open(alloc: Global, window: u32, depth: u32) -> Result<(Board, Admitter), AllocError>
+pub(super) fn open(
+    alloc: Global,
+    window: u32,
+    depth: u32,
+    hold: u64,
+) -> Result<(Board, Admitter), AllocError>
     requires window { (1 ≤ window) × (window ≤ 100) }
     requires depth { (window ≤ depth) × (depth ≤ 1000) }
     ensures board { IfOk result (λ r. (r.1.seat.turn ≡ r.0.name) × (r.0.seats ≡ 4)) }
     ensures admitter { IfOk result (λ r. (r.1.seat.made ≡ 0) × (r.1.playout.window ≡ window)) }
 {
-    Board::new(alloc, window, depth, 3)
+    Board::new(alloc, window, depth, hold, 3)
 }
 
 /// Which pass.
@@ -319,11 +324,16 @@ impl Model for Scene {
 }
 
 impl Scene {
-    pub(super) fn new(alloc: Global, window: u32, depth: u32) -> Result<Scene, AllocError>
+    pub(super) fn new(
+        alloc: Global,
+        window: u32,
+        depth: u32,
+        hold: u64,
+    ) -> Result<Scene, AllocError>
         requires window { (1 ≤ window) × (window ≤ 100) }
         requires depth { (window ≤ depth) × (depth ≤ 1000) }
     {
-        let (board, mut admitter) = open(alloc, window, depth)?;
+        let (board, mut admitter) = open(alloc, window, depth, hold)?;
         let a = further_hand(&board, &mut admitter);
         let b = further_hand(&board, &mut admitter);
         let c = further_hand(&board, &mut admitter);
@@ -417,6 +427,15 @@ impl Scene {
     /// Plays a flush step. None where there is none.
     pub(super) fn flush(&mut self, wait: &impl Wait) -> Result<Option<(Played, Tray)>, AllocError> {
         admit::flush(wait, self.alloc, &self.board, &mut self.admitter)
+    }
+
+    /// Plays a held step at a time. None where there is none.
+    pub(super) fn held(
+        &mut self,
+        wait: &impl Wait,
+        time: u64,
+    ) -> Result<Option<(Played, Tray)>, AllocError> {
+        admit::held(wait, self.alloc, &self.board, &mut self.admitter, time)
     }
 
     pub(super) fn take(

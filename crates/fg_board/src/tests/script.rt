@@ -48,6 +48,8 @@ pub(super) enum Step {
     Play(u16, Shows),
     /// A flush step.
     Flush(Shows),
+    /// A held step at a time. None where no word has waited for long enough.
+    Held(u64, Option<Shows>),
 }
 
 /// What a look shows: the word that has the number of the position, no word, or that the equation is
@@ -187,6 +189,20 @@ fn looks(scene: &mut Scene, wait: &impl Wait, who: Who, serial: usize, slot: u64
     seen(look, (slot % u64::from(FLIPPED)) as u32)
 }
 
+/// Whether a held step shows this, or finds nothing where that is wanted.
+fn is_held(
+    scene: &mut Scene,
+    wait: &impl Wait,
+    time: u64,
+    want: Option<Shows>,
+) -> Result<bool, AllocError> {
+    let done = scene.held(wait, time)?;
+    Ok(match want {
+        Some(want) => is_shown(done, want),
+        None => done.is_none(),
+    })
+}
+
 /// Whether a call of the admitter, or a look, answers as is wanted.
 fn answers(scene: &mut Scene, wait: &impl Wait, step: Step) -> Result<bool, AllocError> {
     match step {
@@ -206,6 +222,7 @@ fn answers(scene: &mut Scene, wait: &impl Wait, step: Step) -> Result<bool, Allo
         }
         Step::Play(seq, want) => Ok(is_shown(scene.play(wait, seq, 0)?, want)),
         Step::Flush(want) => Ok(is_shown(scene.flush(wait)?, want)),
+        Step::Held(time, want) => is_held(scene, wait, time, want),
         _ => is_brought(scene, wait, step),
     }
 }
@@ -229,13 +246,23 @@ fn is_brought(scene: &mut Scene, wait: &impl Wait, step: Step) -> Result<bool, A
     }
 }
 
-/// A new board follows a script, and ends.
+/// A new board follows a script, and ends. Its words may wait for ever.
 pub(super) fn follows(
     rt: &(impl Abort + Wait),
     alloc: Global,
     script: &[Step],
 ) -> Result<(), Fail> {
-    let mut scene = Scene::new(alloc, 100, 400)?;
+    follows_with(rt, alloc, 0, script)
+}
+
+/// As `follows`, where a word may wait for so many microseconds.
+pub(super) fn follows_with(
+    rt: &(impl Abort + Wait),
+    alloc: Global,
+    hold: u64,
+    script: &[Step],
+) -> Result<(), Fail> {
+    let mut scene = Scene::new(alloc, 100, 400, hold)?;
     for (i, step) in script.iter().enumerate() {
         assert!(rt; answers(&mut scene, rt, *step)?, "step {i}");
     }

@@ -247,7 +247,7 @@ fn desk_flushes(desk: &mut Desk, alloc: Global, log: &mut Log) -> Result<(), All
 
 /// The whole flow comes to a desk alone.
 fn desk_is_fed(alloc: Global, flow: &[Datagram]) -> Result<Log, AllocError> {
-    let mut desk = Desk::new(alloc, 10, 40)?;
+    let mut desk = Desk::new(alloc, 10, 40, 0)?;
     let mut log = Log::new(alloc);
     for datagram in flow {
         desk_takes(&mut desk, alloc, datagram, &mut log)?;
@@ -361,7 +361,7 @@ fn worked<R: Threads + Wait + Clock + Sync>(
     alloc: Global,
     flow: &[Datagram],
 ) -> Result<(Log, bool), AllocError> {
-    let (board, mut admitter) = open(alloc, 10, 40)?;
+    let (board, mut admitter) = open(alloc, 10, 40, 0)?;
     let one = pass_of(further_hand(&board, &mut admitter));
     let two = pass_of(further_hand(&board, &mut admitter));
     let (done, taken) = (AtomicBool::new(false), AtomicBool::new(false));

@@ -25,7 +25,7 @@ fn two_passes(board: &Board, admitter: &mut Admitter) -> (Pass, Pass)
 
 // Whether two passes of an empty board are both given nothing, and both can be put back.
 fn both_find_nothing(wait: &impl Wait, alloc: Global) -> Result<bool, AllocError> {
-    let (board, mut admitter) = open(alloc, 10, 40)?;
+    let (board, mut admitter) = open(alloc, 10, 40, 0)?;
     let (mut one, mut two) = two_passes(&board, &mut admitter);
     let none = board.take(wait, &mut one)?.is_none() && board.take(wait, &mut two)?.is_none();
     board.back(&mut admitter, two);

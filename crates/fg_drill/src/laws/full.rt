@@ -3,8 +3,8 @@ ghost use Rattle.fg_drill.specs.TrueLaws.{FullArrivalsPeel};
 
 use fg_peel::laws::true_words_solve;
 use fg_playout::laws::{
-    admissions_add, flushes_end, live_equations, mark_makes_no_difference, runs_exist, runs_join,
-    runs_stay_within,
+    admissions_add, facts_are_kept, live_equations, mark_makes_no_difference, runs_exist,
+    runs_join, runs_stay_within,
 };
 
 /// True datagrams of which no media datagram is missing peel, at every playout: each slot is
@@ -17,7 +17,7 @@ pub fn full_arrivals_peel()
     mark_makes_no_difference();
     true_words_solve();
     admissions_add();
+    facts_are_kept();
     runs_stay_within();
     runs_join();
-    flushes_end();
 }

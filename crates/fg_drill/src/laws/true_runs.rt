@@ -4,8 +4,8 @@ ghost use Rattle.fg_drill.specs.TrueLaws.{NothingElseIsShown, PeeledSlotsAreShow
 
 use fg_peel::laws::true_words_solve;
 use fg_playout::laws::{
-    admissions_add, due_plays_come_next, facts_are_kept, flush_steps_come_next, flushes_end,
-    live_equations, mark_makes_no_difference, runs_join, runs_only_add, runs_stay_within,
+    admissions_add, facts_are_kept, live_equations, mark_makes_no_difference, one_list_of_desks,
+    runs_join, runs_only_add, runs_stay_within,
 };
 
 /// In a run of true datagrams each play is repaired, each word shown is the true one of its slot, and
@@ -29,10 +29,7 @@ pub fn true_runs_are_repaired()
 pub fn peeled_slots_are_shown()
     ensures { PeeledSlotsAreShown }
 {
-    runs_join();
-    flushes_end();
-    due_plays_come_next();
-    flush_steps_come_next();
+    one_list_of_desks();
     runs_only_add();
     true_runs_are_repaired();
 }

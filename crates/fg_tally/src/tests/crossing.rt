@@ -15,7 +15,7 @@ fn use_tallies(tallies: &Tallies<'_>) {
 
 // The tallies of a new board.
 fn all_cross(alloc: Global) -> Result<(), AllocError> {
-    let (board, mut admitter) = Board::new(alloc, 10, 40, 512)?;
+    let (board, mut admitter) = Board::new(alloc, 10, 40, 0, 512)?;
     let tallies = Tallies::new(alloc, &board, &mut admitter)?;
     use_tallies(&tallies);
     Ok(())

@@ -31,7 +31,7 @@ fn admit_row(
 
 // Whether a tally that held the key holds none after a start with it.
 fn retired_is_gone(wait: &impl Wait, alloc: Global) -> Result<bool, AllocError> {
-    let (board, mut admitter) = Board::new(alloc, 4, 4, 512)?;
+    let (board, mut admitter) = Board::new(alloc, 4, 4, 0, 512)?;
     let tallies = Tallies::new(alloc, &board, &mut admitter)?;
     let Some(key) = admit_row(wait, alloc, &board, &mut admitter)? else {
         return Ok(false);

@@ -91,7 +91,7 @@ fn folds_whole(
 
 // Whether the row's tally goes so, and the column's holds nothing.
 fn row_is_folded(wait: &impl Wait, alloc: Global) -> Result<bool, AllocError> {
-    let (board, mut admitter) = Board::new(alloc, 100, 100, 512)?;
+    let (board, mut admitter) = Board::new(alloc, 100, 100, 0, 512)?;
     let tallies = Tallies::new(alloc, &board, &mut admitter)?;
     let Some((row, column)) = admit_block(wait, alloc, &board, &mut admitter)? else {
         return Ok(false);

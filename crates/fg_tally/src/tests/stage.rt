@@ -45,7 +45,7 @@ pub(super) fn open(alloc: Global, window: u32, depth: u32) -> Result<(Board, Adm
     ensures board { IfOk result (λ r. (r.1.seat.turn ≡ r.0.name) × (r.0.seats ≡ 514)) }
     ensures admitter { IfOk result (λ r. (r.1.seat.made ≡ 0) × (r.1.playout.window ≡ window)) }
 {
-    Board::new(alloc, window, depth, 513)
+    Board::new(alloc, window, depth, 0, 513)
 }
 
 impl<'b> Stage<'b> {

@@ -10,7 +10,7 @@ use Rattle.fg_board.proofs.admitter.Admitter.admit_media.Goals as goal
 pub returns-clause-call : goal.returns-clause-call
 returns-clause-call g c =
     let call : Call = media c.args.seq c.args.ssrc c.args.share c.admit_media-reply.result in
-    let playout : Playout = record { window = c.self.inside.window; depth = c.self.inside.depth } in
+    let playout : Playout = record { window = c.self.inside.window; depth = c.self.inside.depth; hold = c.self.inside.hold } in
     let owner = c.settle_owner.new.owner in
     subst (λ (a : AdmitterState). MakesCall call a (record { seat = owner; playout = playout })) c.self.view_is
     (call_made call (media c.args.seq c.args.ssrc c.of-word.result.value c.admit_media-reply.result) playout c.self.inside.owner c.enter_own-flow.new.owner owner c.enter_own-flow.result
@@ -21,5 +21,8 @@ returns-clause-call g c =
 pub returns-clause-state : goal.returns-clause-state
 returns-clause-state g c =
     media_by_desk c.args.seq c.args.ssrc c.args.share c.admit_media-reply.result c.args.self.now
-    (record { seat = c.settle_owner.new.owner; playout = record { window = c.self.inside.window; depth = c.self.inside.depth } })
+    (record {
+      seat = c.settle_owner.new.owner;
+      playout = record { window = c.self.inside.window; depth = c.self.inside.depth; hold = c.self.inside.hold };
+    })
     (returns-clause-call g c)

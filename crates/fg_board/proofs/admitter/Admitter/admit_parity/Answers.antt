@@ -11,7 +11,7 @@ pub returns-clause-call : goal.returns-clause-call
 returns-clause-call g c =
     let call : Call = parity (record { base = c.args.base; offset = c.args.shape.offset; count = c.args.shape.na; word = c.args.share })
     c.admit_parity-reply.result.0 c.admit_parity-reply.result.1 in
-    let playout : Playout = record { window = c.self.inside.window; depth = c.self.inside.depth } in
+    let playout : Playout = record { window = c.self.inside.window; depth = c.self.inside.depth; hold = c.self.inside.hold } in
     let owner = c.settle_owner.new.owner in
     subst (λ (a : AdmitterState). MakesCall call a (record { seat = owner; playout = playout })) c.self.view_is
     (call_made call (parity (record { base = c.args.base; offset = c.args.shape.offset; count = c.args.shape.na; word = c.of-word.result.value })
@@ -25,12 +25,18 @@ pub returns-clause-state : goal.returns-clause-state
 returns-clause-state g c =
     parity_by_desk (record { base = c.args.base; offset = c.args.shape.offset; count = c.args.shape.na; word = c.args.share })
     c.admit_parity-reply.result.0 c.admit_parity-reply.result.1 c.args.self.now
-    (record { seat = c.settle_owner.new.owner; playout = record { window = c.self.inside.window; depth = c.self.inside.depth } })
+    (record {
+      seat = c.settle_owner.new.owner;
+      playout = record { window = c.self.inside.window; depth = c.self.inside.depth; hold = c.self.inside.hold };
+    })
     (returns-clause-call g c)
 
 pub returns-clause-key : goal.returns-clause-key
 returns-clause-key g c =
     key_is_given (record { base = c.args.base; offset = c.args.shape.offset; count = c.args.shape.na; word = c.args.share })
     c.admit_parity-reply.result.0 c.admit_parity-reply.result.1 c.args.self.now
-    (record { seat = c.settle_owner.new.owner; playout = record { window = c.self.inside.window; depth = c.self.inside.depth } })
+    (record {
+      seat = c.settle_owner.new.owner;
+      playout = record { window = c.self.inside.window; depth = c.self.inside.depth; hold = c.self.inside.hold };
+    })
     (returns-clause-call g c)

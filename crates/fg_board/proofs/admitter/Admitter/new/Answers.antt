@@ -8,7 +8,7 @@ use Rattle.fg_board.proofs.admitter.Admitter.new.Goals as goal
 
 pub invariant_of-result : goal.invariant_of-result
 invariant_of-result c =
-    let playout : Playout = record { window = c.args.window; depth = c.args.depth } in
+    let playout : Playout = record { window = c.args.window; depth = c.args.depth; hold = c.args.hold } in
     let board : opened_board playout ≡ board_of (record { seat = c.args.owner; playout = playout }) =
     sym (ap (λ (o : Option BoardState). elim o as (λ _. BoardState) [
       | None ↦ opened_board playout

@@ -8,7 +8,7 @@ use Rattle.fg_board.proofs.admitter.Admitter.play.Goals as goal
 pub returns-clause-call : goal.returns-clause-call
 returns-clause-call g c =
     let call : Call = play c.play-played.result in
-    let playout : Playout = record { window = c.self.inside.window; depth = c.self.inside.depth } in
+    let playout : Playout = record { window = c.self.inside.window; depth = c.self.inside.depth; hold = c.self.inside.hold } in
     let owner = c.settle_owner.new.owner in
     subst (λ (a : AdmitterState). MakesCall call a (record { seat = owner; playout = playout })) c.self.view_is
     (call_made call (play c.play-played.result) playout c.self.inside.owner c.enter_own-flow.new.owner owner c.enter_own-flow.result

@@ -7,14 +7,14 @@ use Rattle.fg_core.proofs.flow.Flow.new.Goals as goal
 
 pub invariant_of-result : goal.invariant_of-result
 invariant_of-result c =
-    let playout : Playout = record { window = c.args.window; depth = c.args.depth } in
+    let playout : Playout = record { window = c.args.window; depth = c.args.depth; hold = c.args.hold } in
     subst (λ (h : Held). AreKept h.desk h.notes)
     (sym (c.in_ok-new-3.ensures.ok ∙ (λ i. record { desk = c.in_ok-new.ensures i; notes = c.in_ok-new-2.ensures i })))
     (opened_kept playout)
 
 pub returns : goal.returns
 returns c =
-    let playout : Playout = record { window = c.args.window; depth = c.args.depth } in
+    let playout : Playout = record { window = c.args.window; depth = c.args.depth; hold = c.args.hold } in
     ap (λ (h : Held). board_of h.desk h.notes)
     (c.in_ok-new-3.ensures.ok ∙ (λ i. record { desk = c.in_ok-new.ensures i; notes = c.in_ok-new-2.field-0 }))
     ∙ opened_is playout c.in_ok-new-2.field-0

@@ -10,7 +10,7 @@ are_true c = true_runs_are_true
     c.true_words_solve.ensures.found
     c.admissions_add.ensures.media
     c.admissions_add.ensures.parity
-    c.facts_are_kept.ensures.flush
+    c.facts_are_kept.ensures
     c.runs_stay_within.ensures.taking
     c.runs_join.ensures.takings
 
