@@ -3,10 +3,9 @@ use Rattle.std.proofs.Common.{◌≡◌, ◌≢◌, ◌⊎◌, ◌↔◌, inl, i
 use Rattle.std.specs.List.{slice_get}
 use Rattle.std.proofs.lemmas.Bool.{cases_eq, cases_lt}
 use Rattle.fg_flows.specs.Sheaf.{Item, SheafState, items_of}
-use Rattle.fg_playout.specs.Admission.{IsDue, IsFresh}
 use Rattle.fg_engine.specs.View.{FlowView}
 use Rattle.fg_batches.specs.BatchView.{BatchView}
-use Rattle.fg_batches.specs.Batches.{HasNumbers, HaveNoNumbers, AreLastNumbers, MayPlay, TwoMayPlay, numbers_in}
+use Rattle.fg_batches.specs.Batches.{HasNumbers, HaveNoNumbers, AreLastNumbers, MayMakePlay, MayPlay, TwoMayPlay, numbers_in}
 
 -- The last numbers
 
@@ -72,9 +71,9 @@ one_last items end one other a b = ⊎_elim
 -- So these decide whether the flow may play; with none it may not.
 pub by_last :
     (flow : FlowView) (items : List Item) (numbers : ℕ × ℕ) → AreLastNumbers items (length items) numbers → MayPlay flow items
-    → (flow.sum.media.admitted ≡ 0) ⊎ IsFresh flow.state numbers.1 ⊎ IsDue flow.state numbers.0 numbers.1
+    → (flow.sum.media.admitted ≡ 0) ⊎ MayMakePlay flow.state numbers.0 numbers.1
 by_last flow items numbers last may =
-    subst (λ (n : ℕ × ℕ). (flow.sum.media.admitted ≡ 0) ⊎ IsFresh flow.state n.1 ⊎ IsDue flow.state n.0 n.1)
+    subst (λ (n : ℕ × ℕ). (flow.sum.media.admitted ≡ 0) ⊎ MayMakePlay flow.state n.0 n.1)
     (one_last items (length items) may.numbers numbers may.last last) may.plays
 
 pub by_none : (flow : FlowView) (items : List Item) → HaveNoNumbers items 0 (length items) → MayPlay flow items → ⊥
@@ -82,11 +81,11 @@ by_none flow items none may =
     let last = may.last in
     none last.at last.item (omega arith) last.within last.is_at may.numbers last.has
 
--- A flow that has admitted one may play where a run begins or a play is due before the last.
+-- A flow that has admitted one may play where the last may make a play.
 pub by_test :
     (flow now : FlowView) (items : List Item) (seq ssrc : ℕ) (b : Bool) → flow ≡ now
     → AreLastNumbers items (length items) (seq, ssrc) → flow.sum.media.admitted ≢ 0
-    → IsTrue b ↔ (IsFresh flow.state ssrc ⊎ IsDue flow.state seq ssrc) → IsTrue b ↔ MayPlay now items
+    → IsTrue b ↔ MayMakePlay flow.state seq ssrc → IsTrue b ↔ MayPlay now items
 by_test flow now items seq ssrc b same last some test = subst (λ (f : FlowView). IsTrue b ↔ MayPlay f items) same (
   λ yes. record { numbers = (seq, ssrc); last = last; plays = inr (test.0 yes) },
   λ may. ⊎_elim (λ none. absurd (some none)) (λ plays. test.1 plays) (by_last flow items (seq, ssrc) last may),

@@ -140,22 +140,22 @@ waits_at : (shelved : Shelved) (port : ℕ) → shelved.port ≡ port → lane_b
 waits_at shelved port e = grind (arith, nat_tests)
 
 -- what taking a datagram says
-abbrev pub Takes : FlowView → FlowView → Kind → List ℕ → Shelved → Shelved → Type 0
-Takes old new kind payload before after =
+abbrev pub Takes : FlowView → FlowView → Kind → ℕ → List ℕ → Shelved → Shelved → Type 0
+Takes old new kind time payload before after =
     (records : List Record) (r : Record) (lane : List ℕ) → HasTaken old.state.playout old.sum.port records old.state old.sum lane
-    → r.datagram ≡ payload → port_of old.sum.port kind ≡ r.port
+    → r.datagram ≡ payload → r.time ≡ time → port_of old.sum.port kind ≡ r.port
     → TakesRecord old.state.playout old.sum.port records r lane new.state new.sum (Some (lanes_waiting before)) (Some (lanes_waiting after))
 
 takes_one :
     (item : Item) (old new : FlowView) (before after : Shelved) → before.port ≡ old.sum.port → after.port ≡ old.sum.port
-    → Takes old new item.kind item.payload before after
+    → Takes old new item.kind item.time item.payload before after
     → (records more : List Record) (lane : List ℕ) → HasTaken old.state.playout old.sum.port records old.state old.sum lane
     → AllZip (IsItemOf old.sum.port) more (item ∷ [])
     → (piece : List ℕ) × (after.shelf ≡ before.shelf ++ piece)
     × HasTaken old.state.playout old.sum.port (records ++ more) new.state new.sum (lane ++ piece)
 takes_one item old new before after here still takes records [] lane taken zip = absurd zip
 takes_one item old new before after here still takes records (r ∷ []) lane taken zip =
-    let step = takes records r lane taken zip.0.datagram (sym zip.0.port) in (
+    let step = takes records r lane taken zip.0.datagram zip.0.time (sym zip.0.port) in (
       step.piece,
       sym (waits_at after old.sum.port still) ∙ step.grows.bytes ∙ ap (λ (bytes : List ℕ). bytes ++ step.piece) (waits_at before old.sum.port here),
       step.taken,
@@ -164,7 +164,7 @@ takes_one item old new before after here still takes records (r ∷ other ∷ mo
 
 pub ran_one :
     (item : Item) (old new : FlowView) (before after : Shelved) (starved starved' : Bool) → before.port ≡ old.sum.port → after.port ≡ old.sum.port
-    → new.sum.port ≡ old.sum.port → new.state.playout ≡ old.state.playout → Takes old new item.kind item.payload before after
+    → new.sum.port ≡ old.sum.port → new.state.playout ≡ old.state.playout → Takes old new item.kind item.time item.payload before after
     → HasRun (item ∷ []) (record { flow = old; shelf = before.shelf; starved = starved }) (record { flow = new; shelf = after.shelf; starved = starved' })
 ran_one item old new before after starved starved' here still port playout takes = record {
   port = port;

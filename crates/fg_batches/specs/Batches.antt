@@ -1,5 +1,5 @@
 -- The batches of a repair with workers, which run the flows side by side. No public contract cites what stands here.
-use Rattle.std.specs.Prelude.{◌≡◌, ◌==◌, ◌⊎◌, ◌+◌, ◌<◌, ◌≤◌, ◌^◌, ◌++◌, ℕ, Option, Some, List, [], ◌∷◌, length, slice_index, if◌then◌else◌}
+use Rattle.std.specs.Prelude.{◌≡◌, ◌≢◌, ◌==◌, ◌⊎◌, ◌+◌, ◌<◌, ◌≤◌, ◌^◌, ◌++◌, ℕ, Option, Some, List, [], ◌∷◌, length, slice_index, if◌then◌else◌}
 use Rattle.std.specs.Int.{from_be_bytes, w16, w32}
 use Rattle.std.specs.List.{AllZip, slice_get, slice_index_or}
 use Rattle.fg_io.specs.Outlet.{Lanes}
@@ -11,6 +11,7 @@ use Rattle.fg_shape.specs.Kind.{port_of}
 use Rattle.fg_shape.specs.Playout.{PlayoutFits}
 use Rattle.fg_flows.specs.declared.Plan.{Plan}
 use Rattle.fg_flows.specs.Sheaf.{Item, SheafState, items_of}
+use Rattle.fg_playout.specs.State.{State}
 use Rattle.fg_playout.specs.Admission.{IsDue, IsFresh}
 use Rattle.fg_results.specs.Flow.{records_of}
 use Rattle.fg_engine.specs.View.{FlowView}
@@ -84,12 +85,15 @@ pub record AreLastNumbers (items : List Item) (end : ℕ) (numbers : ℕ × ℕ)
   pub has : HasNumbers item.kind item.payload numbers
   pub later : HaveNoNumbers items (at + 1) end
 
--- The flow may play while it runs the items: it has admitted no media datagram yet, or before the last of them a run begins or
--- a play is due.
+-- Before such a media datagram is admitted a run begins or a play is due, or a word may have waited for too long.
+abbrev pub MayMakePlay : State → ℕ → ℕ → Type 0
+MayMakePlay desk seq ssrc = IsFresh desk ssrc ⊎ IsDue desk seq ssrc ⊎ (desk.playout.hold ≢ 0)
+
+-- The flow may play while it runs the items: it has admitted no media datagram yet, or before the last of them it may.
 pub record MayPlay (flow : FlowView) (items : List Item) : Type 0 where
   pub numbers : ℕ × ℕ
   pub last : AreLastNumbers items (length items) numbers
-  pub plays : (flow.sum.media.admitted ≡ 0) ⊎ IsFresh flow.state numbers.1 ⊎ IsDue flow.state numbers.0 numbers.1
+  pub plays : (flow.sum.media.admitted ≡ 0) ⊎ MayMakePlay flow.state numbers.0 numbers.1
 
 -- Two of the flows may play while they run what the sheaf has of each.
 pub record TwoMayPlay (flows : List BatchView) (sheaf : SheafState) (d : BatchView) : Type 0 where

@@ -2,8 +2,7 @@
 ghost use Rattle.std.specs.Prelude.{◌≡◌, ◌⊎◌, ◌<◌, ◌↔◌, ℕ, [], ◌∷◌, false, length, IfSome, IfNone, IsTrue, OnOk};
 ghost use Rattle.std.specs.Bool.{OnFalse};
 ghost use Rattle.fg_flows.specs.Sheaf.{items_of};
-ghost use Rattle.fg_playout.specs.Admission.{IsDue, IsFresh};
-ghost use Rattle.fg_batches.specs.Batches.{CanRun, HasRun, HasNumbers, HaveNoNumbers, AreLastNumbers, MayPlay};
+ghost use Rattle.fg_batches.specs.Batches.{CanRun, HasRun, HasNumbers, HaveNoNumbers, AreLastNumbers, MayMakePlay, MayPlay};
 
 use fg_engine::{Flow, ShelfFiller, Shelved, WindowState};
 use fg_flows::{Kind, Sheaf};
@@ -67,7 +66,7 @@ impl<D: WindowState> BatchFlow<D> {
     }
 
     /// Whether it may play while it runs its records of the batch: it has admitted no media datagram yet, or before the last of
-    /// them a run begins or a play is due.
+    /// them a run begins, a play is due or a word may have waited for too long.
     pub(crate) fn may_play(&self, sheaf: &Sheaf, index: usize) -> bool
         requires { index < length sheaf.now.items }
         ensures { IsTrue result ↔ MayPlay self.now.flow (items_of sheaf.now index) }
@@ -98,22 +97,31 @@ impl<D: WindowState> BatchFlow<D> {
         ensures { OnOk result (HasRun (items_of sheaf.now index) self.old self.new) }
     {
         for k in 0..sheaf.count(index) {
-            let (kind, _, payload) = sheaf.item(index, k);
-            self.run_item(alloc, kind, payload)?;
+            let (kind, time, payload) = sheaf.item(index, k);
+            self.run_item(alloc, kind, time, payload)?;
         }
         Ok(())
     }
 
     /// Runs one record of the flow.
-    fn run_item(&mut self, alloc: Global, kind: Kind, payload: &[u8]) -> Result<(), AllocError>
+    fn run_item(
+        &mut self,
+        alloc: Global,
+        kind: Kind,
+        time: u64,
+        payload: &[u8],
+    ) -> Result<(), AllocError>
         requires { CanRun self.old.flow 1 }
-        ensures { OnOk result ((time : ℕ)
-            → HasRun (record { kind = kind; time = time; payload = payload.now } ∷ []) self.old self.new) }
+        ensures { OnOk result (HasRun (record { kind = kind; time = time; payload = payload.now } ∷ []) self.old self.new) }
     {
-        match self
-            .flow
-            .take(alloc, &mut ShelfFiller, kind, payload, &mut self.shelved)
-        {
+        match self.flow.take(
+            alloc,
+            &mut ShelfFiller,
+            kind,
+            time,
+            payload,
+            &mut self.shelved,
+        ) {
             Ok(()) => Ok(()),
             Err(Fault::Memory) => Err(AllocError),
             // A shelf counts no fault of the outside.
@@ -130,11 +138,12 @@ impl<D: WindowState> BatchFlow<D> {
     }
 }
 
-/// Whether a run begins or a play is due before a media datagram of this sequence number and SSRC is admitted.
+/// Whether a run begins or a play is due before a media datagram of this sequence number and SSRC is admitted, or a word may
+/// have waited for too long.
 fn may_make_play<D: WindowState>(window: &D, seq: u16, ssrc: u32) -> bool
-    ensures { IsTrue result ↔ (IsFresh (D.state window.now) ssrc ⊎ IsDue (D.state window.now) seq ssrc) }
+    ensures { IsTrue result ↔ MayMakePlay (D.state window.now) seq ssrc }
 {
-    window.fresh(ssrc) || window.due(seq, ssrc)
+    window.fresh(ssrc) || window.due(seq, ssrc) || window.hold() > 0
 }
 
 /// The sequence number and the SSRC of the last media datagram that the flow has in the batch.

@@ -103,14 +103,14 @@ answered kind.Row answer sum =
     λ i. record sum { media = plus_none sum.media i; column = plus_none sum.column i; row = plus_one sum.row answer i }
 
 came_on_media : (bytes : List ℕ) (arrival : Arrival) → IsReadAsMedia bytes arrival → came_by arrival ≡ kind.Media
-came_on_media bytes (carries seq ssrc word) read = refl
-came_on_media bytes (protects by parity) read = absurd read
-came_on_media bytes (refused by) read = read.0
+came_on_media bytes (carries time seq ssrc word) read = refl
+came_on_media bytes (protects time by parity) read = absurd read
+came_on_media bytes (refused time by) read = read.0
 
 came_on_parity : (kind : Kind) (bytes : List ℕ) (arrival : Arrival) → IsReadAsParity kind bytes arrival → came_by arrival ≡ kind
-came_on_parity kind bytes (carries seq ssrc word) read = absurd read
-came_on_parity kind bytes (protects by parity) read = read.0
-came_on_parity kind bytes (refused by) read = read.0
+came_on_parity kind bytes (carries time seq ssrc word) read = absurd read
+came_on_parity kind bytes (protects time by parity) read = read.0
+came_on_parity kind bytes (refused time by) read = read.0
 
 came_by_its_stream : (kind : Kind) (bytes : List ℕ) (arrival : Arrival) → IsReadAs kind bytes arrival → came_by arrival ≡ kind
 came_by_its_stream kind.Media bytes arrival read = came_on_media bytes arrival read

@@ -1,5 +1,5 @@
 -- How the records of a flow are read: in one way each.
-use Rattle.std.proofs.Common.{◌≢◌, ℕ, List, [], Option, Some, None, refl}
+use Rattle.std.proofs.Common.{◌≡◌, ◌≢◌, ℕ, List, [], Option, Some, None, refl}
 use Rattle.fg_fechead.specs.declared.Parity.{Parity as ParityRead}
 use Rattle.fg_fechead.specs.ParityDatagram.{IsParityDatagram}
 use Rattle.fg_shape.specs.declared.kind.Kind.{Kind}
@@ -7,7 +7,7 @@ use Rattle.fg_shape.specs.declared.kind.Kind.TheVariants.{Media, Column, Row}
 use Rattle.fg_playout.specs.declared.reply.Reply.{Reply}
 use Rattle.fg_playout.specs.State.{State}
 use Rattle.fg_playout.specs.Admission.{AdmitsParity}
-use Rattle.fg_playout.specs.Run.{Arrival, protects, refused, Takes}
+use Rattle.fg_playout.specs.Run.{Arrival, protects, refused, time_of, TakesThen}
 use Rattle.fg_results.specs.Flow.{IsReadAsParity, IsReadAs, parity_of}
 
 -- On a port that isn't for media a datagram is read as a parity datagram.
@@ -17,31 +17,33 @@ as_parity Column bytes arrival other read = read
 as_parity Row bytes arrival other read = read
 
 pub parity_is_read :
-    (kind : Kind) (bytes : List ℕ) (parity : ParityRead) → kind ≢ Media → IsParityDatagram bytes parity
-    → IsReadAs kind bytes (protects kind (parity_of parity))
-parity_is_read kind bytes parity other is =
-    as_parity kind bytes (protects kind (parity_of parity)) other (refl, (parity, is, refl))
+    (kind : Kind) (time : ℕ) (bytes : List ℕ) (parity : ParityRead) → kind ≢ Media → IsParityDatagram bytes parity
+    → IsReadAs kind bytes (protects time kind (parity_of parity))
+parity_is_read kind time bytes parity other is =
+    as_parity kind bytes (protects time kind (parity_of parity)) other (refl, (parity, is, refl))
 
 parity_is_refused :
-    (kind : Kind) (bytes : List ℕ) → kind ≢ Media → ((parity : ParityRead) → ¬ IsParityDatagram bytes parity)
-    → IsReadAs kind bytes (refused kind)
-parity_is_refused kind bytes other none = as_parity kind bytes (refused kind) other (refl, none)
+    (kind : Kind) (time : ℕ) (bytes : List ℕ) → kind ≢ Media → ((parity : ParityRead) → ¬ IsParityDatagram bytes parity)
+    → IsReadAs kind bytes (refused time kind)
+parity_is_refused kind time bytes other none = as_parity kind bytes (refused time kind) other (refl, none)
 
 -- A datagram on a parity port that was read so, and does so.
-abbrev ParityTakes : State → Kind → List ℕ → Option Reply → State → Type 0
-ParityTakes old kind bytes reply new = (arrival : Arrival) × IsReadAs kind bytes arrival × Takes old arrival [] reply new
+abbrev ParityTakes : State → Kind → ℕ → List ℕ → Option Reply → State → Type 0
+ParityTakes old kind time bytes reply new =
+    (arrival : Arrival) × (time_of arrival ≡ time) × IsReadAs kind bytes arrival × TakesThen old arrival [] reply new
 
 pub refused_takes :
     (old : State) (bytes : List ℕ) → ((parity : ParityRead) → ¬ IsParityDatagram bytes parity)
-    → (kind : Kind) → kind ≢ Media → ParityTakes old kind bytes None old
-refused_takes old bytes none kind other = (refused kind, parity_is_refused kind bytes other none, (refl, refl))
+    → (kind : Kind) (time : ℕ) → kind ≢ Media → ParityTakes old kind time bytes None old
+refused_takes old bytes none kind time other = (refused time kind, refl, parity_is_refused kind time bytes other none, (refl, refl))
 
 pub parity_takes :
     (old : State) (bytes : List ℕ) (parity : ParityRead) (reply : Reply) (new : State)
     → IsParityDatagram bytes parity → AdmitsParity old (parity_of parity) reply new
-    → (kind : Kind) → kind ≢ Media → ParityTakes old kind bytes (Some reply) new
-parity_takes old bytes parity reply new is admits kind other = (
-  protects kind (parity_of parity),
-  parity_is_read kind bytes parity other is,
+    → (kind : Kind) (time : ℕ) → kind ≢ Media → ParityTakes old kind time bytes (Some reply) new
+parity_takes old bytes parity reply new is admits kind time other = (
+  protects time kind (parity_of parity),
+  refl,
+  parity_is_read kind time bytes parity other is,
   (refl, admits),
 )

@@ -1,12 +1,13 @@
 -- Plays are made and shown one after another.
-use Rattle.std.proofs.Common.{◌≡◌, ◌+◌, ◌-◌, ◌≤◌, ◌++◌, ℕ, List, [], ◌∷◌, length, min, Bool, false, true, IsTrue, Option, refl, sym, ap, subst, ◌∙◌, arith, length-append}
+use Rattle.std.proofs.Common.{◌≡◌, ◌+◌, ◌-◌, ◌≤◌, ◌++◌, ℕ, List, [], ◌∷◌, length, min, Bool, false, true, IsTrue, Option, Some, refl, sym, ap, subst, ◌∙◌, arith, length-append}
 use Rattle.std.proofs.lemmas.List.{append-nil}
 use Rattle.fg_io.specs.Outlet.{Lanes}
 use Rattle.fg_io.proofs.PrefixLemmas.{IsPrefix-nil}
 use Rattle.fg_playout.specs.State.{State}
 use Rattle.fg_playout.specs.Admission.{IsDue}
 use Rattle.fg_playout.specs.Play.{Play, IsPlay, IsFlushStep}
-use Rattle.fg_playout.specs.Laws.{HavePlayed, AreFlushSteps, PlaysDueJoin, FlushStepsJoin}
+use Rattle.fg_playout.specs.Held.{IsHeldStep}
+use Rattle.fg_playout.specs.Laws.{HavePlayed, AreFlushSteps, AreHeldSteps, PlaysDueJoin, FlushStepsJoin, HeldStepsJoin}
 use Rattle.fg_report.specs.declared.flow_sum.FlowSum.{FlowSum}
 use Rattle.fg_results.specs.Flow.{all_shown, lane_of}
 use Rattle.fg_engine.specs.Steps.{with_plays, CountsWithin, Grows, GrowsPart, HaveShown, BreakOff}
@@ -51,6 +52,18 @@ breaks_before Are old port lanes are = record {
   part = (([]), IsPrefix-nil [], grows_none lanes port);
 }
 
+-- Nothing is shown yet.
+pub shown_none :
+    (Are : List Play → State → Type 0) (old : State) (sum : FlowSum) (lanes : Option Lanes) → Are [] old
+    → HaveShown Are old sum lanes old sum lanes
+shown_none Are old sum lanes are = record {
+  plays = [];
+  are = are;
+  mark = omega arith;
+  grows = grows_none lanes sum.port;
+  counts = counts_none sum old.mark;
+}
+
 -- What was made so, may be told otherwise.
 pub retold :
     (Are Told : List Play → State → Type 0) (old new : State) (sum sum' : FlowSum) (before after : Option Lanes)
@@ -66,19 +79,20 @@ retold Are Told old new sum sum' before after tell so = record {
 
 module _ (Are : List Play → State → Type 0) (old : State) (sum : FlowSum) (before : Option Lanes) where
   pub one_more_shown :
-      (count : ℕ) (between new : State) (so_far next : FlowSum) (middle after : Option Lanes) (play : Play)
-      → HaveShown Are old sum before between so_far middle
+      (count : ℕ) (between on new : State) (so_far next : FlowSum) (middle after : Option Lanes) (play : Play)
+      → HaveShown Are old sum before between so_far middle → on.mark ≡ between.mark
       → ((plays : List Play) → Are plays between → Are (plays ++ play ∷ []) new)
-      → IsPlay count between play new → so_far.port ≡ sum.port → next ≡ with_plays so_far play.first (play ∷ [])
+      → IsPlay count on play new → so_far.port ≡ sum.port → next ≡ with_plays so_far play.first (play ∷ [])
       → Grows middle so_far.port (lane_of (play ∷ [])) after → HaveShown Are old sum before new next after
-  one_more_shown count between new so_far next middle after play so join is port counted grows =
+  one_more_shown count between on new so_far next middle after play so at join is port counted grows =
       let more = all_shown_more so.plays (play ∷ []) in
-      let first : play.first ≡ old.mark + length (all_shown so.plays) = is.first ∙ so.mark in
+      let first : play.first ≡ old.mark + length (all_shown so.plays) = is.first ∙ at ∙ so.mark in
       record {
         plays = so.plays ++ play ∷ [];
         are = join so.plays so.are;
         mark =
-            mark_after count between play new is
+            mark_after count on play new is
+            ∙ ap (λ (n : ℕ). n + length (all_shown (play ∷ []))) at
             ∙ (let m = so.mark in let l = length-append (all_shown so.plays) (all_shown (play ∷ [])) in let e = ap length more in omega (arith, m, l, e));
         grows =
             subst (λ (bytes : List ℕ). Grows before sum.port bytes after) (sym (lane_more so.plays (play ∷ [])))
@@ -128,6 +142,18 @@ pub step_after :
     (old between new : State) (play : Play) → FlushStepsJoin → IsFlushStep between play new
     → (plays : List Play) → AreFlushSteps old plays between → AreFlushSteps old (plays ++ play ∷ []) new
 step_after old between new play join step plays steps = join old between new plays (play ∷ []) steps (new, step, refl)
+
+-- So does a held step.
+pub held_after :
+    (old between new : State) (time : ℕ) (play : Play) → HeldStepsJoin → IsHeldStep between time (Some play) new
+    → (plays : List Play) → AreHeldSteps old time plays between → AreHeldSteps old time (plays ++ play ∷ []) new
+held_after old between new time play join step plays steps = join old between new time plays (play ∷ []) steps (new, step, refl)
+
+-- It plays one position at least.
+pub held_shows :
+    (old new : State) (time : ℕ) (play : Play) (step : IsHeldStep old time (Some play) new) → 1 ≤ old.playout.window
+    → 1 ≤ min old.playout.window (step.greatest + 1 - old.mark)
+held_shows old new time play step some = (let ahead : old.mark ≤ step.greatest = step.greatest_is.inside.1 in omega (arith, ahead, some))
 
 -- A test that fails.
 pub fails : (P : Type 0) (b : Bool) → b ≡ false → (P → IsTrue b) → ¬ P

@@ -155,31 +155,31 @@ pub record KeepsSettings (old new : FlowView) : Type 0 where
   pub playout : new.state.playout ≡ old.state.playout
 
 -- what a flow does with a record that it takes whole, or that a fault stops
-abbrev pub Takes : FlowView → FlowView → Kind → List ℕ → Option Lanes → Option Lanes → Type 0
-Takes old new kind datagram now after =
+abbrev pub Takes : FlowView → FlowView → Kind → ℕ → List ℕ → Option Lanes → Option Lanes → Type 0
+Takes old new kind time datagram now after =
     (records : List Record) (r : Record) (lane : List ℕ)
     → HasTaken old.state.playout old.sum.port records old.state old.sum lane
-    → r.datagram ≡ datagram → port_of old.sum.port kind ≡ r.port
+    → r.datagram ≡ datagram → r.time ≡ time → port_of old.sum.port kind ≡ r.port
     → TakesRecord old.state.playout old.sum.port records r lane new.state new.sum now after
 
-abbrev pub Breaks : FlowView → Kind → List ℕ → Option Lanes → Option Lanes → Type 0
-Breaks old kind datagram now after =
+abbrev pub Breaks : FlowView → Kind → ℕ → List ℕ → Option Lanes → Option Lanes → Type 0
+Breaks old kind time datagram now after =
     (records : List Record) (r : Record) (lane : List ℕ)
     → HasTaken old.state.playout old.sum.port records old.state old.sum lane
-    → r.datagram ≡ datagram → port_of old.sum.port kind ≡ r.port
+    → r.datagram ≡ datagram → r.time ≡ time → port_of old.sum.port kind ≡ r.port
     → BreaksAtRecord old.state.playout old.sum.port records r lane now after
 
-flow_step : (plan : Plan) (records : List Record) (r : Record) (port : ℕ) (old new : FlowView) (lane : List ℕ) (kind : Kind) (datagram : List ℕ) (now after : Option Lanes) → KeepsSettings old new → Takes old new kind datagram now after → FlowStands plan records port old lane → r.datagram ≡ datagram → port_of port kind ≡ r.port → TakesRecord (playout_of plan) port records r lane new.state new.sum now after
-flow_step plan records r port old new lane kind datagram now after keeps takes h same of =
+flow_step : (plan : Plan) (records : List Record) (r : Record) (port : ℕ) (old new : FlowView) (lane : List ℕ) (kind : Kind) (time : ℕ) (datagram : List ℕ) (now after : Option Lanes) → KeepsSettings old new → Takes old new kind time datagram now after → FlowStands plan records port old lane → r.datagram ≡ datagram → r.time ≡ time → port_of port kind ≡ r.port → TakesRecord (playout_of plan) port records r lane new.state new.sum now after
+flow_step plan records r port old new lane kind time datagram now after keeps takes h same at of =
     moved (λ w p. TakesRecord w p records r lane new.state new.sum now after) old.state.playout (playout_of plan) old.sum.port port
     h.playout_is h.port_is
-    (takes records r lane (flow_taken plan records port old lane h) same (subst (λ p. port_of p kind ≡ r.port) (sym h.port_is) of))
+    (takes records r lane (flow_taken plan records port old lane h) same at (subst (λ p. port_of p kind ≡ r.port) (sym h.port_is) of))
 
-flow_break : (plan : Plan) (records : List Record) (r : Record) (port : ℕ) (old : FlowView) (lane : List ℕ) (kind : Kind) (datagram : List ℕ) (now after : Option Lanes) → Breaks old kind datagram now after → FlowStands plan records port old lane → r.datagram ≡ datagram → port_of port kind ≡ r.port → BreaksAtRecord (playout_of plan) port records r lane now after
-flow_break plan records r port old lane kind datagram now after breaks h same of =
+flow_break : (plan : Plan) (records : List Record) (r : Record) (port : ℕ) (old : FlowView) (lane : List ℕ) (kind : Kind) (time : ℕ) (datagram : List ℕ) (now after : Option Lanes) → Breaks old kind time datagram now after → FlowStands plan records port old lane → r.datagram ≡ datagram → r.time ≡ time → port_of port kind ≡ r.port → BreaksAtRecord (playout_of plan) port records r lane now after
+flow_break plan records r port old lane kind time datagram now after breaks h same at of =
     moved (λ w p. BreaksAtRecord w p records r lane now after) old.state.playout (playout_of plan) old.sum.port port
     h.playout_is h.port_is
-    (breaks records r lane (flow_taken plan records port old lane h) same (subst (λ p. port_of p kind ≡ r.port) (sym h.port_is) of))
+    (breaks records r lane (flow_taken plan records port old lane h) same at (subst (λ p. port_of p kind ≡ r.port) (sym h.port_is) of))
 
 -- the flow that took it
 at_flow : (plan : Plan) (records : List Record) (items : List FlowView) (gained : ℕ → List ℕ) (i : ℕ) (new : FlowView) (piece : List ℕ) (d : FlowView) → i < length items → FlowStands plan records (slice_index plan.table i) new (gained (slice_index plan.table i) ++ piece) → FlowStands plan records (slice_index plan.table i) (slice_index_or (set items i new) i d) (more gained (slice_index plan.table i) piece (slice_index plan.table i))
@@ -211,14 +211,14 @@ pub come_some :
     {D : Type 0} → OneFlowHasAPort → (plan : Plan) → IsTable plan.table → (engine : Engine D) (port i : ℕ) (kind : Kind) → IsPortOf plan.table port i kind
     → (old new : FlowView) (shared : Engine D) → old ≡ slice_index_or engine.flows.items i old
     → KeepsSettings old new
-    → (datagram : List ℕ) (now after : Option Lanes) → Takes old new kind datagram now after
-    → (before : Option Lanes) (records : List Record) (r : Record) → HasCome plan records engine before now → r.port ≡ port → r.datagram ≡ datagram
+    → (time : ℕ) (datagram : List ℕ) (now after : Option Lanes) → Takes old new kind time datagram now after
+    → (before : Option Lanes) (records : List Record) (r : Record) → HasCome plan records engine before now → r.port ≡ port → r.time ≡ time → r.datagram ≡ datagram
     → HasCome {D = D} plan (records ++ r ∷ []) (record { flows = with_item engine.flows i new; writer = shared.writer; other = engine.other }) before after
-come_some law plan good engine port i kind of old new shared at keeps datagram now after takes before records r h e same =
+come_some law plan good engine port i kind of old new shared at keeps time datagram now after takes before records r h e at_time same =
     let here : IsPortOf plan.table r.port i kind = subst (λ p. IsPortOf plan.table p i kind) (sym e) of in
     let flow = slice_index plan.table i in
     let stood : FlowStands plan records flow old (h.gained flow) = subst (λ (f : FlowView). FlowStands plan records flow f (h.gained flow)) (sym at) (h.stands.flows i old of.0) in
-    let step : TakesRecord (playout_of plan) flow records r (h.gained flow) new.state new.sum now after = flow_step plan records r flow old new (h.gained flow) kind datagram now after keeps takes stood same here.1 in
+    let step : TakesRecord (playout_of plan) flow records r (h.gained flow) new.state new.sum now after = flow_step plan records r flow old new (h.gained flow) kind time datagram now after keeps takes stood same at_time here.1 in
     let stands : FlowStands plan (records ++ r ∷ []) flow new (h.gained flow ++ step.piece) = record {
       port_is = keeps.port ∙ stood.port_is;
       playout_is = keeps.playout ∙ stood.playout_is;
@@ -269,14 +269,14 @@ exact_at plan records r engine gained h flow part here next port c (inr ne) =
 pub breaks_some :
     {D : Type 0} → (plan : Plan) (engine : Engine D) (port i : ℕ) (kind : Kind) → IsPortOf plan.table port i kind
     → (old : FlowView) → old ≡ slice_index_or engine.flows.items i old
-    → (datagram : List ℕ) (now after : Option Lanes) → Breaks old kind datagram now after
-    → (before : Option Lanes) (records : List Record) (r : Record) → HasCome plan records engine before now → r.port ≡ port → r.datagram ≡ datagram
+    → (time : ℕ) (datagram : List ℕ) (now after : Option Lanes) → Breaks old kind time datagram now after
+    → (before : Option Lanes) (records : List Record) (r : Record) → HasCome plan records engine before now → r.port ≡ port → r.time ≡ time → r.datagram ≡ datagram
     → (broken : Option ℕ) × BreaksAfter plan records (records ++ r ∷ []) broken before after
-breaks_some plan engine port i kind of old at datagram now after breaks before records r h e same =
+breaks_some plan engine port i kind of old at time datagram now after breaks before records r h e at_time same =
     let here : IsPortOf plan.table r.port i kind = subst (λ p. IsPortOf plan.table p i kind) (sym e) of in
     let flow = slice_index plan.table i in
     let stood : FlowStands plan records flow old (h.gained flow) = subst (λ (f : FlowView). FlowStands plan records flow f (h.gained flow)) (sym at) (h.stands.flows i old of.0) in
-    let step : BreaksAtRecord (playout_of plan) flow records r (h.gained flow) now after = flow_break plan records r flow old (h.gained flow) kind datagram now after breaks stood same here.1 in (
+    let step : BreaksAtRecord (playout_of plan) flow records r (h.gained flow) now after = flow_break plan records r flow old (h.gained flow) kind time datagram now after breaks stood same at_time here.1 in (
       Some flow,
       record {
         gained = more h.gained flow step.part;

@@ -15,15 +15,13 @@ use Rattle.fg_shape.specs.Playout.{Playout}
 use Rattle.fg_playout.specs.State.{State, opening}
 use Rattle.fg_playout.specs.Admission.{counted}
 use Rattle.fg_playout.specs.Play.{Play}
-use Rattle.fg_playout.specs.Run.{Arrival, TakesAll, IsFlush, IsRun}
-use Rattle.fg_desk.specs.Arrivals.{StaysWithin}
-use Rattle.fg_playout.specs.Laws.{LaterChangesNothing, OneTaking, PlayIsOne, FlushIsOne, AreFlushSteps, TakingsJoin, FlushStepsComeNext, PlaysReachTheMark, EachGetsAReply, CountsAdd}
+use Rattle.fg_playout.specs.Run.{Arrival, time_of, TakesAll, IsFlush, IsRun}
+use Rattle.fg_playout.specs.Laws.{PlaysBeforeComeNext, AreFlushSteps, TakingsJoin, FlushStepsComeNext, PlaysReachTheMark, EachGetsAReply, CountsAdd}
 use Rattle.fg_report.specs.declared.flow_sum.FlowSum.{FlowSum}
 use Rattle.fg_results.specs.Flow.{FlowResult, IsFlowResult, IsReadAs, Arrives, records_of, all_shown, marks_of, lane_of, sum_of}
 use Rattle.fg_engine.specs.Steps.{HasTaken, HaveShown, BreakOff, AdmitsDatagram, BreaksAtDatagram, TakesRecord, BreaksAtRecord, EndsFlow, BreaksAtEnd, with_plays, with_answer}
 use Rattle.fg_results.specs.Stops.{HasShown}
-use Rattle.fg_engine.proofs.Breaking.{plays_go_on}
-use Rattle.fg_results.proofs.ArrivalLemmas.{one_more_record, arrivals_are_read, one_list_arrives}
+use Rattle.fg_results.proofs.ArrivalLemmas.{one_kind, one_more_record, arrivals_are_read, arrivals_begin, one_list_arrives}
 use Rattle.fg_engine.proofs.Answering.{answer_added}
 use Rattle.fg_results.proofs.ShownLemmas.{lane_more}
 use Rattle.fg_engine.proofs.Counting.{plays_more}
@@ -147,13 +145,13 @@ module _ (media : MediaReadsOneWay) (parity : ParityReadsOneWay) where
 
 pub record_taken :
     PlaysReachTheMark → TakingsJoin → CountsAdd → EachGetsAReply
-    → (playout : Playout) (kind : Kind) (bytes : List ℕ) (state new : State) (sum sum' last : FlowSum) (reply : Option Reply)
-    (before after : Option Lanes) → 1 ≤ playout.window → AdmitsDatagram kind bytes state sum before reply new sum' after
+    → (playout : Playout) (kind : Kind) (time : ℕ) (bytes : List ℕ) (state new : State) (sum sum' last : FlowSum) (reply : Option Reply)
+    (before after : Option Lanes) → 1 ≤ playout.window → AdmitsDatagram kind time bytes state sum before reply new sum' after
     → last ≡ record (with_answer kind sum' reply) { runs = new.runs }
     → (records : List Record) (r : Record) (lane : List ℕ) → HasTaken playout sum.port records state sum lane
-    → r.datagram ≡ bytes → port_of sum.port kind ≡ r.port
+    → r.datagram ≡ bytes → r.time ≡ time → port_of sum.port kind ≡ r.port
     → TakesRecord playout sum.port records r lane new last before after
-record_taken reach join add each playout kind bytes state new sum sum' last reply before after some admits counted records r lane taken is on =
+record_taken reach join add each playout kind time bytes state new sum sum' last reply before after some admits counted records r lane taken is at on =
     let flow = sum.port in
     let plays = sum_after_plays reach playout flow records state sum sum' lane some taken admits.due admits.counts in
     let same : length taken.arrivals ≡ length taken.replies =
@@ -169,7 +167,7 @@ record_taken reach join add each playout kind bytes state new sum sum' last repl
             subst (λ (own : List Record). AllZip (Arrives flow) own (taken.arrivals ++ admits.arrival ∷ []))
             (sym (one_more_record flow kind records r on))
             (zip_push (Arrives flow) (records_of flow records) taken.arrivals r admits.arrival taken.arrive
-            (kind, on, subst (λ (bytes : List ℕ). IsReadAs kind bytes admits.arrival) (sym is) admits.read));
+            (kind, on, subst (λ (bytes : List ℕ). IsReadAs kind bytes admits.arrival) (sym is) admits.read, admits.came ∙ sym at));
         takes =
             join (opening playout) state new taken.arrivals (admits.arrival ∷ []) taken.plays admits.due taken.replies (reply ∷ [])
             taken.takes (admits.due, [], new, sym (append-nil admits.due), admits.takes, (refl, refl, refl));
@@ -184,34 +182,54 @@ record_taken reach join add each playout kind bytes state new sum sum' last repl
     }
 
 module _ (media : MediaReadsOneWay) (parity : ParityReadsOneWay) where
-  -- What arrives with one more record is what arrived before and this datagram.
+  -- One more record brings one more arrival.
+  record OneMore (kind : Kind) (time : ℕ) (bytes : List ℕ) (taken arrivals : List Arrival) : Type 0 where
+    arrival : Arrival
+    all : arrivals ≡ taken ++ arrival ∷ []
+    came : time_of arrival ≡ time
+    read : IsReadAs kind bytes arrival
+
+  one_more_at :
+      (flow : ℕ) (kind : Kind) (time : ℕ) (bytes : List ℕ) (r : Record) (taken arrivals rest : List Arrival)
+      → r.datagram ≡ bytes → r.time ≡ time → port_of flow kind ≡ r.port → arrivals ≡ taken ++ rest
+      → AllZip (Arrives flow) (r ∷ []) rest → OneMore kind time bytes taken arrivals
+  one_more_at flow kind time bytes r taken arrivals [] is at on begins arrive = absurd arrive
+  one_more_at flow kind time bytes r taken arrivals (arrival ∷ other ∷ rest) is at on begins arrive = absurd arrive.1
+  one_more_at flow kind time bytes r taken arrivals (arrival ∷ []) is at on begins arrive =
+      let one = arrive.0 in
+      record {
+        arrival = arrival;
+        all = begins;
+        came = one.3 ∙ at;
+        read =
+            subst (λ (b : List ℕ). IsReadAs kind b arrival) is
+            (subst (λ (k : Kind). IsReadAs k r.datagram arrival) (one_kind flow r.port one.0 kind one.1 on) one.2);
+      }
+
   one_more_arrives :
-      (flow : ℕ) (kind : Kind) (bytes : List ℕ) (arrival : Arrival) → IsReadAs kind bytes arrival
-      → (records : List Record) (r : Record) (taken arrivals : List Arrival) → AllZip (Arrives flow) (records_of flow records) taken
-      → r.datagram ≡ bytes → port_of flow kind ≡ r.port → AllZip (Arrives flow) (records_of flow (records ++ r ∷ [])) arrivals
-      → arrivals ≡ taken ++ arrival ∷ []
-  one_more_arrives flow kind bytes arrival read records r taken arrivals arrive is on more =
+      (flow : ℕ) (kind : Kind) (time : ℕ) (bytes : List ℕ) (records : List Record) (r : Record) (taken arrivals : List Arrival)
+      → AllZip (Arrives flow) (records_of flow records) taken → r.datagram ≡ bytes → r.time ≡ time → port_of flow kind ≡ r.port
+      → AllZip (Arrives flow) (records_of flow (records ++ r ∷ [])) arrivals → OneMore kind time bytes taken arrivals
+  one_more_arrives flow kind time bytes records r taken arrivals arrive is at on more =
       let own = one_more_record flow kind records r on in
-      one_list_arrives media parity flow (records_of flow records ++ r ∷ []) arrivals (taken ++ arrival ∷ [])
-      (subst (λ (all : List Record). AllZip (Arrives flow) all arrivals) own more)
-      (zip_push (Arrives flow) (records_of flow records) taken r arrival arrive
-      (kind, on, subst (λ (bytes : List ℕ). IsReadAs kind bytes arrival) (sym is) read))
+      let begins = arrivals_begin media parity flow (records_of flow records) (r ∷ []) taken arrivals arrive
+      (subst (λ (all : List Record). AllZip (Arrives flow) all arrivals) own more) in
+      one_more_at flow kind time bytes r taken arrivals begins.0 is at on begins.1 begins.2
 
   pub record_breaks :
-      LaterChangesNothing → OneTaking → PlayIsOne → FlushIsOne
-      → (playout : Playout) (flow : ℕ) (kind : Kind) (bytes : List ℕ) (state : State) (sum : FlowSum) (before after : Option Lanes)
-      → StaysWithin state → BreaksAtDatagram kind bytes state flow before after
+      PlaysBeforeComeNext
+      → (playout : Playout) (flow : ℕ) (kind : Kind) (time : ℕ) (bytes : List ℕ) (state : State) (sum : FlowSum) (before after : Option Lanes)
+      → BreaksAtDatagram kind time bytes state flow before after
       → (records : List Record) (r : Record) (lane : List ℕ) → HasTaken playout flow records state sum lane
-      → r.datagram ≡ bytes → port_of flow kind ≡ r.port → BreaksAtRecord playout flow records r lane before after
-  record_breaks further once one step playout flow kind bytes state sum before after within breaks records r lane taken is on =
-      let off = breaks.off in
-      record {
-        part = off.part.0;
-        grows = off.part.2;
-        next = λ (more : List ℕ) (shown : HasShown playout flow (records ++ r ∷ []) more).
-            let same = one_more_arrives flow kind bytes breaks.arrival breaks.read records r taken.arrivals shown.arrivals taken.arrive is on shown.arrive in
-            let begin = plays_go_on further once one step playout taken.arrivals breaks.arrival taken.plays off.plays shown.plays
-            taken.replies shown.replies state off.now shown.state (arrivals_are_read flow records taken.arrivals taken.arrive) taken.takes within off.are
-            (subst (λ (arrivals : List Arrival). TakesAll (opening playout) arrivals shown.plays shown.replies shown.state) same shown.takes) in
-            front_of_lane lane off.part.0 more taken.plays off.plays begin.0 shown.plays taken.lane_is off.part.1 begin.1 shown.bytes_are;
-      }
+      → r.datagram ≡ bytes → r.time ≡ time → port_of flow kind ≡ r.port → BreaksAtRecord playout flow records r lane before after
+  record_breaks next playout flow kind time bytes state sum before after breaks records r lane taken is at on = record {
+    part = breaks.part;
+    grows = breaks.grows;
+    next = λ (more : List ℕ) (shown : HasShown playout flow (records ++ r ∷ []) more).
+        let one = one_more_arrives flow kind time bytes records r taken.arrivals shown.arrivals taken.arrive is at on shown.arrive in
+        let begins = breaks.begins one.arrival one.came one.read in
+        let come = next playout one.arrival taken.arrivals [] taken.plays begins.plays shown.plays taken.replies shown.replies state begins.now
+        shown.state (arrivals_are_read flow records taken.arrivals taken.arrive) taken.takes begins.are
+        (subst (λ (arrivals : List Arrival). TakesAll (opening playout) arrivals shown.plays shown.replies shown.state) one.all shown.takes) in
+        front_of_lane lane breaks.part more taken.plays begins.plays come.0 shown.plays taken.lane_is begins.front come.1 shown.bytes_are;
+  }

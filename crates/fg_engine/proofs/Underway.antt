@@ -26,9 +26,9 @@ few_arrivals playout flow state sum is =
     omega (arith, fewer, few)
 
 pub stays_within : RunsStayWithin → (playout : Playout) (flow : ℕ) (state : State) (sum : FlowSum) → IsUnderway playout flow state sum → StaysWithin state
-stays_within stay playout flow state sum is seq ssrc due new played =
+stays_within stay playout flow state sum is next due new played =
     let few = few_arrivals playout flow state sum is in
-    stay playout seq ssrc is.taken.arrivals is.taken.plays due is.taken.replies state new
+    stay playout next is.taken.arrivals is.taken.plays due is.taken.replies state new
     is.fits.window.0 is.fits.window.1 is.fits.depth.0 is.fits.depth.1
     (arrivals_are_read flow is.records is.taken.arrivals is.taken.arrive) (omega (arith, few)) is.taken.takes played
 

@@ -59,12 +59,12 @@ pub stop_at_record :
     {D : Type 0} → WalksTheFront → (growth : Growth) (plan : Plan) (fault : Finish) → (fault ≡ finish.ReadFault → ⊥) → (first left now : Option (List ℕ)) (reader next : ReaderState) (engine : Engine D) (before at after : Option Lanes) (answer : Answer) (time port size : ℕ) (datagram : List ℕ)
     → next.max ≡ plan.max → answer ≡ Ok (Datagram time port size) → datagram ≡ next.payload
     → ((records : List Record) → StandsAfter reader first left records → Walks answer next first now records)
-    → ((records : List Record) (r : Record) → HasCome plan records engine before at → r.port ≡ port → r.datagram ≡ datagram → (broken : Option ℕ) × BreaksAfter plan records (records ++ r ∷ []) broken before after)
+    → ((records : List Record) (r : Record) → HasCome plan records engine before at → r.port ≡ port → r.time ≡ time → r.datagram ≡ datagram → (broken : Option ℕ) × BreaksAfter plan records (records ++ r ∷ []) broken before after)
     → HasWalked plan first left reader engine before at → LanesStop growth plan fault first before after
 stop_at_record law growth plan fault loud first left now reader next engine before at after answer time port size datagram max is payload walks breaks h =
     let r : Record = record { time = time; port = port; datagram = next.payload } in
     let stands : StandsAfter next first now (h.records ++ r ∷ []) = subst (λ (a : Answer). Walks a next first now h.records) is (walks h.records h.stands) in
-    let off = breaks h.records r h.come refl (sym payload) in
+    let off = breaks h.records r h.come refl refl (sym payload) in
     broken_stop law growth plan fault first now next h.records (h.records ++ r ∷ []) off.0 before after max stands (λ quiet. absurd (loud quiet)) (inr (r, refl)) off.1
 
 -- A read fault

@@ -1,5 +1,5 @@
 -- How far a repair has come, for one flow.
-use Rattle.std.specs.Prelude.{◌≡◌, ◌+◌, ◌≤◌, ◌<◌, ◌^◌, ℕ, not, Option, Some, None, IsSome, List, [], ◌∷◌, ◌++◌, length}
+use Rattle.std.specs.Prelude.{◌≡◌, ◌≢◌, ◌+◌, ◌≤◌, ◌<◌, ◌^◌, ℕ, not, Option, Some, None, IsSome, List, [], ◌∷◌, ◌++◌, length}
 use Rattle.std.specs.List.{AllZip, count_by}
 use Rattle.fg_io.specs.Prefix.{IsPrefix}
 use Rattle.fg_io.specs.Outlet.{Lanes, lane_of as lane_at, lane_bytes, OthersStay, WhereTold}
@@ -12,8 +12,9 @@ use Rattle.fg_playout.specs.declared.reply.Reply.{Reply}
 use Rattle.fg_playout.specs.declared.reply.Reply.TheVariants.{Admitted, Duplicate, Conflict, Late, NotStarted, BeforeStart, Ahead, Crowded, Foreign}
 use Rattle.fg_playout.specs.State.{State, opening}
 use Rattle.fg_playout.specs.Play.{Play, Shown}
-use Rattle.fg_playout.specs.Run.{Arrival, carries, protects, refused, Takes, TakesAll}
-use Rattle.fg_playout.specs.Laws.{HavePlayedBefore}
+use Rattle.fg_playout.specs.Run.{Arrival, time_of, Takes, TakesThen, TakesAll}
+use Rattle.fg_playout.specs.Laws.{AreHeldSteps, HavePlayedFor, HavePlayedThen}
+use Rattle.fg_desk.specs.Arrivals.{BeforeWithin}
 use Rattle.fg_report.specs.declared.marks.Marks.{Marks}
 use Rattle.fg_report.specs.declared.flow_sum.FlowSum.{FlowSum}
 use Rattle.fg_report.specs.Gaps.{gaps_end}
@@ -170,26 +171,51 @@ pub record BreakOff (Are : List Play → State → Type 0) (port : ℕ) (before 
   pub are : Are plays now
   pub part : GrowsPart before port (lane_of plays) after
 
--- A datagram of this kind is read, the plays before it are made, and it is admitted or gets its reply.
-pub record AdmitsDatagram
-    (kind : Kind) (bytes : List ℕ) (old : State) (sum : FlowSum) (before : Option Lanes) (reply : Option Reply)
+-- Held plays at a time, so far: there are none where words may wait for ever.
+abbrev pub HaveHeld : State → ℕ → List Play → State → Type 0
+HaveHeld old time plays now = (old.playout.hold ≢ 0) × AreHeldSteps old time plays now
+
+-- All desks that plays before some media datagram leave have room still, where no word waits for too long.
+abbrev pub ThenStaysWithin : State → Type 0
+ThenStaysWithin old = (seq ssrc : ℕ) → BeforeWithin old seq ssrc
+
+-- A datagram of this kind and time is read. Taking it so, its plays are made, and it is admitted or gets its reply.
+pub record AdmitsBy
+    (Taking : State → Arrival → List Play → Option Reply → State → Type 0) (kind : Kind) (time : ℕ) (bytes : List ℕ)
+    (old : State) (sum : FlowSum) (before : Option Lanes) (reply : Option Reply)
     (new : State) (sum' : FlowSum) (after : Option Lanes) : Type 0 where
   pub arrival : Arrival
+  pub came : time_of arrival ≡ time
   pub due : List Play
   pub read : IsReadAs kind bytes arrival
-  pub takes : Takes old arrival due reply new
+  pub takes : Taking old arrival due reply new
   pub grows : Grows before sum.port (lane_of due) after
   pub counts : sum' ≡ with_plays sum old.mark due
 
--- The plays that come before an arrival, so far. Only a media datagram has any.
-abbrev pub PlaysBefore : State → Arrival → List Play → State → Type 0
-PlaysBefore old (carries seq ssrc word) due now = HavePlayedBefore old seq ssrc due now
-PlaysBefore old (protects stream parity) due now = due ≡ []
-PlaysBefore old (refused stream) due now = due ≡ []
+-- It is taken from its held plays on, or where no word waits for too long any more.
+abbrev pub AdmitsDatagram : Kind → ℕ → List ℕ → State → FlowSum → Option Lanes → Option Reply → State → FlowSum → Option Lanes → Type 0
+AdmitsDatagram = AdmitsBy Takes
 
--- A fault came while a datagram was taken.
-pub record BreaksAtDatagram
-    (kind : Kind) (bytes : List ℕ) (old : State) (port : ℕ) (before after : Option Lanes) : Type 0 where
-  pub arrival : Arrival
-  pub read : IsReadAs kind bytes arrival
-  pub off : BreakOff (PlaysBefore old arrival) port before after
+abbrev pub AdmitsThen : Kind → ℕ → List ℕ → State → FlowSum → Option Lanes → Option Reply → State → FlowSum → Option Lanes → Type 0
+AdmitsThen = AdmitsBy TakesThen
+
+-- The bytes are a front of what such plays show.
+pub record Begins (Are : List Play → State → Type 0) (part : List ℕ) : Type 0 where
+  pub plays : List Play
+  pub now : State
+  pub are : Are plays now
+  pub front : IsPrefix part (lane_of plays)
+
+-- A fault came while a datagram was taken: whatever it is read as, the lane has gained a front of what its plays showed so far.
+pub record BreaksBy
+    (Playing : State → Arrival → List Play → State → Type 0) (kind : Kind) (time : ℕ) (bytes : List ℕ)
+    (old : State) (port : ℕ) (before after : Option Lanes) : Type 0 where
+  pub part : List ℕ
+  pub grows : Grows before port part after
+  pub begins : (arrival : Arrival) → time_of arrival ≡ time → IsReadAs kind bytes arrival → Begins (Playing old arrival) part
+
+abbrev pub BreaksAtDatagram : Kind → ℕ → List ℕ → State → ℕ → Option Lanes → Option Lanes → Type 0
+BreaksAtDatagram = BreaksBy HavePlayedFor
+
+abbrev pub BreaksThen : Kind → ℕ → List ℕ → State → ℕ → Option Lanes → Option Lanes → Type 0
+BreaksThen = BreaksBy HavePlayedThen

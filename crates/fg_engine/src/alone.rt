@@ -25,6 +25,11 @@ impl WindowState for Desk {
     ghost shows = { λ desk played. kept_from desk played.first played.count };
 
     #[inline]
+    fn hold(&self) -> u64 {
+        self.hold()
+    }
+
+    #[inline]
     fn fresh(&self, ssrc: u32) -> bool {
         self.fresh(ssrc)
     }
@@ -62,6 +67,11 @@ impl WindowState for Desk {
     #[inline]
     fn flush_step(&mut self) -> Option<Played> {
         self.flush_step_in_place()
+    }
+
+    #[inline]
+    fn held_step(&mut self, time: u64) -> Option<Played> {
+        self.held_step_in_place(time)
     }
 
     #[inline]
@@ -116,7 +126,7 @@ fn open_desks(alloc: Global, plan: &Plan) -> Result<Vec<Desk>, AllocError>
     let count = plan.table.count();
     let mut desks = Vec::with_capacity(alloc, count)?;
     for _ in 0..count {
-        desks.push(Desk::new(alloc, plan.window, plan.depth)?)?;
+        desks.push(Desk::new(alloc, plan.window, plan.depth, plan.hold)?)?;
     }
     Ok(desks)
 }

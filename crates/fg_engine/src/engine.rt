@@ -62,6 +62,7 @@ impl<D: WindowState> Engine<D> {
         alloc: Global,
         plan: &Plan,
         port: u16,
+        time: u64,
         datagram: &[u8],
         lanes: &mut O,
     ) -> Result<(), Fault>
@@ -69,11 +70,11 @@ impl<D: WindowState> Engine<D> {
         requires running { IsRunning plan.now self.old }
         ensures takes { OnOk result ((before : Option Lanes) (records : List Record) (r : Record)
             → HasCome plan.now records self.old before (O.lanes lanes.old)
-            → r.port ≡ port → r.datagram ≡ datagram.now
+            → r.port ≡ port → r.time ≡ time → r.datagram ≡ datagram.now
             → HasCome plan.now (records ++ r ∷ []) self.new before (O.lanes lanes.new)) }
         ensures breaks { OnErr result ((before : Option Lanes) (records : List Record) (r : Record)
             → HasCome plan.now records self.old before (O.lanes lanes.old)
-            → r.port ≡ port → r.datagram ≡ datagram.now
+            → r.port ≡ port → r.time ≡ time → r.datagram ≡ datagram.now
             → (broken : Option ℕ)
             × BreaksAfter plan.now records (records ++ r ∷ []) broken before (O.lanes lanes.new)) }
         ensures faults { Counts result [] ((O.faults lanes.old, O.faults lanes.new) ∷ []) }
@@ -81,7 +82,7 @@ impl<D: WindowState> Engine<D> {
         one_flow_has_a_port();
         match plan.table.find(port) {
             Some((i, kind)) => {
-                self.flows[i].take(alloc, &mut self.writer, kind, datagram, lanes)?;
+                self.flows[i].take(alloc, &mut self.writer, kind, time, datagram, lanes)?;
             }
             None => self.other += 1,
         }
@@ -125,8 +126,8 @@ impl<D: WindowState> Engine<D> {
     {
         walks_the_front();
         match reader.next(input) {
-            Ok(Step::Datagram { port, .. }) => {
-                self.take(alloc, plan, port, reader.payload(), lanes)?;
+            Ok(Step::Datagram { time, port, .. }) => {
+                self.take(alloc, plan, port, time, reader.payload(), lanes)?;
                 Ok(None)
             }
             Ok(Step::End) => Ok(Some(Tail::Ended)),

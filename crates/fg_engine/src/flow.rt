@@ -11,12 +11,12 @@ ghost use Rattle.fg_playout.specs.State.{State, opening};
 ghost use Rattle.fg_playout.specs.Admission.{IsDue, IsFresh, counted};
 ghost use Rattle.fg_playout.specs.Play.{HasMore};
 ghost use Rattle.fg_playout.specs.Room.{HasRoom, farthest_limit};
-ghost use Rattle.fg_playout.specs.Run.{Arrival, ArePlaysDue, ArePlaysBefore, Takes, IsFlush};
+ghost use Rattle.fg_playout.specs.Run.{Arrival, time_of, ArePlaysHeld, ArePlaysDue, ArePlaysBefore, TakesThen, IsFlush};
 ghost use Rattle.fg_playout.specs.Laws.{HavePlayed, HavePlayedBefore, AreFlushSteps};
-ghost use Rattle.fg_desk.specs.Arrivals.{StaysWithin, FlushesWithin};
+ghost use Rattle.fg_desk.specs.Arrivals.{StaysWithin, HeldWithin, FlushesWithin};
 ghost use Rattle.fg_results.specs.Flow.{IsReadAs, lane_of};
 ghost use Rattle.fg_engine.specs.Steps.{HasTaken, IsUnderway, TakesRecord, BreaksAtRecord, EndsFlow, BreaksAtEnd};
-ghost use Rattle.fg_engine.specs.Steps.{CountsWithin, Grows, GrowsPart, HaveShown, BreakOff, AdmitsDatagram, BreaksAtDatagram, with_plays, played_as};
+ghost use Rattle.fg_engine.specs.Steps.{CountsWithin, Grows, GrowsPart, HaveShown, HaveHeld, BreakOff, ThenStaysWithin, AdmitsDatagram, AdmitsThen, BreaksAtDatagram, BreaksThen, with_plays, played_as};
 
 use crate::counts::count_answer;
 use crate::player::Player;
@@ -28,8 +28,7 @@ use fg_flows::Kind;
 use fg_io::Fault;
 use fg_playout::laws::{
     counts_add, counts_stay_within, each_gets_a_reply, flush_steps_come_next, flushes_end,
-    one_outcome, one_taking, plays_reach_the_mark, runs_begin, runs_join, runs_only_add,
-    runs_stay_within,
+    plays_before_come_next, plays_reach_the_mark, runs_begin, runs_join, runs_stay_within,
 };
 use fg_report::{FlowSum, Gaps, Marks};
 use fg_rtp::laws::media_datagrams_read_one_way;
@@ -80,7 +79,7 @@ impl<D: WindowState> Flow<D> {
         }
     }
 
-    /// Takes a datagram that came on the flow's port of this kind: plays what comes before it, and admits it or counts why
+    /// Takes a datagram that came on the flow's port of this kind at this time, in microseconds: plays what comes before it, and admits it or counts why
     /// not. The player takes what the plays show to the flow's lane.
     ///
     /// # Errors
@@ -91,6 +90,7 @@ impl<D: WindowState> Flow<D> {
         alloc: Global,
         player: &mut P,
         kind: Kind,
+        time: u64,
         datagram: &[u8],
         lanes: &mut L,
     ) -> Result<(), Fault>
@@ -100,13 +100,13 @@ impl<D: WindowState> Flow<D> {
         ensures takes { OnOk result ((records : List Record) (r : Record) (lane : List ℕ)
             → HasTaken self.old.state.playout self.old.sum.port records
             self.old.state self.old.sum lane
-            → r.datagram ≡ datagram.now → port_of self.old.sum.port kind ≡ r.port
+            → r.datagram ≡ datagram.now → r.time ≡ time → port_of self.old.sum.port kind ≡ r.port
             → TakesRecord self.old.state.playout self.old.sum.port records r lane
             self.new.state self.new.sum (P.lanes lanes.old) (P.lanes lanes.new)) }
         ensures breaks { OnErr result ((records : List Record) (r : Record) (lane : List ℕ)
             → HasTaken self.old.state.playout self.old.sum.port records
             self.old.state self.old.sum lane
-            → r.datagram ≡ datagram.now → port_of self.old.sum.port kind ≡ r.port
+            → r.datagram ≡ datagram.now → r.time ≡ time → port_of self.old.sum.port kind ≡ r.port
             → BreaksAtRecord self.old.state.playout self.old.sum.port records r lane
             (P.lanes lanes.old) (P.lanes lanes.new)) }
         ensures port { self.new.sum.port ≡ self.old.sum.port }
@@ -115,20 +115,18 @@ impl<D: WindowState> Flow<D> {
         ensures playout { self.new.state.playout ≡ self.old.state.playout }
         ensures faults { Counts result [] ((P.faults lanes.old, P.faults lanes.new) ∷ []) }
     {
-        // What a flow has come to is said of its run: how runs join, stay within the limits and are counted, that what is taken
-        // later only adds, and that a taking, its outcome and what a datagram is read as are each one.
+        // What a flow has come to is said of its run: how runs join, stay within the limits and are counted, which plays a datagram
+        // brings, and that a datagram is read in one way.
         runs_join();
         runs_stay_within();
         plays_reach_the_mark();
         counts_add();
         counts_stay_within();
         each_gets_a_reply();
-        runs_only_add();
-        one_taking();
-        one_outcome();
+        plays_before_come_next();
         media_datagrams_read_one_way();
         parity_datagrams_read_one_way();
-        let reply = self.admit(alloc, player, kind, datagram, lanes)?;
+        let reply = self.admit(alloc, player, kind, time, datagram, lanes)?;
         count_answer(&mut self.sum, kind, reply);
         self.sum.runs = self.window.runs();
         Ok(())
@@ -168,9 +166,67 @@ impl<D: WindowState> Flow<D> {
         self.play_rest(player, lanes)
     }
 
-    /// Plays what comes before a datagram that came on the port of this kind, and admits it or says why not. There is no
-    /// reply where its reader refused it.
+    /// Plays what comes before a datagram that came on the port of this kind at this time, and admits it or says why not. There
+    /// is no reply where its reader refused it.
     fn admit<L, P: Player<L>>(
+        &mut self,
+        alloc: Global,
+        player: &mut P,
+        kind: Kind,
+        time: u64,
+        datagram: &[u8],
+        lanes: &mut L,
+    ) -> Result<Option<Reply>, Fault>
+        requires player { P.takes lanes.old self.old.sum.port }
+        requires within { StaysWithin self.old.state }
+        requires counts { CountsWithin self.old.sum self.old.state.mark }
+        ensures admits { IfOk result (λ reply. AdmitsDatagram kind time datagram.now self.old.state self.old.sum
+            (P.lanes lanes.old) reply self.new.state self.new.sum (P.lanes lanes.new)) }
+        ensures breaks { OnErr result (BreaksAtDatagram kind time datagram.now self.old.state self.old.sum.port
+            (P.lanes lanes.old) (P.lanes lanes.new)) }
+        ensures port { self.new.sum.port ≡ self.old.sum.port }
+        ensures still { P.takes lanes.new self.old.sum.port }
+        ensures player { player.new ≡ player.old }
+        ensures playout { self.new.state.playout ≡ self.old.state.playout }
+        ensures faults { Counts result [] ((P.faults lanes.old, P.faults lanes.new) ∷ []) }
+    {
+        self.play_held(player, time, lanes)?;
+        self.admit_then(alloc, player, kind, datagram, lanes)
+    }
+
+    /// Plays what has waited for too long by a time.
+    fn play_held<L, P: Player<L>>(
+        &mut self,
+        player: &mut P,
+        time: u64,
+        lanes: &mut L,
+    ) -> Result<(), Fault>
+        requires player { P.takes lanes.old self.old.sum.port }
+        requires within { HeldWithin self.old.state time }
+        requires counts { CountsWithin self.old.sum self.old.state.mark }
+        ensures plays { OnOk result (HaveShown (ArePlaysHeld self.old.state time) self.old.state
+            self.old.sum (P.lanes lanes.old) self.new.state self.new.sum (P.lanes lanes.new)) }
+        ensures counts { OnOk result (CountsWithin self.new.sum self.new.state.mark) }
+        ensures breaks { OnErr result (BreakOff (HaveHeld self.old.state time) self.old.sum.port
+            (P.lanes lanes.old) (P.lanes lanes.new)) }
+        ensures port { self.new.sum.port ≡ self.old.sum.port }
+        ensures still { P.takes lanes.new self.old.sum.port }
+        ensures player { player.new ≡ player.old }
+        ensures playout { self.new.state.playout ≡ self.old.state.playout }
+        ensures faults { Counts result [] ((P.faults lanes.old, P.faults lanes.new) ∷ []) }
+    {
+        runs_join();
+        if self.window.hold() == 0 {
+            return Ok(());
+        }
+        while let Some(played) = self.window.held_step(time) {
+            player.put_play(lanes, &mut self.sum, &self.window, played)?;
+        }
+        Ok(())
+    }
+
+    /// Plays what comes before a datagram of this kind where no word waits for too long, and admits it or says why not.
+    fn admit_then<L, P: Player<L>>(
         &mut self,
         alloc: Global,
         player: &mut P,
@@ -179,11 +235,11 @@ impl<D: WindowState> Flow<D> {
         lanes: &mut L,
     ) -> Result<Option<Reply>, Fault>
         requires player { P.takes lanes.old self.old.sum.port }
-        requires within { StaysWithin self.old.state }
+        requires within { ThenStaysWithin self.old.state }
         requires counts { CountsWithin self.old.sum self.old.state.mark }
-        ensures admits { IfOk result (λ reply. AdmitsDatagram kind datagram.now self.old.state self.old.sum
+        ensures admits { IfOk result (λ reply. (time : ℕ) → AdmitsThen kind time datagram.now self.old.state self.old.sum
             (P.lanes lanes.old) reply self.new.state self.new.sum (P.lanes lanes.new)) }
-        ensures breaks { OnErr result (BreaksAtDatagram kind datagram.now self.old.state self.old.sum.port
+        ensures breaks { OnErr result ((time : ℕ) → BreaksThen kind time datagram.now self.old.state self.old.sum.port
             (P.lanes lanes.old) (P.lanes lanes.new)) }
         ensures port { self.new.sum.port ≡ self.old.sum.port }
         ensures still { P.takes lanes.new self.old.sum.port }
@@ -191,8 +247,9 @@ impl<D: WindowState> Flow<D> {
         ensures playout { self.new.state.playout ≡ self.old.state.playout }
         ensures faults { Counts result [] ((P.faults lanes.old, P.faults lanes.new) ∷ []) }
     {
-        // Whether an SSRC is fresh can be told.
+        // Whether an SSRC is fresh can be told, and a media datagram is read in one way.
         runs_begin();
+        media_datagrams_read_one_way();
         match kind {
             Kind::Media => {
                 let spare = self.window.spare();
@@ -216,7 +273,7 @@ impl<D: WindowState> Flow<D> {
         lanes: &mut L,
     ) -> Result<(), Fault>
         requires player { P.takes lanes.old self.old.sum.port }
-        requires within { StaysWithin self.old.state }
+        requires within { ThenStaysWithin self.old.state }
         requires counts { CountsWithin self.old.sum self.old.state.mark }
         ensures plays { OnOk result (HaveShown (ArePlaysBefore self.old.state seq ssrc) self.old.state
             self.old.sum (P.lanes lanes.old) self.new.state self.new.sum (P.lanes lanes.new)) }
@@ -249,7 +306,7 @@ impl<D: WindowState> Flow<D> {
         lanes: &mut L,
     ) -> Result<(), Fault>
         requires player { P.takes lanes.old self.old.sum.port }
-        requires within { StaysWithin self.old.state }
+        requires within { ThenStaysWithin self.old.state }
         requires stale { ¬ IsFresh self.old.state ssrc }
         requires counts { CountsWithin self.old.sum self.old.state.mark }
         ensures plays { OnOk result (HaveShown (ArePlaysDue self.old.state seq ssrc) self.old.state
@@ -303,8 +360,8 @@ fn admit_parity<D: WindowState>(
     datagram: &[u8],
 ) -> Result<Option<Reply>, AllocError>
     requires room { HasRoom (D.state window.old) }
-    ensures admits { IfOk result (λ reply. (kind : KindOf) → kind ≢ Kind.Media → (arrival : Arrival)
-        × IsReadAs kind datagram.now arrival × Takes (D.state window.old) arrival [] reply (D.state window.new)) }
+    ensures admits { IfOk result (λ reply. (kind : KindOf) (time : ℕ) → kind ≢ Kind.Media → (arrival : Arrival) × (time_of arrival ≡ time)
+        × IsReadAs kind datagram.now arrival × TakesThen (D.state window.old) arrival [] reply (D.state window.new)) }
     ensures read { OnErr result ((parity : ParityRead) × IsParityDatagram datagram.now parity) }
     ensures unchanged { OnErr result (D.state window.new ≡ D.state window.old) }
     ensures playout { (D.state window.new).playout ≡ (D.state window.old).playout }

@@ -1,5 +1,5 @@
 //! A flow's window state as the engine sees it.
-ghost use Rattle.std.specs.Prelude.{◌≡◌, ◌<◌, ◌↔◌, List, length, Option, IsTrue, IsSome, IfSome, option_map};
+ghost use Rattle.std.specs.Prelude.{◌≡◌, ◌≢◌, ◌<◌, ◌↔◌, List, length, Option, IsTrue, IsSome, IfSome, option_map};
 ghost use Rattle.std.specs.List.{slice_index_or};
 ghost use Rattle.std.specs.Option.{option_copied};
 ghost use Rattle.fg_words.specs.Word.{IsMedia};
@@ -8,6 +8,7 @@ ghost use Rattle.fg_desk.specs.declared.desk.Played.{Played};
 ghost use Rattle.fg_playout.specs.State.{State};
 ghost use Rattle.fg_playout.specs.Admission.{IsDue, IsFresh, AdmitsMedia, AdmitsParity};
 ghost use Rattle.fg_playout.specs.Play.{IsPlay, Flushes, HasMore, Shown, nothing_shown};
+ghost use Rattle.fg_playout.specs.Held.{IsHeldStep};
 ghost use Rattle.fg_playout.specs.Room.{HasRoom, farthest_limit};
 ghost use Rattle.fg_engine.specs.Steps.{played_as};
 
@@ -24,6 +25,10 @@ pub trait WindowState: Drop {
 
     /// What it shows of a play: of the one that it made last.
     ghost shows: { Self → Played → List Shown };
+
+    /// How long a received word may wait, in microseconds by the times of the flow's datagrams. 0 where it may wait for ever.
+    fn hold(&self) -> u64
+        ensures { result ≡ (state self.now).playout.hold };
 
     /// Whether this SSRC is fresh: neither the current run's nor that of the run before. Before the first datagram none is.
     fn fresh(&self, ssrc: u32) -> bool
@@ -72,6 +77,15 @@ pub trait WindowState: Drop {
     fn flush_step(&mut self) -> Option<Played>
         requires { HasRoom (state self.old) }
         ensures flushes { Flushes (state self.old)
+            (option_map (λ played. played_as played (shows self.new played)) result) (state self.new) }
+        ensures count { IfSome result (λ played. played.count ≡ length (shows self.new played)) };
+
+    /// Is told the time of a datagram, in microseconds, and plays up to the greatest position whose word has waited for as
+    /// long as one may, and at most a window. None where no word has.
+    fn held_step(&mut self, time: u64) -> Option<Played>
+        requires room { HasRoom (state self.old) }
+        requires limited { (state self.old).playout.hold ≢ 0 }
+        ensures held { IsHeldStep (state self.old) time
             (option_map (λ played. played_as played (shows self.new played)) result) (state self.new) }
         ensures count { IfSome result (λ played. played.count ≡ length (shows self.new played)) };
 

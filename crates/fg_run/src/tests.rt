@@ -20,6 +20,7 @@ mod held;
 mod lengths;
 mod order;
 mod streams;
+mod timed;
 mod traces;
 mod words;
 mod workers;

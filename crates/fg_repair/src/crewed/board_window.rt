@@ -39,6 +39,10 @@ impl<'a, W: Wait, G: Hears> WindowState for BoardWindow<'a, W, G> {
 
     ghost shows = { λ window _. window.tray.shown };
 
+    fn hold(&self) -> u64 {
+        self.admitter.hold()
+    }
+
     fn fresh(&self, ssrc: u32) -> bool {
         self.admitter.fresh(ssrc)
     }
@@ -105,6 +109,17 @@ impl<'a, W: Wait, G: Hears> WindowState for BoardWindow<'a, W, G> {
         let step = self
             .admitter
             .flush_step(self.wait, self.board, &mut self.tray);
+        if let Some(played) = step {
+            self.progress.play(played);
+        }
+        step
+    }
+
+    fn held_step(&mut self, time: u64) -> Option<Played> {
+        self.gate.hear(CALLER, PLAYING);
+        let step = self
+            .admitter
+            .held_step(self.wait, self.board, time, &mut self.tray);
         if let Some(played) = step {
             self.progress.play(played);
         }

@@ -55,7 +55,7 @@ fn open_next(alloc: Global, plan: &Plan, crew: &mut Crew) -> Result<(), AllocErr
     requires crew { IsCrew plan.now (length crew.old.posts.items) crew.old }
     ensures { OnOk result (IsCrew plan.now (length crew.old.posts.items + 1) crew.new) }
 {
-    let (board, admitter) = Board::new(alloc, plan.window, plan.depth, PLACES)?;
+    let (board, admitter) = Board::new(alloc, plan.window, plan.depth, plan.hold, PLACES)?;
     let tray = Tray::new(alloc, plan.window)?;
     let signal = Signal::new(alloc)?;
     crew.hosts.push(Host { admitter, tray })?;

@@ -111,6 +111,35 @@ other 0
     missing: &[],
 };
 
+// The column of slots 1, 5, 9 and 13 comes at 13,000 microseconds. Slot 6, of 6,000, is held by then, and closes 5.
+const HELD_UNTIL_ITS_PARITY: Drill<'static> = Drill {
+    line: "drill columns=4 rows=4 fec=column rate=10528000 drop=5 hold=7000",
+    datagrams: 16,
+    bytes: 21_056,
+    report: "flow 5000 shown 15 repaired 0 missing 1 windows 9 inconsistent 0
+media 5000 admitted 15 duplicate 0 conflict 0 late 0 bad 0
+column 5000 admitted 3 duplicate 0 conflict 0 late 1 notstarted 0 beforestart 0 ahead 0 crowded 0 bad 0
+row 5000 admitted 0 duplicate 0 conflict 0 late 0 notstarted 0 beforestart 0 ahead 0 crowded 0 bad 0
+gap 5000 5 1
+other 0
+",
+    missing: &[5],
+};
+
+// A microsecond more, and the column gives 5.
+const HELD_LONGER_THAN_ITS_PARITY_TAKES: Drill<'static> = Drill {
+    line: "drill columns=4 rows=4 fec=column rate=10528000 drop=5 hold=7001",
+    datagrams: 16,
+    bytes: 21_056,
+    report: "flow 5000 shown 16 repaired 1 missing 0 windows 8 inconsistent 0
+media 5000 admitted 15 duplicate 0 conflict 0 late 0 bad 0
+column 5000 admitted 4 duplicate 0 conflict 0 late 0 notstarted 0 beforestart 0 ahead 0 crowded 0 bad 0
+row 5000 admitted 0 duplicate 0 conflict 0 late 0 notstarted 0 beforestart 0 ahead 0 crowded 0 bad 0
+other 0
+",
+    missing: &[],
+};
+
 // Of 2,400 records 64 are left out: 53 media, 5 columns and 6 rows. No row loses two of its records.
 const EACH_37TH_RECORD: Drill<'static> = Drill {
     line: "drill columns=10 rows=10 window=100 depth=400 workers=0 every=37",
@@ -140,11 +169,13 @@ pub const BY_SIXTEEN: Drill<'static> = Drill {
     ..EACH_37TH_RECORD
 };
 
-const DRILLS: [Drill<'static>; 8] = [
+const DRILLS: [Drill<'static>; 10] = [
     BLOCK_OF_TWO_PASSES,
     FOUR_IN_A_SQUARE,
     COLUMN_AFTER_ITS_FIRST_SLOTS,
     SHORT_LAST_DATAGRAM,
+    HELD_UNTIL_ITS_PARITY,
+    HELD_LONGER_THAN_ITS_PARITY_TAKES,
     EACH_37TH_RECORD,
     BY_ONE_WORKER,
     BY_FOUR,

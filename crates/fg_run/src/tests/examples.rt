@@ -398,7 +398,7 @@ fn odd_ones(alloc: Global) -> Result<Vec<u8>, AllocError> {
     push_record(&mut bytes, 5004, &odd)?;
     let extended = with_head(media(alloc, 4)?, [0x90, 0x21]);
     push_record(&mut bytes, 5000, &extended)?;
-    push_record(&mut bytes, 5000, &[0x80; 11])?;
+    push_sent(alloc, &mut bytes, 5000, Sent::Bad)?;
     Ok(bytes)
 }
 

@@ -16,6 +16,38 @@ pub enum Sent {
     Row(u16),
     /// Parity of this row with one bit of its last byte flipped.
     FlippedRow(u16),
+    /// Eleven bytes on the port of media, which are no media datagram.
+    Bad,
+}
+
+impl Sent {
+    /// How far behind the flow's port it is sent.
+    fn port_offset(self) -> u16 {
+        match self {
+            Sent::Media(_) | Sent::Of(_, _) | Sent::Bad => 0,
+            Sent::Column(_) => 2,
+            Sent::From(_) | Sent::Row(_) | Sent::FlippedRow(_) => 4,
+        }
+    }
+
+    /// The datagram.
+    fn datagram(self, alloc: Global) -> Result<Vec<u8>, AllocError> {
+        match self {
+            Sent::Media(number) => media(alloc, number),
+            Sent::Of(number, ssrc) => media_of(alloc, number, ssrc),
+            Sent::From(number) => parity(alloc, 0x40, number, 1),
+            Sent::Column(number) => parity(alloc, 0, number, 4),
+            Sent::Row(number) => row(alloc, number),
+            Sent::FlippedRow(number) => {
+                let mut datagram = row(alloc, number)?;
+                if let Some(byte) = datagram.last_mut() {
+                    *byte ^= 1;
+                }
+                Ok(datagram)
+            }
+            Sent::Bad => Vec::from_slice(alloc, &[0x80; 11]),
+        }
+    }
 }
 
 /// A block of 4 by 4 as it is sent: the parity of a row or column follows its last datagram, the column's first.
@@ -156,41 +188,44 @@ pub fn with_head(mut datagram: Vec<u8>, head: [u8; 2]) -> Vec<u8> {
 
 /// Adds a record at time 0.
 pub fn push_record(bytes: &mut Vec<u8>, port: u16, datagram: &[u8]) -> Result<(), AllocError> {
+    push_record_at(bytes, 0, port, datagram)
+}
+
+/// Adds a record at a time in microseconds.
+fn push_record_at(
+    bytes: &mut Vec<u8>,
+    time: u64,
+    port: u16,
+    datagram: &[u8],
+) -> Result<(), AllocError> {
     let size = datagram.len().min(65_535) as u16;
-    bytes.extend_from_slice(&[0; 8])?;
+    bytes.extend_from_slice(&time.to_be_bytes())?;
     bytes.extend_from_slice(&port.to_be_bytes())?;
     bytes.extend_from_slice(&size.to_be_bytes())?;
     bytes.extend_from_slice(datagram)?;
     Ok(())
 }
 
-/// Adds the record of what is sent on the flow.
+/// Adds the record at time 0 of what is sent on the flow.
 pub fn push_sent(
     alloc: Global,
     bytes: &mut Vec<u8>,
     flow: u16,
     sent: Sent,
 ) -> Result<(), AllocError> {
-    match sent {
-        Sent::Media(number) => push_record(bytes, flow, &media(alloc, number)?),
-        Sent::Of(number, ssrc) => push_record(bytes, flow, &media_of(alloc, number, ssrc)?),
-        Sent::From(number) => push_record(
-            bytes,
-            flow.wrapping_add(4),
-            &parity(alloc, 0x40, number, 1)?,
-        ),
-        Sent::Column(number) => {
-            push_record(bytes, flow.wrapping_add(2), &parity(alloc, 0, number, 4)?)
-        }
-        Sent::Row(number) => push_record(bytes, flow.wrapping_add(4), &row(alloc, number)?),
-        Sent::FlippedRow(number) => {
-            let mut datagram = row(alloc, number)?;
-            if let Some(byte) = datagram.last_mut() {
-                *byte ^= 1;
-            }
-            push_record(bytes, flow.wrapping_add(4), &datagram)
-        }
-    }
+    push_sent_at(alloc, bytes, 0, flow, sent)
+}
+
+/// Adds the record at a time in microseconds of what is sent on the flow.
+pub fn push_sent_at(
+    alloc: Global,
+    bytes: &mut Vec<u8>,
+    time: u64,
+    flow: u16,
+    sent: Sent,
+) -> Result<(), AllocError> {
+    let port = flow.wrapping_add(sent.port_offset());
+    push_record_at(bytes, time, port, &sent.datagram(alloc)?)
 }
 
 /// The trace of what is sent on flow 5000, without the records of these numbers.

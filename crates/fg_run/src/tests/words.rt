@@ -88,7 +88,7 @@ fn each_end_has_its_line(rt: HostRuntime) -> Result<(), Fail> {
 }
 
 /// Words that break a rule, the fault, and its line.
-const REFUSED: [(&str, WordFault, &str); 7] = [
+const REFUSED: [(&str, WordFault, &str); 8] = [
     ("", WordFault::NoCommand, "words: no command\n"),
     (
         "repair",
@@ -109,6 +109,11 @@ const REFUSED: [(&str, WordFault, &str); 7] = [
         "repair window=50 flow=5000 depth=20",
         WordFault::Depth(3),
         "words: depth below window at word 3\n",
+    ),
+    (
+        "repair flow=5000 window=4 depth=8 hold=0",
+        WordFault::BadWord(4),
+        "words: bad word 4\n",
     ),
     (
         "encode columns=3 rows=4 fec=both",

@@ -1,4 +1,4 @@
-use Rattle.std.proofs.Common.{[], ◌∷◌, ℕ, subst}
+use Rattle.std.proofs.Common.{[], ◌∷◌, subst}
 use Rattle.fg_flows.specs.Sheaf.{Item}
 use Rattle.fg_batches.specs.BatchView.{BatchView}
 use Rattle.fg_batches.specs.Batches.{HasRun}
@@ -11,9 +11,8 @@ returns g c =
     let new : BatchView = record { flow = c.take.new.self; shelf = c.take.new.lanes.shelf; starved = c.self.inside.starved } in
     elim c.match-take.branch [
       | in-Ok w ↦
-          let ran : (time : ℕ) → HasRun (record { kind = c.args.kind; time = time; payload = c.args.payload.now } ∷ []) c.args.self.now new =
-          λ (time : ℕ).
-          let item : Item = record { kind = c.args.kind; time = time; payload = c.args.payload.now } in
+          let item : Item = record { kind = c.args.kind; time = c.args.time; payload = c.args.payload.now } in
+          let ran : HasRun (item ∷ []) c.args.self.now new =
           subst (λ (old : BatchView). HasRun (item ∷ []) old new) c.self.view_is
           (ran_one item c.self.inside.flow c.take.new.self c.self.inside.shelved c.take.new.lanes c.self.inside.starved c.self.inside.starved
           c.self.invariant c.take.ensures.still c.take.ensures.port c.take.ensures.playout w.in-Ok.ensures.takes)

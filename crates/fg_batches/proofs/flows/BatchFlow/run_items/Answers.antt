@@ -19,7 +19,7 @@ pub loop-k-preserved : goal.loop-k-preserved
 loop-k-preserved g c =
     let item : Item = record { kind = c.item-kind.result.0; time = c.item-kind.result.1; payload = c.item-kind.result.2.now } in
     ran_more (items_of c.args.sheaf.now c.args.index) c.loop-k.k item c.args.self.now c.loop-k.self c.run_item.new.self c.item-kind.ensures c.loop-k.invariant
-    (c.in_ok-run_item.ensures item.time)
+    c.in_ok-run_item.ensures
 
 pub returns : goal.returns
 returns g c =

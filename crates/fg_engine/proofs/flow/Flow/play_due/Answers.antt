@@ -24,9 +24,9 @@ loop-self-preserved g c =
     let holds = (c.requires.within c.args.seq c.args.ssrc now.invariant.so.plays from (inr (c.requires.stale, now.invariant.so.are))).0 in
     record {
       so = one_more_shown (HavePlayed old.state c.args.seq c.args.ssrc) old.state old.sum (g.P.Player.lanes c.args.lanes.now)
-          from.playout.window from to now.self-inside.sum c.put_play.new.sum
+          from.playout.window from from to now.self-inside.sum c.put_play.new.sum
           (g.P.Player.lanes now.lanes) (g.P.Player.lanes c.put_play.new.to) play
-          now.invariant.so join c.play-played.ensures.play now.invariant.port c.in_ok-put_play.ensures.counts c.in_ok-put_play.ensures.puts;
+          now.invariant.so refl join c.play-played.ensures.play now.invariant.port c.in_ok-put_play.ensures.counts c.in_ok-put_play.ensures.puts;
       counts = within_one_more from.playout.window from to now.self-inside.sum c.put_play.new.sum play
           now.invariant.counts c.play-played.ensures.play holds.window.0 c.in_ok-put_play.ensures.counts;
       port = c.in_ok-put_play.ensures.port ∙ now.invariant.port;

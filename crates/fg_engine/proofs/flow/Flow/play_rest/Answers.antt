@@ -1,4 +1,4 @@
-use Rattle.std.proofs.Common.{◌+◌, ◌-◌, min, List, sym, subst, ◌∙◌}
+use Rattle.std.proofs.Common.{◌+◌, ◌-◌, min, List, refl, sym, subst, ◌∙◌}
 use Rattle.fg_playout.specs.Play.{Play}
 use Rattle.fg_playout.specs.Run.{IsFlush}
 use Rattle.fg_playout.specs.Laws.{AreFlushSteps}
@@ -25,9 +25,9 @@ loop-played-preserved g c =
     let count = min from.playout.window (step.highest + 1 - from.mark) in
     record {
       so = one_more_shown (AreFlushSteps old.state) old.state old.sum (g.P.Player.lanes c.args.lanes.now)
-          count from to now.self-inside.sum c.put_play.new.sum
+          count from from to now.self-inside.sum c.put_play.new.sum
           (g.P.Player.lanes now.lanes) (g.P.Player.lanes c.put_play.new.to) play
-          now.invariant.so join step.plays now.invariant.port c.in_ok-put_play.ensures.counts c.in_ok-put_play.ensures.puts;
+          now.invariant.so refl join step.plays now.invariant.port c.in_ok-put_play.ensures.counts c.in_ok-put_play.ensures.puts;
       counts = within_one_more count from to now.self-inside.sum c.put_play.new.sum play
           now.invariant.counts step.plays (step_shows from to play step holds.window.0) c.in_ok-put_play.ensures.counts;
       port = c.in_ok-put_play.ensures.port ∙ now.invariant.port;

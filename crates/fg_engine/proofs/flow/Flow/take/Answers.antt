@@ -22,10 +22,9 @@ pub returns-in_err-reply-clause-breaks : goal.returns-in_err-reply-clause-breaks
 returns-in_err-reply-clause-breaks g c =
     let old = c.args.self.now in
     on_err _ _ (record_breaks c.media_datagrams_read_one_way.ensures.one_way c.parity_datagrams_read_one_way.ensures
-    c.runs_only_add.ensures.later c.one_taking.ensures c.one_outcome.ensures.play c.one_outcome.ensures.flush
-    old.state.playout old.sum.port c.args.kind c.args.datagram.now old.state old.sum
+    c.plays_before_come_next.ensures old.state.playout old.sum.port c.args.kind c.args.time c.args.datagram.now old.state old.sum
     (g.P.Player.lanes c.args.lanes.now) (g.P.Player.lanes c.admit.new.lanes)
-    (stays_within c.runs_stay_within.ensures.taking old.state.playout old.sum.port old.state old.sum c.requires.underway) c.in_err-reply.ensures.breaks)
+    c.in_err-reply.ensures.breaks)
 
 pub returns-clause-takes : goal.returns-clause-takes
 returns-clause-takes g c =
@@ -33,8 +32,8 @@ returns-clause-takes g c =
     let before = g.P.Player.lanes c.args.lanes.now in
     let after = g.P.Player.lanes c.admit.new.lanes in
     record_taken c.plays_reach_the_mark.ensures.taken c.runs_join.ensures.takings c.counts_add.ensures c.each_gets_a_reply.ensures
-    old.state.playout c.args.kind c.args.datagram.now old.state (g.D.WindowState.state c.self.inside.window)
+    old.state.playout c.args.kind c.args.time c.args.datagram.now old.state (g.D.WindowState.state c.self.inside.window)
     old.sum c.self.inside.sum (record c.count_answer.new.sum { runs = c.runs-self-inside.result }) c.in_ok-reply.reply
     before after c.requires.underway.fits.window.0
-    (subst (λ (flow : FlowView). AdmitsDatagram c.args.kind c.args.datagram.now old.state old.sum before c.in_ok-reply.reply flow.state flow.sum after) (sym c.self.view_is) c.in_ok-reply.ensures.admits)
+    (subst (λ (flow : FlowView). AdmitsDatagram c.args.kind c.args.time c.args.datagram.now old.state old.sum before c.in_ok-reply.reply flow.state flow.sum after) (sym c.self.view_is) c.in_ok-reply.ensures.admits)
     (λ i. record (c.count_answer.ensures i) { runs = c.runs-self-inside.ensures i })

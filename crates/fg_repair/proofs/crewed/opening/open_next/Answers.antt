@@ -15,7 +15,7 @@ returns c =
     let post : Post = record { board = c.in_ok-board.board; signal = c.in_ok-signal.signal } in
     let admitter : AdmitterState = c.in_ok-board.admitter in
     let host : Host = record { admitter = admitter; tray = c.in_ok-tray.tray } in
-    let playout : Playout = record { window = c.args.plan.now.window; depth = c.args.plan.now.depth } in
+    let playout : Playout = record { window = c.args.plan.now.window; depth = c.args.plan.now.depth; hold = c.args.plan.now.hold } in
     let turn = ap (λ (a : AdmitterState). a.seat.turn) c.in_ok-board.ensures.admitter in
     let left = ap (λ (a : AdmitterState). a.seat.left) c.in_ok-board.ensures.admitter in
     let is : admitter.playout ≡ playout = ap (λ (a : AdmitterState). a.playout) c.in_ok-board.ensures.admitter in
