@@ -171,15 +171,27 @@ class Play(NamedTuple):
 class Desk:
     """What is known of one flow."""
 
-    def __init__(self, window, depth):
-        self.window, self.depth = window, depth
+    def __init__(self, window, depth, hold):
+        self.window, self.depth, self.hold = window, depth, hold
         self.top = None
         # The SSRC of the current run and of the one before, where the current one begins, and how many were begun.
         self.current, self.previous, self.origin, self.runs = None, None, 0, 0
         self.mark = 0
         self.kept, self.media = {}, {}
+        # The greatest time that was told so far, and what it was when each of the received words was admitted.
+        self.clock, self.times = 0, {}
         # By their shapes, of which no two are the same.
         self.equations = {}
+
+    def plays_held(self, time):
+        """The plays before any datagram of this time, a refused one too. Where there is a hold: while some received words have
+        waited for so long, the positions up to the farthest of them are played, at most a window."""
+        self.clock = max(self.clock, time)
+        while self.hold:
+            held = [at for at, admitted in self.times.items() if admitted + self.hold <= self.clock]
+            if not held:
+                return
+            yield self.play(*self.peeled(), min(self.window, max(held) + 1 - self.mark))
 
     def plays_before(self, seq, ssrc):
         """The plays before a media datagram. With a new SSRC, neither the current nor the previous one, the desk is flushed. With the
@@ -194,17 +206,20 @@ class Desk:
         if self.top is None or ssrc != self.current:
             self.previous, self.current, self.origin, self.runs = self.current, ssrc, self.mark, self.runs + 1
             self.top, self.equations = (self.mark, seq), {}
-            self.media[self.mark] = word
+            self.receive(self.mark, word)
             return "admitted"
         at = position(*self.top, seq)
         if at < 0 or at < self.mark:
             return "late"
         if at in self.media:
             return "duplicate" if self.media[at] == word else "conflict"
-        self.media[at] = word
+        self.receive(at, word)
         if at > self.top[0]:
             self.top = at, seq
         return "admitted"
+
+    def receive(self, at, word):
+        self.media[at], self.times[at] = word, self.clock
 
     def admit_parity(self, base_seq, offset, na, word):
         if self.top is None:
@@ -268,6 +283,7 @@ class Desk:
         self.kept.update((at, word) for at, word in zip(window, shown) if word is not None)
         for at in window:
             self.media.pop(at, None)
+            self.times.pop(at, None)
             self.kept.pop(at - 100, None)
         self.equations = {shape: equation for shape, equation in self.equations.items()
                           if consistent and equation.last >= self.mark and self.reaches_back(equation)}
@@ -297,12 +313,13 @@ PARITY_COUNTS = ["admitted", "duplicate", "conflict", "late", "notstarted", "bef
 KINDS = {0: "media", 2: "column", 4: "row"}
 
 
-def run_of(records, window, depth):
-    """A flow's run over its records (kind, datagram): its plays, how often each kind got each reply, and how many runs of a
-    sender were begun."""
-    desk, plays = Desk(window, depth), []
+def run_of(records, window, depth, hold):
+    """A flow's run over its records (time, kind, datagram): its plays, how often each kind got each reply, and how many runs of a
+    sender were begun. A hold of 0 is none."""
+    desk, plays = Desk(window, depth, hold), []
     counts = {kind: dict.fromkeys([*PARITY_COUNTS, "foreign"], 0) for kind in KINDS.values()}
-    for kind, datagram in records:
+    for time, kind, datagram in records:
+        plays += desk.plays_held(time)
         read = (read_media if kind == "media" else read_parity)(datagram)
         if isinstance(read, int):
             reply = "bad"
@@ -325,17 +342,17 @@ def counted(kind, port, counts, names):
     return f"{kind} {port} " + " ".join(f"{name} {counts[name]}" for name in names)
 
 
-def repair(records, ports, window, depth):
+def repair(records, ports, window, depth, hold):
     """The lanes by port, and the report without a tail."""
     lanes, lines = {}, []
     owners = {port + kind: (port, name) for port in ports for kind, name in KINDS.items()}
     own = {port: [] for port in ports}
-    for _, at, datagram in records:
+    for time, at, datagram in records:
         if at in owners:
             port, kind = owners[at]
-            own[port].append((kind, datagram))
+            own[port].append((time, kind, datagram))
     for port in ports:
-        plays, counts, runs = run_of(own[port], window, depth)
+        plays, counts, runs = run_of(own[port], window, depth, hold)
         shown = [word for play in plays for word in play.shown]
         lanes[port] = b"".join(payload_of(word) for word in shown if word is not None)
         missing = shown.count(None)
@@ -638,6 +655,7 @@ TABLE = [
     (["repair", "inspect"], "flow", (1, 65531), NEEDED, None),
     (REPAIRS, "window", (1, 100), 100, 1),
     (REPAIRS, "depth", (1, 1000), 400, 1),
+    (REPAIRS, "hold", (1, 3600000000), 0, 1),
     (["repair", "drill", "sample"], "workers", (0, 16), 4, 1),
     (["repair", "encode", "drill", "inspect", "fromcap", "tocap", "monitor"], "max", (8, 1099511627776), 1099511627776, 1),
     (ENCODES, "columns", (0, 255), NEEDED, 1),
@@ -742,7 +760,7 @@ def do_repair(asked, data):
     records, ending = read_trace(data, asked["max"])
     if records is None:
         return b"", {}, ending
-    lanes, report = repair(records, asked["flow"], asked["window"], asked["depth"])
+    lanes, report = repair(records, asked["flow"], asked["window"], asked["depth"], asked["hold"])
     tail = ending.line + "\n" if ending != DONE else ""
     return (report + tail).encode(), lanes, ending
 
@@ -757,13 +775,13 @@ def do_drill(asked, data):
     drops, every = set(asked["drop"]), asked["every"]
     left = [record for number, record in enumerate(encode(payloads, asked))
             if number not in drops and not (every and number and number % every == 0)]
-    lanes, report = repair(left, [asked["port"]], asked["window"], asked["depth"])
+    lanes, report = repair(left, [asked["port"]], asked["window"], asked["depth"], asked["hold"])
     return report.encode(), lanes, ending
 
 
 def do_sample(asked, _):
     left, line = sample(asked["seed"], asked["datagrams"], asked["loss"])
-    lanes, report = repair(left, [5000], 100, 400)
+    lanes, report = repair(left, [5000], 100, 400, 0)
     return (line + report).encode(), lanes, DONE
 
 
