@@ -48,8 +48,8 @@ use std::thread::Threads;
 /// Of several flows the source is read and the lanes are put to in another thread, where one can be made.
 ///
 /// The gate hears of the points that the threads pass: 1 where at most one slot of a held equation isn't folded and the worker
-/// hasn't settled it yet, with no lock, 3 where a board has taken a word, 4 where a settle found no memory, and 5 before each play
-/// and each flush step, which the thread that runs the flow passes as worker 0.
+/// hasn't settled it yet, with no lock, 3 where a board has taken a word, 4 where a settle found no memory, and 5 before each play,
+/// each flush step and each held step, which the thread that runs the flow passes as worker 0.
 pub fn repair<
     W: Threads + Wait + Sync,
     S: Source + Send,

@@ -26,5 +26,6 @@ pub(crate) const TAKEN: u32 = 3;
 /// A settle found no memory.
 pub(crate) const NO_MEMORY: u32 = 4;
 
-/// A flow is about to play a window or to make a flush step, in the thread that runs it. It passes the point as the caller does.
+/// A flow is about to play a window or to make a flush step or a held step, in the thread that runs it. It passes the point as the
+/// caller does.
 pub(crate) const PLAYING: u32 = 5;
