@@ -499,6 +499,7 @@ impl Desk {
 
     /// A held step that copies nothing: the desk keeps the words, as after `play_in_place`. None where no
     /// word has waited long enough.
+    #[inline]
     pub fn held_step_in_place(&mut self, time: u64) -> Option<Played>
         requires room { HasRoom self.old.state }
         requires limited { self.old.state.playout.hold ≢ 0 }
@@ -543,6 +544,7 @@ impl Desk {
 
     /// Tells the desk a time, and answers the greatest position whose word has waited for as long as one
     /// may, or longer.
+    #[inline]
     fn tell(&mut self, time: u64) -> Option<u64>
         requires { self.old.state.playout.hold ≢ 0 }
         ensures state { self.new ≡ record self.old { state = at_time self.old.state time } }
@@ -556,6 +558,7 @@ impl Desk {
     }
 
     /// Counts a call that changes nothing else.
+    #[inline]
     fn count_call(&mut self)
         requires { self.old.state.calls < call_limit }
         ensures { self.new ≡ record self.old { state = counted self.old.state } }
@@ -564,6 +567,7 @@ impl Desk {
     }
 
     /// Plays the first `count` positions, of which 100 are kept at most.
+    #[inline(never)]
     fn play_first(&mut self, count: u32) -> Played
         requires room { HasRoom self.old.state }
         requires started { IsSome self.old.state.top }

@@ -27,6 +27,7 @@ pub(crate) fn move_on(waiting: &mut Waiting, mark: u64)
 }
 
 /// Tells a time, and answers the greatest position whose word has waited for as long as one may, or longer.
+#[inline]
 pub(crate) fn tell(waiting: &mut Waiting, time: u64, mark: u64) -> Option<u64>
     requires { 0 < waiting.old.hold }
     ensures { Tells waiting.old time mark result waiting.new }

@@ -32,6 +32,8 @@ clock_goes_on w clock mark times on h = record {
     newest = h.words.newest;
     all_held = h.words.all_held;
     held = λ past. still_waited w.hold w.clock clock times times (w.held_end - 1) on refl (h.words.held past);
+    not_before = h.words.not_before;
+    not_before_now = let now = h.words.not_before_now in omega arith;
   };
   from_mark = h.from_mark;
 }

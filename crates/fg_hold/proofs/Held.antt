@@ -59,6 +59,8 @@ oldest_held w end mark times h some waited ends =
             let is = h.words.high_waits w.first oldest (h.from_mark w.first oldest) in
             subst (λ (p : ℕ). HasWaited w.hold w.clock times p) (sym there)
             (has_waited w.hold w.clock times (high w w.first) (since w (high w w.first)) is waited);
+        not_before = λ number queued. h.words.not_before number (was_queued w number queued);
+        not_before_now = h.words.not_before_now;
       };
       from_mark = λ number queued. h.from_mark number (was_queued w number queued);
     }
@@ -119,6 +121,71 @@ takes_oldest w found time end room some here came waited ends = record {
       let came_then : time ≡ since w (high w w.first) = came ∙ ap (λ (p : ℕ). since w p) here in
       oldest_held w end mark times h some (omega arith) (omega arith);
 }
+
+-- It is noted from when on another one may have waited long enough.
+pub notes_earliest : (w : WaitingState) (oldest time : ℕ) → (w.first < w.next → oldest ≡ since w (high w w.first)) →
+    (w.next ≤ w.first → oldest ≡ w.clock) → time ≡ min (oldest + w.hold) 18446744073709551615 →
+    TakesHeld w (record w { earliest_held = time })
+notes_earliest w oldest time some none is = record {
+  hold = refl;
+  clock = refl;
+  came = refl;
+  waits = λ mark times h. record {
+    words = record {
+      word = λ position time is.
+          let old = h.words.word position time is in record {
+            from_mark = old.from_mark;
+            in_window = old.in_window;
+            before_clock = old.before_clock;
+            since_is = old.since_is;
+            below_end = old.below_end;
+            covered = ⊎_elim (λ left. inl left)
+                (λ outwaited. inr (record {
+                  number = outwaited.number;
+                  queued = outwaited.queued;
+                  past = outwaited.past;
+                  sooner = outwaited.sooner;
+                }))
+                old.covered;
+          };
+      high_waits = h.words.high_waits;
+      rising = h.words.rising;
+      later = h.words.later;
+      unheld = h.words.unheld;
+      newest = h.words.newest;
+      all_held = h.words.all_held;
+      held = h.words.held;
+      not_before = λ number queued.
+          let first = oldest_first w mark times h.words number queued in
+          let since_oldest = some (let q = queued.0 in let r = queued.1 in omega arith) in
+          omega arith;
+      not_before_now = ⊎_elim
+          (λ (more : w.first < w.next).
+          let queued : IsQueued w w.first = (omega arith, more) in
+          let waits = h.words.high_waits w.first queued (h.from_mark w.first queued) in
+          let before = (h.words.word (high w w.first) (since w (high w w.first)) waits).before_clock in
+          let since_oldest = some more in
+          omega arith)
+          (λ (no_more : w.next ≤ w.first). let now = none no_more in omega arith)
+          (cases_lt w.first w.next);
+    };
+    from_mark = h.from_mark;
+  };
+}
+
+pub then_takes : (w w' w'' : WaitingState) → TakesHeld w w' → TakesHeld w' w'' → TakesHeld w w''
+then_takes w w' w'' a b = record {
+  hold = b.hold ∙ a.hold;
+  clock = b.clock ∙ a.clock;
+  came = b.came ∙ a.came;
+  waits = λ mark times h. b.waits mark times (a.waits mark times h);
+}
+
+-- Before that time the oldest hasn't.
+pub unheld_before : (w : WaitingState) (mark : ℕ) (times : Times) → w.clock < w.earliest_held → Waits w mark times → OldestIsUnheld w
+unheld_before w mark times early h some =
+    let bound = h.words.not_before w.first (omega arith, some) in
+    omega arith
 
 -- So it is what the code answers.
 pub told_held : (w : WaitingState) (end mark : ℕ) (told : Option ℕ) (times : Times) →

@@ -1,11 +1,11 @@
 -- The mark moves on.
-use Rattle.std.proofs.Common.{◌≡◌, ℕ, ◌+◌, ◌-◌, ◌<◌, ◌≤◌, Option, Some, None, Bool, true, false, nat_lt, if◌then◌else◌, refl, sym, ap, ◌∙◌, ⊎_elim, inl, inr, arith}
+use Rattle.std.proofs.Common.{◌≡◌, ℕ, ◌+◌, ◌-◌, ◌<◌, ◌≤◌, min, Option, Some, None, Bool, true, false, nat_lt, if◌then◌else◌, refl, sym, ap, ◌∙◌, ⊎_elim, inl, inr, arith}
 use Rattle.std.proofs.lemmas.Bool.{cases_lt}
 use Rattle.std.specs.FinMap.{get}
 use Rattle.fg_hold.specs.HasWaited.{Times}
 use Rattle.fg_hold.specs.Waiting.{WaitingState, Waits, Remembers, IsQueued, AreFrom, high}
-use Rattle.fg_hold.specs.Steps.{TakesPassed, OldestIsUnpassed}
-use Rattle.fg_hold.proofs.Queue.{still_waited}
+use Rattle.fg_hold.specs.Steps.{AreBelow, AreNotBelow}
+use Rattle.fg_hold.proofs.Queue.{still_waited, spread}
 
 -- What is left at a position, by whether it is below the mark.
 below_left : (below : Bool) (o : Option ℕ) (time : ℕ) → (if below then None else o) ≡ Some time → (below ≡ false) × (o ≡ Some time)
@@ -49,12 +49,30 @@ mark_goes_on w old_mark mark times left on from h = record {
   held = λ past.
       let same = left_same mark times left from (w.held_end - 1) (omega arith) in
       still_waited w.hold w.clock w.clock times left (w.held_end - 1) (omega arith) same (h.words.held (omega arith));
+  not_before = h.words.not_before;
+  not_before_now = h.words.not_before_now;
 }
 
--- The oldest high leaves, which is below the mark.
-pub oldest_passed : (w : WaitingState) (mark : ℕ) (times : Times) → w.first < w.next → high w w.first < mark → Remembers w mark times →
-    Remembers (record w { first = w.first + 1 }) mark times
-oldest_passed w mark times some passed p = record {
+-- Those in the queue before a number below which all are below the mark.
+below_mark : (w : WaitingState) (mark from number : ℕ) (times : Times) → AreBelow mark w from → from ≤ w.next →
+    Remembers w mark times → IsQueued w number → number < from → high w number < mark
+below_mark w mark from number times below most p queued less =
+    let some : w.first < from = (let a = queued.0 in omega arith) in
+    let last : high w (from - 1) < mark = below.1 some in
+    ⊎_elim
+    (λ (before : number < from - 1).
+    let up : high w number < high w (from - 1) = p.rising number (from - 1) queued (omega arith, omega arith) before in
+    omega arith)
+    (λ (up_to : from - 1 ≤ number).
+    let same : number ≡ from - 1 = omega arith in
+    let there : high w number ≡ high w (from - 1) = ap (λ (n : ℕ). high w n) same in
+    omega arith)
+    (cases_lt number (from - 1))
+
+-- They leave.
+pub below_leave : (w : WaitingState) (mark from : ℕ) (times : Times) → AreBelow mark w from → from ≤ w.next → Remembers w mark times →
+    Remembers (record w { first = from }) mark times
+below_leave w mark from times below most p = record {
   word = λ position time is.
       let old = p.word position time is in record {
         from_mark = old.from_mark;
@@ -65,63 +83,69 @@ oldest_passed w mark times some passed p = record {
         covered = ⊎_elim
             (λ left. inl left)
             (λ outwaited. ⊎_elim
-            (λ (past : w.first < outwaited.number). inr (record {
-              number = outwaited.number;
-              queued = (omega arith, outwaited.queued.1);
-              past = outwaited.past;
-              sooner = outwaited.sooner;
-            }))
-            (λ (up_to : outwaited.number ≤ w.first).
-            let from = outwaited.queued.0 in
-            let same : outwaited.number ≡ w.first = omega arith in
-            let there : high w outwaited.number ≡ high w w.first = ap (λ (n : ℕ). high w n) same in
+            (λ (less : outwaited.number < from).
+            let passed = below_mark w mark from outwaited.number times below most p outwaited.queued less in
             let past = outwaited.past in
             let at = old.from_mark in
             absurd (omega arith))
-            (cases_lt w.first outwaited.number))
+            (λ (rest : from ≤ outwaited.number). inr (record {
+              number = outwaited.number;
+              queued = (rest, outwaited.queued.1);
+              past = outwaited.past;
+              sooner = outwaited.sooner;
+            }))
+            (cases_lt outwaited.number from))
             old.covered;
       };
-  high_waits = λ number queued at. p.high_waits number (was_queued w number queued) at;
-  rising = λ number other queued queued' less. p.rising number other (was_queued w number queued) (was_queued w other queued') less;
-  later = λ number other queued queued' less. p.later number other (was_queued w number queued) (was_queued w other queued') less;
-  unheld = λ number queued. p.unheld number (was_queued w number queued);
-  newest = λ more. p.newest some;
-  all_held = λ none below.
-      let one : w.next - 1 ≡ w.first = omega arith in
+  high_waits = λ number queued at. p.high_waits number (was_queued number queued) at;
+  rising = λ number other queued queued' less. p.rising number other (was_queued number queued) (was_queued other queued') less;
+  later = λ number other queued queued' less. p.later number other (was_queued number queued) (was_queued other queued') less;
+  unheld = λ number queued. p.unheld number (was_queued number queued);
+  newest = λ more. p.newest (let up = below.0 in omega arith);
+  all_held = λ none at. ⊎_elim
+      (λ (some : w.first < w.next).
       let last : high w (w.next - 1) + 1 ≡ w.high_end = p.newest some in
-      let there : high w (w.next - 1) ≡ high w w.first = ap (λ (n : ℕ). high w n) one in
-      absurd (omega arith);
+      let passed = below_mark w mark from (w.next - 1) times below most p (omega arith, omega arith) (omega arith) in
+      absurd (omega arith))
+      (λ (empty : w.next ≤ w.first). p.all_held empty at)
+      (cases_lt w.first w.next);
   held = p.held;
+  not_before = λ number queued. p.not_before number (was_queued number queued);
+  not_before_now = p.not_before_now;
 }
   where
-    was_queued : (w : WaitingState) (number : ℕ) → (w.first + 1 ≤ number) × (number < w.next) → IsQueued w number
-    was_queued w number queued = (let q = queued.0 in omega arith, queued.1)
+    was_queued : (number : ℕ) → (from ≤ number) × (number < w.next) → IsQueued w number
+    was_queued number queued = (let q = queued.0 in let up = below.0 in omega arith, queued.1)
 
--- It leaves as the code has it leave.
-pub takes_oldest_passed : (w : WaitingState) (found mark : ℕ) → w.first < w.next → found ≡ high w w.first → found < mark →
-    TakesPassed mark w (record w { first = w.first + 1 })
-takes_oldest_passed w found mark some here passed = record {
-  hold = refl;
-  clock = refl;
-  came = refl;
-  remembers = λ times p. oldest_passed w mark times some (omega arith) p;
-}
+-- The mark moves on, and those leave that are below it.
+pub words_leave : (w : WaitingState) (old_mark mark from : ℕ) (times left : Times) → AreBelow mark w from → AreNotBelow mark w from →
+    old_mark ≤ mark → AreFrom mark times left → Waits w old_mark times → Waits (record w { first = from }) mark left
+words_leave w old_mark mark from times left below rest on are_from h =
+    let p = mark_goes_on w old_mark mark times left on are_from h in
+    record {
+      words = below_leave w mark from left below rest.0 p;
+      from_mark = λ number queued.
+          let up = below.0 in
+          let first : mark ≤ high w from = rest.1 old_mark times h (let a = queued.0 in let b = queued.1 in omega arith) in
+          ⊎_elim
+          (λ (past : from < number).
+          let b = queued.1 in
+          let up : high w from < high w number = p.rising from number (omega arith, omega arith) (omega arith, b) past in
+          omega arith)
+          (λ (up_to : number ≤ from).
+          let a = queued.0 in
+          let same : number ≡ from = omega arith in
+          let there : high w number ≡ high w from = ap (λ (n : ℕ). high w n) same in
+          omega arith)
+          (cases_lt from number);
+    }
 
--- No high in the queue is below the mark where the oldest isn't.
-pub all_past : (w : WaitingState) (mark : ℕ) (times : Times) → OldestIsUnpassed mark w → Remembers w mark times → Waits w mark times
-all_past w mark times oldest p = record {
-  words = p;
-  from_mark = λ number queued.
-      let some : w.first < w.next = (let a = queued.0 in let b = queued.1 in omega arith) in
-      let first : mark ≤ high w w.first = oldest some in
-      ⊎_elim
-      (λ (past : w.first < number).
-      let up : high w w.first < high w number = p.rising w.first number (omega arith, some) queued past in
-      omega arith)
-      (λ (up_to : number ≤ w.first).
-      let from = queued.0 in
-      let same : number ≡ w.first = omega arith in
-      let there : high w number ≡ high w w.first = ap (λ (n : ℕ). high w n) same in
-      omega arith)
-      (cases_lt w.first number);
-}
+-- No more highs are below the mark than the mark is past the oldest.
+pub most_below : (w : WaitingState) (mark most number : ℕ) → most ≡ mark - high w w.first → w.first ≤ w.next →
+    number ≡ w.first + min most (w.next - w.first) → AreNotBelow mark w number
+most_below w mark most number is order at = (
+  omega arith,
+  λ old_mark times h less.
+      let far = spread w old_mark times h.words (number - w.first) number (omega arith) (omega arith, less) in
+      omega arith,
+)

@@ -4,8 +4,8 @@ use Rattle.std.specs.FinMap.{empty}
 use Rattle.fg_peel.proofs.Maps.{nothing_in_empty}
 use Rattle.fg_hold.specs.Waiting.{WaitingState, Waits}
 
-pub none_waits : (w : WaitingState) → w.next ≡ 0 → w.high_end ≡ 0 → w.held_end ≡ 0 → Waits w 0 empty
-none_waits w none low unheld = record {
+pub none_waits : (w : WaitingState) → w.next ≡ 0 → w.high_end ≡ 0 → w.held_end ≡ 0 → w.earliest_held ≡ 0 → Waits w 0 empty
+none_waits w none low unheld early = record {
   words = record {
     word = λ position time is. absurd (nothing_in_empty position time is);
     high_waits = λ number queued from. absurd (let below = queued.1 in omega arith);
@@ -15,6 +15,8 @@ none_waits w none low unheld = record {
     newest = λ some. absurd (omega arith);
     all_held = λ empty below. absurd (omega arith);
     held = λ past. absurd (omega arith);
+    not_before = λ number queued. absurd (let below = queued.1 in omega arith);
+    not_before_now = omega arith;
   };
   from_mark = λ number queued. absurd (let below = queued.1 in omega arith);
 }

@@ -143,6 +143,11 @@ module _ (w : WaitingState) (mark position : ℕ) (times : Times)
         newest = h.words.newest;
         all_held = h.words.all_held;
         held = held_still;
+        not_before = λ number queued.
+            let stayed = high_stays number queued in
+            let bound = h.words.not_before number queued in
+            omega arith;
+        not_before_now = h.words.not_before_now;
       };
       from_mark = h.from_mark;
     }
@@ -271,6 +276,19 @@ module _ (w : WaitingState) (mark position : ℕ) (times : Times)
               ap (λ (n : ℕ). ring_at highs n + 1) last ∙ ap (λ (p : ℕ). p + 1) queued_here;
           all_held = λ empty below. absurd (omega arith);
           held = held_still;
+          not_before = λ number queued. ⊎_elim
+              (λ (same : number ≡ w.next).
+              let there : ring_at came (ring_at highs number) ≡ ring_at came (ring_at highs w.next)
+              = ap (λ (n : ℕ). ring_at came (ring_at highs n)) same in
+              let now = new_since in
+              let bound = h.words.not_before_now in
+              omega arith)
+              (λ old.
+              let same = same_since number old in
+              let bound = h.words.not_before number old in
+              omega arith)
+              (was_queued number queued);
+          not_before_now = h.words.not_before_now;
         };
         from_mark = λ number queued. (high_now number queued).0;
       }

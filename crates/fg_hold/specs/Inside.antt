@@ -12,4 +12,5 @@ state_of a = record {
   next = a.next;
   high_end = a.high_end;
   held_end = a.held_end;
+  earliest_held = a.earliest_held;
 }

@@ -1,7 +1,7 @@
 -- What the parts of a call do. No public contract cites it.
 use Rattle.std.specs.Prelude.{◌≡◌, ◌+◌, ◌-◌, ◌<◌, ◌≤◌, ℕ}
 use Rattle.fg_hold.specs.HasWaited.{Times}
-use Rattle.fg_hold.specs.Waiting.{WaitingState, Remembers, Waits, since, high}
+use Rattle.fg_hold.specs.Waiting.{WaitingState, Waits, since, high}
 
 -- How many highs the queue has.
 abbrev pub queue_len : WaitingState → ℕ
@@ -11,10 +11,6 @@ queue_len w = w.next - w.first
 abbrev pub OldestIsUnheld : WaitingState → Type 0
 OldestIsUnheld w = w.first < w.next → w.clock < since w (high w w.first) + w.hold
 
--- It isn't below the mark.
-abbrev pub OldestIsUnpassed : ℕ → WaitingState → Type 0
-OldestIsUnpassed mark w = w.first < w.next → mark ≤ high w w.first
-
 -- Highs were taken off that had waited long enough.
 pub record TakesHeld (old new : WaitingState) : Type 0 where
   pub hold : new.hold ≡ old.hold
@@ -22,9 +18,11 @@ pub record TakesHeld (old new : WaitingState) : Type 0 where
   pub came : new.came ≡ old.came
   pub waits : (mark : ℕ) (times : Times) → Waits old mark times → Waits new mark times
 
--- Highs below the mark were taken off.
-pub record TakesPassed (mark : ℕ) (old new : WaitingState) : Type 0 where
-  pub hold : new.hold ≡ old.hold
-  pub clock : new.clock ≡ old.clock
-  pub came : new.came ≡ old.came
-  pub remembers : (times : Times) → Remembers old mark times → Remembers new mark times
+-- The queued highs before this number are below the mark.
+abbrev pub AreBelow : ℕ → WaitingState → ℕ → Type 0
+AreBelow mark w number = (w.first ≤ number) × (w.first < number → high w (number - 1) < mark)
+
+-- Those from this number on aren't.
+abbrev pub AreNotBelow : ℕ → WaitingState → ℕ → Type 0
+AreNotBelow mark w number =
+    (number ≤ w.next) × ((old_mark : ℕ) (times : Times) → Waits w old_mark times → number < w.next → mark ≤ high w number)

@@ -25,14 +25,16 @@ pub record WaitingState : Type 0 where
   pub high_end : ℕ
   -- One past the greatest high that left the queue since it had waited long enough, and 0 before.
   pub held_end : ℕ
+  -- Before this time of the clock no queued high has waited long enough.
+  pub earliest_held : ℕ
 
 -- How states are told apart.
 abbrev pub waiting_code : Coded WaitingState
 waiting_code =
-    code_by (ℕ × (ℕ × (List ℕ × (List ℕ × (ℕ × (ℕ × (ℕ × ℕ)))))))
+    code_by (ℕ × (ℕ × (List ℕ × (List ℕ × (ℕ × (ℕ × (ℕ × (ℕ × ℕ))))))))
     (coded× coded_ℕ (coded× coded_ℕ (coded× (coded_list coded_ℕ) (coded× (coded_list coded_ℕ)
-    (coded× coded_ℕ (coded× coded_ℕ (coded× coded_ℕ coded_ℕ)))))))
-    (λ w. (w.hold, (w.clock, (w.came, (w.highs, (w.first, (w.next, (w.high_end, w.held_end))))))))
+    (coded× coded_ℕ (coded× coded_ℕ (coded× coded_ℕ (coded× coded_ℕ coded_ℕ))))))))
+    (λ w. (w.hold, (w.clock, (w.came, (w.highs, (w.first, (w.next, (w.high_end, (w.held_end, w.earliest_held)))))))))
     (λ p. record {
       hold = p.0;
       clock = p.1.0;
@@ -41,7 +43,8 @@ waiting_code =
       first = p.1.1.1.1.0;
       next = p.1.1.1.1.1.0;
       high_end = p.1.1.1.1.1.1.0;
-      held_end = p.1.1.1.1.1.1.1;
+      held_end = p.1.1.1.1.1.1.1.0;
+      earliest_held = p.1.1.1.1.1.1.1.1;
     })
     (λ _. refl)
 
@@ -90,6 +93,9 @@ pub record Remembers (w : WaitingState) (mark : ℕ) (times : Times) : Type 0 wh
   pub all_held : w.next ≤ w.first → mark < w.high_end → w.held_end ≡ w.high_end
   -- The greatest that has left the queue has a word that has waited long enough.
   pub held : mark < w.held_end → HasWaited w.hold w.clock times (w.held_end - 1)
+  -- None of the queued, and none that comes now or later, has waited long enough before the earliest time.
+  pub not_before : (number : ℕ) → IsQueued w number → w.earliest_held ≤ since w (high w number) + w.hold
+  pub not_before_now : w.earliest_held ≤ w.clock + w.hold
 
 -- These are the words that wait at the mark and past it, each with its time.
 pub record Waits (w : WaitingState) (mark : ℕ) (times : Times) : Type 0 where

@@ -7,8 +7,8 @@ ghost use Rattle.std.specs.FinMap.{get, empty, insert};
 ghost use Rattle.fg_peel.specs.Words.{IsGreatest};
 ghost use Rattle.fg_hold.specs.HasWaited.{Times, HasWaited};
 ghost use Rattle.fg_hold.specs.Ring.{ring_at};
-ghost use Rattle.fg_hold.specs.Steps.{TakesHeld, TakesPassed, OldestIsUnheld, OldestIsUnpassed, queue_len};
-ghost use Rattle.fg_hold.specs.Waiting.{Waits, AreFrom, since};
+ghost use Rattle.fg_hold.specs.Steps.{TakesHeld, OldestIsUnheld, AreBelow, AreNotBelow, queue_len};
+ghost use Rattle.fg_hold.specs.Waiting.{Waits, AreFrom, since, high};
 
 mod ring;
 #[cfg(test)]
@@ -30,6 +30,7 @@ pub struct Waiting {
     next: u64,
     high_end: u64,
     held_end: u64,
+    earliest_held: u64,
 }
 
 impl Model for Waiting {
@@ -66,6 +67,7 @@ impl Waiting {
             next: 0,
             high_end: 0,
             held_end: 0,
+            earliest_held: 0,
         })
     }
 
@@ -138,16 +140,40 @@ impl Waiting {
         ensures waits { (old_mark : ℕ) (times left : Times) → Waits self.old old_mark times →
             old_mark ≤ mark → AreFrom mark times left → Waits self.new mark left }
     {
-        while self.take_passed(mark) {}
+        self.first = self.number_from(mark);
     }
 
-    /// Takes off the queue the highs that have waited long enough.
+    /// Takes off the queue the highs that have waited long enough. Nothing is looked at before one may have.
     #[inline]
     fn take_all_held(&mut self)
+        ensures takes { TakesHeld self.old self.new }
+        ensures oldest { (mark : ℕ) (times : Times) → Waits self.new mark times → OldestIsUnheld self.new }
+    {
+        if self.clock >= self.earliest_held {
+            self.take_while_held();
+        }
+    }
+
+    /// Takes the oldest highs off the queue while they have waited long enough, and notes from when on another one may have.
+    #[inline(never)]
+    fn take_while_held(&mut self)
         ensures takes { TakesHeld self.old self.new }
         ensures oldest { OldestIsUnheld self.new }
     {
         while self.take_held() {}
+        self.earliest_held = self.since_oldest().saturating_add(self.hold);
+    }
+
+    /// Since when the oldest high in the queue waits, and now where there is none.
+    fn since_oldest(&self) -> u64
+        ensures some { self.now.first < self.now.next → result ≡ since self.now (high self.now self.now.first) }
+        ensures none { self.now.next ≤ self.now.first → result ≡ self.now.clock }
+    {
+        if self.first < self.next {
+            self.came.at(self.highs.at(self.first))
+        } else {
+            self.clock
+        }
     }
 
     /// Takes the oldest high off the queue where it has waited long enough, and tells whether.
@@ -170,21 +196,24 @@ impl Waiting {
         true
     }
 
-    /// Takes the oldest high off the queue where it is below the mark, and tells whether.
-    #[inline]
-    fn take_passed(&mut self, mark: u64) -> bool
-        ensures takes { TakesPassed mark self.old self.new }
-        ensures fewer { IsTrue result → queue_len self.new < queue_len self.old }
-        ensures oldest { result ≡ false → OldestIsUnpassed mark self.new }
+    /// The number of the oldest high in the queue that isn't below the mark, and one past the newest where all are.
+    fn number_from(&self, mark: u64) -> u64
+        ensures below { AreBelow mark self.now result }
+        ensures rest { AreNotBelow mark self.now result }
     {
-        if self.first >= self.next {
-            return false;
+        // Each lies past the one before it, so no more are below the mark than the mark is past the oldest.
+        let most = mark.saturating_sub(self.highs.at(self.first));
+        let mut below = self.first;
+        let mut rest = self.first + most.min(self.next - self.first);
+        while below < rest {
+            let middle = below + (rest - below) / 2;
+            if self.highs.at(middle) < mark {
+                below = middle + 1;
+            } else {
+                rest = middle;
+            }
         }
-        if self.highs.at(self.first) >= mark {
-            return false;
-        }
-        self.first += 1;
-        true
+        below
     }
 }
 

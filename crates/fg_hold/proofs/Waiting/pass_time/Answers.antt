@@ -28,7 +28,7 @@ returns-clause-some c times h =
     elim c.if-mark-self.branch [
       | then-mark-self w ↦
           told_held s c.self-2.inside.held_end c.args.mark c.if-mark-self.result times end w.result-is w.if-mark-self.true now
-          c.take_all_held.ensures.oldest
+          (c.take_all_held.ensures.oldest c.args.mark times now)
       | else-mark-self w ↦ subst (λ (r : Option ℕ). IfSome r (IsGreatest (HasWaited s.hold s.clock times))) (sym w.result-is) tt
     ]
 
@@ -42,5 +42,5 @@ returns-clause-none c times h =
           subst (λ (r : Option ℕ). IfNone r ((position : ℕ) → ¬ HasWaited s.hold s.clock times position)) (sym w.result-is) tt
       | else-mark-self w ↦
           told_none s c.self-2.inside.held_end c.args.mark c.if-mark-self.result times end w.result-is w.if-mark-self.false now
-          c.take_all_held.ensures.oldest
+          (c.take_all_held.ensures.oldest c.args.mark times now)
     ]

@@ -1,5 +1,5 @@
 use Rattle.fg_hold.specs.Steps.{TakesHeld, queue_len}
-use Rattle.fg_hold.proofs.Waiting.take_all_held.Given as goal
+use Rattle.fg_hold.proofs.Waiting.take_while_held.Given as goal
 
 abbrev pub invariant-loop : goal.invariant-loop
 invariant-loop l = TakesHeld l.initial.self l.self
