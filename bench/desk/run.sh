@@ -34,7 +34,7 @@ abbrev pub invariant-loop-number : goal.invariant-loop-number
 invariant-loop-number l = l.desk.state.playout.window ≤ l.tray.window
 END
 cd "$work/crates/desk_work"
-rt run -- bare 400 100 0 0 > "$work/log" 2>&1 || { cat "$work/log"; exit 1; }
+rt run -- bare 400 100 0 none > "$work/log" 2>&1 || { cat "$work/log"; exit 1; }
 count() {
     valgrind --tool=callgrind --callgrind-out-file=/dev/null out/desk_work "$@" 2>&1 \
         | sed -n 's/.*Collected : \([0-9]*\).*/\1/p'
@@ -42,11 +42,11 @@ count() {
 for loss in 0 3; do
     for depth in 400 1000; do
         for window in 100 10 1; do
-            with=$(count desk "$depth" "$window" "$loss" 0)
-            place=$(count place "$depth" "$window" "$loss" 0)
-            without=$(count bare "$depth" "$window" "$loss" 0)
+            with=$(count desk "$depth" "$window" "$loss" none)
+            place=$(count place "$depth" "$window" "$loss" none)
+            without=$(count bare "$depth" "$window" "$loss" none)
             echo "loss $loss depth $depth window $window: $(((with - without) / 40000)) instructions a media datagram," \
-                "$(((place - without) / 40000)) without a tray, $(out/desk_work desk "$depth" "$window" "$loss" 0)"
+                "$(((place - without) / 40000)) without a tray, $(out/desk_work desk "$depth" "$window" "$loss" none)"
         done
     done
 done
