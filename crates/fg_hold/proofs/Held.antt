@@ -181,12 +181,6 @@ then_takes w w' w'' a b = record {
   waits = λ mark times h. b.waits mark times (a.waits mark times h);
 }
 
--- Before that time the oldest hasn't.
-pub unheld_before : (w : WaitingState) (mark : ℕ) (times : Times) → w.clock < w.earliest_held → Waits w mark times → OldestIsUnheld w
-unheld_before w mark times early h some =
-    let bound = h.words.not_before w.first (omega arith, some) in
-    omega arith
-
 -- So it is what the code answers.
 pub told_held : (w : WaitingState) (end mark : ℕ) (told : Option ℕ) (times : Times) →
     end ≡ w.held_end → told ≡ Some (end - 1) → mark < end → Waits w mark times → OldestIsUnheld w →

@@ -53,7 +53,7 @@ mark_goes_on w old_mark mark times left on from h = record {
   not_before_now = h.words.not_before_now;
 }
 
--- Those in the queue before a number below which all are below the mark.
+-- Where the last of the queued highs before a number is below the mark, all of them are.
 below_mark : (w : WaitingState) (mark from number : ℕ) (times : Times) → AreBelow mark w from → from ≤ w.next →
     Remembers w mark times → IsQueued w number → number < from → high w number < mark
 below_mark w mark from number times below most p queued less =
@@ -70,7 +70,7 @@ below_mark w mark from number times below most p queued less =
     (cases_lt number (from - 1))
 
 -- They leave.
-pub below_leave : (w : WaitingState) (mark from : ℕ) (times : Times) → AreBelow mark w from → from ≤ w.next → Remembers w mark times →
+below_leave : (w : WaitingState) (mark from : ℕ) (times : Times) → AreBelow mark w from → from ≤ w.next → Remembers w mark times →
     Remembers (record w { first = from }) mark times
 below_leave w mark from times below most p = record {
   word = λ position time is.
