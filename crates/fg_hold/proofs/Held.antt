@@ -5,6 +5,7 @@ use Rattle.fg_peel.specs.Words.{IsGreatest}
 use Rattle.fg_hold.specs.HasWaited.{Times, HasWaited}
 use Rattle.fg_hold.specs.Waiting.{WaitingState, HasRoom, Waits, IsQueued, since, high}
 use Rattle.fg_hold.specs.Steps.{OldestIsUnheld, TakesHeld}
+use Rattle.fg_hold.proofs.Clocks.{times_go_on}
 use Rattle.fg_hold.proofs.Queue.{has_waited, waited_since, oldest_first}
 
 -- The oldest high leaves.
@@ -130,49 +131,24 @@ notes_earliest w oldest time some none is = record {
   hold = refl;
   clock = refl;
   came = refl;
-  waits = λ mark times h. record {
-    words = record {
-      word = λ position time is.
-          let old = h.words.word position time is in record {
-            from_mark = old.from_mark;
-            in_window = old.in_window;
-            before_clock = old.before_clock;
-            since_is = old.since_is;
-            below_end = old.below_end;
-            covered = ⊎_elim (λ left. inl left)
-                (λ outwaited. inr (record {
-                  number = outwaited.number;
-                  queued = outwaited.queued;
-                  past = outwaited.past;
-                  sooner = outwaited.sooner;
-                }))
-                old.covered;
-          };
-      high_waits = h.words.high_waits;
-      rising = h.words.rising;
-      later = h.words.later;
-      unheld = h.words.unheld;
-      newest = h.words.newest;
-      all_held = h.words.all_held;
-      held = h.words.held;
-      not_before = λ number queued.
-          let first = oldest_first w mark times h.words number queued in
-          let since_oldest = some (let q = queued.0 in let r = queued.1 in omega arith) in
-          omega arith;
-      not_before_now = ⊎_elim
-          (λ (more : w.first < w.next).
-          let queued : IsQueued w w.first = (omega arith, more) in
-          let waits = h.words.high_waits w.first queued (h.from_mark w.first queued) in
-          let before = (h.words.word (high w w.first) (since w (high w w.first)) waits).before_clock in
-          let since_oldest = some more in
-          omega arith)
-          (λ (no_more : w.next ≤ w.first). let now = none no_more in omega arith)
-          (cases_lt w.first w.next);
-    };
-    from_mark = h.from_mark;
-  };
+  waits = λ mark times h. times_go_on w w.clock time mark times (omega arith)
+      (λ number queued.
+      let first = oldest_first w mark times h.words number queued in
+      let since_oldest = some (let q = queued.0 in let r = queued.1 in omega arith) in
+      omega arith)
+      (⊎_elim
+      (λ (more : w.first < w.next).
+      let queued : IsQueued w w.first = (omega arith, more) in
+      let waits = h.words.high_waits w.first queued (h.from_mark w.first queued) in
+      let before = (h.words.word (high w w.first) (since w (high w w.first)) waits).before_clock in
+      let since_oldest = some more in
+      omega arith)
+      (λ (no_more : w.next ≤ w.first). let now = none no_more in omega arith)
+      (cases_lt w.first w.next))
+      h;
 }
 
+-- One after another is as one.
 pub then_takes : (w w' w'' : WaitingState) → TakesHeld w w' → TakesHeld w' w'' → TakesHeld w w''
 then_takes w w' w'' a b = record {
   hold = b.hold ∙ a.hold;
