@@ -26,3 +26,17 @@ some_then P Q (Some x) f h = f x h
 pub none_then : {T : Type 0} (P Q : Type 0) (o : Option T) → (P → Q) → IfNone o P → IfNone o Q
 none_then P Q None f h = f h
 none_then P Q (Some x) f h = tt
+
+-- The same of an answer.
+pub ok_then : {T E : Type 0} (P Q : T → Type 0) (r : Result T E) → ((x : T) → P x → Q x) → IfOk r P → IfOk r Q
+ok_then P Q (Ok x) f h = f x h
+ok_then P Q (Err e) f h = tt
+
+pub err_then : {T E : Type 0} (P Q : Type 0) (r : Result T E) → (P → Q) → OnErr r P → OnErr r Q
+err_then P Q (Ok x) f h = tt
+err_then P Q (Err e) f h = f h
+
+-- What follows from both answers.
+pub either_way : {T E : Type 0} (P : T → Type 0) (Q R : Type 0) (r : Result T E) → ((x : T) → P x → R) → (Q → R) → IfOk r P → OnErr r Q → R
+either_way P Q R (Ok x) f g ok err = f x ok
+either_way P Q R (Err e) f g ok err = g err

@@ -222,15 +222,17 @@ pub gathers_last :
 gathers_last plan fits first left now reader next records batch old end told max tells none walks h =
     let read = walks (records ++ batch) (stands_in plan first left reader records batch old none h) in
     record {
-      end = end;
-      of_input = ended plan first next (records ++ batch) end max read.1;
-      tells = tells;
-      few = few_records plan fits first now next (records ++ batch) max read.0;
       holds = h.kept.holds;
       none_left = none;
-      other =
-          h.kept.other ∙ ap (others_of plan.table)
-          (all_in records batch h.left (none_left plan old.next reader.payload h.left none h.kept.is_left));
+      all = record {
+        end = end;
+        of_input = ended plan first next (records ++ batch) end max read.1;
+        tells = tells;
+        few = few_records plan fits first now next (records ++ batch) max read.0;
+        other =
+            h.kept.other ∙ ap (others_of plan.table)
+            (all_in records batch h.left (none_left plan old.next reader.payload h.left none h.kept.is_left));
+      };
     }
 
 -- From one batch to the next

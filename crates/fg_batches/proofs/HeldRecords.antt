@@ -2,6 +2,7 @@
 use Rattle.std.proofs.Common.{◌≡◌, ◌⊎◌, inl, inr, ℕ, zero, suc, ◌<◌, false, List, [], ◌∷◌, ◌++◌, length, replicate, get_or, set, slice_index, sym, ◌∙◌, subst, arith}
 use Rattle.std.specs.List.{AllZip}
 use Rattle.std.proofs.lemmas.Bool.{cases_eq}
+use Rattle.std.proofs.lemmas.List.Elements.{filter-append}
 use Rattle.std.proofs.lemmas.List.{get_or-set_same, get_or-set_other, get_or-replicate, length-set, length-replicate}
 use Rattle.fg_trace.specs.Trace.{Record}
 use Rattle.fg_shape.specs.declared.kind.Kind.{Kind}
@@ -14,6 +15,7 @@ use Rattle.fg_results.proofs.ArrivalLemmas.{one_more_record}
 use Rattle.fg_results.proofs.Zips.{zip_push, zip_length}
 use Rattle.fg_engine.proofs.Standing.{is_of_no, not_of, IsOfNone}
 use Rattle.fg_batches.specs.Batches.{IsItemOf, AreItemsOf}
+use Rattle.fg_batches.specs.Load.{join_items}
 
 -- Two lists, place by place
 
@@ -77,6 +79,28 @@ holds_other table batch r items none zip =
     zip_places (AreItemsOf (batch ++ r ∷ [])) 0 [] table items (zip_length (AreItemsOf batch) table items zip)
     (λ k below. others_hold (slice_index table k) batch r (get_or items k []) (is_of_no (slice_index table k) r (λ kind e. none k kind (below, e)))
     (zip_place (AreItemsOf batch) 0 [] table items k zip below))
+
+-- Those of another batch after them
+
+zip_append : {A B : Type 0} (R : A → B → Type 0) (xs xs' : List A) (ys ys' : List B) → AllZip R xs ys → AllZip R xs' ys' → AllZip R (xs ++ xs') (ys ++ ys')
+zip_append R [] xs' [] ys' zip zip' = zip'
+zip_append R [] xs' (y ∷ ys) ys' zip zip' = absurd zip
+zip_append R (x ∷ xs) xs' [] ys' zip zip' = absurd zip
+zip_append R (x ∷ xs) xs' (y ∷ ys) ys' zip zip' = (zip.0, zip_append R xs xs' ys ys' zip.1 zip')
+
+pub holds_joined :
+    (table : List ℕ) (first more : List Record) (items others : List (List Item))
+    → AllZip (AreItemsOf first) table items → AllZip (AreItemsOf more) table others → AllZip (AreItemsOf (first ++ more)) table (join_items items others)
+holds_joined [] first more [] [] zip zip' = tt
+holds_joined [] first more [] (o ∷ others) zip zip' = absurd zip'
+holds_joined [] first more (i ∷ items) others zip zip' = absurd zip
+holds_joined (port ∷ table) first more [] others zip zip' = absurd zip
+holds_joined (port ∷ table) first more (i ∷ items) [] zip zip' = absurd zip'
+holds_joined (port ∷ table) first more (i ∷ items) (o ∷ others) zip zip' = (
+  subst (λ (rs : List Record). AllZip (IsItemOf port) rs (i ++ o)) (sym (filter-append (is_of port) first more))
+      (zip_append (IsItemOf port) (records_of port first) (records_of port more) i o zip.0 zip'.0),
+  holds_joined table first more items others zip.1 zip'.1,
+)
 
 -- None at all
 

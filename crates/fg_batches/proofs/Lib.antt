@@ -6,8 +6,11 @@ pub mod Emptied
 pub mod Exchanged
 pub mod Gathered
 pub mod HeldRecords
+pub mod Joined
+pub mod Loads
 pub mod Playing
 pub mod PutShelves
+pub mod ReadAhead
 pub mod Runs
 pub mod Stepped
 pub mod Stopped

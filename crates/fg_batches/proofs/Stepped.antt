@@ -10,10 +10,9 @@ use Rattle.fg_flows.specs.declared.Plan.{Plan}
 use Rattle.fg_flows.specs.Plan.{PlanFits}
 use Rattle.fg_flows.specs.Flows.{IsTable}
 use Rattle.fg_flows.specs.Laws.{OneFlowHasAPort}
-use Rattle.fg_flows.specs.Sheaf.{SheafState, no_items}
+use Rattle.fg_flows.specs.Sheaf.{SheafState}
 use Rattle.fg_report.specs.declared.tail.Tail.{Tail}
 use Rattle.fg_results.specs.Laws.{OneGained}
-use Rattle.fg_results.specs.Repair.{others_of}
 use Rattle.fg_results.specs.Stops.{ByBatch}
 use Rattle.fg_results.proofs.Zips.{zip_length}
 use Rattle.fg_engine.specs.declared.shelved.Shelved.{Shelved}
@@ -23,13 +22,13 @@ use Rattle.fg_batches.specs.BatchView.{BatchView}
 use Rattle.fg_batches.specs.Batches.{AreItemsOf, BreaksEmptying, CanRunAll, HaveExchanged, HaveRun, HoldsBatch, WaitFor, waiting}
 use Rattle.fg_batches.specs.declared.gathering.Gathering.{Gathering}
 use Rattle.fg_batches.specs.declared.stepping.Batches.{Batches}
-use Rattle.fg_batches.specs.Gathering.{HasGathered, GathersLast}
-use Rattle.fg_batches.specs.Walking.{AreAhead, HasLast, HavePut, IsAhead, IsWalking, RanAll}
+use Rattle.fg_batches.specs.Gathering.{HasGathered, HasReadAll}
+use Rattle.fg_batches.specs.Load.{LoadState}
+use Rattle.fg_batches.specs.Walking.{AreAhead, HasLast, HavePut, IsAhead, IsFront, IsReady, IsWalking, RanAll}
 use Rattle.fg_batches.proofs.Ahead.{ahead_put, ahead_run, can_run_all, shown_ahead, stood}
 use Rattle.fg_batches.proofs.Emptied.{emptying_breaks}
 use Rattle.fg_batches.proofs.PutShelves.{emptied_nothing}
-use Rattle.fg_batches.proofs.HeldRecords.{holds_none}
-use Rattle.fg_batches.proofs.Stopped.{IsFront, front_ended, front_standing, shorter_front, stops_between, stops_putting}
+use Rattle.fg_batches.proofs.Stopped.{front_ended, front_standing, shorter_front, stops_between, stops_putting}
 
 -- A put
 
@@ -73,10 +72,10 @@ are_run law plan good put ran batch sheaf old mid new was waited shelves before 
 pub step_ahead :
     {D : Type 0} → OneFlowHasAPort → (plan : Plan) → IsTable plan.table → (old mid : Batches D) (flows flows' : List BatchView) (shelves shelves' : List Shelved) (before now after : Option Lanes)
     → flows ≡ mid.flows.items → shelves ≡ mid.shelves.items → HavePut plan old.shelves.items mid.shelves.items now after
-    → HaveRun old.sheaf old.flows.items mid.flows.items → HaveExchanged flows flows' shelves shelves'
+    → HaveRun old.load.sheaf old.flows.items mid.flows.items → HaveExchanged flows flows' shelves shelves'
     → (put ran batch : List Record) → IsAhead plan put ran batch old before now → AreAhead plan (put ++ ran) batch flows' shelves' before after
 step_ahead law plan good old mid flows flows' shelves shelves' before now after flows_are shelves_are have run changed put ran batch h =
-    are_run law plan good put ran batch old.sheaf old.flows.items mid.flows.items flows' old.shelves.items mid.shelves.items shelves' before now after
+    are_run law plan good put ran batch old.load.sheaf old.flows.items mid.flows.items flows' old.shelves.items mid.shelves.items shelves' before now after
     h.holds have run
     (subst (λ (s : List Shelved). HaveExchanged mid.flows.items flows' s shelves') shelves_are
     (subst (λ (f : List BatchView). HaveExchanged f flows' shelves shelves') flows_are changed))
@@ -101,82 +100,84 @@ walking_front law plan first now reader batches before after max h =
 
 pub walking_can_run :
     {D : Type 0} → (plan : Plan) → PlanFits plan → (first now : Option (List ℕ)) (reader : ReaderState) (batches : Batches D) (before after : Option Lanes) → reader.max ≡ plan.max
-    → (h : IsWalking plan first now reader batches before after) → CanRunAll batches.sheaf batches.flows.items
+    → (h : IsWalking plan first now reader batches before after) → CanRunAll batches.load.sheaf batches.flows.items
 walking_can_run plan fits first now reader batches before after max h =
     let records = (h.put ++ h.ran) ++ h.batch in
     let few = few_records plan fits first now reader ((records ++ []) ++ h.gathered.left) max h.gathered.stands in
     let one = length-append (records ++ []) h.gathered.left in
     let other = ap length (append-nil records) in
-    can_run_all plan fits h.put h.ran h.batch batches.sheaf batches.flows.items batches.shelves.items before after (omega (arith, few, one, other))
+    can_run_all plan fits h.put h.ran h.batch batches.load.sheaf batches.flows.items batches.shelves.items before after (omega (arith, few, one, other))
     h.is_ahead.holds h.is_ahead.ahead
 
-pub last_front :
+pub last_ready :
     {D : Type 0} → OneTrace → (plan : Plan) (first : Option (List ℕ)) (batches : Batches D) (tail : Tail) (before after : Option Lanes)
-    → (h : HasLast plan first batches tail before after) → IsFront plan first ((h.put ++ h.ran) ++ h.batch)
-last_front law plan first batches tail before after h = front_ended law plan first ((h.put ++ h.ran) ++ h.batch) h.end h.of_input
+    → HasLast plan first batches tail before after → IsReady plan first batches before after
+last_ready law plan first batches tail before after h = record {
+  put = h.put;
+  ran = h.ran;
+  batch = h.batch;
+  is_ahead = h.is_ahead;
+  front = front_ended law plan first ((h.put ++ h.ran) ++ h.batch) h.all.end h.all.of_input;
+  few = h.all.few;
+}
 
 -- There are as many lists in the sheaf as flows.
 pub long_sheaf : (plan : Plan) (batch : List Record) (sheaf : SheafState) → HoldsBatch plan batch sheaf → length sheaf.items ≡ length plan.table
 long_sheaf plan batch sheaf holds = zip_length (AreItemsOf batch) plan.table sheaf.items holds
 
--- The next batch
-
-gathered_on :
-    (plan : Plan) (first now : Option (List ℕ)) (reader : ReaderState) (records batch : List Record) (old : Gathering)
-    → HasGathered plan first now reader records batch old
-    → HasGathered plan first now reader (records ++ batch) [] (record old { sheaf = no_items (length plan.table) })
-gathered_on plan first now reader records batch old h =
-    let same : records ++ batch ≡ (records ++ batch) ++ [] = sym (append-nil (records ++ batch)) in
-    record {
-      left = h.left;
-      stands = subst (λ (rs : List Record). StandsAfter reader first now (rs ++ h.left)) same h.stands;
-      kept = record {
-        holds = holds_none plan.table;
-        is_left = h.kept.is_left;
-        other = h.kept.other ∙ ap (λ (rs : List Record). others_of plan.table (rs ++ h.left)) same;
-      };
-    }
+-- The next batches
 
 pub walks_on :
-    {D : Type 0} → (plan : Plan) (first now : Option (List ℕ)) (reader : ReaderState) (put ran batch : List Record) (gathering : Gathering) (new : Batches D) (before after : Option Lanes)
-    → new.sheaf ≡ gathering.sheaf → new.gathering ≡ record gathering { sheaf = no_items (length plan.table) }
-    → AreAhead plan (put ++ ran) batch new.flows.items new.shelves.items before after
-    → ((next : List Record) × HasGathered plan first now reader ((put ++ ran) ++ batch) next gathering)
+    {D : Type 0} → (plan : Plan) (first now : Option (List ℕ)) (reader : ReaderState) (put ran batch : List Record) (gathering : Gathering) (load : LoadState) (new : Batches D) (before after : Option Lanes)
+    → new.load ≡ load → new.gathering ≡ gathering → AreAhead plan (put ++ ran) batch new.flows.items new.shelves.items before after
+    → ((next : List Record) × HoldsBatch plan next load.sheaf × HasGathered plan first now reader (((put ++ ran) ++ batch) ++ next) [] gathering)
     → IsWalking plan first now reader new before after
-walks_on plan first now reader put ran batch gathering new before after sheaf emptier ahead next = record {
+walks_on plan first now reader put ran batch gathering load new before after is same ahead next = record {
   put = put ++ ran;
   ran = batch;
   batch = next.0;
-  is_ahead = record { ahead = ahead; holds = subst (λ (s : SheafState). HoldsBatch plan next.0 s) (sym sheaf) next.1.kept.holds };
-  gathered = subst (λ (g : Gathering). HasGathered plan first now reader (((put ++ ran) ++ batch) ++ next.0) [] g) (sym emptier)
-      (gathered_on plan first now reader ((put ++ ran) ++ batch) next.0 gathering next.1);
+  is_ahead = record { ahead = ahead; holds = subst (λ (l : LoadState). HoldsBatch plan next.0 l.sheaf) (sym is) next.1 };
+  gathered = subst (λ (g : Gathering). HasGathered plan first now reader (((put ++ ran) ++ batch) ++ next.0) [] g) (sym same) next.2;
 }
 
 pub has_last :
-    {D : Type 0} → (plan : Plan) (first : Option (List ℕ)) (put ran batch : List Record) (gathering : Gathering) (new : Batches D) (tail : Tail) (before after : Option Lanes)
-    → new.sheaf ≡ gathering.sheaf → new.gathering ≡ record gathering { sheaf = no_items (length plan.table) }
-    → AreAhead plan (put ++ ran) batch new.flows.items new.shelves.items before after
-    → ((next : List Record) × GathersLast plan first ((put ++ ran) ++ batch) next gathering tail)
+    {D : Type 0} → (plan : Plan) (first : Option (List ℕ)) (put ran batch : List Record) (gathering : Gathering) (load : LoadState) (new : Batches D) (tail : Tail) (before after : Option Lanes)
+    → new.load ≡ load → new.gathering ≡ gathering → AreAhead plan (put ++ ran) batch new.flows.items new.shelves.items before after
+    → ((next : List Record) × HoldsBatch plan next load.sheaf × HasReadAll plan first (((put ++ ran) ++ batch) ++ next) gathering.other tail)
     → HasLast plan first new tail before after
-has_last plan first put ran batch gathering new tail before after sheaf emptier ahead next = record {
+has_last plan first put ran batch gathering load new tail before after is same ahead next = record {
   put = put ++ ran;
   ran = batch;
   batch = next.0;
-  is_ahead = record { ahead = ahead; holds = subst (λ (s : SheafState). HoldsBatch plan next.0 s) (sym sheaf) next.1.holds };
-  end = next.1.end;
-  of_input = next.1.of_input;
-  tells = next.1.tells;
-  few = next.1.few;
-  other = ap (λ (g : Gathering). g.other) emptier ∙ next.1.other;
+  is_ahead = record { ahead = ahead; holds = subst (λ (l : LoadState). HoldsBatch plan next.0 l.sheaf) (sym is) next.1 };
+  all = subst (λ (g : Gathering). HasReadAll plan first (((put ++ ran) ++ batch) ++ next.0) g.other tail) (sym same) next.2;
 }
 
--- After the last batch
+-- those that were whole before a read that failed
+pub is_ready :
+    {D : Type 0} → WalksTheFront → (plan : Plan) → PlanFits plan → (first now : Option (List ℕ)) (reader : ReaderState) (put ran batch : List Record) (load : LoadState) (new : Batches D) (before after : Option Lanes)
+    → reader.max ≡ plan.max → new.load ≡ load → AreAhead plan (put ++ ran) batch new.flows.items new.shelves.items before after
+    → ((next : List Record) × (rest : List Record) × HoldsBatch plan next load.sheaf × StandsAfter reader first now ((((put ++ ran) ++ batch) ++ next) ++ rest))
+    → IsReady plan first new before after
+is_ready law plan fits first now reader put ran batch load new before after max is ahead next =
+    let records = ((put ++ ran) ++ batch) ++ next.0 in
+    let few = few_records plan fits first now reader (records ++ next.1) max next.3 in
+    record {
+      put = put ++ ran;
+      ran = batch;
+      batch = next.0;
+      is_ahead = record { ahead = ahead; holds = subst (λ (l : LoadState). HoldsBatch plan next.0 l.sheaf) (sym is) next.2 };
+      front = shorter_front plan first records next.1 (front_standing law plan first now reader (records ++ next.1) max next.3);
+      few = omega (arith, few, length-append records next.1);
+    }
 
-pub last_can_run :
-    {D : Type 0} → (plan : Plan) → PlanFits plan → (first : Option (List ℕ)) (batches : Batches D) (tail : Tail) (before now : Option Lanes)
-    → (h : HasLast plan first batches tail before now) → CanRunAll batches.sheaf batches.flows.items
-last_can_run plan fits first batches tail before now h =
-    can_run_all plan fits h.put h.ran h.batch batches.sheaf batches.flows.items batches.shelves.items before now h.few h.is_ahead.holds h.is_ahead.ahead
+-- After the last batches
+
+pub ready_can_run :
+    {D : Type 0} → (plan : Plan) → PlanFits plan → (first : Option (List ℕ)) (batches : Batches D) (before now : Option Lanes)
+    → (h : IsReady plan first batches before now) → CanRunAll batches.load.sheaf batches.flows.items
+ready_can_run plan fits first batches before now h =
+    can_run_all plan fits h.put h.ran h.batch batches.load.sheaf batches.flows.items batches.shelves.items before now h.few h.is_ahead.holds h.is_ahead.ahead
 
 pub ran_all :
     {D : Type 0} → (plan : Plan) (first : Option (List ℕ)) (old new : Batches D) (was shelves : List Shelved) (tail : Tail) (before at now after : Option Lanes)
@@ -188,15 +189,11 @@ ran_all plan first old new was shelves tail before at now after same have h ahea
     let then = are_put plan (h.put ++ h.ran) h.batch new.flows.items was shelves before now after have ahead in
     record {
       records = records;
-      end = h.end;
-      of_input = h.of_input;
-      tells = h.tells;
-      few = h.few;
+      all = subst (λ (g : Gathering). HasReadAll plan first records g.other tail) (sym same) h.all;
       gained = then.gained;
       count = then.count;
       stand = stood plan records new.flows.items shelves before after then
           (λ port. ap (λ (s : List Shelved). waiting s port) have.emptied ∙ emptied_nothing was port);
       grow = then.grow;
       there = then.there;
-      other = ap (λ (g : Gathering). g.other) same ∙ h.other;
     }

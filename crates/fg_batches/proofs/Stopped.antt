@@ -15,14 +15,9 @@ use Rattle.fg_results.specs.Stops.{ByBatch, StopsIn, Taking, Emptying, HasGained
 use Rattle.fg_engine.specs.Engine.{GrowAll, AreThere, LanesStop}
 use Rattle.fg_engine.proofs.Stopping.{stops_at}
 use Rattle.fg_engine.proofs.Walking.{others_told}
-use Rattle.fg_batches.specs.Walking.{HasPut, BreaksInBatch}
+use Rattle.fg_batches.specs.Walking.{HasPut, BreaksInBatch, IsFront}
 
 -- The first records of the trace
-
--- If the input is told, its trace begins with these records.
-abbrev pub IsFront : Plan → Option (List ℕ) → List Record → Type 0
-IsFront plan first records =
-    IfSome first (λ bytes. (all : List Record) (end : Ending) → IsTrace bytes plan.max all end → take (length records) all ≡ records)
 
 pub front_standing :
     WalksTheFront → (plan : Plan) (first now : Option (List ℕ)) (reader : ReaderState) (records : List Record)

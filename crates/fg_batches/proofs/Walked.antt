@@ -4,11 +4,11 @@ use Rattle.std.specs.List.{slice_index_or}
 use Rattle.std.proofs.lemmas.List.{get_or-map, length-map}
 use Rattle.fg_io.specs.Outlet.{Lanes}
 use Rattle.fg_trace.specs.declared.step.Finish.{Finish}
-use Rattle.fg_trace.specs.Laws.{WalksTheFront, OneTrace}
+use Rattle.fg_trace.specs.Laws.{WalksTheFront}
 use Rattle.fg_trace.specs.Reader.{ReaderState, StandsAfter}
 use Rattle.fg_trace.specs.Trace.{Record}
 use Rattle.fg_flows.specs.declared.Plan.{Plan}
-use Rattle.fg_flows.specs.Sheaf.{SheafState, no_items}
+use Rattle.fg_flows.specs.Sheaf.{no_items}
 use Rattle.fg_report.specs.declared.tail.Tail.{Tail}
 use Rattle.fg_results.specs.Repair.{others_of}
 use Rattle.fg_results.specs.Stops.{ByBatch}
@@ -22,11 +22,12 @@ use Rattle.fg_batches.specs.Batches.{HoldsBatch, WaitFor, waiting}
 use Rattle.fg_batches.specs.declared.gathering.Gathering.{Gathering}
 use Rattle.fg_batches.specs.declared.stepping.Batches.{Batches}
 use Rattle.fg_batches.specs.Gathering.{HasGathered}
+use Rattle.fg_batches.specs.Load.{LoadState, no_batches}
 use Rattle.fg_batches.specs.Walking.{AreAhead, IsWalking, RanAll, nothing_waits, unshelved}
-use Rattle.fg_batches.proofs.Ahead.{shown_by, stands_as}
+use Rattle.fg_batches.proofs.Ahead.{stands_as}
 use Rattle.fg_batches.proofs.PutShelves.{new_nothing, new_wait}
 use Rattle.fg_batches.proofs.HeldRecords.{holds_none}
-use Rattle.fg_batches.proofs.Stopped.{front_ended, front_standing, stops_between}
+use Rattle.fg_batches.proofs.Stopped.{front_standing, stops_between}
 
 -- Before the first batch
 
@@ -77,16 +78,16 @@ none_gathered plan first left reader engine before now h =
 
 pub begins_walking :
     {D : Type 0} → (plan : Plan) (first left : Option (List ℕ)) (reader : ReaderState) (engine : Engine D) (batches : Batches D) (before now : Option Lanes)
-    → batches.flows.items ≡ map unshelved engine.flows.items → batches.shelves.items ≡ map nothing_waits plan.table → batches.sheaf ≡ no_items (length plan.table)
+    → batches.flows.items ≡ map unshelved engine.flows.items → batches.shelves.items ≡ map nothing_waits plan.table → batches.load ≡ no_batches (length plan.table)
     → batches.gathering ≡ record { sheaf = no_items (length plan.table); next = None; other = engine.other }
     → HasWalked plan first left reader engine before now → IsWalking plan first left reader batches before now
-begins_walking plan first left reader engine batches before now flows shelves sheaf gathering h = record {
+begins_walking plan first left reader engine batches before now flows shelves load gathering h = record {
   put = h.records;
   ran = [];
   batch = [];
   is_ahead = record {
     ahead = new_ahead plan first left reader engine batches.flows.items batches.shelves.items before now flows shelves h;
-    holds = subst (λ (s : SheafState). HoldsBatch plan [] s) (sym sheaf) (holds_none plan.table);
+    holds = subst (λ (l : LoadState). HoldsBatch plan [] l.sheaf) (sym load) (holds_none plan.table);
   };
   gathered = subst (λ (g : Gathering). HasGathered plan first left reader ((h.records ++ []) ++ []) [] g) (sym gathering)
       (none_gathered plan first left reader engine before now h);
@@ -102,14 +103,6 @@ begins_stopped law plan answer first left reader engine before now max h =
 
 -- After the last
 
--- a fault there
-pub all_stops :
-    {D : Type 0} → OneTrace → (plan : Plan) (answer : Finish) (first : Option (List ℕ)) (batches : Batches D) (tail : Tail) (before now : Option Lanes)
-    → RanAll plan first batches tail before now → LanesStop ByBatch plan answer first before now
-all_stops law plan answer first batches tail before now h =
-    stops_between plan answer first h.records h.gained before now (front_ended law plan first h.records h.end h.of_input)
-    (shown_by plan h.records batches.flows.items h.gained h.count h.stand) h.grow h.there
-
 pub ends_taken :
     {D : Type 0} → (plan : Plan) (first : Option (List ℕ)) (engine : Engine D) (batches : Batches D) (tail : Tail) (before now : Option Lanes)
     → engine.flows.items ≡ map (λ flow. flow.flow) batches.flows.items → engine.other ≡ batches.gathering.other
@@ -118,10 +111,10 @@ ends_taken plan first engine batches tail before now flows other h =
     let alone : BatchView → FlowView = λ (flow : BatchView). flow.flow in
     record {
       records = h.records;
-      end = h.end;
-      of_input = h.of_input;
-      tells = h.tells;
-      few = h.few;
+      end = h.all.end;
+      of_input = h.all.of_input;
+      tells = h.all.tells;
+      few = h.all.few;
       come = record {
         gained = h.gained;
         stands = record {
@@ -130,7 +123,7 @@ ends_taken plan first engine batches tail before now flows other h =
               subst (λ (f : FlowView). FlowStands plan h.records (slice_index plan.table k) f (h.gained (slice_index plan.table k)))
               (sym (ap (λ (fs : List FlowView). slice_index_or fs k d) flows ∙ get_or-map alone batches.flows.items k (unshelved d) d (subst (λ n. k < n) (sym h.count) below)))
               (h.stand k (unshelved d) below);
-          other = other ∙ h.other;
+          other = other ∙ h.all.other;
         };
         grow = h.grow;
         there = h.there;

@@ -45,13 +45,17 @@ pub record HasGathered
   pub stands : StandsAfter reader first now ((records ++ batch) ++ left)
   pub kept : HasKept plan reader.payload records batch left gathering
 
--- These are all records of the trace, and it ends so.
+-- These are all records of the trace, and it ends so. Those of no flow are so many.
+pub record HasReadAll (plan : Plan) (first : Option (List ℕ)) (records : List Record) (count : ℕ) (tail : Tail) : Type 0 where
+  pub end : Ending
+  pub of_input : IfSome first (λ bytes. IsTrace bytes plan.max records end)
+  pub tells : TellsTail end tail
+  pub few : length records < 2 ^ 43
+  pub other : count ≡ others_of plan.table records
+
+-- With those of the batch, which are in the sheaf.
 pub record GathersLast
     (plan : Plan) (first : Option (List ℕ)) (records batch : List Record) (gathering : Gathering) (tail : Tail) : Type 0 where
-  pub end : Ending
-  pub of_input : IfSome first (λ bytes. IsTrace bytes plan.max (records ++ batch) end)
-  pub tells : TellsTail end tail
-  pub few : length (records ++ batch) < 2 ^ 43
   pub holds : HoldsBatch plan batch gathering.sheaf
   pub none_left : gathering.next ≡ None
-  pub other : gathering.other ≡ others_of plan.table (records ++ batch)
+  pub all : HasReadAll plan first (records ++ batch) gathering.other tail

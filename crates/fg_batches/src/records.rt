@@ -15,7 +15,7 @@ use std::alloc::Global;
 use std::thread::Threads;
 
 /// Repairs the flows of a trace over these windows, which are those of the plan's flows in their order, and empty. Their
-/// records are taken batch by batch, and the flows run those of a batch side by side.
+/// records are taken batch by batch, and the flows run those of up to four batches side by side.
 pub fn repair_in_batches<
     W: Threads + Sync,
     D: WindowState + Send,
@@ -39,7 +39,7 @@ pub fn repair_in_batches<
         K.written out.old out.new }
 
     // A fault of the outside is answered only where it was counted in this call, and with no other answer was one of it counted, but
-    // for this: since a batch is read while another is written, a call that breaks off may have counted a fault of reading beside the
+    // for this: since batches are read while others are written, a call that breaks off may have counted a fault of reading beside the
     // one that it answers. No count falls.
     ensures faults { RepairCounts ByBatch result ((S.faults input.old, S.faults input.new) ∷ [])
         ((K.faults out.old, K.faults out.new) ∷ (O.faults lanes.old, O.faults lanes.new) ∷ []) }

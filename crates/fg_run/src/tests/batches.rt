@@ -225,28 +225,30 @@ fn has_failed(input: &mut MemSource) -> bool {
     false
 }
 
-/// What comes of three batches of which the third can't be read, by the puts that fail: the status, how many datagrams the lane
-/// has, and whether the third was read at all.
-const THIRD_BATCH: [(&[u64], u8, u16, bool); 3] = [
-    // It is read beside the run of the second, which is put all the same.
-    (&[], 2, 508, true),
-    // Where that can't be put both have failed, and of the two it is the first in the trace.
-    (&[3], 3, 252, true),
+/// What comes of three loads, of which only the first batch of the third can be read, by the puts that fail: the status, how many
+/// datagrams the lane has, and whether the third was read at all.
+const THIRD_LOAD: [(&[u64], u8, u16, bool); 4] = [
+    // It is read beside the run of the second, which is put all the same, and so is the batch that was whole.
+    (&[], 2, 2_300, true),
+    // Where these can't be put both have failed, and of the two they are the first in the trace: the batch,
+    (&[4], 3, 2_044, true),
+    // or the load.
+    (&[3], 3, 1_020, true),
     // Before that what the first has shown is put, and where it can't be nothing is read.
     (&[2], 3, 0, false),
 ];
 
-// A batch has 256 records here. The third is not run.
+// A batch has 256 records here, and a load four batches. The batch in which the read fails is not run.
 #[test]
 fn a_read_that_fails_beside_a_run(rt: HostRuntime) -> Result<(), Fail> {
     let alloc = rt.alloc();
-    let bytes = in_turn(alloc, &PORTS[..1], &numbers(alloc, 600)?)?;
+    let bytes = in_turn(alloc, &PORTS[..1], &numbers(alloc, 2_400)?)?;
     let line = "repair flow=5000 flow=5010 window=4 depth=4 workers=1";
-    for (puts, status, count, is_read) in &THIRD_BATCH {
+    for (puts, status, count, is_read) in &THIRD_LOAD {
         let setting = Setting {
-            lane: 800_000,
+            lane: 3_100_000,
             // Each record has 1,340 bytes, and a read gives 1,000.
-            reads: &[700],
+            reads: &[3_150],
             puts,
             ..ROOMY
         };

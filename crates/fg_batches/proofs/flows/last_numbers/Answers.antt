@@ -5,11 +5,11 @@ use Rattle.fg_batches.proofs.flows.last_numbers.Goals.{in-Some, in_default}
 use Rattle.fg_batches.proofs.flows.last_numbers.Goals as goal
 
 pub loop-k-init : goal.loop-k-init
-loop-k-init c = found_none (items_of c.args.sheaf.now c.args.index)
+loop-k-init c = found_none (items_of c.args.load.now.sheaf c.args.index)
 
 pub loop-k-preserved : goal.loop-k-preserved
 loop-k-preserved c =
-    let items = items_of c.args.sheaf.now c.args.index in
+    let items = items_of c.args.load.now.sheaf c.args.index in
     let k = c.loop-k.k in
     let item : Item = record { kind = c.item-kind.result.0; time = c.item-kind.result.1; payload = c.item-kind.result.2.now } in
     elim c.match-numbers.branch [
@@ -24,7 +24,7 @@ loop-k-preserved c =
     ]
 
 pub returns-clause-some : goal.returns-clause-some
-returns-clause-some c = found_some (items_of c.args.sheaf.now c.args.index) c.loop-k.k c.loop-k.last (omega arith) c.loop-k.invariant
+returns-clause-some c = found_some (items_of c.args.load.now.sheaf c.args.index) c.loop-k.k c.loop-k.last (omega arith) c.loop-k.invariant
 
 pub returns-clause-none : goal.returns-clause-none
-returns-clause-none c = found_no (items_of c.args.sheaf.now c.args.index) c.loop-k.k c.loop-k.last (omega arith) c.loop-k.invariant
+returns-clause-none c = found_no (items_of c.args.load.now.sheaf c.args.index) c.loop-k.k c.loop-k.last (omega arith) c.loop-k.invariant

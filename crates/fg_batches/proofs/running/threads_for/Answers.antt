@@ -8,12 +8,12 @@ use Rattle.fg_batches.proofs.running.threads_for.Goals.{then-playing-lt2+then-ma
 use Rattle.fg_batches.proofs.running.threads_for.Goals as goal
 
 pub loop-index-init : goal.loop-index-init
-loop-index-init g c = record { few = omega arith; playing = λ (d : BatchView). playing_none c.args.flows.now c.args.sheaf.now d }
+loop-index-init g c = record { few = omega arith; playing = λ (d : BatchView). playing_none c.args.flows.now c.args.load.now.sheaf d }
 
 pub loop-index-preserved : goal.loop-index-preserved
 loop-index-preserved g c =
     let flows = c.args.flows.now in
-    let sheaf = c.args.sheaf.now in
+    let sheaf = c.args.load.now.sheaf in
     let i = c.loop-index.index in
     let h = c.loop-index.invariant in
     let within : i < length flows = c.loop-index-test.true in
@@ -58,14 +58,14 @@ loop-index-preserved g c =
 
 pub returns-then-playing-lt2-2-clause-second : goal.returns-then-playing-lt2-2-clause-second
 returns-then-playing-lt2-2-clause-second g c = λ (d : BatchView).
-    let playing : Playing c.args.flows.now c.args.sheaf.now d c.loop-index.index c.loop-index.playing = c.loop-index.invariant.playing d in (
+    let playing : Playing c.args.flows.now c.args.load.now.sheaf d c.loop-index.index c.loop-index.playing = c.loop-index.invariant.playing d in (
       λ e. absurd (omega (arith, e)),
-      λ two. absurd (fewer_may c.args.flows.now c.args.sheaf.now d c.loop-index.index c.loop-index.playing c.if-playing-lt2-2.true c.loop-index-test.false playing two),
+      λ two. absurd (fewer_may c.args.flows.now c.args.load.now.sheaf d c.loop-index.index c.loop-index.playing c.if-playing-lt2-2.true c.loop-index-test.false playing two),
     )
 
 pub returns-else-playing-lt2-2-clause-second : goal.returns-else-playing-lt2-2-clause-second
 returns-else-playing-lt2-2-clause-second g c = λ (d : BatchView).
-    let playing : Playing c.args.flows.now c.args.sheaf.now d c.loop-index.index c.loop-index.playing = c.loop-index.invariant.playing d in (
-      λ e. two_may c.args.flows.now c.args.sheaf.now d c.loop-index.index c.loop-index.playing c.if-playing-lt2-2.false playing,
+    let playing : Playing c.args.flows.now c.args.load.now.sheaf d c.loop-index.index c.loop-index.playing = c.loop-index.invariant.playing d in (
+      λ e. two_may c.args.flows.now c.args.load.now.sheaf d c.loop-index.index c.loop-index.playing c.if-playing-lt2-2.false playing,
       λ two. refl,
     )

@@ -6,5 +6,5 @@ use Rattle.fg_batches.proofs.running.threads_for.Given as goal
 abbrev pub invariant-loop-index : goal.invariant-loop-index
 invariant-loop-index g l = record {
   few : l.playing ≤ 2;
-  playing : (d : BatchView) → Playing l.flows l.sheaf d l.index l.playing;
+  playing : (d : BatchView) → Playing l.flows l.load.sheaf d l.index l.playing;
 }

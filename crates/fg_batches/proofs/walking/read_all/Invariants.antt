@@ -2,6 +2,7 @@ use Rattle.std.proofs.Common.{◌≡◌, ℕ, ◌-◌, Option, None, List, lengt
 use Rattle.fg_io.specs.Outlet.{Lanes}
 use Rattle.fg_flows.specs.Sheaf.{no_items}
 use Rattle.fg_engine.specs.Engine.{HasRead}
+use Rattle.fg_batches.specs.Load.{no_batches}
 use Rattle.fg_batches.specs.Walking.{IsWalking}
 use Rattle.fg_batches.proofs.walking.read_all.Given as goal
 
@@ -11,6 +12,7 @@ invariant-loop-tail g l = record {
       → IsWalking l.plan first (g.S.Source.left l.fn.input) l.fn.reader l.fn.batches before (g.O.Outlet.lanes l.fn.lanes)
       → IsWalking l.plan first (g.S.Source.left l.input) l.reader l.batches before (g.O.Outlet.lanes l.lanes);
   free : l.batches.gathering.sheaf ≡ no_items (length l.plan.table);
+  empty : l.batches.free ≡ no_batches (length l.plan.table);
   far : (first : Option (List ℕ)) → HasRead l.plan.max l.fn.reader first (g.S.Source.left l.fn.input)
       → HasRead l.plan.max l.reader first (g.S.Source.left l.input);
   unkept : l.reader.kept ≡ None;
