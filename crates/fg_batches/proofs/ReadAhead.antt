@@ -1,5 +1,5 @@
 -- How batch after batch comes to the load.
-use Rattle.std.proofs.Common.{◌≡◌, false, Option, Some, None, IfSome, IfNone, List, [], ◌++◌, ℕ, length, refl, sym, subst, append_assoc, append-nil}
+use Rattle.std.proofs.Common.{◌≡◌, false, Option, Some, None, IfSome, IfNone, List, [], ◌++◌, ℕ, length, refl, sym, subst, append_assoc}
 use Rattle.std.specs.Option.{is_some}
 use Rattle.fg_trace.specs.Reader.{ReaderState, StandsAfter}
 use Rattle.fg_trace.specs.Trace.{Record}
@@ -10,25 +10,14 @@ use Rattle.fg_results.proofs.Zips.{zip_length}
 use Rattle.fg_batches.specs.declared.gathering.Gathering.{Gathering}
 use Rattle.fg_batches.specs.Batches.{AreItemsOf, HoldsBatch}
 use Rattle.fg_batches.specs.Gathering.{GathersLast, HasGathered, HasReadAll}
-use Rattle.fg_batches.specs.Load.{LoadState, joined, no_batches}
+use Rattle.fg_batches.specs.Load.{joined}
 use Rattle.fg_batches.proofs.Gathered.{gathered_next}
-use Rattle.fg_batches.proofs.HeldRecords.{holds_joined, holds_none}
+use Rattle.fg_batches.proofs.HeldRecords.{holds_joined}
 
 -- These batches came, and so the reader stands after them.
 abbrev pub HasCome : Plan → Option (List ℕ) → Option (List ℕ) → ReaderState → List Record → Gathering → SheafState → Type 0
 HasCome plan first now reader records gathering load =
     (batch : List Record) × HoldsBatch plan batch load × HasGathered plan first now reader (records ++ batch) [] gathering
-
--- none yet
-pub none_come :
-    (plan : Plan) (first now : Option (List ℕ)) (reader : ReaderState) (records : List Record) (gathering : Gathering) (load : LoadState)
-    → load ≡ no_batches (length plan.table) → HasGathered plan first now reader records [] gathering
-    → HasCome plan first now reader records gathering load.sheaf
-none_come plan first now reader records gathering load is h = (
-  [],
-  subst (λ (l : LoadState). HoldsBatch plan [] l.sheaf) (sym is) (holds_none plan.table),
-  subst (λ (rs : List Record). HasGathered plan first now reader rs [] gathering) (sym (append-nil records)) h,
-)
 
 -- one more
 pub one_comes :

@@ -18,6 +18,7 @@ join_items [] more = []
 join_items (items ∷ first) [] = items ∷ first
 join_items (items ∷ first) (others ∷ more) = (items ++ others) ∷ join_items first more
 
+-- The same of sheaves.
 abbrev pub joined : SheafState → SheafState → SheafState
 joined first second = record { items = join_items first.items second.items }
 

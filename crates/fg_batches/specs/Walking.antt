@@ -66,7 +66,7 @@ abbrev pub IsFront : Plan → Option (List ℕ) → List Record → Type 0
 IsFront plan first records =
     IfSome first (λ bytes. (all : List Record) (end : Ending) → IsTrace bytes plan.max all end → take (length records) all ≡ records)
 
--- The trace begins with what was put, ran and is to be run, and nothing more is read.
+-- The trace begins with the records that were put, that were run and that are run next.
 pub record IsReady {D : Type 0}
     (plan : Plan) (first : Option (List ℕ)) (batches : Batches D) (before after : Option Lanes) : Type 0 where
   pub put : List Record
