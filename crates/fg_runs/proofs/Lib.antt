@@ -1,0 +1,3 @@
+-- Lemmas on runs, which proofs of other crates cite too.
+pub mod CutLemmas
+pub mod RunLemmas
