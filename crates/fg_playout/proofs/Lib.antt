@@ -5,6 +5,8 @@ pub mod Bounds
 pub mod Counts
 pub mod Decided
 pub mod DecidedSolutions
+pub mod DesksComeNext
+pub mod DesksJoin
 pub mod Equations
 pub mod Flushing
 pub mod Following

@@ -248,7 +248,7 @@ module _ (unique : Uniqueness) where
       (one_state_after_held unique (at_time old time) at play play' a.0 b.0 a.1 step)
       (orderly_after_play _ (at_time old time) play a.0 a.1.plays at) a.2 b.2)
 
-  one_held_on :
+  pub one_held_on :
       (old old' : State) (time : ℕ) (plays plays' : List Play) (new new' : State) → old ≡ old' → IsOrderly old
       → (a : ArePlaysHeld old time plays new) (b : ArePlaysHeld old' time plays' new')
       → held_on old time plays new a ≡ held_on old' time plays' new' b
@@ -271,7 +271,7 @@ module _ (unique : Uniqueness) where
       let rest = one_then_on a.ready b.ready arrival a.after b.after reply reply' new new' ready.state ready.orderly a.takes b.takes in
       λ i. held i ++ rest i
 
-  one_all_taken_on :
+  pub one_all_taken_on :
       (old old' : State) (arrivals : List Arrival) (plays plays' : List Play) (replies replies' : List (Option Reply))
       (new new' : State) → old ≡ old' → IsOrderly old → All IsRead arrivals
       → (a : TakesAll old arrivals plays replies new) (b : TakesAll old' arrivals plays' replies' new')

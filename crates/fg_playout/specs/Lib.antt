@@ -1,4 +1,5 @@
 pub mod Admission
+pub mod DesksJoin
 pub mod Existence
 pub mod Facts
 pub mod Held

@@ -13,6 +13,9 @@ ghost use Rattle.fg_playout.specs.Laws.{PlaysReachTheMark, DuePlaysReachTheMark,
 ghost use Rattle.fg_playout.specs.Laws.{EachGetsAReply, CountsAreOfReplies, CountsAdd, CountsStayWithin};
 ghost use Rattle.fg_playout.specs.Existence.{PeelingLaws, SolutionsAreDecided, MediaHasOutcome, ParityHasOutcome, PlayHasOutcome, FlushHasOutcome, HeldStepHasOutcome};
 ghost use Rattle.fg_playout.specs.PlayedOn.{PlaysAreTheRuns, DesksMakeThePlays, OneListOfDesks};
+ghost use Rattle.fg_playout.specs.DesksJoin.{DueDesksJoin, FlushDesksJoin, HeldDesksJoin, TakenDesksJoin, OneTakenDesks};
+ghost use Rattle.fg_playout.specs.DesksJoin.{DueDesksEnd, FlushDesksEnd, HeldDesksEnd, NoHeldDesks, FlushDesksEndBefore, DueDesksEndBefore, RunDesksEnd};
+ghost use Rattle.fg_playout.specs.DesksJoin.{TakenDesksComeFirst, DesksBeforeComeNext, DesksBeforeComeNextInRuns, FlushDesksComeNext};
 ghost use Rattle.fg_playout.specs.Existence.{PlaysDueExist, FlushExists, PlaysBeforeExist, PlaysHeldExist, TakingsExist, RunsExist};
 
 use fg_peel::laws::{
@@ -187,6 +190,38 @@ pub fn one_list_of_desks()
     ensures plays { PlaysAreTheRuns }
     ensures desks { DesksMakeThePlays }
     ensures one { OneListOfDesks }
+{
+    uniqueness();
+}
+
+/// The desks of plays that are made one after another are those of the first ones, and then those of the others.
+pub fn desks_join()
+    ensures due { DueDesksJoin }
+    ensures flushed { FlushDesksJoin }
+    ensures held { HeldDesksJoin }
+    ensures taken { TakenDesksJoin }
+    ensures one_taken { OneTakenDesks }
+{}
+
+/// Where nothing more is to be done they are those of all the plays: of those that are due, held or played before a datagram, of
+/// a flush, and of a run.
+pub fn desks_end()
+    ensures due { DueDesksEnd }
+    ensures flushed { FlushDesksEnd }
+    ensures held { HeldDesksEnd }
+    ensures none_held { NoHeldDesks }
+    ensures flushed_before { FlushDesksEndBefore }
+    ensures due_before { DueDesksEndBefore }
+    ensures run { RunDesksEnd }
+{}
+
+/// A run's plays are made first on the desks of the datagrams that were taken, then on those of what the next one has played so
+/// far, and after the last datagram on those of the flush's steps.
+pub fn desks_come_in_order()
+    ensures taken { TakenDesksComeFirst }
+    ensures next { DesksBeforeComeNext }
+    ensures next_in_runs { DesksBeforeComeNextInRuns }
+    ensures flushed { FlushDesksComeNext }
 {
     uniqueness();
 }
