@@ -1,5 +1,5 @@
 -- The times of the received words after a call of a desk.
-use Rattle.std.proofs.Common.{◌≡◌, ◌≢◌, ◌+◌, ◌<◌, ◌≤◌, ℕ, Bool, true, false, cond, ltb, max, Option, Some, None, IfSome, IfNone, refl, sym, ap, subst, ◌∙◌, ⊎_elim, arith}
+use Rattle.std.proofs.Common.{◌≡◌, ◌≢◌, ◌+◌, ◌<◌, ◌≤◌, ◌^◌, ℕ, Bool, true, false, cond, ltb, max, Option, Some, None, IfSome, IfNone, refl, sym, ap, subst, ◌∙◌, ⊎_elim, arith}
 use Rattle.std.specs.FinMap.{get, insert}
 use Rattle.fg_words.specs.declared.Word.{Word}
 use Rattle.std.proofs.lemmas.Option.{none-some}
@@ -7,7 +7,7 @@ use Rattle.fg_peel.specs.Words.{IsGreatest}
 use Rattle.fg_peel.proofs.Options.{none_or_some, some_and}
 use Rattle.fg_hold.specs.HasWaited.{HasWaited}
 use Rattle.fg_hold.specs.Waiting.{WaitingState, since}
-use Rattle.fg_playout.specs.Held.{IsHeld}
+use Rattle.fg_playout.specs.Held.{at_time, IsHeld}
 use Rattle.fg_playout.proofs.Held.{at_time_holds}
 use Rattle.fg_playout.specs.declared.reply.Outcome.{Outcome}
 use Rattle.fg_playout.specs.declared.reply.Outcome.TheVariants.{Repaired, Inconsistent}
@@ -15,7 +15,7 @@ use Rattle.fg_playout.specs.State.{Words}
 use Rattle.fg_buffer.specs.PlayoutBuffer.{BufferState, receives}
 use Rattle.fg_buffer.specs.LiveEquations.{LiveState}
 use Rattle.fg_desk.specs.declared.desk.Desk.TheInside.{Inside}
-use Rattle.fg_desk.specs.Holding.{times_in, IsFrom, AreTimed, ComesAt, Notes, Moves, Tells}
+use Rattle.fg_desk.specs.Holding.{times_in, IsFrom, AreTimed, ComesAt, Notes, Moves, Tells, Foretells}
 use Rattle.fg_desk.specs.Inside.{Parts, AreSound, state_of}
 use Rattle.fg_desk.specs.Parts.{parts_of, IsDesk}
 use Rattle.fg_desk.specs.Storage.{MakesWay, Closes}
@@ -119,6 +119,17 @@ module _
   pub played_timed : AreTimed waiting new.mark new.media
   played_timed = moves_here.timed a.buffer.mark a.buffer.media new.media timed (omega (arith, moved)) from
 
+-- A word that has waited long enough is one that was received, so it lies in the window.
+near_that_waited :
+    (waiting : WaitingState) (mark : ℕ) (media : Words) (timed : AreTimed waiting mark media) (clock position : ℕ)
+    → HasWaited waiting.hold clock (times_in waiting media) position → (mark ≤ position) × (position < mark + 1000)
+near_that_waited waiting mark media timed clock position waited =
+    let t = some_and (get (times_in waiting media) position) (λ time. time + waiting.hold ≤ clock) waited in
+    ⊎_elim
+    (λ none. absurd (none-some t.0 (sym (no_time media (since waiting) position none) ∙ t.1)))
+    (λ is. timed.near position is.0 is.1)
+    (none_or_some (get media position))
+
 -- A desk is told a time
 abbrev pub told_parts : Inside → ℕ → Parts
 told_parts a time = record (parts_of a) { clock = max a.waiting.clock time }
@@ -160,14 +171,8 @@ module _
   abbrev HasWaitedThen : ℕ → Type 0
   HasWaitedThen = HasWaited waiting.hold waiting.clock (times_in waiting a.buffer.media)
 
-  -- A word that has waited long enough is one that was received, so it lies in the window.
   waited_near : (position : ℕ) → HasWaitedThen position → (a.buffer.mark ≤ position) × (position < a.buffer.mark + 1000)
-  waited_near position waited =
-      let t = some_and (get (times_in waiting a.buffer.media) position) (λ time. time + waiting.hold ≤ waiting.clock) waited in
-      ⊎_elim
-      (λ none. absurd (none-some t.0 (sym (no_time a.buffer.media (since waiting) position none) ∙ t.1)))
-      (λ is. after_told_timed.near position is.0 is.1)
-      (none_or_some (get a.buffer.media position))
+  waited_near = near_that_waited waiting a.buffer.mark a.buffer.media after_told_timed waiting.clock
 
   is_held : (position : ℕ) → HasWaitedThen position → IsHeld (state_of (after_told a waiting)) position
   is_held position waited = (λ none. some (sym tells_here.hold ∙ none), (waited_near position waited).0, waited)
@@ -196,3 +201,50 @@ module _
       go : (r : Option ℕ) → IfSome r (IsGreatest HasWaitedThen) → IfSome r (λ greatest. (a.buffer.mark ≤ greatest) × (greatest < a.buffer.mark + 1000))
       go None is = is
       go (Some position) is = waited_near position is.inside
+
+-- It is asked of a time that it isn't told yet.
+module _
+    (a : Inside) (desk : IsDesk a) (time mark : ℕ) (result : Option ℕ) (foretold : Foretells a.waiting time mark result)
+    (mark_is : mark ≡ a.buffer.mark) where
+  foretold_here : Foretells a.waiting time a.buffer.mark result
+  foretold_here = subst (λ (m : ℕ). Foretells a.waiting time m result) mark_is foretold
+
+  abbrev WillHaveWaited : ℕ → Type 0
+  WillHaveWaited = HasWaited a.waiting.hold (max a.waiting.clock time) (times_in a.waiting a.buffer.media)
+
+  abbrev WillBeHeld : ℕ → Type 0
+  WillBeHeld = IsHeld (at_time (state_of (parts_of a)) time)
+
+  will_be_near : (position : ℕ) → WillHaveWaited position → (a.buffer.mark ≤ position) × (position < a.buffer.mark + 1000)
+  will_be_near = near_that_waited a.waiting a.buffer.mark a.buffer.media desk.timed (max a.waiting.clock time)
+
+  pub some_will_be_held : IfSome result (IsGreatest WillBeHeld)
+  some_will_be_held = go result (foretold_here.some a.buffer.media desk.timed)
+    where
+      go : (r : Option ℕ) → IfSome r (λ n. (0 < a.waiting.hold) × IsGreatest WillHaveWaited n) → IfSome r (IsGreatest WillBeHeld)
+      go None is = is
+      go (Some n) is = record {
+        inside = (λ none. (let limited = is.0 in omega (arith, limited, none)), (will_be_near n is.1.inside).0, is.1.inside);
+        greatest = λ other held. is.1.greatest other held.2;
+      }
+
+  pub none_will_be_held : IfNone result ((position : ℕ) → ¬ WillBeHeld position)
+  none_will_be_held = go result (foretold_here.none a.buffer.media desk.timed)
+    where
+      go :
+          (r : Option ℕ) → (0 < a.waiting.hold → IfNone r ((position : ℕ) → ¬ WillHaveWaited position))
+          → IfNone r ((position : ℕ) → ¬ WillBeHeld position)
+      go None is = λ position held. is (let limited = held.0 in omega arith) position held.2
+      go (Some n) is = tt
+
+  pub limit_of_held : IfSome result (λ greatest. greatest < 2 ^ 62)
+  limit_of_held = go result (foretold_here.some a.buffer.media desk.timed)
+    where
+      go :
+          (r : Option ℕ) → IfSome r (λ n. (0 < a.waiting.hold) × IsGreatest WillHaveWaited n)
+          → IfSome r (λ greatest. greatest < 2 ^ 62)
+      go None is = tt
+      go (Some n) is =
+          let near = (will_be_near n is.1.inside).1 in
+          let mark : a.buffer.mark < 2 ^ 61 + 200 = desk.sound.limits.mark_limit in
+          omega (arith, near, mark)

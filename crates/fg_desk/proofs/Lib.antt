@@ -2,6 +2,7 @@ pub mod Advancing
 pub mod Times
 pub mod DeskAdds
 pub mod DeskBegins
+pub mod DeskCloses
 pub mod DeskCounts
 pub mod DeskFills
 pub mod DeskFlushes
@@ -11,6 +12,7 @@ pub mod DeskPlayed
 pub mod DeskPlays
 pub mod DeskReceives
 pub mod DeskRecovers
+pub mod DeskShows
 pub mod DeskTimes
 pub mod DeskWays
 pub mod DeskWords

@@ -13,7 +13,7 @@ use Rattle.fg_peel.specs.Words.{IsGreatest}
 use Rattle.fg_hold.specs.HasWaited.{Times, HasWaited}
 use Rattle.fg_hold.specs.Waiting.{WaitingState, Waits, AreFrom, since}
 use Rattle.fg_playout.specs.State.{Words}
-use Rattle.fg_desk.specs.Holding.{times_of, times_in, IsFrom, ComesAt, Notes, Moves, Tells}
+use Rattle.fg_desk.specs.Holding.{times_of, times_in, IsFrom, ComesAt, Notes, Moves, Tells, Foretells}
 
 -- The time of a position is told of its word, where it has one.
 time_found :
@@ -229,3 +229,27 @@ tells old time mark result new some hold clock same waits greatest none = record
   where
     told_times : (media : Words) → times_in new media ≡ times_in old media
     told_times media = times_by media (since new) (since old) (λ q word is. same q)
+
+-- A time that isn't told yet.
+pub foretells :
+    (waiting : WaitingState) (time mark : ℕ) (result : Option ℕ) → 0 < waiting.hold
+    → ((times : Times) → Waits waiting mark times → IfSome result (IsGreatest (HasWaited waiting.hold (max waiting.clock time) times)))
+    → ((times : Times) → Waits waiting mark times
+    → IfNone result ((position : ℕ) → ¬ HasWaited waiting.hold (max waiting.clock time) times position))
+    → Foretells waiting time mark result
+foretells waiting time mark result limited greatest none = record {
+  some = λ media timed. go media result (greatest (times_in waiting media) (timed.limited limited));
+  none = λ media timed _. none (times_in waiting media) (timed.limited limited);
+}
+  where
+    go :
+        (media : Words) (r : Option ℕ) → IfSome r (IsGreatest (HasWaited waiting.hold (max waiting.clock time) (times_in waiting media)))
+        → IfSome r (λ n. (0 < waiting.hold) × IsGreatest (HasWaited waiting.hold (max waiting.clock time) (times_in waiting media)) n)
+    go media None is = is
+    go media (Some n) is = (limited, is)
+
+pub foretells_nothing : (waiting : WaitingState) (time mark : ℕ) → waiting.hold ≡ 0 → Foretells waiting time mark None
+foretells_nothing waiting time mark forever = record {
+  some = λ media timed. tt;
+  none = λ media timed some. absurd (omega (arith, forever, some));
+}

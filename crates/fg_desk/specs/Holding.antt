@@ -66,3 +66,14 @@ pub record Tells (old : WaitingState) (time mark : ℕ) (result : Option ℕ) (n
   pub none :
       (media : Words) → AreTimed old mark media
       → IfNone result ((position : ℕ) → ¬ HasWaited new.hold new.clock (times_in new media) position)
+
+-- Before a time is told, the greatest position is answered whose word will then have waited long enough. There is none
+-- where words may wait for ever.
+pub record Foretells (waiting : WaitingState) (time mark : ℕ) (result : Option ℕ) : Type 0 where
+  pub some :
+      (media : Words) → AreTimed waiting mark media
+      → IfSome result (λ greatest. (0 < waiting.hold)
+      × IsGreatest (HasWaited waiting.hold (max waiting.clock time) (times_in waiting media)) greatest)
+  pub none :
+      (media : Words) → AreTimed waiting mark media → 0 < waiting.hold
+      → IfNone result ((position : ℕ) → ¬ HasWaited waiting.hold (max waiting.clock time) (times_in waiting media) position)

@@ -1,4 +1,5 @@
 pub mod Arrivals
+pub mod Closing
 pub mod Contents
 pub mod Holding
 pub mod Inside

@@ -1,6 +1,6 @@
 //! A desk: which datagrams are admitted, when a window plays, what it shows, and what is kept.
 
-ghost use Rattle.std.specs.Prelude.{◌≡◌, ◌≢◌, ◌+◌, ◌↔◌, ◌<◌, ◌≤◌, ◌^◌, ℕ, length, Option, Some, None, IsTrue, IsSome, IfOk, IfSome, IfNone, option_map};
+ghost use Rattle.std.specs.Prelude.{◌≡◌, ◌≢◌, ◌+◌, ◌-◌, ◌↔◌, ◌<◌, ◌≤◌, ◌^◌, ℕ, length, min, Option, Some, None, IsTrue, IsSome, IfOk, IfSome, IfNone, option_map};
 ghost use Rattle.std.specs.Option.{option_copied};
 ghost use Rattle.std.specs.FinMap.{get, len};
 ghost use Rattle.std.specs.FinSet.{contains};
@@ -12,23 +12,21 @@ ghost use Rattle.fg_playout.specs.State.{known, current, Live};
 ghost use Rattle.fg_playout.specs.Facts.{Holds};
 ghost use Rattle.fg_buffer.specs.LiveEquations.{live_of, IsAmong};
 ghost use Rattle.fg_playout.specs.Room.{HasRoom, farthest_limit, call_limit};
-ghost use Rattle.fg_desk.specs.Contents.{opened, AreSolved, CanFill, IsLiveAt, IsPlaceAfter, GivesWay, IsAfterArrival, ChangesInPlay, filled, known_in, shared_at, kept_from, epoch_after};
+ghost use Rattle.fg_desk.specs.Contents.{opened, AreSolved, CanFill, IsLiveAt, IsPlaceAfter, GivesWay, IsAfterArrival, ChangesInPlay, filled, known_in, shared_at, kept_from};
 ghost use Rattle.fg_playout.specs.Admission.{sender_of, own, another, IsFresh, IsDue, IsReplyAt, IsEquationReply, IsLeastFree, AdmitsMedia, AdmitsParity, base_on, begun, counted, farther as farther_top, with_media, with_equation};
 ghost use Rattle.fg_playout.specs.Play.{IsPlay, Flushes, HasMore};
 ghost use Rattle.fg_playout.specs.Held.{at_time, IsHeld, IsGreatest, IsHeldStep};
 ghost use Rattle.fg_desk.specs.Inside.{IsLateAt, raised};
 ghost use Rattle.fg_desk.specs.Parts.{top_of};
 
-use crate::holding::{move_on, note, tell};
-use crate::storage::{begin, close, publish, receive, recover};
+use crate::closing::{close_first, count_to, find};
+use crate::holding::{held_by, note, tell};
+use crate::storage::{begin, publish, receive};
 use crate::tray::Tray;
 use fg_buffer::{KEPT, LIVE_LIMIT, LiveEquations, PlayoutBuffer, Watches, lost_slot};
 use fg_hold::Waiting;
 use fg_peel::Line;
-use fg_peel::laws::{
-    confluence, found_words_may_be_known, peelings_fill_the_closure, peelings_stay,
-};
-use fg_playout::laws::solved_stays_peeled;
+use fg_peel::laws::{peelings_fill_the_closure, peelings_stay};
 use fg_playout::{CALL_LIMIT, FARTHEST_LIMIT, Outcome, Reply};
 use fg_shape::{Shape, last};
 use fg_unwrap::position;
@@ -68,7 +66,8 @@ pub struct Desk {
     epoch: u64,
 }
 
-/// A play: which positions it closed, and its outcome. The tray has the words.
+/// A play: which positions it closed, and its outcome. The tray has the words of one that `play`, `flush_step`
+/// or `held_step` made, and the desk keeps those of one that was made in place.
 #[derive(Clone, Copy, Debug, PartialEq, Eq)]
 pub struct Played {
     /// The first position that was played.
@@ -128,6 +127,31 @@ impl Desk {
         ensures { result ≡ self.now.state.mark }
     {
         self.buffer.mark()
+    }
+
+    /// How far past the mark a datagram makes a play due: 1,000 positions at most.
+    ///
+    /// This call also tells what holds of every desk: the facts, by which the slots of the live equations lie
+    /// less than the depth and 100 past the mark, and that the mark is far below 2^63.
+    #[inline]
+    pub fn depth(&self) -> u32
+        ensures value { result ≡ self.now.state.playout.depth }
+        ensures limit { result ≤ 1000 }
+        ensures mark { self.now.state.mark < farthest_limit + 200 }
+        ensures facts { Holds self.now.state }
+    {
+        self.depth
+    }
+
+    /// How many positions a play closes: 1 to 100, and no more than the depth.
+    #[inline]
+    pub fn window(&self) -> u32
+        ensures value { result ≡ self.now.state.playout.window }
+        ensures some { 1 ≤ result }
+        ensures limit { result ≤ 100 }
+        ensures depth { result ≤ self.now.state.playout.depth }
+    {
+        self.window
     }
 
     /// How often solved words were withdrawn: at each inconsistent play, and where a media word came for a
@@ -220,6 +244,30 @@ impl Desk {
         ensures { result ≡ self.now.state.playout.hold }
     {
         self.waiting.hold()
+    }
+
+    /// Whether a held step at this time would play: a position is held once the desk is told the time, in
+    /// microseconds. It isn't told here, and nothing changes. False where a word may wait for ever.
+    #[inline]
+    pub fn held(&self, time: u64) -> bool
+        ensures { IsTrue result ↔ ((position : ℕ) × IsHeld (at_time self.now.state time) position) }
+    {
+        self.greatest_held(time).is_some()
+    }
+
+    /// How many positions a held step at this time would play, and 0 where it would play none. The desk isn't
+    /// told the time, and nothing changes.
+    #[inline]
+    pub fn held_count(&self, time: u64) -> u32
+        ensures none { result ≡ 0 → (position : ℕ) → ¬ IsHeld (at_time self.now.state time) position }
+        ensures some { result ≢ 0 → (greatest : ℕ)
+            × IsGreatest (IsHeld (at_time self.now.state time)) greatest
+            × (result ≡ min self.now.state.playout.window (greatest + 1 - self.now.state.mark)) }
+    {
+        match self.greatest_held(time) {
+            Some(greatest) => count_to(self.window, self.buffer.mark(), greatest),
+            None => 0,
+        }
     }
 
     /// How many runs of a sender were begun.
@@ -448,28 +496,21 @@ impl Desk {
             × ChangesInPlay played.verdict self.old self.new) }
         ensures none { IfNone result (self.new ≡ record self.old { state = self.new.state }) }
     {
-        // What was found is the end of a peeling, so it is the closure and, where there is one, the solution; and it stays one
-        // past the play.
-        found_words_may_be_known();
-        peelings_fill_the_closure();
-        solved_stays_peeled();
-        confluence();
-        let stuck = self.lines.are_stuck(&mut self.watches, &self.buffer);
-        let solved = recover(&mut self.buffer, &self.lines, stuck);
+        let found = find(&mut self.buffer, &self.lines, &mut self.watches);
         let first = self.buffer.mark();
         self.calls += 1;
         let Some(highest) = self.buffer.highest() else {
             return None;
         };
-        let count = u64::from(self.window).min(highest + 1 - first) as u32;
-        let verdict = close(&mut self.buffer, &mut self.lines, solved, stuck, count);
-        move_on(&mut self.waiting, self.buffer.mark());
-        self.epoch = next_epoch(self.epoch, verdict);
-        Some(Played {
-            first,
+        let count = count_to(self.window, first, highest);
+        Some(close_first(
+            &mut self.buffer,
+            &mut self.lines,
+            &mut self.waiting,
+            &mut self.epoch,
+            found,
             count,
-            verdict,
-        })
+        ))
     }
 
     /// Tells the desk the time of a datagram, in microseconds, and then plays up to the greatest position
@@ -517,7 +558,7 @@ impl Desk {
             self.count_call();
             return None;
         };
-        let count = u64::from(self.window).min(greatest + 1 - self.buffer.mark()) as u32;
+        let count = count_to(self.window, self.buffer.mark(), greatest);
         Some(self.play_first(count))
     }
 
@@ -557,6 +598,16 @@ impl Desk {
         tell(&mut self.waiting, time, mark)
     }
 
+    /// The greatest position that is held once the desk is told this time. It isn't told here.
+    #[inline]
+    fn greatest_held(&self, time: u64) -> Option<u64>
+        ensures some { IfSome result (IsGreatest (IsHeld (at_time self.now.state time))) }
+        ensures none { IfNone result ((position : ℕ) → ¬ IsHeld (at_time self.now.state time) position) }
+        ensures limit { IfSome result (λ greatest. greatest < 2 ^ 62) }
+    {
+        held_by(&self.waiting, time, self.buffer.mark())
+    }
+
     /// Counts a call that changes nothing else.
     #[inline]
     fn count_call(&mut self)
@@ -581,24 +632,16 @@ impl Desk {
         ensures count { result.count ≡ count }
         ensures changes { ChangesInPlay result.verdict self.old self.new }
     {
-        // What was found is the end of a peeling, so it is the closure and, where there is one, the solution; and it stays one
-        // past the play.
-        found_words_may_be_known();
-        peelings_fill_the_closure();
-        solved_stays_peeled();
-        confluence();
-        let stuck = self.lines.are_stuck(&mut self.watches, &self.buffer);
-        let solved = recover(&mut self.buffer, &self.lines, stuck);
-        let first = self.buffer.mark();
-        let verdict = close(&mut self.buffer, &mut self.lines, solved, stuck, count);
-        move_on(&mut self.waiting, self.buffer.mark());
+        let found = find(&mut self.buffer, &self.lines, &mut self.watches);
         self.calls += 1;
-        self.epoch = next_epoch(self.epoch, verdict);
-        Played {
-            first,
+        close_first(
+            &mut self.buffer,
+            &mut self.lines,
+            &mut self.waiting,
+            &mut self.epoch,
+            found,
             count,
-            verdict,
-        }
+        )
     }
 
     /// Counts a call that refused a share, which is let go.
@@ -786,15 +829,4 @@ fn raised_epoch(epoch: u64, withdrawn: bool) -> u64
     ensures { result ≡ raised epoch withdrawn }
 {
     if withdrawn { epoch + 1 } else { epoch }
-}
-
-/// The epoch after a play.
-fn next_epoch(epoch: u64, verdict: Outcome) -> u64
-    requires { epoch ≤ call_limit }
-    ensures { result ≡ epoch_after epoch verdict }
-{
-    match verdict {
-        Outcome::Repaired => epoch,
-        Outcome::Inconsistent => epoch + 1,
-    }
 }

@@ -1,7 +1,7 @@
 //! Which received words wait, and since when.
 
 ghost use Rattle.std.specs.Prelude.{◌<◌, ◌^◌};
-ghost use Rattle.fg_desk.specs.Holding.{Notes, Moves, Tells};
+ghost use Rattle.fg_desk.specs.Holding.{Notes, Moves, Tells, Foretells};
 
 use fg_hold::Waiting;
 
@@ -33,4 +33,17 @@ pub(crate) fn tell(waiting: &mut Waiting, time: u64, mark: u64) -> Option<u64>
     ensures { Tells waiting.old time mark result waiting.new }
 {
     waiting.pass_time(time, mark)
+}
+
+/// The greatest position whose word will have waited for as long as one may, or longer, once this time is
+/// told. None where words may wait for ever.
+#[inline]
+pub(crate) fn held_by(waiting: &Waiting, time: u64, mark: u64) -> Option<u64>
+    ensures { Foretells waiting.now time mark result }
+{
+    if waiting.hold() > 0 {
+        waiting.held_by(time, mark)
+    } else {
+        None
+    }
 }

@@ -1,6 +1,7 @@
 //! A desk: one flow's window state.
 #![tactic(auto)]
 
+mod closing;
 mod desk;
 mod holding;
 mod run;

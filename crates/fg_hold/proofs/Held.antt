@@ -4,8 +4,8 @@ use Rattle.std.proofs.lemmas.Bool.{cases_lt}
 use Rattle.fg_peel.specs.Words.{IsGreatest}
 use Rattle.fg_hold.specs.HasWaited.{Times, HasWaited}
 use Rattle.fg_hold.specs.Waiting.{WaitingState, HasRoom, Waits, IsQueued, since, high}
-use Rattle.fg_hold.specs.Steps.{OldestIsUnheld, TakesHeld}
-use Rattle.fg_hold.proofs.Clocks.{times_go_on}
+use Rattle.fg_hold.specs.Steps.{OldestIsUnheld, TakesHeld, WillTake}
+use Rattle.fg_hold.proofs.Clocks.{times_go_on, clock_goes_on}
 use Rattle.fg_hold.proofs.Queue.{has_waited, waited_since, oldest_first}
 
 -- The oldest high leaves.
@@ -172,3 +172,28 @@ pub told_none : (w : WaitingState) (end mark : ℕ) (told : Option ℕ) (times :
 told_none w end mark told times ends is none h oldest =
     subst (λ (r : Option ℕ). IfNone r ((position : ℕ) → ¬ HasWaited w.hold w.clock times position)) (sym is)
     (none_held w mark times h oldest (omega arith))
+
+-- Before the earliest time none will have left the queue.
+pub takes_none : (w : WaitingState) (clock : ℕ) → clock < w.earliest_held → WillTake w clock w.held_end
+takes_none w clock early = record {
+  first = w.first;
+  takes = record { hold = refl; clock = refl; came = refl; waits = λ mark times h. h };
+  oldest = λ mark times h more. let oldest = h.words.not_before w.first (omega arith, more) in omega arith;
+}
+
+-- What will have waited long enough is told by what will have left the queue.
+module _
+    (w : WaitingState) (clock end mark : ℕ) (times : Times) (on : w.clock ≤ clock) (will : WillTake w clock end)
+    (h : Waits w mark times) where
+  waits_then : Waits (record w { clock = clock; first = will.first; held_end = end }) mark times
+  waits_then = will.takes.waits mark times (clock_goes_on w clock mark times on h)
+
+  pub will_be_held : mark < end → IsGreatest (HasWaited w.hold clock times) (end - 1)
+  will_be_held past =
+      greatest_held (record w { clock = clock; first = will.first; held_end = end }) mark times waits_then
+      (will.oldest mark times waits_then) past
+
+  pub none_will_be_held : end ≤ mark → (position : ℕ) → ¬ HasWaited w.hold clock times position
+  none_will_be_held none =
+      none_held (record w { clock = clock; first = will.first; held_end = end }) mark times waits_then
+      (will.oldest mark times waits_then) none

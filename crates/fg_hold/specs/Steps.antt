@@ -18,6 +18,15 @@ pub record TakesHeld (old new : WaitingState) : Type 0 where
   pub came : new.came ≡ old.came
   pub waits : (mark : ℕ) (times : Times) → Waits old mark times → Waits new mark times
 
+-- By this time of the clock highs will have left that will have waited long enough, up to one past the last of them, and
+-- the oldest in the queue won't have. The words are those that wait now.
+pub record WillTake (w : WaitingState) (clock held_end : ℕ) : Type 0 where
+  pub first : ℕ
+  pub takes : TakesHeld (record w { clock = clock }) (record w { clock = clock; first = first; held_end = held_end })
+  pub oldest :
+      (mark : ℕ) (times : Times) → Waits (record w { clock = clock; first = first; held_end = held_end }) mark times
+      → OldestIsUnheld (record w { clock = clock; first = first; held_end = held_end })
+
 -- The queued highs before this number are below the mark.
 abbrev pub AreBelow : ℕ → WaitingState → ℕ → Type 0
 AreBelow mark w number = (w.first ≤ number) × (w.first < number → high w (number - 1) < mark)

@@ -7,7 +7,7 @@ ghost use Rattle.std.specs.FinMap.{get, empty, insert};
 ghost use Rattle.fg_peel.specs.Words.{IsGreatest};
 ghost use Rattle.fg_hold.specs.HasWaited.{Times, HasWaited};
 ghost use Rattle.fg_hold.specs.Ring.{ring_at};
-ghost use Rattle.fg_hold.specs.Steps.{TakesHeld, OldestIsUnheld, AreBelow, AreNotBelow, queue_len};
+ghost use Rattle.fg_hold.specs.Steps.{TakesHeld, WillTake, OldestIsUnheld, AreBelow, AreNotBelow, queue_len};
 ghost use Rattle.fg_hold.specs.Waiting.{Waits, AreFrom, since, high};
 
 mod ring;
@@ -109,6 +109,19 @@ impl Waiting {
         }
     }
 
+    /// The greatest position whose word will have waited long enough once a record of this time has come, in
+    /// microseconds. It is what `pass_time` then answers, and nothing changes before.
+    #[inline]
+    pub fn held_by(&self, time: u64, mark: u64) -> Option<u64>
+        ensures some { (times : Times) → Waits self.now mark times →
+            IfSome result (IsGreatest (HasWaited self.now.hold (max self.now.clock time) times)) }
+        ensures none { (times : Times) → Waits self.now mark times →
+            IfNone result ((position : ℕ) → ¬ HasWaited self.now.hold (max self.now.clock time) times position) }
+    {
+        let end = self.held_end_by(self.clock.max(time));
+        if mark < end { Some(end - 1) } else { None }
+    }
+
     /// A word comes at a position where none waits, in the window of 1,000 positions from the mark on.
     #[inline]
     pub fn put(&mut self, position: u64)
@@ -162,6 +175,35 @@ impl Waiting {
     {
         while self.take_held() {}
         self.earliest_held = self.since_oldest().saturating_add(self.hold);
+    }
+
+    /// One past the greatest high that will have left the queue by this time of the clock, since it will have
+    /// waited long enough. Nothing is looked at before one may have.
+    #[inline]
+    fn held_end_by(&self, clock: u64) -> u64
+        ensures { WillTake self.now clock result }
+    {
+        if clock < self.earliest_held {
+            self.held_end
+        } else {
+            self.held_end_in_queue(clock)
+        }
+    }
+
+    /// The same, found in the queue, whose oldest high comes first.
+    #[inline(never)]
+    fn held_end_in_queue(&self, clock: u64) -> u64
+        ensures { WillTake self.now clock result }
+    {
+        let mut end = self.held_end;
+        for number in self.first..self.next {
+            let high = self.highs.at(number);
+            if clock.saturating_sub(self.came.at(high)) < self.hold {
+                return end;
+            }
+            end = high.saturating_add(1);
+        }
+        end
     }
 
     /// Since when the oldest high in the queue waits, and now where there is none.

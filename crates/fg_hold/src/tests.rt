@@ -13,6 +13,8 @@ fn times_that_go_back(rt: HostRuntime) -> Result<(), Fail> {
     assert_eq!(rt; waiting.clock(), 100);
     // It came at 100.
     waiting.put(4);
+    assert_eq!(rt; waiting.held_by(109, 0), None);
+    assert_eq!(rt; waiting.held_by(110, 0), Some(4));
     assert_eq!(rt; waiting.pass_time(109, 0), None);
     assert_eq!(rt; waiting.pass_time(110, 0), Some(4));
     Ok(())
@@ -27,8 +29,15 @@ fn words_out_of_order(rt: HostRuntime) -> Result<(), Fail> {
     waiting.put(2);
     waiting.pass_time(4, 0);
     waiting.put(8);
+    // 8 came at 4, and 5 at 0.
+    assert_eq!(rt; waiting.held_by(9, 0), None);
+    assert_eq!(rt; waiting.held_by(13, 0), Some(5));
+    assert_eq!(rt; waiting.held_by(14, 0), Some(8));
+    assert_eq!(rt; waiting.held_by(14, 9), None);
     assert_eq!(rt; waiting.pass_time(10, 0), Some(5));
     assert_eq!(rt; waiting.pass_time(13, 0), Some(5));
+    // A time that goes back: the clock is 13.
+    assert_eq!(rt; waiting.held_by(0, 0), Some(5));
     assert_eq!(rt; waiting.pass_time(14, 0), Some(8));
     Ok(())
 }

@@ -1,8 +1,10 @@
 //! Words that wait no longer than a stated time: how it is told, and what is played for it.
 
 use super::runs::{are_given, media_at, row_at};
-use super::script::Step::{Epoch, Flushed, Held, HeldInPlace, Live, Mark, Media, Parity, Run};
-use super::script::{follows_within, word_of};
+use super::script::Step::{
+    Epoch, Flushed, Held, HeldInPlace, HoldsBy, Live, Mark, Media, Parity, Playout, Run,
+};
+use super::script::{follows, follows_within, word_of};
 use crate::Outcome::{Inconsistent, Repaired};
 use crate::Reply::{Admitted, Late};
 use crate::{Datagram, FlowRun, ShownPlay, run_flow};
@@ -170,4 +172,28 @@ fn held_steps_play_what_waits(rt: HostRuntime) -> Result<(), Fail> {
         Flushed,
     ];
     follows_within(&rt, rt.alloc(), 4, 8, 1000, &script)
+}
+
+#[test]
+fn held_steps_are_foretold(rt: HostRuntime) -> Result<(), Fail> {
+    let script = [
+        Playout(4, 8),
+        HoldsBy(u64::MAX, 0),
+        Run(0, 7, 0b010_0000),
+        HoldsBy(999, 0),
+        // All seven have waited then, and a play has a window.
+        HoldsBy(1000, 4),
+        HeldInPlace(1000, Repaired, 4),
+        // A time that goes back.
+        HoldsBy(0, 3),
+        HeldInPlace(0, Repaired, 3),
+        HoldsBy(u64::MAX, 0),
+        // It comes at 1000.
+        Media(8, 8, Admitted),
+        HoldsBy(1999, 0),
+        HoldsBy(2000, 2),
+    ];
+    follows_within(&rt, rt.alloc(), 4, 8, 1000, &script)?;
+    let for_ever = [Run(0, 7, 0), HoldsBy(u64::MAX, 0)];
+    follows(&rt, rt.alloc(), 4, 8, &for_ever)
 }

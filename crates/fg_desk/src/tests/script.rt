@@ -50,6 +50,10 @@ pub(super) enum Step {
     /// A held step at a time that copies nothing: its outcome, and how many positions it has. With none it
     /// plays nothing.
     HeldInPlace(u64, Outcome, u32),
+    /// How many positions a held step at a time would play.
+    HoldsBy(u64, u32),
+    /// The window and the depth.
+    Playout(u32, u32),
     /// The mark.
     Mark(u64),
     /// How many equations are live.
@@ -389,6 +393,10 @@ fn answers(desk: &mut Desk, alloc: Global, step: Step) -> Result<bool, AllocErro
 fn tells(desk: &Desk, step: Step) -> bool {
     match step {
         Step::Due(seq, due) => desk.due(seq, 0) == due,
+        Step::HoldsBy(time, count) => {
+            desk.held_count(time) == count && desk.held(time) == (count > 0)
+        }
+        Step::Playout(window, depth) => desk.window() == window && desk.depth() == depth,
         Step::Mark(mark) => desk.mark() == mark,
         Step::Live(live) => desk.live() == live,
         Step::Epoch(epoch) => desk.epoch() == epoch,
