@@ -8,8 +8,9 @@ use crate::Failed;
 use crate::lane_name::LaneName;
 use crate::open_files::OpenFiles;
 use crate::outlet::Outlet;
+use crate::standing::{STREAMS, is_one_of};
 use std::fs::OpenOptions;
-use std::io::Write;
+use std::io::{ErrorKind, Write};
 use std::marker::Model;
 use std::rt::Files;
 use std::{fs, io};
@@ -18,9 +19,10 @@ const PORTS: usize = 65_536;
 
 /// The current folder, where the lane of a port is the file `<port>.ts`.
 ///
-/// The first put to a port makes its file empty, and each put appends to it. Up to 64 files, those used last, stay open
-/// until they are put to again, and one that fails is closed. Contracts see the count of faults, which stands still at
-/// its last value.
+/// The first put to a port makes its file empty, and each put appends to it. Where that file is a regular one that is
+/// standard input or standard output too, the first put fails and changes nothing; a system without `/proc` can't tell.
+/// Up to 64 files, those used last, stay open until they are put to again, and one that fails is closed. Contracts see
+/// the count of faults, which stands still at its last value.
 #[derive(Drop)]
 pub struct FolderOutlet<F: Files> {
     files: F,
@@ -67,12 +69,16 @@ impl<F: Files> FolderOutlet<F> {
     }
 }
 
-/// Opens the port's file at its end, and makes it empty where this is the first time.
+/// Opens the port's file at its end, and makes it empty where this is the first time. Where standard input or standard
+/// output is that file it is left as it is, and nothing is opened.
 fn open_lane<F: Files>(files: &F, made: &mut [bool; PORTS], port: u16) -> io::Result<F::File> {
     let name = LaneName::new(port);
     let place = usize::from(port);
     if made[place] {
         return OpenOptions::new().append(true).open(files, name.as_str());
+    }
+    if is_one_of(files, name.as_str(), &STREAMS) {
+        return Err(ErrorKind::ResourceBusy.into());
     }
     let file = fs::create(files, name.as_str())?;
     made[place] = true;

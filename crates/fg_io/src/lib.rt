@@ -24,6 +24,7 @@ mod safe;
 mod sink;
 mod source;
 mod standard;
+mod standing;
 
 pub use fault::Fault;
 pub use folder::FolderOutlet;

@@ -1,5 +1,9 @@
+mod noted_files;
+
 use super::*;
 use crate::lane_name::LaneName;
+use crate::standing::is_one_of;
+use noted_files::NotedFiles;
 use std::ops::Range;
 use std::os::unix::fs::symlink;
 use std::test::Fail;
@@ -201,12 +205,43 @@ fn puts_twice(rt: &HostRuntime, ports: Range<u16>) -> io::Result<bool> {
     Ok(take_each(rt, ports, b"abc")? && first && second)
 }
 
-// Each file is closed before its lane's next put. These are the lowest ports, usual ones, and the highest that a flow has.
 #[test]
 fn folder_keeps_more_lanes_than_files(rt: HostRuntime) -> Result<(), Fail> {
-    assert!(rt; puts_twice(&rt, 1..71)?);
     assert!(rt; puts_twice(&rt, 4970..5040)?);
-    assert!(rt; puts_twice(&rt, 65462..65532)?);
+    Ok(())
+}
+
+/// Puts to each of the lanes. Whether each put opened the lane's file and no other, emptied where it is new and else at its end.
+fn open_one_each<O: Outlet>(
+    outlet: &mut O,
+    files: &NotedFiles,
+    ports: Range<u16>,
+    is_new: bool,
+) -> bool {
+    let mut one_each = true;
+    for port in ports {
+        files.expect(port, is_new);
+        one_each = outlet.put(port, b"a").is_ok() && files.is_met() && one_each;
+    }
+    one_each
+}
+
+/// Puts twice to each of the lanes. Of 65 files 64 stay open, so each is opened at both puts.
+fn open_twice(files: &NotedFiles, ports: Range<u16>) -> bool {
+    let mut outlet = FolderOutlet::new(files);
+    open_one_each(&mut outlet, files, ports.start..ports.end, true)
+        && open_one_each(&mut outlet, files, ports, false)
+}
+
+// All ports are gone through, 65 at a time. So whichever lane's file is opened, and whichever other is opened or made empty
+// then, that is noted.
+#[test]
+fn folder_opens_the_file_of_its_lane_alone(rt: HostRuntime) -> Result<(), Fail> {
+    let files = NotedFiles::new(rt);
+    for round in 0..1009 {
+        let first = (65 * round).min(65_470);
+        assert!(rt; open_twice(&files, first..first + 65));
+    }
     Ok(())
 }
 
@@ -226,6 +261,33 @@ fn folder_keeps_64_files_open(rt: HostRuntime) -> Result<(), Fail> {
     assert!(rt; stays_open(&rt, 65000)?);
     assert!(rt; stays_open(&rt, 65063)?);
     assert!(rt; !stays_open(&rt, 65064)?);
+    Ok(())
+}
+
+/// Makes a file with a second name and a link, and another of the same bytes. What is found of them, of a name that is
+/// missing, of a folder and of a device.
+fn found_by_name(rt: &HostRuntime) -> io::Result<[bool; 6]> {
+    fs::write(rt, "64998.ts", "abc")?;
+    fs::write(rt, "64997.ts", "abc")?;
+    fs::hard_link(rt, "64998.ts", "64996.ts")?;
+    symlink(rt, "64998.ts", "64995.ts")?;
+    Ok([
+        is_one_of(rt, "64998.ts", &["64997.ts", "64996.ts"]),
+        is_one_of(rt, "64995.ts", &["64998.ts"]),
+        is_one_of(rt, "64998.ts", &["64997.ts", "64994.ts", "."]),
+        is_one_of(rt, "64994.ts", &["64994.ts"]),
+        is_one_of(rt, ".", &["."]),
+        is_one_of(rt, "/dev/null", &["/dev/null"]),
+    ])
+}
+
+#[test]
+fn a_regular_file_is_found_by_each_of_its_names(rt: HostRuntime) -> Result<(), Fail> {
+    let found = found_by_name(&rt);
+    for name in ["64998.ts", "64997.ts", "64996.ts", "64995.ts"] {
+        let _ = fs::remove_file(&rt, name);
+    }
+    assert_eq!(rt; found?, [true, true, false, false, false, false]);
     Ok(())
 }
 
