@@ -103,8 +103,8 @@ impl Encoder {
             at.ts,
             payload,
         );
-        send_column(&self.columns, &settings, at, &mut self.columns_sent, into);
-        send_row(&self.row, &settings, at, &mut self.rows_sent, into);
+        self.columns_sent = send_column(&self.columns, &settings, at, self.columns_sent, into);
+        self.rows_sent = send_row(&self.row, &settings, at, self.rows_sent, into);
         self.taken += 1;
     }
 }
@@ -155,15 +155,15 @@ fn row_ending(layout: &Layout, slot: u64) -> Option<u64>
     layout.ending_at(slot).row
 }
 
-/// Sends a parity of this kind, with the next number of its stream.
+/// Sends a parity of this kind, with the next number of its stream. Answers the number after it.
 fn send(
     parity: &Parity,
     settings: &Settings,
     kind: Kind,
     at: Moment,
-    sent: &mut u16,
+    sent: u16,
     into: &mut Batch,
-)
+) -> u16
     requires port { settings.now.port ≤ LAST_PORT }
     requires packets { settings.now.packets ≤ 7 }
     requires can { CanBeWritten parity.now (packet_length * settings.now.packets) }
@@ -172,24 +172,24 @@ fn send(
     ensures batch { into.new ≡ into.old ++ (record {
       time = at.time;
       port = port_of settings.now.port kind;
-      datagram = parity_bytes sent.old at.ts parity.now (packet_length * settings.now.packets);
+      datagram = parity_bytes sent at.ts parity.now (packet_length * settings.now.packets);
     }) ∷ [] }
-    ensures sent { sent.new ≡ (sent.old + 1) % 2 ^ 16 }
+    ensures sent { result ≡ (sent + 1) % 2 ^ 16 }
 {
     let size = PACKET_LENGTH as u16 * u16::from(settings.packets);
     let Moment { time, ts, .. } = at;
-    into.put_parity(time, kind.port(settings.port), *sent, ts, parity, size);
-    *sent = sent.wrapping_add(1);
+    into.put_parity(time, kind.port(settings.port), sent, ts, parity, size);
+    sent.wrapping_add(1)
 }
 
-/// Sends the parity of the column that ends at the slot, if one does.
+/// Sends the parity of the column that ends at the slot, if one does. Answers the next number of its stream.
 fn send_column(
     columns: &[Parity],
     settings: &Settings,
     at: Moment,
-    sent: &mut u16,
+    sent: u16,
     into: &mut Batch,
-)
+) -> u16
     requires width { length columns.now ≡ settings.now.layout.l }
     requires limit { at.slot ≤ 2 ^ 60 }
     requires port { settings.now.port ≤ LAST_PORT }
@@ -201,21 +201,21 @@ fn send_column(
     ensures batch { (d : Parity) → into.new ≡ into.old ++ map (λ base. record {
       time = at.time;
       port = port_of settings.now.port Kind.Column;
-      datagram = parity_bytes sent.old at.ts (get_or columns.now (at.slot % settings.now.layout.l) d) (packet_length * settings.now.packets);
+      datagram = parity_bytes sent at.ts (get_or columns.now (at.slot % settings.now.layout.l) d) (packet_length * settings.now.packets);
     }) (columns_ending settings.now.layout at.slot) }
-    ensures sent { sent.new ≡ (sent.old + length (columns_ending settings.now.layout at.slot)) % 2 ^ 16 }
+    ensures sent { result ≡ (sent + length (columns_ending settings.now.layout at.slot)) % 2 ^ 16 }
     ensures one { length into.new ≤ length into.old + 1 }
     ensures more { length into.old ≤ length into.new }
 {
-    let _number = *sent;
-    if column_ending(&settings.layout, at.slot).is_some() {
-        let column = (at.slot % u64::from(settings.layout.l)) as usize;
-        send(&columns[column], settings, Kind::Column, at, sent, into);
+    if column_ending(&settings.layout, at.slot).is_none() {
+        return sent;
     }
+    let column = (at.slot % u64::from(settings.layout.l)) as usize;
+    send(&columns[column], settings, Kind::Column, at, sent, into)
 }
 
-/// Sends the parity of the row that ends at the slot, if one does.
-fn send_row(row: &Parity, settings: &Settings, at: Moment, sent: &mut u16, into: &mut Batch)
+/// Sends the parity of the row that ends at the slot, if one does. Answers the next number of its stream.
+fn send_row(row: &Parity, settings: &Settings, at: Moment, sent: u16, into: &mut Batch) -> u16
     requires limit { at.slot ≤ 2 ^ 60 }
     requires port { settings.now.port ≤ LAST_PORT }
     requires packets { settings.now.packets ≤ 7 }
@@ -226,12 +226,12 @@ fn send_row(row: &Parity, settings: &Settings, at: Moment, sent: &mut u16, into:
     ensures batch { into.new ≡ into.old ++ map (λ base. record {
       time = at.time;
       port = port_of settings.now.port Kind.Row;
-      datagram = parity_bytes sent.old at.ts row.now (packet_length * settings.now.packets);
+      datagram = parity_bytes sent at.ts row.now (packet_length * settings.now.packets);
     }) (rows_ending settings.now.layout at.slot) }
-    ensures sent { sent.new ≡ (sent.old + length (rows_ending settings.now.layout at.slot)) % 2 ^ 16 }
+    ensures sent { result ≡ (sent + length (rows_ending settings.now.layout at.slot)) % 2 ^ 16 }
 {
-    let _number = *sent;
-    if row_ending(&settings.layout, at.slot).is_some() {
-        send(row, settings, Kind::Row, at, sent, into);
+    if row_ending(&settings.layout, at.slot).is_none() {
+        return sent;
     }
+    send(row, settings, Kind::Row, at, sent, into)
 }

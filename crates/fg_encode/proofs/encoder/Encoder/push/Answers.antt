@@ -46,18 +46,18 @@ added c payloads given =
       rowed = row_after (before c) payloads payload ts slot (transport_word ts payload) c.add_to_lines.new.row stands most here c.next_moment-at.ensures.timestamp refl c.add_to_lines.ensures.row;
     }
 
-pub send_column-requires-clause-can : goal.send_column-requires-clause-can
-send_column-requires-clause-can c base d ends =
-    let at = (goal.at.send_column-requires-clause-can c).After-add_to_lines in
+pub send_column-self-inside-requires-clause-can : goal.send_column-self-inside-requires-clause-can
+send_column-self-inside-requires-clause-can c base d ends =
+    let at = (goal.at.send_column-self-inside-requires-clause-can c).After-add_to_lines in
     let has = added at c.requires.stands.0 c.requires.stands.1 in
     let columns = c.add_to_lines.new.columns in
     let kept : c.deref.result.now ≡ columns = c.deref.ensures.value ∙ take_at columns _ _ (omega (arith, c.add_to_lines.auto.columns, c.deref_mut.ensures.len)) in
     subst (λ (l : List Parity). CanBeWritten (get_or l (c.next_moment-at.result.slot % c.self.inside.settings.layout.l) d) (188 * c.self.inside.settings.packets)) (sym kept)
     (column_can (before at) c.requires.stands.0 c.args.payload.now c.next_moment-at.result.slot base columns d has.stands has.most has.here has.under ends)
 
-pub send_row-requires-clause-can : goal.send_row-requires-clause-can
-send_row-requires-clause-can c base ends =
-    let at = (goal.at.send_row-requires-clause-can c).After-add_to_lines in
+pub send_row-self-inside-requires-clause-can : goal.send_row-self-inside-requires-clause-can
+send_row-self-inside-requires-clause-can c base ends =
+    let at = (goal.at.send_row-self-inside-requires-clause-can c).After-add_to_lines in
     let has = added at c.requires.stands.0 c.requires.stands.1 in
     row_can (before at) c.requires.stands.0 c.args.payload.now c.next_moment-at.result.slot base c.add_to_lines.new.row has.stands has.most has.here has.rowed ends
 
@@ -74,11 +74,11 @@ returns-clause-batch c payloads given =
     let kept : c.deref.result.now ≡ columns = c.deref.ensures.value ∙ take_at columns _ _ (omega (arith, c.add_to_lines.auto.columns, c.deref_mut.ensures.len)) in
     let d = inside.row in
     let second = subst
-    (λ (l : List Parity). c.send_column.new.into ≡ c.put_media.new.self ++ map
+    (λ (l : List Parity). c.send_column-self-inside.new.into ≡ c.put_media.new.self ++ map
     (λ (base : ℕ). (let r : Record = record { time = time; port = port_of inside.settings.port Column; datagram = parity_bytes inside.columns_sent ts (get_or l (slot % inside.settings.layout.l) d) (188 * inside.settings.packets) } in r)) (columns_ending inside.settings.layout slot))
-    kept (c.send_column.ensures.batch d) in
-    batch_is (before at) payloads payload slot time ts c.sequence_at-seq.result (transport_word ts payload) columns c.add_to_lines.new.row d c.put_media.new.self c.send_column.new.into c.send_row.new.into
-    has.stands has.most has.here c.next_moment-at.ensures.time c.next_moment-at.ensures.timestamp c.sequence_at-seq.ensures refl c.put_media.ensures second c.send_row.ensures.batch has.under has.rowed
+    kept (c.send_column-self-inside.ensures.batch d) in
+    batch_is (before at) payloads payload slot time ts c.sequence_at-seq.result (transport_word ts payload) columns c.add_to_lines.new.row d c.put_media.new.self c.send_column-self-inside.new.into c.send_row-self-inside.new.into
+    has.stands has.most has.here c.next_moment-at.ensures.time c.next_moment-at.ensures.timestamp c.sequence_at-seq.ensures refl c.put_media.ensures second c.send_row-self-inside.ensures.batch has.under has.rowed
     ∙ ap (λ (x : EncoderState). records_at x.settings (payloads ++ payload ∷ []) (length payloads)) c.self.view_is
 
 pub returns-clause-stands : goal.returns-clause-stands
@@ -89,8 +89,8 @@ returns-clause-stands c payloads given whole =
     let payload = c.args.payload.now in
     let columns = c.add_to_lines.new.columns in
     let full : length payload ≡ 188 * inside.settings.packets = omega (arith, whole, ap (λ (x : EncoderState). x.settings.packets) c.self.view_is) in
-    let after : List Parity → EncoderState = λ l. record { settings = inside.settings; taken = inside.taken + 1; columns = l; row = c.add_to_lines.new.row; columns_sent = c.send_column.new.sent; rows_sent = c.send_row.new.sent } in
+    let after : List Parity → EncoderState = λ l. record { settings = inside.settings; taken = inside.taken + 1; columns = l; row = c.add_to_lines.new.row; columns_sent = c.send_column-self-inside.result; rows_sent = c.send_row-self-inside.result } in
     let width : length columns ≡ inside.settings.layout.l = omega (arith, c.add_to_lines.auto.columns, c.deref_mut.ensures.len, ap (λ (l : List Parity). length l) c.deref_mut.ensures.value, has.stands.width) in
     let items : (with_items inside.columns columns).items ≡ columns = take_at columns _ _ (omega (arith, c.add_to_lines.auto.columns, c.deref_mut.ensures.len)) in
     subst (λ (l : List Parity). StandsAfter (after l) (payloads ++ payload ∷ [])) (sym items)
-    (stands_after (before at) (after columns) payloads payload c.next_moment-at.result.slot has.stands full has.here refl width c.send_column.ensures.sent c.send_row.ensures.sent has.under has.rowed)
+    (stands_after (before at) (after columns) payloads payload c.next_moment-at.result.slot has.stands full has.here refl width c.send_column-self-inside.ensures.sent c.send_row-self-inside.ensures.sent has.under has.rowed)
