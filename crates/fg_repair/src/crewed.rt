@@ -63,7 +63,7 @@ pub fn repair<
         K.written out.old out.new }
 
     // A fault of the outside is answered only where it was counted in this call, and with no other answer was one of it counted, but
-    // for this: since a batch is read while another is written, a call that breaks off may have counted a fault of reading beside the
+    // for this: since a batch is read while another is written, a call that breaks off may have counted faults of reading beside the
     // one that it answers. No count falls.
     ensures faults { RepairCounts ByBatch result ((S.faults input.old, S.faults input.new) ∷ [])
         ((K.faults out.old, K.faults out.new) ∷ (O.faults lanes.old, O.faults lanes.new) ∷ []) }
