@@ -1,0 +1,5 @@
+-- The definitions that the contracts of this crate cite.
+pub mod Case
+pub mod Judgement
+pub mod Laws
+pub mod Text
