@@ -1,0 +1,32 @@
+//! The laws that show the definition of a flow's cases to be right. Each is the contract of a function that does nothing, or only
+//! calls laws of the crates below.
+ghost use Rattle.fg_prove.specs.Laws.{CasesAreOfGaps, CasesJoin, CasesSplit, OneListOfCases, OneProof};
+
+use fg_fechead::laws::parity_datagrams_read_one_way;
+use fg_playout::laws::one_list_of_desks;
+use fg_proof::laws::one_case;
+use fg_rtp::laws::media_datagrams_read_one_way;
+
+/// The records of a trace give a flow one list of cases.
+pub fn one_proof()
+    ensures mades { OneListOfCases }
+    ensures records { OneProof }
+{
+    media_datagrams_read_one_way();
+    parity_datagrams_read_one_way();
+    one_list_of_desks();
+    one_case();
+}
+
+/// The cases of plays are those of the first ones, and then those of the others.
+pub fn cases_of_front()
+    ensures joined { CasesJoin }
+    ensures split { CasesSplit }
+{}
+
+/// Each case is of a gap of a play of the flow's run: its desk has a solution, and a position of its window doesn't follow.
+pub fn cases_are_of_gaps()
+    ensures { CasesAreOfGaps }
+{
+    one_list_of_desks();
+}

@@ -1,0 +1,12 @@
+//! The cases of a flow's gaps: of each repaired play that shows a position as missing, what its desk had.
+#![tactic(auto)]
+
+mod gaps;
+pub mod laws;
+mod prover;
+#[cfg(test)]
+mod tests;
+mod text;
+mod walk;
+
+pub use walk::prove_flow;
