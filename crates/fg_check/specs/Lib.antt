@@ -1,0 +1,8 @@
+-- The definitions that the contracts of this crate cite.
+pub mod Checked
+pub mod Laws
+pub mod Line
+pub mod Reading
+pub mod Split
+pub mod Steps
+pub mod Text
