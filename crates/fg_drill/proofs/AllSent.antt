@@ -41,7 +41,7 @@ all_are_of flow (r ∷ records) (a ∷ arrivals) zip =
 
 -- Lists place by place
 
-zip_append :
+pub zip_append :
     {A B : Type 0} (R : A → B → Type 0) (xs xs' : List A) (ys ys' : List B) → AllZip R xs ys → AllZip R xs' ys'
     → AllZip R (xs ++ xs') (ys ++ ys')
 zip_append R [] xs' [] ys' one other = other
@@ -68,7 +68,7 @@ module _ (settings : Settings) (payloads : List (List ℕ)) (most : settings.pac
   all_arrivals = flat_map arrivals_at (range_with_len 0 (length payloads))
 
   module _ (media_law : MediaWrittenIsRead) (law : ParityWrittenIsRead) (shapes : LayoutsAreRead) where
-    columns_arrive :
+    pub columns_arrive :
         (slot : ℕ) → slot < length payloads
         → AllZip (Arrives settings.port) (map (column_record settings payloads slot) (columns_ending settings.layout slot))
         (map (column_arrival settings payloads most are slot) (columns_ending settings.layout slot))
@@ -84,7 +84,7 @@ module _ (settings : Settings) (payloads : List (List ℕ)) (most : settings.pac
         (columns_ending settings.layout slot)
         (filter_passes (λ base. (base + (settings.layout.d - 1) * settings.layout.l) == slot) (column_bases settings.layout (slot + 1))))
 
-    some_rows_arrive :
+    pub some_rows_arrive :
         (slot : ℕ) (sent : Bool) → slot < length payloads
         → let bases : List ℕ = cond sent (filter (λ base. (base + (settings.layout.l - 1)) == slot) (row_bases settings.layout (slot + 1))) [] in
         AllZip (Arrives settings.port) (map (row_record settings payloads slot) bases)

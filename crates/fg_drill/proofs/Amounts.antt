@@ -20,13 +20,13 @@ use Rattle.fg_thin.specs.Thinned.{thinned, without}
 
 -- Lists made over a range
 
-each_made : (P : ℕ → Type 0) (f : ℕ → ℕ) (a n : ℕ) → ((j : ℕ) → j < a + n → P (f j)) → All P (map f (range_with_len a n))
+pub each_made : (P : ℕ → Type 0) (f : ℕ → ℕ) (a n : ℕ) → ((j : ℕ) → j < a + n → P (f j)) → All P (map f (range_with_len a n))
 each_made P f a zero each = All-nil P
 each_made P f a (suc n) each =
     All-cons P (f a) (map f (range_with_len (a + 1) n)) (each a (omega arith))
     (each_made P f (a + 1) n (λ j below. each j (omega arith)))
 
-each_joined : (P : ℕ → Type 0) (h : ℕ → List ℕ) (xs : List ℕ) → ((x : ℕ) → All P (h x)) → All P (flat_map h xs)
+pub each_joined : (P : ℕ → Type 0) (h : ℕ → List ℕ) (xs : List ℕ) → ((x : ℕ) → All P (h x)) → All P (flat_map h xs)
 each_joined P h [] each = All-nil P
 each_joined P h (x ∷ xs) each = All-append P (h x) (flat_map h xs) (each x) (each_joined P h xs each)
 

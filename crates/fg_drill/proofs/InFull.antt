@@ -188,7 +188,7 @@ held_received next old time plays new (unlimited none no_plays same) all =
     nothing_played next old new (ap (λ (s : State). s.mark) same) (ap (λ (s : State). known s) same) all
 held_received next old time plays new (limited some steps) all = steps_held_received next old time plays new steps all
 
-flush_ends : (old : State) (plays : List Play) (new : State) → IsFlush old plays new → ¬ HasMore new
+pub flush_ends : (old : State) (plays : List Play) (new : State) → IsFlush old plays new → ¬ HasMore new
 flush_ends old [] new flush = subst (λ (s : State). ¬ HasMore s) (sym flush.1) flush.0
 flush_ends old (play ∷ plays) new flush = flush_ends flush.0 plays new flush.2
 

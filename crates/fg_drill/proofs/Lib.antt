@@ -1,7 +1,14 @@
 pub mod AllSent
 pub mod Amounts
+pub mod Bursts
 pub mod ComingBack
+pub mod CoveredDesks
+pub mod CoveredGaps
+pub mod CoveredPeel
+pub mod CoveredRuns
+pub mod CoveredSent
 pub mod InFull
+pub mod LiveLines
 pub mod Peeled
 pub mod Reading
 pub mod TrueDesks

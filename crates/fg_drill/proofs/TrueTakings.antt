@@ -149,12 +149,12 @@ module _ (seq ssrc : ℕ) (last : Option ℕ) (limit : ℕ) (desk : State) (is :
   position_is_slot slot reach ahead =
       ap (position_by desk (number_of seq slot)) sender_is ∙ position_by_sender desk seq ssrc slot last reach ahead
 
-  due_is_far : (slot : ℕ) → InReach last slot → IsDue desk (number_of seq slot) ssrc → desk.mark + desk.playout.depth ≤ slot
+  pub due_is_far : (slot : ℕ) → InReach last slot → IsDue desk (number_of seq slot) ssrc → desk.mark + desk.playout.depth ≤ slot
   due_is_far slot reach due =
       topped_due desk seq ssrc slot last reach
       (subst (λ (t : Option Top). IsDue (record desk { top = t }) (number_of seq slot) ssrc) is.top due)
 
-  base_is_slot : (slot before : ℕ) → last ≡ Some before → InReach last slot → base_on desk (number_of seq slot) ≡ Some slot
+  pub base_is_slot : (slot before : ℕ) → last ≡ Some before → InReach last slot → base_on desk (number_of seq slot) ≡ Some slot
   base_is_slot slot before some reach =
       ap (λ (t : Option Top). base_on (record desk { top = t }) (number_of seq slot)) is.top
       ∙ ap (λ (n : ℕ). base_on (record (topped desk seq ssrc last) { origin = n }) (number_of seq slot)) is.origin
@@ -260,7 +260,7 @@ module _ (truth : ℕ → Option Word) (seq ssrc : ℕ) where
   some_before slot time None stream parity turn = absurd turn
   some_before slot time (Some before) stream parity turn = (before, refl)
 
-  parity_reaches :
+  pub parity_reaches :
       (slot time : ℕ) (last : Option ℕ) (stream : Kind) (parity : Parity) (is : IsTrueParity seq truth slot parity)
       → ComesInTurn last slot (protects time stream parity) → InReach last is.base
   parity_reaches slot time None stream parity is turn = absurd turn
@@ -336,7 +336,7 @@ module _ (truth : ℕ → Option Word) (seq ssrc : ℕ) where
       counted_leaves_truth old new last is admits.after
 
 -- Where a play is due there is a top.
-due_has_top : (desk : State) (number source : ℕ) → IsDue desk number source → desk.top ≢ None
+pub due_has_top : (desk : State) (number source : ℕ) → IsDue desk number source → desk.top ≢ None
 due_has_top desk number source due none =
     subst (λ (t : Option Top). IsDue (record desk { top = t }) number source) none due
 
@@ -352,7 +352,7 @@ module _
     (stand : LiveStandUnderSerials) (peelings : SolutionsArePeelings) (solvable : TruthIsSolvable) (found : SolutionsAreTrue)
     (keeps : FactsAreKept) (media_adds : MediaAdds) (parity_adds : ParityAdds) (truth : ℕ → Option Word)
     (media : AreMedia truth) (seq ssrc : ℕ) where
-  play_leaves_top :
+  pub play_leaves_top :
       (last : Option ℕ) (slot : ℕ) (old : State) (play : Play) (new : State) → Holds old → IsTrueWindow truth old
       → IsTrueTop seq ssrc last slot old → InReach last slot → IsDue old (number_of seq slot) ssrc
       → IsPlay old.playout.window old play new → IsTrueTop seq ssrc last slot new

@@ -76,3 +76,11 @@ module _ (settings : Settings) (payloads : List (List ℕ)) where
           sym (ap (λ (words : List Word). word_sum words) (words_at slots within)),
         );
       }
+
+  -- Its base is the equation's.
+  pub parity_has_base :
+      (base : ℕ) (shape : Shape) (row : Bool) (slot : ℕ) (read : IsShape shape.offset shape.na)
+      (ends : base + (shape.na - 1) * shape.offset ≡ slot) (below : slot < length payloads)
+      → (parity_is_true base shape row slot read ends below).base ≡ base
+  unfolding parity_is_true
+  parity_has_base base shape row slot read ends below = refl

@@ -31,7 +31,7 @@ use Rattle.fg_drill.proofs.Truth.{parity_is_true, word_sent}
 count_more : (g : ℕ → List ℕ) (n : ℕ) → length (flat_map g (range_with_len 0 (n + 1))) ≡ length (flat_map g (range_with_len 0 n)) + length (g n)
 count_more g n = ap (λ (l : List ℕ). length l) (flat_more_at g n) ∙ length-append (flat_map g (range_with_len 0 n)) (g n)
 
-next_number :
+pub next_number :
     (layout : Layout) (slot : ℕ)
     → media_number layout (slot + 1) ≡ media_number layout slot + 1 + length (columns_ending layout slot) + length (rows_ending layout slot)
 next_number layout slot =

@@ -1,5 +1,6 @@
 -- The definitions that the contracts of this crate cite.
 pub mod ComesBack
+pub mod Covered
 pub mod Drill
 pub mod DrillLaws
 pub mod DrillSteps

@@ -3,6 +3,7 @@
 
 pub use fg_thin::laws::{few, payloads};
 
+pub mod covered;
 pub mod drills;
 pub mod full;
 pub mod repaired;
