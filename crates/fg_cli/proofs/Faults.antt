@@ -11,8 +11,8 @@ use Rattle.fg_cli.specs.declared.grammar.Command.TheVariants as command
 use Rattle.fg_cli.specs.declared.grammar.Key.{Key}
 use Rattle.fg_cli.specs.declared.grammar.Key.TheVariants as key
 use Rattle.fg_cli.specs.declared.settings.Setting.{Setting}
-use Rattle.fg_cli.specs.Grammar.{same_key, Knows}
-use Rattle.fg_cli.specs.Lines.{values_of, number_of, IsPlace, IsLine, CanBegin}
+use Rattle.fg_cli.specs.Grammar.{same_key, Knows, most_of}
+use Rattle.fg_cli.specs.Lines.{values_of, number_of, AtMost, IsPlace, IsLine, CanBegin}
 use Rattle.fg_cli.specs.Orders.{FirstFault, FirstOfLine, IsDepthWord}
 use Rattle.fg_cli.proofs.Keys.{same_self}
 use Rattle.fg_cli.proofs.Lines.{line_begins}
@@ -57,6 +57,20 @@ same_word ss i j few x y =
     let same = place_once key.Depth ss x.0 y.0 x.2 y.2 few in
     omega (arith, same, x.1, y.1)
 
+-- the depth is set once at most, after every command
+depth_once : (c : Command) (n : ℕ) → AtMost (most_of c key.Depth) n → n ≤ 1
+depth_once command.Repair n few = few
+depth_once command.Encode n few = few
+depth_once command.Drill n few = few
+depth_once command.Inspect n few = few
+depth_once command.Sample n few = few
+depth_once command.FromCapture n few = few
+depth_once command.ToCapture n few = few
+depth_once command.Monitor n few = few
+depth_once command.Prove n few = few
+depth_once command.Check n few = few
+depth_once command.ChooseMatrix n few = few
+
 -- no command has both a layout and flow words
 no_both : (c : Command) → Knows c key.Columns → Knows c key.Flow → ⊥
 no_both command.Repair x y = cc
@@ -67,6 +81,9 @@ no_both command.Sample x y = cc
 no_both command.FromCapture x y = cc
 no_both command.ToCapture x y = cc
 no_both command.Monitor x y = cc
+no_both command.Prove x y = cc
+no_both command.Check x y = cc
+no_both command.ChooseMatrix x y = cc
 
 one_of_line : (c : Command) (ss : List Setting) (a b : WordFault) → length (values_of key.Depth ss) ≤ 1 → FirstOfLine c ss a → FirstOfLine c ss b → a ≡ b
 one_of_line c ss fault.NoCommand b few x y = absurd x
@@ -148,7 +165,7 @@ one_standing words a b (bad i x e) (whole d ys line y) = absurd (x.2 (line_begin
 one_standing words a b (whole c xs line x) (empty none e') = absurd (no_line words c xs none line)
 one_standing words a b (whole c xs line x) (bad j y e') = absurd (y.2 (line_begins words c xs j line))
 one_standing words a b (whole c xs line x) (whole d ys other y) =
-    one_of_line c xs a b (line.limited key.Depth) x (same_fault words c d xs ys b line other y)
+    one_of_line c xs a b (depth_once c (length (values_of key.Depth xs)) (line.limited key.Depth)) x (same_fault words c d xs ys b line other y)
 
 pub one_fault : (words : List (List ℕ)) (a b : WordFault) → FirstFault words a → FirstFault words b → a ≡ b
 one_fault words a b x y = one_standing words a b (standing words a x) (standing words b y)

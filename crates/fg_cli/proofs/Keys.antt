@@ -15,7 +15,7 @@ use Rattle.fg_cli.specs.Lines.{word_of, setting_text, default_of}
 use Rattle.fg_cli.specs.Reading.{greatest_of}
 
 abbrev all_keys : List Key
-all_keys = key.Flow ∷ key.Window ∷ key.Depth ∷ key.Hold ∷ key.Workers ∷ key.Max ∷ key.Columns ∷ key.Rows ∷ key.Fec ∷ key.Layout ∷ key.Packets ∷ key.Rate ∷ key.Port ∷ key.Seq ∷ key.Ssrc ∷ key.Stamp ∷ key.Drop ∷ key.Every ∷ key.Seed ∷ key.Datagrams ∷ key.Loss ∷ []
+all_keys = key.Flow ∷ key.Window ∷ key.Depth ∷ key.Hold ∷ key.Workers ∷ key.Max ∷ key.Columns ∷ key.Rows ∷ key.Fec ∷ key.Layout ∷ key.Packets ∷ key.Rate ∷ key.Port ∷ key.Seq ∷ key.Ssrc ∷ key.Stamp ∷ key.Drop ∷ key.Every ∷ key.Seed ∷ key.Datagrams ∷ key.Loss ∷ key.Burst ∷ key.Most ∷ []
 
 key_of_place : (k : Key) → get_or all_keys (place k) key.Flow ≡ k
 key_of_place key.Flow = refl
@@ -39,6 +39,8 @@ key_of_place key.Every = refl
 key_of_place key.Seed = refl
 key_of_place key.Datagrams = refl
 key_of_place key.Loss = refl
+key_of_place key.Burst = refl
+key_of_place key.Most = refl
 
 -- two names with one place are one
 pub place_injective : (a b : Key) → place a ≡ place b → a ≡ b
@@ -82,6 +84,8 @@ place_of_name key.Every = refl
 place_of_name key.Seed = refl
 place_of_name key.Datagrams = refl
 place_of_name key.Loss = refl
+place_of_name key.Burst = refl
+place_of_name key.Most = refl
 
 pub name_injective : (a b : Key) → (row a).name ≡ (row b).name → a ≡ b
 name_injective a b e = place_injective a b (sym (place_of_name a) ∙ ap (λ n. place_named n) e ∙ place_of_name b)
@@ -113,6 +117,8 @@ name_plain key.Every = refl
 name_plain key.Seed = refl
 name_plain key.Datagrams = refl
 name_plain key.Loss = refl
+name_plain key.Burst = refl
+name_plain key.Most = refl
 
 plain_head : (c : ℕ) (cs : List ℕ) → no_sign (c ∷ cs) ≡ true → (nat_eq c 61 ≡ false) × (no_sign cs ≡ true)
 plain_head c cs e = elim (nat_eq c 61) as (λ b. nat_eq c 61 ≡ b → (nat_eq c 61 ≡ false) × (no_sign cs ≡ true)) [
@@ -173,6 +179,8 @@ text_injective key.Every n m x y e = text_of_number 0 _ n m (lit< tt) x.1 y.1 e
 text_injective key.Seed n m x y e = text_of_number 0 _ n m (lit< tt) x.1 y.1 e
 text_injective key.Datagrams n m x y e = text_of_number 0 _ n m (lit< tt) x.1 y.1 e
 text_injective key.Loss n m x y e = text_of_number 0 _ n m (lit< tt) x.1 y.1 e
+text_injective key.Burst n m x y e = text_of_number 0 _ n m (lit< tt) x.1 y.1 e
+text_injective key.Most n m x y e = text_of_number 0 _ n m (lit< tt) x.1 y.1 e
 
 text_at : (a b : Key) (n m : ℕ) → a ≡ b → value_text (row a).range n ≡ value_text (row b).range m → Allows (row a).range n → Allows (row b).range m → n ≡ m
 text_at a b n m same e x y =
@@ -212,6 +220,8 @@ allowed_bound key.Every n x = x.1
 allowed_bound key.Seed n x = x.1
 allowed_bound key.Datagrams n x = x.1
 allowed_bound key.Loss n x = x.1
+allowed_bound key.Burst n x = x.1
+allowed_bound key.Most n x = x.1
 
 pub default_bound : (k : Key) → default_of (row k).absent ≤ greatest_of (row k).range
 default_bound key.Flow = lit≤ tt
@@ -235,6 +245,8 @@ default_bound key.Every = lit≤ tt
 default_bound key.Seed = lit≤ tt
 default_bound key.Datagrams = lit≤ tt
 default_bound key.Loss = lit≤ tt
+default_bound key.Burst = lit≤ tt
+default_bound key.Most = lit≤ tt
 
 abbrev command_place : Command → ℕ
 command_place command.Repair = 0
@@ -245,6 +257,9 @@ command_place command.Sample = 4
 command_place command.FromCapture = 5
 command_place command.ToCapture = 6
 command_place command.Monitor = 7
+command_place command.Prove = 8
+command_place command.Check = 9
+command_place command.ChooseMatrix = 10
 
 abbrev command_named : List ℕ → Command
 command_named text = get_or commands (position_or_len (λ t. pointwise nat_eq text t) (map command_text commands)) command.Repair
@@ -258,6 +273,9 @@ command_of_text command.Sample = refl
 command_of_text command.FromCapture = refl
 command_of_text command.ToCapture = refl
 command_of_text command.Monitor = refl
+command_of_text command.Prove = refl
+command_of_text command.Check = refl
+command_of_text command.ChooseMatrix = refl
 
 pub command_injective : (b c : Command) → command_text b ≡ command_text c → b ≡ c
 command_injective b c e = sym (command_of_text b) ∙ ap (λ t. command_named t) e ∙ command_of_text c

@@ -7,7 +7,8 @@ use Rattle.fg_cli.specs.declared.grammar.Command.{Command}
 use Rattle.fg_cli.specs.declared.grammar.Key.{Key}
 use Rattle.fg_cli.specs.declared.grammar.Key.TheVariants as key
 use Rattle.fg_cli.specs.declared.settings.Setting.{Setting}
-use Rattle.fg_cli.specs.Grammar.{row, same_key, Allows, command_text}
+use Rattle.fg_cli.specs.Grammar.{row, same_key, Allows, command_text, most_of}
+use Rattle.fg_cli.specs.declared.grammar.Command.TheVariants as command
 use Rattle.fg_cli.specs.Lines.{setting_text, values_of, IsKnown, AtMost, IsLine, CanBegin}
 use Rattle.fg_cli.specs.Reading.{AreBounded, InRanges}
 use Rattle.fg_cli.proofs.Keys.{setting_injective, command_injective, allowed_bound, same_is, same_self}
@@ -81,32 +82,32 @@ count_no k ss s e =
     ap (λ l. length l) (values-append k ss (s ∷ []) ∙ ap (λ l. values_of k ss ++ l) (values-no k s [] e) ∙ append-nil (values_of k ss))
 
 limited_more :
-    (ss : List Setting) (s : Setting) → ((k : Key) → AtMost (row k).most (length (values_of k ss))) → AtMost (row s.key).most (length (values_of s.key ss) + 1)
-    → (k : Key) → AtMost (row k).most (length (values_of k (ss ++ s ∷ [])))
-limited_more ss s limited more k =
-    elim (same_key k s.key) as (λ b. same_key k s.key ≡ b → AtMost (row k).most (length (values_of k (ss ++ s ∷ [])))) [
+    (c : Command) (ss : List Setting) (s : Setting) → ((k : Key) → AtMost (most_of c k) (length (values_of k ss))) → AtMost (most_of c s.key) (length (values_of s.key ss) + 1)
+    → (k : Key) → AtMost (most_of c k) (length (values_of k (ss ++ s ∷ [])))
+limited_more c ss s limited more k =
+    elim (same_key k s.key) as (λ b. same_key k s.key ≡ b → AtMost (most_of c k) (length (values_of k (ss ++ s ∷ [])))) [
       | true ↦ λ e.
-          (let P : Key → Type 0 = λ j. AtMost (row j).most (length (values_of j ss) + 1) in
-          at_most_is (row k).most (length (values_of k ss) + 1) (length (values_of k (ss ++ s ∷ []))) (sym (count_yes k ss s e)) (subst P (sym (same_is k s.key e)) more))
-      | false ↦ λ e. at_most_is (row k).most (length (values_of k ss)) (length (values_of k (ss ++ s ∷ []))) (sym (count_no k ss s e)) (limited k)
+          (let P : Key → Type 0 = λ j. AtMost (most_of c j) (length (values_of j ss) + 1) in
+          at_most_is (most_of c k) (length (values_of k ss) + 1) (length (values_of k (ss ++ s ∷ []))) (sym (count_yes k ss s e)) (subst P (sym (same_is k s.key e)) more))
+      | false ↦ λ e. at_most_is (most_of c k) (length (values_of k ss)) (length (values_of k (ss ++ s ∷ []))) (sym (count_no k ss s e)) (limited k)
     ] refl
 
 -- a line and a word that is a setting more
 pub line_more :
     (words : List (List ℕ)) (c : Command) (ss : List Setting) (i : ℕ) (d : List ℕ) (s : Setting) → i < length words → IsLine (take i words) c ss
-    → IsKnown c s → get_or words i d ≡ setting_text s → AtMost (row s.key).most (length (values_of s.key ss) + 1) → IsLine (take (i + 1) words) c (ss ++ s ∷ [])
+    → IsKnown c s → get_or words i d ≡ setting_text s → AtMost (most_of c s.key) (length (values_of s.key ss) + 1) → IsLine (take (i + 1) words) c (ss ++ s ∷ [])
 line_more words c ss i d s below line known word more = record {
   spelled = take_more words i d below ∙ ap (λ l. l ++ get_or words i d ∷ []) line.spelled
       ∙ ap (λ w. command_text c ∷ (map setting_text ss ++ w ∷ [])) word
       ∙ ap (λ l. command_text c ∷ l) (sym (map-append setting_text ss (s ∷ [])));
   known = All-append (IsKnown c) ss (s ∷ []) line.known (All-cons (IsKnown c) s [] known (All-nil (IsKnown c)));
-  limited = limited_more ss s line.limited more;
+  limited = limited_more c ss s line.limited more;
 }
 
 -- a line can't go on with a word that is no setting more
 pub no_line_more :
     (words : List (List ℕ)) (c : Command) (ss : List Setting) (i : ℕ) (d : List ℕ) → i < length words → IsLine (take i words) c ss
-    → ((s : Setting) → IsKnown c s → get_or words i d ≡ setting_text s → AtMost (row s.key).most (length (values_of s.key ss) + 1) → ⊥)
+    → ((s : Setting) → IsKnown c s → get_or words i d ≡ setting_text s → AtMost (most_of c s.key) (length (values_of s.key ss) + 1) → ⊥)
     → (b : Command) (ys : List Setting) → IsLine (take (i + 1) words) b ys → ⊥
 no_line_more words c ss i d below line none b ys more =
     let w = get_or words i d in
@@ -116,10 +117,11 @@ no_line_more words c ss i d below line none b ys more =
     let same : b ≡ c = command_injective b c (sym parts.0) in
     let last = last_setting b ss ys (get_or words i d) (in_ranges c ss line.known) more.known parts.1 in
     let P : Command → Type 0 = λ x. IsKnown x last.0 in
-    let Q : List Setting → Type 0 = λ l. AtMost (row last.0.key).most (length (values_of last.0.key l)) in
-    let few = at_most_is (row last.0.key).most (length (values_of last.0.key (ss ++ last.0 ∷ []))) (length (values_of last.0.key ss) + 1)
+    let Q : List Setting → Type 0 = λ l. AtMost (most_of b last.0.key) (length (values_of last.0.key l)) in
+    let few = at_most_is (most_of b last.0.key) (length (values_of last.0.key (ss ++ last.0 ∷ []))) (length (values_of last.0.key ss) + 1)
     (count_yes last.0.key ss last.0 (same_self last.0.key)) (subst Q last.1 (more.limited last.0.key)) in
-    none last.0 (subst P same last.3) last.2 few
+    let F : Command → Type 0 = λ x. AtMost (most_of x last.0.key) (length (values_of last.0.key ss) + 1) in
+    none last.0 (subst P same last.3) last.2 (subst F same few)
 
 -- the front of a line is one
 take_map : {X Y : Type 0} (f : X → Y) (i : ℕ) (xs : List X) → take i (map f xs) ≡ map f (take i xs)
@@ -139,7 +141,7 @@ line_begins words c ss i line = inr (
   record {
     spelled = ap (λ l. take (i + 1) l) line.spelled ∙ rw add-one (ap (λ l. command_text c ∷ l) (take_map setting_text i ss));
     known = All-take (IsKnown c) i ss line.known;
-    limited = λ k. at_most_le (row k).most (length (values_of k (take i ss))) (length (values_of k ss)) (fewer k i ss) (line.limited k);
+    limited = λ k. at_most_le (most_of c k) (length (values_of k (take i ss))) (length (values_of k ss)) (fewer k i ss) (line.limited k);
   },
 )
 
@@ -166,12 +168,27 @@ no_values key.Every = lit≤ tt
 no_values key.Seed = lit≤ tt
 no_values key.Datagrams = lit≤ tt
 no_values key.Loss = lit≤ tt
+no_values key.Burst = lit≤ tt
+no_values key.Most = lit≤ tt
+
+none_of : (c : Command) (k : Key) → AtMost (most_of c k) 0
+none_of command.Prove k = lit≤ tt
+none_of command.Repair k = no_values k
+none_of command.Encode k = no_values k
+none_of command.Drill k = no_values k
+none_of command.Inspect k = no_values k
+none_of command.Sample k = no_values k
+none_of command.FromCapture k = no_values k
+none_of command.ToCapture k = no_values k
+none_of command.Monitor k = no_values k
+none_of command.Check k = no_values k
+none_of command.ChooseMatrix k = no_values k
 
 pub command_line : (words : List (List ℕ)) (c : Command) → slice_get words 0 ≡ Some (command_text c) → IsLine (take 1 words) c []
 command_line [] c e = absurd (cc)
 command_line (w ∷ ws) c e =
     let first : w ≡ command_text c = cc in
-    record { spelled = ap (λ x. x ∷ []) first; known = All-nil (IsKnown c); limited = λ k. no_values k }
+    record { spelled = ap (λ x. x ∷ []) first; known = All-nil (IsKnown c); limited = λ k. none_of c k }
 
 pub no_command : (w : List ℕ) (ws : List (List ℕ)) → ((c : Command) → w ≡ command_text c → ⊥) → ¬ CanBegin (take 1 (w ∷ ws))
 no_command w ws none (inl e) = absurd (cc)

@@ -32,6 +32,9 @@ no_dash command.Sample word words others e = let same : 115 ≡ 45 = ap first_le
 no_dash command.FromCapture word words others e = let same : 102 ≡ 45 = ap first_letter e in omega (arith, same)
 no_dash command.ToCapture word words others e = let same : 116 ≡ 45 = ap first_letter e in omega (arith, same)
 no_dash command.Monitor word words others e = let same : 109 ≡ 45 = ap first_letter e in omega (arith, same)
+no_dash command.Prove word words others e = let same : 112 ≡ 45 = ap first_letter e in omega (arith, same)
+no_dash command.Check word words others e = let same : 99 ≡ 45 = ap first_letter e in omega (arith, same)
+no_dash command.ChooseMatrix word words others e = let same : 112 ≡ 45 = ap first_letter e in omega (arith, same)
 
 same_words : (p q : Question) → question_words p ≡ question_words q → p ≡ q
 same_words Help Help e = refl

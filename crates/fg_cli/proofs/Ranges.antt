@@ -1,13 +1,16 @@
 -- Values that a line sets lie within their names' ranges.
-use Rattle.std.proofs.Common.{◌≡◌, ℕ, suc, ◌≤◌, true, false, List, [], ◌∷◌, slice_get, unwrap_or, refl, sym, subst, inl, inr, ◌⊎◌, arith, lit≤}
-use Rattle.std.specs.List.{All}
+use Rattle.std.proofs.Common.{◌≡◌, ℕ, suc, ◌≤◌, Bool, true, false, cond, nat_eq, List, [], ◌∷◌, length, slice_get, Option, Some, None, unwrap_or, refl, sym, subst, inl, inr, ◌⊎◌, arith, lit≤}
+use Rattle.std.specs.List.{All, cons_option, filter_map}
 use Rattle.std.proofs.lemmas.List.Elements.{All-cons, All-nil}
 use Rattle.fg_shape.specs.Kind.{IsFlowPort}
+use Rattle.fg_cli.specs.declared.Name.{Name}
+use Rattle.fg_cli.specs.declared.Name.TheVariants as name
+use Rattle.fg_cli.specs.declared.grammar.Command.TheVariants as command
 use Rattle.fg_cli.specs.declared.grammar.Key.{Key}
 use Rattle.fg_cli.specs.declared.grammar.Key.TheVariants as key
 use Rattle.fg_cli.specs.declared.settings.Setting.{Setting}
 use Rattle.fg_cli.specs.Grammar.{row, same_key, Allows}
-use Rattle.fg_cli.specs.Lines.{values_of, number_of, default_of}
+use Rattle.fg_cli.specs.Lines.{values_of, number_of, default_of, missing_name, missing_of}
 use Rattle.fg_cli.specs.Orders.{MaxFits}
 use Rattle.fg_cli.specs.Reading.{InRanges}
 use Rattle.fg_cli.proofs.Keys.{same_is}
@@ -75,3 +78,34 @@ every_in ss all = first_or_zero (values_of key.Every ss) (values_in key.Every ss
 
 pub drops_in : (ss : List Setting) → InRanges ss → All (λ n. 1 ≤ n) (values_of key.Drop ss)
 drops_in ss all k d below = (values_in key.Drop ss all k d below).0
+
+-- where none of the names that must be there is missing, each has a value
+none_missing :
+    (ss : List Setting) (k : Key) (ks : List Key) → slice_get (filter_map (missing_name ss) (k ∷ ks)) 0 ≡ None
+    → (missing_name ss k ≡ None) × (slice_get (filter_map (missing_name ss) ks) 0 ≡ None)
+none_missing ss k ks none = go (missing_name ss k) none
+  where
+    go : (o : Option Name) → slice_get (cons_option o (filter_map (missing_name ss) ks)) 0 ≡ None → (o ≡ None) × (slice_get (filter_map (missing_name ss) ks) 0 ≡ None)
+    go None none = (refl, none)
+    go (Some n) none = absurd (cc)
+
+first_of_some : (P : ℕ → Type 0) (xs : List ℕ) (d : ℕ) → All P xs → nat_eq (length xs) 0 ≡ false → P (unwrap_or (slice_get xs 0) d)
+first_of_some P [] d all some = absurd (cc)
+first_of_some P (x ∷ xs) d all some = all 0 x (omega arith)
+
+is_there : (n : Name) (b : Bool) → cond b (Some n) None ≡ None → b ≡ false
+is_there n true none = absurd (cc)
+is_there n false none = refl
+
+pub burst_in : (ss : List Setting) → InRanges ss → missing_of command.ChooseMatrix ss ≡ None → (1 ≤ number_of key.Burst ss) × (number_of key.Burst ss ≤ 20)
+burst_in ss all none =
+    let here = (none_missing ss key.Burst (key.Most ∷ key.Fec ∷ []) none).0 in
+    first_of_some (λ n. (1 ≤ n) × (n ≤ 20)) (values_of key.Burst ss) 0 (values_in key.Burst ss all)
+    (is_there name.Burst (nat_eq (length (values_of key.Burst ss)) 0) here)
+
+pub most_in : (ss : List Setting) → InRanges ss → missing_of command.ChooseMatrix ss ≡ None → (1 ≤ number_of key.Most ss) × (number_of key.Most ss ≤ 100)
+most_in ss all none =
+    let rest = (none_missing ss key.Burst (key.Most ∷ key.Fec ∷ []) none).1 in
+    let here = (none_missing ss key.Most (key.Fec ∷ []) rest).0 in
+    first_of_some (λ n. (1 ≤ n) × (n ≤ 100)) (values_of key.Most ss) 0 (values_in key.Most ss all)
+    (is_there name.Most (nat_eq (length (values_of key.Most ss)) 0) here)

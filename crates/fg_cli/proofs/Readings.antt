@@ -41,6 +41,9 @@ order_layout command.Sample ss o x k = absurd (cc)
 order_layout command.FromCapture ss o x k = absurd (cc)
 order_layout command.ToCapture ss o x k = absurd (cc)
 order_layout command.Monitor ss o x k = absurd (cc)
+order_layout command.Prove ss o x k = absurd (cc)
+order_layout command.Check ss o x k = absurd (cc)
+order_layout command.ChooseMatrix ss o x k = absurd (cc)
 
 table_at : (a b : List ℕ) → a ≡ b → IsTable a → IsTable b
 table_at a b e h = let P : List ℕ → Type 0 = λ l. IsTable l in subst P e h
@@ -48,14 +51,18 @@ table_at a b e h = let P : List ℕ → Type 0 = λ l. IsTable l in subst P e h
 order_flows : (c : Command) (ss : List Setting) (o : Order) → IsOrder c ss o → Knows c key.Flow → IsTable (values_of key.Flow ss)
 order_flows command.Repair ss (order.Repair plan) x k = table_at plan.table (values_of key.Flow ss) x.flows x.table
 order_flows command.Inspect ss (order.Inspect table m) x k = table_at table (values_of key.Flow ss) x.0 x.1
+order_flows command.Prove ss (order.Prove plan) x k = table_at plan.table (values_of key.Flow ss) x.flows x.table
 order_flows command.Repair ss _ x k = absurd x
 order_flows command.Inspect ss _ x k = absurd x
+order_flows command.Prove ss _ x k = absurd x
 order_flows command.Encode ss o x k = absurd (cc)
 order_flows command.Drill ss o x k = absurd (cc)
 order_flows command.Sample ss o x k = absurd (cc)
 order_flows command.FromCapture ss o x k = absurd (cc)
 order_flows command.ToCapture ss o x k = absurd (cc)
 order_flows command.Monitor ss o x k = absurd (cc)
+order_flows command.Check ss o x k = absurd (cc)
+order_flows command.ChooseMatrix ss o x k = absurd (cc)
 
 line_has_no_fault : (c : Command) (ss : List Setting) (o : Order) (f : WordFault) → AreWhole c ss → IsOrder c ss o → FirstOfLine c ss f → ⊥
 line_has_no_fault c ss o fault.NoCommand whole x y = y

@@ -89,6 +89,13 @@ same_order command.Sample ss (order.Sample s d l p) (order.Sample t e k q) x y =
 same_order command.FromCapture ss (order.FromCapture m) (order.FromCapture n) x y = ap (λ z. order.FromCapture z) (x ∙ sym y)
 same_order command.ToCapture ss (order.ToCapture m) (order.ToCapture n) x y = ap (λ z. order.ToCapture z) (x ∙ sym y)
 same_order command.Monitor ss (order.Monitor m) (order.Monitor n) x y = ap (λ z. order.Monitor z) (x ∙ sym y)
+same_order command.Prove ss (order.Prove p) (order.Prove q) x y = ap (λ z. order.Prove z) (same_plan ss _ _ _ p q refl x y)
+same_order command.Check ss (order.Check m) (order.Check n) x y = ap (λ z. order.Check z) (x ∙ sym y)
+same_order command.ChooseMatrix ss (order.ChooseMatrix b m r) (order.ChooseMatrix c n s) x y =
+    let burst : b ≡ c = x.0 ∙ sym y.0 in
+    let most : m ≡ n = x.1 ∙ sym y.1 in
+    let rows : r ≡ s = x.2 ∙ sym y.2 in
+    λ i. order.ChooseMatrix (burst i) (most i) (rows i)
 same_order command.Repair ss (order.Repair a0) _ x y = absurd y
 same_order command.Repair ss _ b x y = absurd x
 same_order command.Encode ss (order.Encode a0 a1) _ x y = absurd y
@@ -105,6 +112,12 @@ same_order command.ToCapture ss (order.ToCapture a0) _ x y = absurd y
 same_order command.ToCapture ss _ b x y = absurd x
 same_order command.Monitor ss (order.Monitor a0) _ x y = absurd y
 same_order command.Monitor ss _ b x y = absurd x
+same_order command.Prove ss (order.Prove a0) _ x y = absurd y
+same_order command.Prove ss _ b x y = absurd x
+same_order command.Check ss (order.Check a0) _ x y = absurd y
+same_order command.Check ss _ b x y = absurd x
+same_order command.ChooseMatrix ss (order.ChooseMatrix a0 a1 a2) _ x y = absurd y
+same_order command.ChooseMatrix ss _ b x y = absurd x
 
 pub one_reading : (words : List (List ℕ)) (a b : Order) → IsReading words a → IsReading words b → a ≡ b
 one_reading words a b x y =

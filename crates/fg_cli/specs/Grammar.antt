@@ -67,19 +67,32 @@ row key.Every = record { name = codes "every"; range = Number 2 9999999999999; a
 row key.Seed = needed (codes "seed") (Number 0 9999999999999) (Needed name.Seed)
 row key.Datagrams = optional (codes "datagrams") (Number 1 20000) 1000
 row key.Loss = optional (codes "loss") (Number 0 20) 3
+row key.Burst = needed (codes "burst") (Number 1 20) (Needed name.Burst)
+row key.Most = needed (codes "most") (Number 1 100) (Needed name.Most)
 
--- A name's row as the help tells it: the table takes any number of columns and rows, and leaves it to the layout, which
--- takes these at most.
+-- How often a name may stand after a command: as often as its row says, but once after `prove`, which is of one flow.
+abbrev pub most_of : Command → Key → Option ℕ
+most_of command.Prove key = Some 1
+most_of command key = (row key).most
+
+-- A name's row as the help tells it: the table takes any number of columns, rows and flows, and leaves it to the layout and to
+-- the flows' own table, which take these at most.
 abbrev pub told_row : Key → TableRow
+told_row key.Flow = record (row key.Flow) { most = Some 64 }
 told_row key.Columns = needed (codes "columns") (Number 1 20) (Needed name.Columns)
 told_row key.Rows = needed (codes "rows") (Number 4 20) (Needed name.Rows)
 told_row key = row key
+
+-- The same of a name that stands after a command.
+abbrev pub told_after : Command → Key → TableRow
+told_after command.Prove key = record (told_row key) { most = Some 1 }
+told_after command key = told_row key
 
 -- All commands, in the order in which the help tells them.
 abbrev pub commands : List Command
 commands =
     command.Repair ∷ command.Encode ∷ command.Drill ∷ command.Inspect ∷ command.Sample ∷ command.FromCapture ∷ command.ToCapture
-    ∷ command.Monitor ∷ []
+    ∷ command.Monitor ∷ command.Prove ∷ command.Check ∷ command.ChooseMatrix ∷ []
 
 -- The word of a command.
 abbrev pub command_text : Command → List ℕ
@@ -91,6 +104,9 @@ command_text command.Sample = codes "sample"
 command_text command.FromCapture = codes "fromcap"
 command_text command.ToCapture = codes "tocap"
 command_text command.Monitor = codes "monitor"
+command_text command.Prove = codes "prove"
+command_text command.Check = codes "check"
+command_text command.ChooseMatrix = codes "plan"
 
 -- What the help says of a command, and of a name.
 abbrev pub command_about : Command → List ℕ
@@ -102,9 +118,12 @@ command_about command.Sample = codes "makes a stream, drops records, and repairs
 command_about command.FromCapture = codes "writes the trace of the datagrams in a capture"
 command_about command.ToCapture = codes "writes a capture of the records of a trace"
 command_about command.Monitor = codes "writes a line for each break in a stream's continuity"
+command_about command.Prove = codes "writes a case for each window that shows a gap"
+command_about command.Check = codes "judges cases of gaps, a line for each"
+command_about command.ChooseMatrix = codes "writes the least matrix that brings a burst back"
 
 abbrev pub about : Key → List ℕ
-about key.Flow = codes "media port P, with P+2 and P+4, up to 64 times"
+about key.Flow = codes "media port P, with P+2 and P+4"
 about key.Window = codes "positions that are played at once"
 about key.Depth = codes "a datagram so far ahead plays them"
 about key.Hold = codes "microseconds that a datagram may wait"
@@ -125,6 +144,8 @@ about key.Every = codes "its multiples are left out"
 about key.Seed = codes "what the stream is made from"
 about key.Datagrams = codes "media datagrams of the stream"
 about key.Loss = codes "records of a hundred left out"
+about key.Burst = codes "datagrams that are lost in succession"
+about key.Most = codes "percent of parity at most"
 
 -- The names that may stand after a command. Where several that must be there aren't, the first is told.
 abbrev pub keys_of : Command → List Key
@@ -140,6 +161,9 @@ keys_of command.Sample = key.Workers ∷ key.Seed ∷ key.Datagrams ∷ key.Loss
 keys_of command.FromCapture = key.Max ∷ []
 keys_of command.ToCapture = key.Max ∷ []
 keys_of command.Monitor = key.Max ∷ []
+keys_of command.Prove = key.Flow ∷ key.Window ∷ key.Depth ∷ key.Hold ∷ key.Max ∷ []
+keys_of command.Check = key.Max ∷ []
+keys_of command.ChooseMatrix = key.Burst ∷ key.Most ∷ key.Fec ∷ []
 
 -- The place of a name's row, by which names are told apart.
 abbrev pub place : Key → ℕ
@@ -164,6 +188,8 @@ place key.Every = 17
 place key.Seed = 18
 place key.Datagrams = 19
 place key.Loss = 20
+place key.Burst = 21
+place key.Most = 22
 
 abbrev pub same_key : Key → Key → Bool
 same_key a b = nat_eq (place a) (place b)

@@ -8,7 +8,7 @@ use Rattle.fg_cli.specs.declared.grammar.Command.{Command}
 use Rattle.fg_cli.specs.declared.grammar.Key.{Key}
 use Rattle.fg_cli.specs.declared.grammar.Absent.{Absent}
 use Rattle.fg_cli.specs.declared.grammar.Absent.TheVariants.{Needed, Default, Nothing}
-use Rattle.fg_cli.specs.Grammar.{Range, Number, Either, TableRow, about, command_about, command_text, commands, keys_of, told_row, value_text}
+use Rattle.fg_cli.specs.Grammar.{Range, Number, Either, TableRow, about, command_about, command_text, commands, keys_of, told_after, value_text}
 
 -- Lines of text.
 abbrev pub lines_text : List (List ℕ) → List ℕ
@@ -47,9 +47,9 @@ row_line row meaning =
     spelling row.name row.range ++ meaning ++ times_text row.most ++ codes "; " ++ absent_text row.range row.absent
     ++ codes "\n"
 
--- The line of a name.
-abbrev pub key_line : Key → List ℕ
-key_line key = row_line (told_row key) (about key)
+-- The line of a name that stands after a command.
+abbrev pub key_line : Command → Key → List ℕ
+key_line command key = row_line (told_after command key) (about key)
 
 -- The line of a command.
 unfoldable pub command_line : Command → List ℕ
@@ -58,7 +58,7 @@ command_line command =
 
 -- A command with its names, in the order of the table.
 unfoldable pub command_help : Command → List ℕ
-command_help command = command_line command ++ flat_map key_line (keys_of command)
+command_help command = command_line command ++ flat_map (key_line command) (keys_of command)
 
 -- Its part of the help, behind a blank line.
 unfoldable pub command_part : Command → List ℕ
@@ -75,8 +75,9 @@ intro =
     ∷ codes "       fgate --version"
     ∷ codes ""
     ∷ codes "Standard input is a trace; for encode, drill and monitor a stream, for fromcap a"
-    ∷ codes "capture. Standard output is the report, for encode or fromcap a trace, for tocap"
-    ∷ codes "a capture. Each flow goes to the file PORT.ts of this folder."
+    ∷ codes "capture, for check the text of prove. Standard output is the report, for encode"
+    ∷ codes "or fromcap a trace, for tocap a capture. Each flow goes to the file PORT.ts of"
+    ∷ codes "this folder."
     ∷ [])
 
 -- The lines that name the first rule that the words break.
@@ -113,6 +114,8 @@ outro =
     ∷ codes "  6  there was no memory"
     ∷ codes "  7  the stream is not of whole transport packets"
     ∷ codes "  8  the input is no capture, or a record does not fit one"
+    ∷ codes "  10 a case proves no gap"
+    ∷ codes "  11 the text is not of cases"
     ∷ codes ""
     ∷ codes "example: fgate repair flow=5000 flow=6000 < night.trace"
     ∷ [])

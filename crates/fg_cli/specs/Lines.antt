@@ -7,7 +7,7 @@ use Rattle.fg_cli.specs.declared.grammar.Absent.TheVariants.{Needed, Default, No
 use Rattle.fg_cli.specs.declared.grammar.Command.{Command}
 use Rattle.fg_cli.specs.declared.grammar.Key.{Key}
 use Rattle.fg_cli.specs.declared.settings.Setting.{Setting}
-use Rattle.fg_cli.specs.Grammar.{row, value_text, Allows, Knows, keys_of, command_text, same_key}
+use Rattle.fg_cli.specs.Grammar.{row, value_text, Allows, Knows, keys_of, command_text, most_of, same_key}
 
 -- The word of a setting: its name, an equals sign and its value.
 abbrev pub word_of : Key → ℕ → List ℕ
@@ -38,7 +38,7 @@ AtMost (Some most) n = n ≤ most
 pub record IsLine (words : List (List ℕ)) (command : Command) (settings : List Setting) : Type 0 where
   pub spelled : words ≡ command_text command ∷ map setting_text settings
   pub known : All (IsKnown command) settings
-  pub limited : (key : Key) → AtMost (row key).most (length (values_of key settings))
+  pub limited : (key : Key) → AtMost (most_of command key) (length (values_of key settings))
 
 -- Words with which a command line can begin: none, or a command and settings.
 abbrev pub CanBegin : List (List ℕ) → Type 0

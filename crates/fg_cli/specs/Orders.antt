@@ -36,7 +36,7 @@ pub record AreWhole (command : Command) (settings : List Setting) : Type 0 where
   pub deep : ¬ DepthIsBelow settings
 
 -- A repair as it is set, of these flows and so many bytes. Without a word for hold its number is 0, which sets
--- no limit. A sample has no words for window, depth and hold, so it has the defaults.
+-- no limit. A sample has no words for window, depth and hold, so it has the defaults, and so has `prove` for workers.
 pub record IsPlan (settings : List Setting) (ports : List ℕ) (bytes : ℕ) (plan : Plan) : Type 0 where
   pub flows : plan.table ≡ ports
   pub table : IsTable plan.table
@@ -82,6 +82,12 @@ IsOrder command.Sample settings (order.Sample seed datagrams loss plan) =
 IsOrder command.FromCapture settings (order.FromCapture max) = max ≡ number_of key.Max settings
 IsOrder command.ToCapture settings (order.ToCapture max) = max ≡ number_of key.Max settings
 IsOrder command.Monitor settings (order.Monitor max) = max ≡ number_of key.Max settings
+IsOrder command.Prove settings (order.Prove plan) =
+    IsPlan settings (values_of key.Flow settings) (number_of key.Max settings) plan
+IsOrder command.Check settings (order.Check max) = max ≡ number_of key.Max settings
+IsOrder command.ChooseMatrix settings (order.ChooseMatrix burst most rows) =
+    (burst ≡ number_of key.Burst settings) × (most ≡ number_of key.Most settings)
+    × (rows ≡ nat_eq (number_of key.Fec settings) 1)
 IsOrder _ settings _ = ⊥
 
 -- The words have this reading.
@@ -141,3 +147,6 @@ OrderFits (order.Sample seed datagrams loss plan) =
 OrderFits (order.FromCapture max) = MaxFits max
 OrderFits (order.ToCapture max) = MaxFits max
 OrderFits (order.Monitor max) = MaxFits max
+OrderFits (order.Prove plan) = PlanFits plan × MaxFits plan.max × (length plan.table ≡ 1)
+OrderFits (order.Check max) = MaxFits max
+OrderFits (order.ChooseMatrix burst most rows) = (1 ≤ burst) × (burst ≤ 20) × (1 ≤ most) × (most ≤ 100)

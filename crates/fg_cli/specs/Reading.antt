@@ -11,10 +11,10 @@ use Rattle.fg_cli.specs.declared.ReadWords.TheVariants as answer
 use Rattle.fg_cli.specs.declared.WordFault.TheVariants.{Flows}
 use Rattle.fg_cli.specs.declared.Order.{Order}
 use Rattle.fg_cli.specs.declared.grammar.Command.{Command}
-use Rattle.fg_cli.specs.declared.grammar.Key.TheVariants as key
+use Rattle.fg_cli.specs.declared.grammar.Key.{Key}
 use Rattle.fg_cli.specs.declared.settings.Setting.{Setting}
-use Rattle.fg_cli.specs.Grammar.{row, Range, TableRow, Number, Either, Allows, value_text}
-use Rattle.fg_cli.specs.Lines.{values_of, IsKnown}
+use Rattle.fg_cli.specs.Grammar.{row, Range, TableRow, Number, Either, Allows, most_of, value_text}
+use Rattle.fg_cli.specs.Lines.{values_of, AtMost, IsKnown}
 use Rattle.fg_cli.specs.Orders.{AreWhole, DepthIsBelow, FirstOfLine, IsDepthWord, IsOrder, OrderFits}
 
 -- the range and the row of the code, as those of the table
@@ -62,7 +62,7 @@ IsLineFault command settings (answer.Words fault) = FirstOfLine command settings
 pub record CanBeOrdered (command : Command) (settings : List Setting) : Type 0 where
   pub known : All (IsKnown command) settings
   pub bounded : AreBounded settings
-  pub drops : length (values_of key.Drop settings) ≤ 1000
+  pub limited : (key : Key) → AtMost (most_of command key) (length (values_of key settings))
   pub whole : AreWhole command settings
 
 -- the order of the command with these settings, or the first rule that they break

@@ -1,6 +1,6 @@
 //! The commands, and the names that may stand after them: one row for each name.
 ghost use Rattle.std.specs.Prelude.{◌≡◌, ◌<◌, ◌^◌, ◌≤◌, ◌↔◌, IfNone, IfSome, IsTrue};
-ghost use Rattle.fg_cli.specs.Grammar.{Knows, Number, Either, about, command_about, command_text, commands, keys_of, needed, optional, row, told_row};
+ghost use Rattle.fg_cli.specs.Grammar.{Knows, Number, Either, about, command_about, command_text, commands, keys_of, most_of, needed, optional, row, told_after, told_row};
 ghost use Rattle.fg_cli.specs.Reading.{BeginsPlain, Reads, range_seen, row_seen};
 
 use crate::Name;
@@ -17,6 +17,9 @@ pub enum Command {
     FromCapture,
     ToCapture,
     Monitor,
+    Prove,
+    Check,
+    ChooseMatrix,
 }
 
 /// A name that may stand before an equals sign.
@@ -43,6 +46,8 @@ pub enum Key {
     Seed,
     Datagrams,
     Loss,
+    Burst,
+    Most,
 }
 
 /// The values that a name takes.
@@ -89,6 +94,9 @@ impl Command {
             Command::FromCapture,
             Command::ToCapture,
             Command::Monitor,
+            Command::Prove,
+            Command::Check,
+            Command::ChooseMatrix,
         ]
     }
 
@@ -105,6 +113,9 @@ impl Command {
             Command::FromCapture => "fromcap",
             Command::ToCapture => "tocap",
             Command::Monitor => "monitor",
+            Command::Prove => "prove",
+            Command::Check => "check",
+            Command::ChooseMatrix => "plan",
         }
     }
 
@@ -137,6 +148,15 @@ impl Command {
         if word == "monitor" {
             return Some(Command::Monitor);
         }
+        if word == "prove" {
+            return Some(Command::Prove);
+        }
+        if word == "check" {
+            return Some(Command::Check);
+        }
+        if word == "plan" {
+            return Some(Command::ChooseMatrix);
+        }
         None
     }
 
@@ -153,6 +173,9 @@ impl Command {
             Command::FromCapture => "writes the trace of the datagrams in a capture",
             Command::ToCapture => "writes a capture of the records of a trace",
             Command::Monitor => "writes a line for each break in a stream's continuity",
+            Command::Prove => "writes a case for each window that shows a gap",
+            Command::Check => "judges cases of gaps, a line for each",
+            Command::ChooseMatrix => "writes the least matrix that brings a burst back",
         }
     }
 
@@ -161,8 +184,8 @@ impl Command {
         ensures { result.now ≡ keys_of self }
     {
         use Key::{
-            Columns, Datagrams, Depth, Drop, Every, Fec, Flow, Hold, Layout, Loss, Max, Packets,
-            Port, Rate, Rows, Seed, Seq, Ssrc, Stamp, Window, Workers,
+            Burst, Columns, Datagrams, Depth, Drop, Every, Fec, Flow, Hold, Layout, Loss, Max,
+            Most, Packets, Port, Rate, Rows, Seed, Seq, Ssrc, Stamp, Window, Workers,
         };
         match self {
             Command::Repair => &[Flow, Window, Depth, Hold, Workers, Max],
@@ -175,7 +198,32 @@ impl Command {
             ],
             Command::Inspect => &[Flow, Max],
             Command::Sample => &[Workers, Seed, Datagrams, Loss],
-            Command::FromCapture | Command::ToCapture | Command::Monitor => &[Max],
+            Command::FromCapture | Command::ToCapture | Command::Monitor | Command::Check => &[Max],
+            Command::Prove => &[Flow, Window, Depth, Hold, Max],
+            Command::ChooseMatrix => &[Burst, Most, Fec],
+        }
+    }
+
+    /// How often a name may stand after the command, and `None` where there is no limit.
+    pub fn most(self, key: Key) -> Option<usize>
+        ensures { result ≡ most_of self key }
+    {
+        match self {
+            Command::Prove => Some(1),
+            _ => key.row().most,
+        }
+    }
+
+    /// A name's row as the help tells it of the command.
+    pub fn told(self, key: Key) -> Row
+        ensures { row_seen result ≡ told_after self key }
+    {
+        match self {
+            Command::Prove => Row {
+                most: Some(1),
+                ..key.told()
+            },
+            _ => key.told(),
         }
     }
 
@@ -245,14 +293,21 @@ impl Key {
             Key::Seed => needed_row("seed", Values::Number(0, 9_999_999_999_999), Name::Seed),
             Key::Datagrams => optional_row("datagrams", Values::Number(1, 20_000), 1_000),
             Key::Loss => optional_row("loss", Values::Number(0, 20), 3),
+            Key::Burst => needed_row("burst", Values::Number(1, 20), Name::Burst),
+            Key::Most => needed_row("most", Values::Number(1, 100), Name::Most),
         }
     }
 
-    /// The name's row as the help tells it. No layout takes all columns and rows that the table takes.
+    /// The name's row as the help tells it. No layout takes all columns and rows that the table takes, and no table of flows all
+    /// flows.
     pub fn told(self) -> Row
         ensures { row_seen result ≡ told_row self }
     {
         match self {
+            Key::Flow => Row {
+                most: Some(64),
+                ..Key::Flow.row()
+            },
             Key::Columns => needed_row("columns", Values::Number(1, 20), Name::Columns),
             Key::Rows => needed_row("rows", Values::Number(4, 20), Name::Rows),
             _ => self.row(),
@@ -264,7 +319,7 @@ impl Key {
         ensures { result.now ≡ about self }
     {
         match self {
-            Key::Flow => "media port P, with P+2 and P+4, up to 64 times",
+            Key::Flow => "media port P, with P+2 and P+4",
             Key::Window => "positions that are played at once",
             Key::Depth => "a datagram so far ahead plays them",
             Key::Hold => "microseconds that a datagram may wait",
@@ -285,6 +340,8 @@ impl Key {
             Key::Seed => "what the stream is made from",
             Key::Datagrams => "media datagrams of the stream",
             Key::Loss => "records of a hundred left out",
+            Key::Burst => "datagrams that are lost in succession",
+            Key::Most => "percent of parity at most",
         }
     }
 }

@@ -23,8 +23,9 @@ usage: fgate COMMAND NAME=VALUE ..
        fgate --version
 
 Standard input is a trace; for encode, drill and monitor a stream, for fromcap a
-capture. Standard output is the report, for encode or fromcap a trace, for tocap
-a capture. Each flow goes to the file PORT.ts of this folder.
+capture, for check the text of prove. Standard output is the report, for encode
+or fromcap a trace, for tocap a capture. Each flow goes to the file PORT.ts of
+this folder.
 ";
 
 /// The lines that name the first rule that the words break.
@@ -56,6 +57,8 @@ status:
   6  there was no memory
   7  the stream is not of whole transport packets
   8  the input is no capture, or a record does not fit one
+  10 a case proves no gap
+  11 the text is not of cases
 
 example: fgate repair flow=5000 flow=6000 < night.trace
 ";
@@ -205,7 +208,7 @@ fn push_command(text: &mut Vec<u8>, command: Command) -> Result<(), AllocError>
     push_command_line(text, command)?;
     let keys = command.keys();
     for key in keys {
-        push_key_line(text, *key)?;
+        push_key_line(text, command, *key)?;
     }
     Ok(())
 }
@@ -223,11 +226,11 @@ fn push_command_line(text: &mut Vec<u8>, command: Command) -> Result<(), AllocEr
     Ok(())
 }
 
-/// Pushes the line of a name.
-fn push_key_line(text: &mut Vec<u8>, key: Key) -> Result<(), AllocError>
-    ensures { OnOk result (text.new.items ≡ text.old.items ++ key_line key) }
+/// Pushes the line of a name that stands after a command.
+fn push_key_line(text: &mut Vec<u8>, command: Command, key: Key) -> Result<(), AllocError>
+    ensures { OnOk result (text.new.items ≡ text.old.items ++ key_line command key) }
 {
-    push_row_line(text, key.told(), key.about())
+    push_row_line(text, command.told(key), key.about())
 }
 
 /// Pushes a line of the table.

@@ -61,6 +61,19 @@ pub enum Order {
     Monitor {
         max: u64,
     },
+    /// Write the cases of the gaps that the plan's one flow shows.
+    Prove(Plan),
+    /// Judge the cases in a text of at most so many bytes.
+    Check {
+        max: u64,
+    },
+    /// Choose the least matrix for a burst of so many datagrams and so many percent of parity at most, with parity of rows or
+    /// without.
+    ChooseMatrix {
+        burst: u8,
+        most: u8,
+        rows: bool,
+    },
 }
 
 /// A name that must be there.
@@ -70,6 +83,8 @@ pub enum Name {
     Columns,
     Rows,
     Seed,
+    Burst,
+    Most,
 }
 
 /// The first rule that the words break. Words are counted from 0, the command.

@@ -8,7 +8,8 @@ ghost use Rattle.fg_flows.specs.Plan.{PlanFits};
 ghost use Rattle.fg_cli.specs.declared.grammar.Command.TheVariants as command;
 ghost use Rattle.fg_cli.specs.declared.grammar.Key.TheVariants as key;
 ghost use Rattle.fg_cli.specs.declared.ReadWords.TheVariants as answer;
-ghost use Rattle.fg_cli.specs.Lines.{IsKnown, number_of, values_of};
+ghost use Rattle.fg_cli.specs.Grammar.{most_of};
+ghost use Rattle.fg_cli.specs.Lines.{AtMost, IsKnown, number_of, values_of};
 ghost use Rattle.fg_cli.specs.Orders.{AreLosses, AreSettings, AreWhole, DepthIsBelow, IsOrder, IsPlan, MaxFits, OrderFits};
 ghost use Rattle.fg_shape.specs.Losses.{LossesFit};
 ghost use Rattle.fg_cli.specs.Reading.{AreBounded, CanBeOrdered, InRanges, IsLineFault, IsShallow, Orders};
@@ -29,7 +30,7 @@ const INNER_MAX: u64 = 4_398_046_511_104;
 /// The order of the command with these settings, or the first rule that they break.
 pub fn order_of(alloc: Global, command: Command, settings: &[Setting]) -> Result<Order, ReadWords>
     requires known { All (IsKnown command) settings.now }
-    requires drops { length (values_of key.Drop settings.now) ≤ 1000 }
+    requires limited { (key : Key) → AtMost (most_of command key) (length (values_of key settings.now)) }
     ensures whole { IfOk result (λ _. AreWhole command settings.now) }
     ensures order { IfOk result (IsOrder command settings.now) }
     ensures fits { IfOk result OrderFits }
@@ -72,6 +73,9 @@ fn whole_order(alloc: Global, command: Command, settings: &[Setting]) -> Result<
         Command::FromCapture => from_capture(settings),
         Command::ToCapture => to_capture(settings),
         Command::Monitor => monitor(settings),
+        Command::Prove => prove(alloc, settings),
+        Command::Check => check(settings),
+        Command::ChooseMatrix => choose_matrix(settings),
     }
 }
 
@@ -166,6 +170,36 @@ fn monitor(settings: &[Setting]) -> Result<Order, ReadWords>
 {
     let max = max_of(settings);
     Ok(Order::Monitor { max })
+}
+
+/// What `prove` orders.
+fn prove(alloc: Global, settings: &[Setting]) -> Result<Order, ReadWords>
+    requires { CanBeOrdered command.Prove settings.now }
+    ensures { Orders command.Prove settings.now result }
+{
+    let table = flows(alloc, settings)?;
+    let max = max_of(settings);
+    Ok(Order::Prove(plan(table, settings, max)))
+}
+
+/// What `check` orders.
+fn check(settings: &[Setting]) -> Result<Order, ReadWords>
+    requires { CanBeOrdered command.Check settings.now }
+    ensures { Orders command.Check settings.now result }
+{
+    let max = max_of(settings);
+    Ok(Order::Check { max })
+}
+
+/// What `plan` orders.
+fn choose_matrix(settings: &[Setting]) -> Result<Order, ReadWords>
+    requires { CanBeOrdered command.ChooseMatrix settings.now }
+    ensures { Orders command.ChooseMatrix settings.now result }
+{
+    let burst = number(settings, Key::Burst) as u8;
+    let most = number(settings, Key::Most) as u8;
+    let rows = number(settings, Key::Fec) == 1;
+    Ok(Order::ChooseMatrix { burst, most, rows })
 }
 
 /// The most bytes that the command takes.

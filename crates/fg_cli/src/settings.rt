@@ -1,6 +1,6 @@
 //! The settings that follow a command, and what they say of each name.
 ghost use Rattle.std.specs.Prelude.{◌≡◌, ◌+◌, ◌∷◌, ◌++◌, [], ◌<◌, ◌≤◌, ◌↔◌, IfErr, IfNone, IfOk, IfSome, IsTrue, OnOk, map, length, slice_get, string_bytes};
-ghost use Rattle.fg_cli.specs.Grammar.{command_text, row, same_key};
+ghost use Rattle.fg_cli.specs.Grammar.{command_text, most_of, row, same_key};
 ghost use Rattle.fg_cli.specs.Lines.{AtMost, IsKnown, IsLine, IsPlace, missing_name, missing_of, number_of, setting_text, values_of};
 ghost use Rattle.fg_cli.specs.Orders.{IsFault};
 ghost use Rattle.fg_cli.specs.Reading.{AreBounded, greatest_of};
@@ -50,13 +50,13 @@ fn next_setting(command: Command, word: &str, settings: &[Setting]) -> Option<Se
     ensures found { IfSome result
         (λ setting.
         IsKnown command setting × (word.now ≡ setting_text setting)
-        × AtMost (row setting.key).most (length (values_of setting.key settings.now) + 1)) }
+        × AtMost (most_of command setting.key) (length (values_of setting.key settings.now) + 1)) }
     ensures none { IfNone result
         ((setting : Setting) → IsKnown command setting → word.now ≡ setting_text setting
-        → AtMost (row setting.key).most (length (values_of setting.key settings.now) + 1) → ⊥) }
+        → AtMost (most_of command setting.key) (length (values_of setting.key settings.now) + 1) → ⊥) }
 {
     let setting = read_setting(command, word)?;
-    if !may_stand(settings, setting.key) {
+    if !may_stand(settings, command, setting.key) {
         return None;
     }
     Some(setting)
@@ -81,11 +81,11 @@ fn read_setting(command: Command, word: &str) -> Option<Setting>
     Some(Setting { key, value })
 }
 
-/// Whether the name may stand once more.
-fn may_stand(settings: &[Setting], key: Key) -> bool
-    ensures { IsTrue result ↔ AtMost (row key).most (length (values_of key settings.now) + 1) }
+/// Whether the name may stand once more after the command.
+fn may_stand(settings: &[Setting], command: Command, key: Key) -> bool
+    ensures { IsTrue result ↔ AtMost (most_of command key) (length (values_of key settings.now) + 1) }
 {
-    match key.row().most {
+    match command.most(key) {
         None => true,
         Some(most) => count(settings, key) < most,
     }

@@ -94,6 +94,10 @@ fn least_and_greatest(rt: HostRuntime) {
         "fromcap max=8",
         "tocap max=1099511627776",
         "monitor",
+        "prove flow=5000 window=1 depth=1 hold=1 max=8",
+        "check max=1099511627776",
+        "plan burst=1 most=100 fec=column",
+        "plan most=1 burst=20 fec=both",
     ] {
         accept(&rt, rt.alloc(), line);
     }
@@ -120,6 +124,7 @@ fn below_and_above(rt: HostRuntime) -> Result<(), Fail> {
             "seed=10000000000000 datagrams=0 datagrams=20001 loss=21 workers=17",
         ),
         ("monitor", "max=7 max=1099511627777"),
+        ("plan", "burst=0 burst=21 most=0 most=101"),
     ] {
         refuse_each(&rt, rt.alloc(), command, words)?;
     }
@@ -142,6 +147,9 @@ fn forms_of_words(rt: HostRuntime) -> Result<(), Fail> {
         ("sample", "depth=5 hold=5"),
         ("fromcap", "flow=5000"),
         ("tocap", "port=5000"),
+        ("prove", "workers=4"),
+        ("check", "flow=5000"),
+        ("plan", "max=8"),
     ] {
         refuse_each(&rt, rt.alloc(), command, words)?;
     }
@@ -163,6 +171,7 @@ fn names_that_stand_twice(rt: HostRuntime) -> Result<(), Fail> {
         BadWord(3),
     )?;
     refuse(&rt, rt.alloc(), "sample seed=1 seed=2", BadWord(2))?;
+    refuse(&rt, rt.alloc(), "prove flow=5000 flow=6000", BadWord(2))?;
     accept(&rt, rt.alloc(), "inspect flow=5000 flow=6000");
     accept(&rt, rt.alloc(), "drill columns=4 rows=4 drop=5 drop=5");
     Ok(())
@@ -177,6 +186,9 @@ fn names_that_are_missing(rt: HostRuntime) -> Result<(), Fail> {
         ("encode columns=4", Name::Rows),
         ("drill rows=4", Name::Columns),
         ("sample loss=1", Name::Seed),
+        ("prove", Name::Flow),
+        ("plan most=20", Name::Burst),
+        ("plan burst=5", Name::Most),
     ] {
         refuse(&rt, rt.alloc(), line, Missing(name))?;
     }

@@ -7,7 +7,8 @@ use Rattle.fg_trace.specs.declared.step.Finish.TheVariants as finish
 use Rattle.fg_trace.specs.Trace.{Record, Ending, IsTrace}
 use Rattle.fg_flows.specs.declared.Plan.{Plan}
 use Rattle.fg_encode.proofs.ReadLemmas.{unread}
-use Rattle.fg_cli.specs.declared.Order.TheVariants.{Repair, Encode, Drill, Inspect, Sample, FromCapture, ToCapture, Monitor}
+use Rattle.fg_check.specs.Reading.{IsCheckReadFor}
+use Rattle.fg_cli.specs.declared.Order.TheVariants.{Repair, Encode, Drill, Inspect, Sample, FromCapture, ToCapture, Monitor, Prove, Check, ChooseMatrix}
 use Rattle.fg_drill.specs.Sample.{sample_sent}
 use Rattle.fg_pcap.specs.declared.finish.CaptureFinish.TheVariants as capture
 use Rattle.fg_pcap.specs.declared.writer.SpellingFinish.TheVariants as spelling
@@ -23,7 +24,7 @@ use Rattle.fg_run.specs.Ended.{IsFault}
 use Rattle.fg_run.specs.Laws.{OneRequest}
 use Rattle.fg_run.specs.Reading.{ReadsCapture, ReadsToSpell, ReadsTrace}
 use Rattle.fg_run.specs.Request.{Asks}
-use Rattle.fg_run.specs.Run.{CaptureComesBack, ComesBack, EndsTrace, Reads, ReadsAll, StopsAt}
+use Rattle.fg_run.specs.Run.{CaptureComesBack, ComesBack, EndsCases, EndsTrace, Reads, ReadsAll, StopsAt}
 use Rattle.fg_run.specs.Stopping.{StopsLanes}
 use Rattle.fg_run.proofs.Completing.{told}
 use Rattle.fg_run.proofs.Counting.{untouched_counts}
@@ -50,6 +51,9 @@ comes_back_not (Ordered (Sample seed datagrams loss plan)) input lanes written =
 comes_back_not (Ordered (FromCapture max)) input lanes written = tt
 comes_back_not (Ordered (ToCapture max)) input lanes written = no_capture max input written
 comes_back_not (Ordered (Monitor max)) input lanes written = tt
+comes_back_not (Ordered (Prove plan)) input lanes written = tt
+comes_back_not (Ordered (Check max)) input lanes written = tt
+comes_back_not (Ordered (ChooseMatrix burst most rows)) input lanes written = tt
 
 -- and nothing was made or read
 first_of_trace : (plan : Plan) (input : Option (List ℕ)) (lanes : Option Lanes)
@@ -68,6 +72,9 @@ stops_not (Ordered (Sample seed datagrams loss plan)) input lanes = stops_first 
 stops_not (Ordered (FromCapture max)) input lanes = refl
 stops_not (Ordered (ToCapture max)) input lanes = refl
 stops_not (Ordered (Monitor max)) input lanes = refl
+stops_not (Ordered (Prove plan)) input lanes = refl
+stops_not (Ordered (Check max)) input lanes = refl
+stops_not (Ordered (ChooseMatrix burst most rows)) input lanes = refl
 
 no_trace_read : (max : ℕ) (bytes : List ℕ) → ReadsTrace max Memory bytes (Some bytes)
 no_trace_read max bytes = (finish.Memory, refl, record { read = []; rest = bytes; now_is = refl; all = refl; reaches = tt; bounded = omega arith })
@@ -77,6 +84,9 @@ no_capture_read max bytes = (capture.Memory, refl, record { read = []; rest = by
 
 no_spelling_read : (max : ℕ) (bytes : List ℕ) → ReadsToSpell max Memory bytes (Some bytes)
 no_spelling_read max bytes = (spelling.Memory, refl, record { read = []; rest = bytes; now_is = refl; all = refl; reaches = tt; bounded = omega arith })
+
+no_cases_read : (max : ℕ) (bytes : List ℕ) → IsCheckReadFor max None bytes (Some bytes)
+no_cases_read max bytes = record { read = []; rest = bytes; now_is = refl; all = refl; reaches = tt; bounded = omega arith }
 
 reads_none : (request : Request) (bytes : List ℕ) → Reads request Memory bytes (Some bytes)
 reads_none (Asked question) bytes = refl
@@ -89,6 +99,9 @@ reads_none (Ordered (Sample seed datagrams loss plan)) bytes = refl
 reads_none (Ordered (FromCapture max)) bytes = no_capture_read max bytes
 reads_none (Ordered (ToCapture max)) bytes = no_spelling_read max bytes
 reads_none (Ordered (Monitor max)) bytes = inl (tt, unread max bytes)
+reads_none (Ordered (Prove plan)) bytes = no_trace_read plan.max bytes
+reads_none (Ordered (Check max)) bytes = inl (tt, no_cases_read max bytes)
+reads_none (Ordered (ChooseMatrix burst most rows)) bytes = refl
 
 reads_not : (request : Request) (input : Option (List ℕ)) → IfSome input (λ bytes. Reads request Memory bytes input)
 reads_not request None = tt
@@ -103,6 +116,10 @@ no_stream_end : EndsStream Memory → ⊥
 no_stream_end (inl e) = let a = e in cc
 no_stream_end (inr e) = let a = e.1 in cc
 
+no_cases_end : EndsCases Memory → ⊥
+no_cases_end (inl e) = let a = e in cc
+no_cases_end (inr e) = let a = e.1 in cc
+
 no_end : (request : Request) → ReadsAll request Memory → ⊥
 no_end (Asked question) h = h
 no_end (Refused fault) h = h
@@ -114,6 +131,9 @@ no_end (Ordered (Sample seed datagrams loss plan)) h = h
 no_end (Ordered (FromCapture max)) h = no_trace_end h
 no_end (Ordered (ToCapture max)) h = no_trace_end h
 no_end (Ordered (Monitor max)) h = no_stream_end h
+no_end (Ordered (Prove plan)) h = no_trace_end h
+no_end (Ordered (Check max)) h = no_cases_end h
+no_end (Ordered (ChooseMatrix burst most rows)) h = h
 
 not_begun : {S O K : Type 0} → NoneIsPart → (request : Request)
     (left : S → Option (List ℕ)) (input_faults : S → ℕ) (input : S) (lanes_of : O → Option Lanes) (lane_faults : O → ℕ) (lanes : O)

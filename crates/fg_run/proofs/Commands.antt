@@ -1,5 +1,5 @@
 -- What the other commands give is what a request for them is answered with.
-use Rattle.std.proofs.Common.{◌≡◌, ◌≢◌, ◌⊎◌, inl, inr, ℕ, Option, None, Some, IfSome, Ok, List, [], ◌∷◌, refl, sym}
+use Rattle.std.proofs.Common.{◌≡◌, ◌≢◌, ◌⊎◌, inl, inr, ℕ, Bool, Option, None, Some, IfSome, Ok, List, [], ◌∷◌, refl, sym}
 use Rattle.std.specs.Io.KnownBytes.{IsAtEnd}
 use Rattle.fg_io.specs.Faults.{CountsFaults}
 use Rattle.fg_io.specs.Outlet.{Lanes}
@@ -11,11 +11,13 @@ use Rattle.fg_trace.specs.Finish.{IsFault as IsFinishFault}
 use Rattle.fg_flows.specs.declared.Plan.{Plan}
 use Rattle.fg_cli.specs.Help.{answer_text}
 use Rattle.fg_cli.specs.declared.help.Question.{Question}
-use Rattle.fg_cli.specs.declared.Order.TheVariants.{Encode, Inspect, Sample, FromCapture, ToCapture, Monitor}
+use Rattle.fg_cli.specs.declared.Order.TheVariants.{Encode, Inspect, Sample, FromCapture, ToCapture, Monitor, Prove, Check, ChooseMatrix}
 use Rattle.fg_cli.specs.declared.WordFault.{WordFault}
 use Rattle.fg_encode.specs.Encode.{EncodesPart}
 use Rattle.fg_inspect.specs.Inspect.{TellsPart}
 use Rattle.fg_monitor.specs.Monitored.{MonitorsPart}
+use Rattle.fg_prove.specs.Proved.{ProvesPart}
+use Rattle.fg_check.specs.Checked.{ChecksPart}
 use Rattle.fg_pcap.specs.FromCapture.{ConvertsPart}
 use Rattle.fg_pcap.specs.ToCapture.{SpellsPart}
 use Rattle.fg_drill.specs.Drill.{StopsLanes as DrillStops}
@@ -27,8 +29,8 @@ use Rattle.fg_run.specs.Answered.{RequestAnswered}
 use Rattle.fg_run.specs.Encode.{EncodesFor, EndsStream, IsStreamAnswer}
 use Rattle.fg_run.specs.Ended.{IsFault}
 use Rattle.fg_run.specs.Endings.{why_of_finish}
-use Rattle.fg_run.specs.Reading.{ReadsCapture, ReadsStream, ReadsToSpell, ReadsTrace}
-use Rattle.fg_run.specs.Run.{CaptureComesBack, EndsTrace, Inspects, IsCaptureAnswer, IsNoCapture, IsNoTrace, IsSpellingAnswer, IsTraceAnswer, MonitorsFor, SpellsFor, ConvertsFor}
+use Rattle.fg_run.specs.Reading.{ReadsCapture, ReadsCases, ReadsStream, ReadsToSpell, ReadsTrace}
+use Rattle.fg_run.specs.Run.{CaptureComesBack, ChecksFor, EndsCases, EndsTrace, Inspects, IsCaptureAnswer, IsCasesAnswer, IsNoCapture, IsNoTrace, IsSpellingAnswer, IsTraceAnswer, MonitorsFor, ProvesFor, SpellsFor, ConvertsFor, TellsChoice, TellsChoicePart}
 use Rattle.fg_run.proofs.Completing.{complete_told, none_wrong}
 use Rattle.fg_run.proofs.Counting.{no_input, no_lane, read_of, sample_counts, untouched_counts, write_of}
 use Rattle.fg_run.proofs.Drilled.{why_stops}
@@ -120,6 +122,63 @@ inspection_answered table max answer whole is ends reads refused part counts = r
   nothing_written = λ h. absurd h;
   no_lane = λ h. refl;
   no_input = also _ (IsNoTrace max) _ _ refl refused;
+  reads = reads;
+  all_read = ends;
+}
+
+-- the proofs of a flow's gaps
+pub proving_answered : {S O K : Type 0} {left : S → Option (List ℕ)} {input_faults : S → ℕ} {input input' : S}
+    {lanes_of : O → Option Lanes} {lane_faults : O → ℕ} {lanes : O} {written : K → Option (List ℕ)} {out_faults : K → ℕ} {out out' : K}
+    → (plan : Plan) (answer : Why)
+    → IsFault answer ⊎ ProvesFor plan answer (left input) (written out) (written out')
+    → IfSome (left input) (λ bytes. (due : Why) → IsTraceAnswer plan.max bytes due → IsFault answer ⊎ (answer ≡ due))
+    → (EndsTrace answer → IsAtEnd (left input'))
+    → IfSome (left input) (λ bytes. ReadsTrace plan.max answer bytes (left input'))
+    → IfSome (left input) (λ bytes. IsNoTrace plan.max bytes → out' ≡ out)
+    → (IsFault answer → ProvesPart plan (left input) (written out) (written out'))
+    → CountsFaults (answer ≡ why.ReadFault) (answer ≡ why.WriteFault) ((input_faults input, input_faults input') ∷ []) ((out_faults out, out_faults out') ∷ [])
+    → RequestAnswered (Ordered (Prove plan)) answer left input_faults input input' lanes_of lane_faults lanes lanes written out_faults out out'
+proving_answered plan answer whole is ends reads refused part counts = record {
+  answers = elim whole [ inl fault ↦ inl fault | inr h ↦ inr (refl, h) ];
+  comes_back = tt;
+  exactly = is;
+  complete = complete_told _ _ _ answer _ (IsTraceAnswer plan.max) is counts.read (sink_counts answer counts.write);
+  part = λ fault. (refl, part fault);
+  stops = λ fault. refl;
+  no_report = λ last e. absurd last;
+  counts = no_lane counts;
+  nothing_read = λ h. absurd h;
+  nothing_written = λ h. absurd h;
+  no_lane = λ h. refl;
+  no_input = also _ (IsNoTrace plan.max) _ _ refl refused;
+  reads = reads;
+  all_read = ends;
+}
+
+-- the judgement of cases
+pub checking_answered : {S O K : Type 0} {left : S → Option (List ℕ)} {input_faults : S → ℕ} {input input' : S}
+    {lanes_of : O → Option Lanes} {lane_faults : O → ℕ} {lanes : O} {written : K → Option (List ℕ)} {out_faults : K → ℕ} {out out' : K}
+    → (max : ℕ) (answer : Why)
+    → IsFault answer ⊎ ChecksFor max answer (left input) (written out) (written out')
+    → IfSome (left input) (λ bytes. (due : Why) → IsCasesAnswer max bytes due → IsFault answer ⊎ (answer ≡ due))
+    → (EndsCases answer → IsAtEnd (left input'))
+    → IfSome (left input) (λ bytes. ReadsCases max answer bytes (left input'))
+    → (IsFault answer → ChecksPart max (left input) (written out) (written out'))
+    → CountsFaults (answer ≡ why.ReadFault) (answer ≡ why.WriteFault) ((input_faults input, input_faults input') ∷ []) ((out_faults out, out_faults out') ∷ [])
+    → RequestAnswered (Ordered (Check max)) answer left input_faults input input' lanes_of lane_faults lanes lanes written out_faults out out'
+checking_answered max answer whole is ends reads part counts = record {
+  answers = elim whole [ inl fault ↦ inl fault | inr h ↦ inr (refl, h) ];
+  comes_back = tt;
+  exactly = is;
+  complete = complete_told _ _ _ answer _ (IsCasesAnswer max) is counts.read (sink_counts answer counts.write);
+  part = λ fault. (refl, part fault);
+  stops = λ fault. refl;
+  no_report = λ last e. absurd last;
+  counts = no_lane counts;
+  nothing_read = λ h. absurd h;
+  nothing_written = λ h. absurd h;
+  no_lane = λ h. refl;
+  no_input = none_wrong _ _;
   reads = reads;
   all_read = ends;
 }
@@ -232,6 +291,33 @@ pub question_answered : {S O K : Type 0} {left : S → Option (List ℕ)} {input
     → CountsFaults (answer ≡ why.ReadFault) (answer ≡ why.WriteFault) [] ((out_faults out, out_faults out') ∷ [])
     → RequestAnswered (Asked question) answer left input_faults input input lanes_of lane_faults lanes lanes written out_faults out out'
 question_answered question answer whole part counts =
+    let is = done_told _ answer whole in
+    record {
+      answers = elim whole [ inl fault ↦ inl fault | inr h ↦ inr (h.0, refl, h.1) ];
+      comes_back = tt;
+      exactly = is;
+      complete = complete_told _ _ _ answer _ (λ bytes due. due ≡ why.Done) is (λ e. absurd (counts.read e)) (sink_counts answer counts.write);
+      part = λ fault. (refl, part fault);
+      stops = λ fault. refl;
+      no_report = λ last e. absurd last;
+      counts = no_lane (no_input counts);
+      nothing_read = λ h. refl;
+      nothing_written = λ h. absurd h;
+      no_lane = λ h. refl;
+      no_input = none_wrong _ _;
+      reads = stays _;
+      all_read = λ h. absurd h;
+    }
+
+-- the choice of a matrix
+pub planning_answered : {S O K : Type 0} {left : S → Option (List ℕ)} {input_faults : S → ℕ} {input : S}
+    {lanes_of : O → Option Lanes} {lane_faults : O → ℕ} {lanes : O} {written : K → Option (List ℕ)} {out_faults : K → ℕ} {out out' : K}
+    → (burst most : ℕ) (rows : Bool) (answer : Why)
+    → IsFault answer ⊎ ((answer ≡ why.Done) × TellsChoice burst most rows (written out) (written out'))
+    → (IsFault answer → TellsChoicePart burst most rows (written out) (written out'))
+    → CountsFaults (answer ≡ why.ReadFault) (answer ≡ why.WriteFault) [] ((out_faults out, out_faults out') ∷ [])
+    → RequestAnswered (Ordered (ChooseMatrix burst most rows)) answer left input_faults input input lanes_of lane_faults lanes lanes written out_faults out out'
+planning_answered burst most rows answer whole part counts =
     let is = done_told _ answer whole in
     record {
       answers = elim whole [ inl fault ↦ inl fault | inr h ↦ inr (h.0, refl, h.1) ];

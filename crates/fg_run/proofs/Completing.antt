@@ -1,7 +1,7 @@
 -- An answer that is no fault's, or was not counted, is the one that is due.
 use Rattle.std.proofs.Common.{◌≡◌, ◌⊎◌, inl, inr, ℕ, List, Option, None, Some, IfSome, refl}
 use Rattle.fg_run.specs.declared.ended.Why.{Why}
-use Rattle.fg_run.specs.declared.ended.Why.TheVariants.{Done, Words, ReadFault, WriteFault, NotTrace, Cut, TooLong, Memory, NotTransport, NotCapture, Unfit}
+use Rattle.fg_run.specs.declared.ended.Why.TheVariants.{Done, Words, ReadFault, WriteFault, NotTrace, Cut, TooLong, Memory, NotTransport, NotCapture, Unfit, Unproved, NotCase}
 use Rattle.fg_run.specs.Ended.{IsFault}
 
 -- what holds whatever the bytes are holds where they are told
@@ -29,6 +29,8 @@ complete_of R W L Memory due (inl fault) read write no_read no_write no_lane = i
 complete_of R W L (NotTransport f) due (inl fault) read write no_read no_write no_lane = absurd fault
 complete_of R W L (NotCapture n) due (inl fault) read write no_read no_write no_lane = absurd fault
 complete_of R W L (Unfit k) due (inl fault) read write no_read no_write no_lane = absurd fault
+complete_of R W L (Unproved i) due (inl fault) read write no_read no_write no_lane = absurd fault
+complete_of R W L (NotCase n) due (inl fault) read write no_read no_write no_lane = absurd fault
 
 pub complete_told : (R W L : Type 0) (answer : Why) (input : Option (List ℕ)) (P : List ℕ → Why → Type 0)
     → IfSome input (λ bytes. (due : Why) → P bytes due → IsFault answer ⊎ (answer ≡ due))

@@ -6,7 +6,7 @@ use Rattle.fg_trace.specs.declared.step.Finish.TheVariants as finish
 use Rattle.fg_flows.specs.declared.Plan.{Plan}
 use Rattle.fg_results.specs.Counted.{CountsAhead, MayHaveFailedToRead as RepairMayHaveFailed, RepairCounts}
 use Rattle.fg_results.specs.Stops.{Growth, ByRecord, ByBatch, growth_of}
-use Rattle.fg_cli.specs.declared.Order.TheVariants.{Repair, Encode, Drill, Inspect, Sample, FromCapture, ToCapture, Monitor}
+use Rattle.fg_cli.specs.declared.Order.TheVariants.{Repair, Encode, Drill, Inspect, Sample, FromCapture, ToCapture, Monitor, Prove, Check, ChooseMatrix}
 use Rattle.fg_run.specs.declared.ended.Why.{Why}
 use Rattle.fg_run.specs.declared.ended.Why.TheVariants as why
 use Rattle.fg_run.specs.declared.request.Request.{Request}
@@ -126,6 +126,9 @@ failed_to_read (Ordered (Sample seed datagrams loss plan)) answer h = told_read 
 failed_to_read (Ordered (FromCapture max)) answer h = told_read answer h
 failed_to_read (Ordered (ToCapture max)) answer h = told_read answer h
 failed_to_read (Ordered (Monitor max)) answer h = told_read answer h
+failed_to_read (Ordered (Prove plan)) answer h = told_read answer h
+failed_to_read (Ordered (Check max)) answer h = told_read answer h
+failed_to_read (Ordered (ChooseMatrix burst most rows)) answer h = told_read answer h
 
 pub any_counts : {sources sinks : List (ℕ × ℕ)} → (request : Request) (answer : Why) → RequestCounts request answer sources sinks
     → CountsAhead (IsFault answer) (answer ≡ why.ReadFault) (answer ≡ why.WriteFault) sources sinks

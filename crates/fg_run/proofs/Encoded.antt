@@ -22,7 +22,7 @@ use Rattle.fg_run.specs.Reading.{ReadsStream}
 abbrev Came : Type 0
 Came = Result StreamEnding Fault
 
-is_fault : (f : Fault) → IsFault (why_of_fault f)
+pub is_fault : (f : Fault) → IsFault (why_of_fault f)
 is_fault fault.Read = tt
 is_fault fault.Write = tt
 is_fault fault.Memory = tt
@@ -99,12 +99,12 @@ no_write None e = let a = e in cc
 no_write (Some (TooLong n)) e = let a = e in cc
 no_write (Some (NotTransport f)) e = let a = e in cc
 
-read_of : (f : Fault) → why_of_fault f ≡ why.ReadFault → f ≡ fault.Read
+pub read_of : (f : Fault) → why_of_fault f ≡ why.ReadFault → f ≡ fault.Read
 read_of fault.Read e = refl
 read_of fault.Write e = absurd (let a = e in cc)
 read_of fault.Memory e = absurd (let a = e in cc)
 
-write_of : (f : Fault) → why_of_fault f ≡ why.WriteFault → f ≡ fault.Write
+pub write_of : (f : Fault) → why_of_fault f ≡ why.WriteFault → f ≡ fault.Write
 write_of fault.Read e = absurd (let a = e in cc)
 write_of fault.Write e = refl
 write_of fault.Memory e = absurd (let a = e in cc)

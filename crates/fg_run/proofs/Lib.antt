@@ -4,6 +4,7 @@ pub mod Completing
 pub mod Counting
 pub mod Drilled
 pub mod Encoded
+pub mod Judged
 pub mod Lines
 mod OneAnswers
 pub mod Reading

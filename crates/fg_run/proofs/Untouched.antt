@@ -4,7 +4,7 @@ use Rattle.fg_io.specs.Laws.{NoneIsPart}
 use Rattle.fg_io.specs.Outlet.{Lanes}
 use Rattle.fg_io.specs.Sink.{GainsPart}
 use Rattle.fg_flows.specs.declared.Plan.{Plan}
-use Rattle.fg_cli.specs.declared.Order.TheVariants.{Repair, Encode, Drill, Inspect, Sample, FromCapture, ToCapture, Monitor}
+use Rattle.fg_cli.specs.declared.Order.TheVariants.{Repair, Encode, Drill, Inspect, Sample, FromCapture, ToCapture, Monitor, Prove, Check, ChooseMatrix}
 use Rattle.fg_shape.specs.declared.encoding.Settings.{Settings}
 use Rattle.fg_trace.specs.Trace.{Record, Ending, IsTrace, trace_of}
 use Rattle.fg_encode.specs.Encoding.{encoding}
@@ -13,6 +13,10 @@ use Rattle.fg_results.specs.Lanes.{PutsAll, PutsAllPart}
 use Rattle.fg_results.specs.Repair.{AreResults, lanes_of, report_text}
 use Rattle.fg_inspect.specs.Inspect.{TellsPart}
 use Rattle.fg_monitor.specs.Monitored.{MonitorsPart}
+use Rattle.fg_prove.specs.Proved.{ProvesPart}
+use Rattle.fg_proof.specs.Text.{cases_text}
+use Rattle.fg_check.specs.Checked.{ChecksPart}
+use Rattle.fg_plan.specs.Text.{choice_line}
 use Rattle.fg_pcap.specs.FromCapture.{ConvertsPart}
 use Rattle.fg_pcap.specs.ToCapture.{SpellsPart, text_of}
 use Rattle.fg_run.specs.declared.request.Request.{Request}
@@ -50,6 +54,14 @@ no_spelling : (max : ℕ) (input written : Option (List ℕ)) → NoneIsPart →
 no_spelling max None written none = tt
 no_spelling max (Some bytes) written none = λ answer records is. none written (text_of answer records)
 
+no_proofs : (plan : Plan) (input written : Option (List ℕ)) → NoneIsPart → ProvesPart plan input written written
+no_proofs plan None written none = tt
+no_proofs plan (Some bytes) written none = λ records end cases trace are. none written (cases_text cases)
+
+no_checking : (max : ℕ) (input written : Option (List ℕ)) → NoneIsPart → ChecksPart max input written written
+no_checking max None written none = tt
+no_checking max (Some bytes) written none = λ cases end text checked is. none written text
+
 -- whatever was asked for
 pub untouched : {K : Type 0} → NoneIsPart → (request : Request) (input : Option (List ℕ)) (lanes : Option Lanes) (written : K → Option (List ℕ)) (out : K)
     → AnswersPart request input lanes lanes written out out
@@ -66,4 +78,8 @@ untouched none (Ordered (Sample seed datagrams loss plan)) input lanes written o
 untouched none (Ordered (FromCapture max)) input lanes written out = (refl, no_capture max input (written out) none)
 untouched none (Ordered (ToCapture max)) input lanes written out = (refl, no_spelling max input (written out) none)
 untouched none (Ordered (Monitor max)) input lanes written out = (refl, no_monitoring max input (written out) none)
+untouched none (Ordered (Prove plan)) input lanes written out = (refl, no_proofs plan input (written out) none)
+untouched none (Ordered (Check max)) input lanes written out = (refl, no_checking max input (written out) none)
+untouched none (Ordered (ChooseMatrix burst most rows)) input lanes written out =
+    (refl, λ choice is. none (written out) (choice_line choice))
 untouched none (Refused fault) input lanes written out = (refl, refl)

@@ -4,7 +4,7 @@ use Rattle.fg_trace.specs.declared.step.Finish.TheVariants as finish
 use Rattle.fg_results.specs.Counted.{CountsAhead}
 use Rattle.fg_results.specs.Stops.{Growth, ByRecord, ByBatch, growth_of}
 use Rattle.fg_drill.specs.Drill.{Answer as Drilled, IsFault as IsDrillFault}
-use Rattle.fg_cli.specs.declared.Order.TheVariants.{Repair, Encode, Drill, Inspect, Sample, FromCapture, ToCapture, Monitor}
+use Rattle.fg_cli.specs.declared.Order.TheVariants.{Repair, Encode, Drill, Inspect, Sample, FromCapture, ToCapture, Monitor, Prove, Check, ChooseMatrix}
 use Rattle.fg_run.specs.declared.ended.Why.{Why}
 use Rattle.fg_run.specs.declared.ended.Why.TheVariants as why
 use Rattle.fg_run.specs.declared.request.Request.{Request}
@@ -35,6 +35,9 @@ MayHaveFailedToRead (Ordered (Sample seed datagrams loss plan)) answer = answer 
 MayHaveFailedToRead (Ordered (FromCapture max)) answer = answer ≡ why.ReadFault
 MayHaveFailedToRead (Ordered (ToCapture max)) answer = answer ≡ why.ReadFault
 MayHaveFailedToRead (Ordered (Monitor max)) answer = answer ≡ why.ReadFault
+MayHaveFailedToRead (Ordered (Prove plan)) answer = answer ≡ why.ReadFault
+MayHaveFailedToRead (Ordered (Check max)) answer = answer ≡ why.ReadFault
+MayHaveFailedToRead (Ordered (ChooseMatrix burst most rows)) answer = answer ≡ why.ReadFault
 
 -- What a call has counted that ends a request with this answer.
 abbrev pub RequestCounts : Request → Why → List (ℕ × ℕ) → List (ℕ × ℕ) → Type 0

@@ -13,7 +13,7 @@ use Rattle.fg_cli.specs.declared.Name.TheVariants as name
 use Rattle.fg_cli.specs.declared.WordFault.{WordFault}
 use Rattle.fg_cli.specs.declared.WordFault.TheVariants as word
 use Rattle.fg_run.specs.declared.ended.Why.{Why}
-use Rattle.fg_run.specs.declared.ended.Why.TheVariants.{Done, Words, ReadFault, WriteFault, NotTrace, Cut, TooLong, Memory, NotTransport, NotCapture, Unfit}
+use Rattle.fg_run.specs.declared.ended.Why.TheVariants.{Done, Words, ReadFault, WriteFault, NotTrace, Cut, TooLong, Memory, NotTransport, NotCapture, Unfit, Unproved, NotCase}
 
 -- The exit status.
 abbrev pub status_of : Why → ℕ
@@ -28,6 +28,8 @@ status_of Memory = 6
 status_of (NotTransport fault) = 7
 status_of (NotCapture n) = 8
 status_of (Unfit k) = 8
+status_of (Unproved i) = 10
+status_of (NotCase n) = 11
 
 -- A fault of the outside, or want of memory.
 abbrev pub IsFault : Why → Type 0
@@ -42,6 +44,8 @@ IsFault Memory = ⊤
 IsFault (NotTransport fault) = ⊥
 IsFault (NotCapture n) = ⊥
 IsFault (Unfit k) = ⊥
+IsFault (Unproved i) = ⊥
+IsFault (NotCase n) = ⊥
 
 -- A name as it is spelled in the words.
 abbrev pub name_text : Name → List ℕ
@@ -49,6 +53,8 @@ name_text name.Flow = codes "flow"
 name_text name.Columns = codes "columns"
 name_text name.Rows = codes "rows"
 name_text name.Seed = codes "seed"
+name_text name.Burst = codes "burst"
+name_text name.Most = codes "most"
 
 -- The rules of a layout, by number.
 abbrev pub layout_number : LayoutFault → ℕ
@@ -87,6 +93,8 @@ fault_line (NotTransport (packets.Ragged n)) = codes "not transport: length " ++
 fault_line (NotTransport (packets.NoSync k)) = codes "not transport: packet " ++ decimal k ++ codes "\n"
 fault_line (NotCapture n) = codes "not a capture at byte " ++ decimal n ++ codes "\n"
 fault_line (Unfit k) = codes "record " ++ decimal k ++ codes " does not fit a capture\n"
+fault_line (Unproved i) = codes "unproved case " ++ decimal i ++ codes "\n"
+fault_line (NotCase n) = codes "not a case at line " ++ decimal n ++ codes "\n"
 
 -- The error sink has gained the line and counted no fault, or a prefix of it and counted one.
 abbrev pub TellsFault : Why → Option (List ℕ) → ℕ → Option (List ℕ) → ℕ → Type 0

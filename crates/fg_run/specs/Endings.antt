@@ -8,6 +8,8 @@ use Rattle.fg_trace.specs.Trace.{Ending, Ended, NotTrace, Cut, TooLong}
 use Rattle.fg_encode.specs.declared.stream.StreamFault.TheVariants.{NotTransport, TooLong as PastLimit}
 use Rattle.fg_encode.specs.Stream.{StreamEnding}
 use Rattle.fg_drill.specs.Drill.{Answer as Drilled}
+use Rattle.fg_check.specs.declared.walk.Checked.{Checked}
+use Rattle.fg_check.specs.declared.walk.Checked.TheVariants as checked
 use Rattle.fg_pcap.specs.declared.finish.CaptureFinish.{CaptureFinish}
 use Rattle.fg_pcap.specs.declared.finish.CaptureFinish.TheVariants as capture
 use Rattle.fg_pcap.specs.declared.writer.SpellingFinish.{SpellingFinish}
@@ -38,6 +40,13 @@ why_of_stream None = why.Done
 why_of_stream (Some (PastLimit n)) = why.TooLong n
 why_of_stream (Some (NotTransport fault)) = why.NotTransport fault
 
+-- The answer to a text of cases that is judged so.
+abbrev pub why_of_checked : Checked → Why
+why_of_checked checked.Done = why.Done
+why_of_checked (checked.Unproved i) = why.Unproved i
+why_of_checked (checked.NotCase n) = why.NotCase n
+why_of_checked (checked.TooLong n) = why.TooLong n
+
 -- The answer of a drill that ends so.
 abbrev pub why_of_drill : Drilled → Why
 why_of_drill (Ok finish) = why_of_finish finish
@@ -53,6 +62,11 @@ why_of_fault fault.Memory = why.Memory
 abbrev pub why_of_streamed : Result StreamEnding Fault → Why
 why_of_streamed (Ok ending) = why_of_stream ending
 why_of_streamed (Err fault) = why_of_fault fault
+
+-- The answer of a command that judges a text of cases and ends so.
+abbrev pub why_of_judged : Result Checked Fault → Why
+why_of_judged (Ok checked) = why_of_checked checked
+why_of_judged (Err fault) = why_of_fault fault
 
 -- The answer of a capture that is made into a trace and ends so.
 abbrev pub why_of_capture : CaptureFinish → Why

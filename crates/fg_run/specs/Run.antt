@@ -1,15 +1,23 @@
 -- What the program answers to each request: this project's own.
-use Rattle.std.specs.Prelude.{◌≡◌, ◌⊎◌, ℕ, List, [], Option, Some, IfSome, ⊤}
+use Rattle.std.specs.Prelude.{◌≡◌, ◌⊎◌, ℕ, Bool, List, [], Option, Some, IfSome, ⊤}
 use Rattle.fg_io.specs.Outlet.{Lanes}
 use Rattle.fg_io.specs.Sink.{Gains, GainsPart}
 use Rattle.fg_trace.specs.declared.step.Finish.{Finish}
 use Rattle.fg_trace.specs.Trace.{Record, Ending, NotTrace, IsTrace}
 use Rattle.fg_encode.specs.Stream.{StreamEnding, IsCut}
 use Rattle.fg_cli.specs.Help.{answer_text}
-use Rattle.fg_cli.specs.declared.Order.TheVariants.{Repair, Encode, Drill, Inspect, Sample, FromCapture, ToCapture, Monitor}
+use Rattle.fg_cli.specs.declared.Order.TheVariants.{Repair, Encode, Drill, Inspect, Sample, FromCapture, ToCapture, Monitor, Prove, Check, ChooseMatrix}
 use Rattle.fg_results.specs.Repair.{Outputs, OutputsPart}
 use Rattle.fg_inspect.specs.Inspect.{Tells, TellsPart}
 use Rattle.fg_monitor.specs.Monitored.{Monitors, MonitorsPart}
+use Rattle.fg_proof.specs.declared.case.Case.{Case}
+use Rattle.fg_proof.specs.declared.judging.Answer.{Answer}
+use Rattle.fg_prove.specs.Proved.{Proves, ProvesPart}
+use Rattle.fg_check.specs.declared.walk.Checked.{Checked}
+use Rattle.fg_check.specs.Checked.{CheckEnding, Checks, ChecksPart, IsChecked, Tells as TellsChecked}
+use Rattle.fg_check.specs.Text.{AreAnswers}
+use Rattle.fg_plan.specs.Choice.{IsChoice}
+use Rattle.fg_plan.specs.Text.{choice_line}
 use Rattle.fg_pcap.specs.declared.finish.CaptureFinish.{CaptureFinish}
 use Rattle.fg_pcap.specs.declared.writer.SpellingFinish.{SpellingFinish}
 use Rattle.fg_pcap.specs.Capture.{CaptureEnding, IsRefused}
@@ -26,8 +34,8 @@ use Rattle.fg_run.specs.declared.ended.Why.{Why}
 use Rattle.fg_run.specs.declared.ended.Why.TheVariants as why
 use Rattle.fg_run.specs.Encode.{EncodesFor, EndsStream, IsStreamAnswer}
 use Rattle.fg_run.specs.Ended.{IsFault}
-use Rattle.fg_run.specs.Endings.{why_of_capture, why_of_drill, why_of_ending, why_of_finish, why_of_spelling, why_of_stream}
-use Rattle.fg_run.specs.Reading.{ReadsCapture, ReadsStream, ReadsToSpell, ReadsTrace}
+use Rattle.fg_run.specs.Endings.{why_of_capture, why_of_checked, why_of_drill, why_of_ending, why_of_finish, why_of_spelling, why_of_stream}
+use Rattle.fg_run.specs.Reading.{ReadsCapture, ReadsCases, ReadsStream, ReadsToSpell, ReadsTrace}
 use Rattle.fg_run.specs.Stopping.{StopsLanes}
 use Rattle.fg_run.specs.declared.request.Request.{Request}
 use Rattle.fg_run.specs.declared.request.Request.TheVariants.{Asked, Ordered, Refused}
@@ -86,6 +94,41 @@ abbrev pub MonitorsFor : ℕ → Why → Option (List ℕ) → Option (List ℕ)
 MonitorsFor max answer input written written' =
     (end : StreamEnding) × (answer ≡ why_of_stream end) × Monitors max end input written written'
 
+-- The cases of the gaps of the plan's one flow are written, and the answer is that of the trace's ending.
+abbrev pub ProvesFor : Plan → Why → Option (List ℕ) → Option (List ℕ) → Option (List ℕ) → Type 0
+ProvesFor plan answer input written written' =
+    (finish : Finish) × (answer ≡ why_of_finish finish) × Proves plan finish input written written'
+
+-- The answer is that to the text of cases in these bytes.
+pub record IsCasesAnswer (max : ℕ) (bytes : List ℕ) (answer : Why) : Type 0 where
+  pub cases : List Case
+  pub ending : CheckEnding
+  pub answers : List Answer
+  pub checked : Checked
+  pub of_bytes : IsChecked max bytes cases ending
+  pub are : AreAnswers cases answers
+  pub tells : TellsChecked checked ending answers
+  pub answer_is : answer ≡ why_of_checked checked
+
+-- After this answer nothing of a text of cases is left to read.
+abbrev pub EndsCases : Why → Type 0
+EndsCases answer = (answer ≡ why.Done) ⊎ ((i : ℕ) × (answer ≡ why.Unproved i))
+
+-- The cases in the text are judged, and the answer is that to it.
+abbrev pub ChecksFor : ℕ → Why → Option (List ℕ) → Option (List ℕ) → Option (List ℕ) → Type 0
+ChecksFor max answer input written written' =
+    (checked : Checked) × (answer ≡ why_of_checked checked) × Checks max checked input written written'
+
+-- The choice of a matrix is told.
+abbrev pub TellsChoice : ℕ → ℕ → Bool → Option (List ℕ) → Option (List ℕ) → Type 0
+TellsChoice burst most rows written written' =
+    (choice : Option (ℕ × ℕ)) × IsChoice burst most rows choice × Gains written (choice_line choice) written'
+
+-- A prefix of its line is written.
+abbrev pub TellsChoicePart : ℕ → ℕ → Bool → Option (List ℕ) → Option (List ℕ) → Type 0
+TellsChoicePart burst most rows written written' =
+    (choice : Option (ℕ × ℕ)) → IsChoice burst most rows choice → GainsPart written (choice_line choice) written'
+
 -- What is sent of the stream is repaired, and the answer is that of the drill.
 abbrev pub DrillsFor :
     Settings → Plan → Losses → ℕ → Why → Option (List ℕ) → Option Lanes → Option Lanes → Option (List ℕ)
@@ -124,6 +167,12 @@ Answers (Ordered (ToCapture max)) answer input lanes lanes' written written' =
     (lanes' ≡ lanes) × SpellsFor max answer input written written'
 Answers (Ordered (Monitor max)) answer input lanes lanes' written written' =
     (lanes' ≡ lanes) × MonitorsFor max answer input written written'
+Answers (Ordered (Prove plan)) answer input lanes lanes' written written' =
+    (lanes' ≡ lanes) × ProvesFor plan answer input written written'
+Answers (Ordered (Check max)) answer input lanes lanes' written written' =
+    (lanes' ≡ lanes) × ChecksFor max answer input written written'
+Answers (Ordered (ChooseMatrix burst most rows)) answer input lanes lanes' written written' =
+    (answer ≡ why.Done) × (lanes' ≡ lanes) × TellsChoice burst most rows written written'
 
 -- The answer that the request has over these bytes, where nothing fails and memory is there.
 abbrev pub IsAnswer : Request → List ℕ → Why → Type 0
@@ -137,6 +186,9 @@ IsAnswer (Ordered (Sample seed datagrams loss plan)) bytes answer = answer ≡ w
 IsAnswer (Ordered (FromCapture max)) bytes answer = IsCaptureAnswer max bytes answer
 IsAnswer (Ordered (ToCapture max)) bytes answer = IsSpellingAnswer max bytes answer
 IsAnswer (Ordered (Monitor max)) bytes answer = IsStreamAnswer 1 max bytes answer
+IsAnswer (Ordered (Prove plan)) bytes answer = IsTraceAnswer plan.max bytes answer
+IsAnswer (Ordered (Check max)) bytes answer = IsCasesAnswer max bytes answer
+IsAnswer (Ordered (ChooseMatrix burst most rows)) bytes answer = answer ≡ why.Done
 
 -- What a fault, or want of memory, leaves of what the request would have gained.
 abbrev pub AnswersPart :
@@ -159,6 +211,12 @@ AnswersPart (Ordered (ToCapture max)) input lanes lanes' written out out' =
     (lanes' ≡ lanes) × SpellsPart max input (written out) (written out')
 AnswersPart (Ordered (Monitor max)) input lanes lanes' written out out' =
     (lanes' ≡ lanes) × MonitorsPart max input (written out) (written out')
+AnswersPart (Ordered (Prove plan)) input lanes lanes' written out out' =
+    (lanes' ≡ lanes) × ProvesPart plan input (written out) (written out')
+AnswersPart (Ordered (Check max)) input lanes lanes' written out out' =
+    (lanes' ≡ lanes) × ChecksPart max input (written out) (written out')
+AnswersPart (Ordered (ChooseMatrix burst most rows)) input lanes lanes' written out out' =
+    (lanes' ≡ lanes) × TellsChoicePart burst most rows (written out) (written out')
 AnswersPart (Refused fault) input lanes lanes' written out out' = (lanes' ≡ lanes) × (out' ≡ out)
 
 -- What the request leaves alone, whatever its answer: the input, the sink, the lanes.
@@ -173,6 +231,9 @@ ReadsNothing (Ordered (Sample seed datagrams loss plan)) = ⊤
 ReadsNothing (Ordered (FromCapture max)) = ⊥
 ReadsNothing (Ordered (ToCapture max)) = ⊥
 ReadsNothing (Ordered (Monitor max)) = ⊥
+ReadsNothing (Ordered (Prove plan)) = ⊥
+ReadsNothing (Ordered (Check max)) = ⊥
+ReadsNothing (Ordered (ChooseMatrix burst most rows)) = ⊤
 
 abbrev pub WritesNothing : Request → Type 0
 WritesNothing (Asked question) = ⊥
@@ -185,6 +246,9 @@ WritesNothing (Ordered (Sample seed datagrams loss plan)) = ⊥
 WritesNothing (Ordered (FromCapture max)) = ⊥
 WritesNothing (Ordered (ToCapture max)) = ⊥
 WritesNothing (Ordered (Monitor max)) = ⊥
+WritesNothing (Ordered (Prove plan)) = ⊥
+WritesNothing (Ordered (Check max)) = ⊥
+WritesNothing (Ordered (ChooseMatrix burst most rows)) = ⊥
 
 abbrev pub MakesNoLane : Request → Type 0
 MakesNoLane (Asked question) = ⊤
@@ -197,6 +261,9 @@ MakesNoLane (Ordered (Sample seed datagrams loss plan)) = ⊥
 MakesNoLane (Ordered (FromCapture max)) = ⊤
 MakesNoLane (Ordered (ToCapture max)) = ⊤
 MakesNoLane (Ordered (Monitor max)) = ⊤
+MakesNoLane (Ordered (Prove plan)) = ⊤
+MakesNoLane (Ordered (Check max)) = ⊤
+MakesNoLane (Ordered (ChooseMatrix burst most rows)) = ⊤
 
 -- The request writes only once all of its input was read: where reading fails, nothing was written. What reads no input
 -- has no such fault.
@@ -211,6 +278,9 @@ WritesLast (Ordered (Sample seed datagrams loss plan)) = ⊥
 WritesLast (Ordered (FromCapture max)) = ⊥
 WritesLast (Ordered (ToCapture max)) = ⊥
 WritesLast (Ordered (Monitor max)) = ⊥
+WritesLast (Ordered (Prove plan)) = ⊥
+WritesLast (Ordered (Check max)) = ⊥
+WritesLast (Ordered (ChooseMatrix burst most rows)) = ⊥
 
 -- The input isn't what the request reads: it is no trace.
 abbrev pub IsNoInput : Request → List ℕ → Type 0
@@ -224,6 +294,9 @@ IsNoInput (Ordered (Sample seed datagrams loss plan)) bytes = ⊥
 IsNoInput (Ordered (FromCapture max)) bytes = IsNoCapture max bytes
 IsNoInput (Ordered (ToCapture max)) bytes = IsNoTrace max bytes
 IsNoInput (Ordered (Monitor max)) bytes = ⊥
+IsNoInput (Ordered (Prove plan)) bytes = IsNoTrace plan.max bytes
+IsNoInput (Ordered (Check max)) bytes = ⊥
+IsNoInput (Ordered (ChooseMatrix burst most rows)) bytes = ⊥
 
 -- After this answer to the request nothing of the input is left.
 abbrev pub ReadsAll : Request → Why → Type 0
@@ -237,6 +310,9 @@ ReadsAll (Ordered (Sample seed datagrams loss plan)) answer = ⊥
 ReadsAll (Ordered (FromCapture max)) answer = EndsTrace answer
 ReadsAll (Ordered (ToCapture max)) answer = EndsTrace answer
 ReadsAll (Ordered (Monitor max)) answer = EndsStream answer
+ReadsAll (Ordered (Prove plan)) answer = EndsTrace answer
+ReadsAll (Ordered (Check max)) answer = EndsCases answer
+ReadsAll (Ordered (ChooseMatrix burst most rows)) answer = ⊥
 
 -- How far the request has read an input of these bytes with this answer, of which this is left.
 abbrev pub Reads : Request → Why → List ℕ → Option (List ℕ) → Type 0
@@ -250,6 +326,9 @@ Reads (Ordered (Sample seed datagrams loss plan)) answer bytes now = now ≡ Som
 Reads (Ordered (FromCapture max)) answer bytes now = ReadsCapture max answer bytes now
 Reads (Ordered (ToCapture max)) answer bytes now = ReadsToSpell max answer bytes now
 Reads (Ordered (Monitor max)) answer bytes now = ReadsStream max answer bytes now
+Reads (Ordered (Prove plan)) answer bytes now = ReadsTrace plan.max answer bytes now
+Reads (Ordered (Check max)) answer bytes now = ReadsCases max answer bytes now
+Reads (Ordered (ChooseMatrix burst most rows)) answer bytes now = now ≡ Some bytes
 
 -- Where a fault, or want of memory, stops what the request does to the lanes: a repair over the records of the input's trace,
 -- a drill over what is sent of its stream, a sample over what is sent of the made one.
@@ -269,6 +348,9 @@ StopsAt (Ordered (Sample seed datagrams loss plan)) answer input lanes lanes' =
 StopsAt (Ordered (FromCapture max)) answer input lanes lanes' = lanes' ≡ lanes
 StopsAt (Ordered (ToCapture max)) answer input lanes lanes' = lanes' ≡ lanes
 StopsAt (Ordered (Monitor max)) answer input lanes lanes' = lanes' ≡ lanes
+StopsAt (Ordered (Prove plan)) answer input lanes lanes' = lanes' ≡ lanes
+StopsAt (Ordered (Check max)) answer input lanes lanes' = lanes' ≡ lanes
+StopsAt (Ordered (ChooseMatrix burst most rows)) answer input lanes lanes' = lanes' ≡ lanes
 
 -- What comes back of a thinned encoding that the request repairs, where the answer is no fault: of one that the input
 -- exactly is, and of a stream in the input, where its bytes are told; and of the made stream. And a capture that the request
@@ -289,3 +371,6 @@ ComesBack (Ordered (FromCapture max)) answer input lanes lanes' written written'
 ComesBack (Ordered (ToCapture max)) answer input lanes lanes' written written' =
     IfSome input (λ bytes. CaptureComesBack max answer bytes written written')
 ComesBack (Ordered (Monitor max)) answer input lanes lanes' written written' = ⊤
+ComesBack (Ordered (Prove plan)) answer input lanes lanes' written written' = ⊤
+ComesBack (Ordered (Check max)) answer input lanes lanes' written written' = ⊤
+ComesBack (Ordered (ChooseMatrix burst most rows)) answer input lanes lanes' written written' = ⊤

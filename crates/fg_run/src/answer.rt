@@ -11,11 +11,14 @@ ghost use Rattle.fg_run.specs.Ended.{IsFault};
 ghost use Rattle.fg_run.specs.Request.{RequestFits};
 
 use crate::capturing::{run_fromcap, run_tocap};
+use crate::checking::run_check;
 use crate::drilling::run_drill;
 use crate::encoding::run_encode;
 use crate::ended::Why;
 use crate::inspection::run_inspect;
 use crate::monitoring::run_monitor;
+use crate::planning::run_plan;
+use crate::proving::run_prove;
 use crate::repairing::repair;
 use crate::request::Request;
 use crate::sample::sample;
@@ -78,6 +81,11 @@ pub fn answer<
         Request::Ordered(Order::FromCapture { max }) => run_fromcap(alloc, max, input, out).why,
         Request::Ordered(Order::ToCapture { max }) => run_tocap(alloc, max, input, out).why,
         Request::Ordered(Order::Monitor { max }) => run_monitor(alloc, max, input, out).why,
+        Request::Ordered(Order::Prove(plan)) => run_prove(alloc, &plan, input, out).why,
+        Request::Ordered(Order::Check { max }) => run_check(alloc, max, input, out).why,
+        Request::Ordered(Order::ChooseMatrix { burst, most, rows }) => {
+            run_plan(alloc, burst, most, rows, out).why
+        }
         Request::Refused(fault) => Why::Words(fault),
     }
 }

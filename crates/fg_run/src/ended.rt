@@ -1,8 +1,9 @@
 //! How a call of the program ends.
 ghost use Rattle.std.specs.Prelude.{◌≡◌};
 ghost use Rattle.fg_run.specs.Ended.{status_of};
-ghost use Rattle.fg_run.specs.Endings.{why_of_capture, why_of_fault, why_of_finish, why_of_spelling, why_of_stream, why_of_streamed as why_told};
+ghost use Rattle.fg_run.specs.Endings.{why_of_capture, why_of_fault, why_of_finish, why_of_judged as why_judged, why_of_spelling, why_of_stream, why_of_streamed as why_told};
 
+use fg_check::Checked;
 use fg_cli::WordFault;
 use fg_encode::stream::StreamFault;
 use fg_io::Fault;
@@ -42,6 +43,10 @@ pub enum Why {
     /// The record of this number, counted from 0, has a time or a size that no capture can tell. The output is that of the
     /// records before.
     Unfit(u64),
+    /// The case of this number, counted from 0, is the first that proves no gap. Each case is judged.
+    Unproved(u64),
+    /// The line of this number, counted from 0, is the first that doesn't fit into a text of cases. The cases before it are judged.
+    NotCase(u64),
 }
 
 /// How a call of the program ended.
@@ -67,7 +72,7 @@ impl Ended {
 }
 
 impl Why {
-    /// The exit status: 0, 1, 2, 3, 4, 4, 5, 6, 7, 8 and 8 in the order of the variants.
+    /// The exit status: 0, 1, 2, 3, 4, 4, 5, 6, 7, 8, 8, 10 and 11 in the order of the variants.
     pub fn status(&self) -> u8
         ensures { result ≡ status_of self.now }
     {
@@ -81,6 +86,8 @@ impl Why {
             Why::Memory => 6,
             Why::NotTransport(_) => 7,
             Why::NotCapture(_) | Why::Unfit(_) => 8,
+            Why::Unproved(_) => 10,
+            Why::NotCase(_) => 11,
         }
     }
 }
@@ -170,5 +177,18 @@ impl From<SpellingFinish> for Why {
             SpellingFinish::TooLong(byte) => Why::TooLong(byte),
             SpellingFinish::Memory => Why::Memory,
         }
+    }
+}
+
+/// A text of cases that is judged so, or at a fault, ends so.
+pub(crate) fn why_of_judged(judged: Result<Checked, Fault>) -> Why
+    ensures { result ≡ why_judged judged }
+{
+    match judged {
+        Ok(Checked::Done) => Why::Done,
+        Ok(Checked::Unproved(number)) => Why::Unproved(number),
+        Ok(Checked::NotCase(line)) => Why::NotCase(line),
+        Ok(Checked::TooLong(byte)) => Why::TooLong(byte),
+        Err(fault) => fault.into(),
     }
 }

@@ -44,6 +44,8 @@ pub fn write_fault_line<E: Sink>(err: &mut E, why: Why) -> Result<(), Fault>
             Buffer::new().format(number),
             b" does not fit a capture\n",
         ),
+        Why::Unproved(number) => write_number(err, b"unproved case ", number),
+        Why::NotCase(line) => write_number(err, b"not a case at line ", line),
     }
 }
 
@@ -90,6 +92,8 @@ fn name_text(name: Name) -> &'static str
         Name::Columns => "columns",
         Name::Rows => "rows",
         Name::Seed => "seed",
+        Name::Burst => "burst",
+        Name::Most => "most",
     }
 }
 

@@ -8,6 +8,7 @@ ghost use Rattle.fg_run.specs.Ended.{IsFault, TellsFault, status_of};
 
 mod answer;
 mod capturing;
+mod checking;
 mod drill;
 mod drilling;
 mod encoding;
@@ -16,6 +17,8 @@ mod fault_line;
 mod inspection;
 pub mod laws;
 mod monitoring;
+mod planning;
+mod proving;
 mod repairing;
 mod request;
 mod sample;
@@ -23,6 +26,7 @@ mod sample;
 mod tests;
 
 pub use capturing::{run_fromcap, run_tocap};
+pub use checking::run_check;
 pub use encoding::run_encode;
 pub use ended::{Ended, Why};
 use fg_crew::Gate;
@@ -30,6 +34,8 @@ use fg_io::laws::parts_of_writes;
 use fg_io::{Outlet, Sink, Source};
 pub use inspection::run_inspect;
 pub use monitoring::run_monitor;
+pub use planning::run_plan;
+pub use proving::run_prove;
 use request::Request;
 use std::alloc::{AllocError, Global};
 use std::sync::Wait;
@@ -43,8 +49,10 @@ use std::thread::Threads;
 /// and what is counted then, depends on whether there are any. `encode` writes the trace of the stream's encoding to `out`, and `inspect` a line for each record
 /// of the trace. `drill` encodes the stream, leaves records out, and repairs the rest; `sample` does so with a stream that it
 /// makes, and reads nothing. `fromcap` writes the trace of a capture's datagrams to `out`, `tocap` a capture of a trace's
-/// records, and `monitor` a line for each break of a stream's continuity. Words that break a rule are refused: then nothing is read, written or made. The line that says
-/// why goes to `err`; a fault of `err` changes no answer.
+/// records, and `monitor` a line for each break of a stream's continuity. `prove` writes a case for each repaired window that shows
+/// a gap in the one flow that it takes, `check` judges a text of cases and writes a line for each, and `plan` writes the matrix
+/// that it chooses for a burst, and reads nothing. Words that break a rule are refused: then nothing is read, written or made. The
+/// line that says why goes to `err`; a fault of `err` changes no answer.
 pub fn run<
     W: Threads + Wait + Sync,
     S: Source + Send,

@@ -16,6 +16,7 @@ mod drills;
 mod examples;
 mod failing;
 mod flows;
+mod gaps;
 mod held;
 mod lengths;
 mod order;

@@ -139,12 +139,19 @@ const INSPECTION: Work<'static> = Work {
     least: [27, 1, 0],
 };
 
+// Each datagram is played alone, so that four cases are written.
+const PROOF: Work<'static> = Work {
+    line: "prove flow=5000 window=1 depth=1",
+    ..INSPECTION
+};
+
 #[test]
 fn commands_over_a_trace(rt: HostRuntime) -> Result<(), Fail> {
     let bytes = trace(rt.alloc(), &BLOCK, &TWO_PASSES)?;
     REPAIR.check(&rt, rt.alloc(), &bytes)?;
     REPAIR_ALONE.check(&rt, rt.alloc(), &bytes)?;
     INSPECTION.check(&rt, rt.alloc(), &bytes)?;
+    PROOF.check(&rt, rt.alloc(), &bytes)?;
     Ok(())
 }
 

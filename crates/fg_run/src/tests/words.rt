@@ -2,7 +2,7 @@
 use super::*;
 
 /// Each end, and the line that tells it.
-const LINES: [(Why, &str); 24] = [
+const LINES: [(Why, &str); 28] = [
     (Why::Done, ""),
     (Why::ReadFault, "read fault\n"),
     (Why::WriteFault, "write fault\n"),
@@ -21,6 +21,8 @@ const LINES: [(Why, &str); 24] = [
         Why::NotTransport(TsFault::NoSync(1)),
         "not transport: packet 1\n",
     ),
+    (Why::Unproved(7), "unproved case 7\n"),
+    (Why::NotCase(29), "not a case at line 29\n"),
     (Why::Words(WordFault::NoCommand), "words: no command\n"),
     (Why::Words(WordFault::BadWord(12)), "words: bad word 12\n"),
     (
@@ -38,6 +40,14 @@ const LINES: [(Why, &str); 24] = [
     (
         Why::Words(WordFault::Missing(Name::Seed)),
         "words: missing seed\n",
+    ),
+    (
+        Why::Words(WordFault::Missing(Name::Burst)),
+        "words: missing burst\n",
+    ),
+    (
+        Why::Words(WordFault::Missing(Name::Most)),
+        "words: missing most\n",
     ),
     (
         Why::Words(WordFault::Depth(3)),

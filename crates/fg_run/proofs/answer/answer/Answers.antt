@@ -1,4 +1,4 @@
-use Rattle.fg_run.proofs.Commands.{capture_answered, encoding_answered, inspection_answered, monitoring_answered, question_answered, refusal_answered, sample_answered, spelling_answered}
+use Rattle.fg_run.proofs.Commands.{capture_answered, checking_answered, encoding_answered, inspection_answered, monitoring_answered, planning_answered, proving_answered, question_answered, refusal_answered, sample_answered, spelling_answered}
 use Rattle.fg_run.proofs.answer.answer.Goals as goal
 
 pub returns-in-Asked-clause-answered : goal.returns-in-Asked-clause-answered
@@ -42,6 +42,21 @@ pub returns-in-Ordered-Monitor-clause-answered : goal.returns-in-Ordered-Monitor
 returns-in-Ordered-Monitor-clause-answered g c =
     let e = c.run_monitor.ensures in
     rw (c.in-Ordered-Monitor.is, c.in-Ordered-Monitor.field-0-is) (monitoring_answered _ _ e.whole e.exactly e.all_read e.reads e.part e.faults)
+
+pub returns-in-Ordered-Prove-clause-answered : goal.returns-in-Ordered-Prove-clause-answered
+returns-in-Ordered-Prove-clause-answered g c =
+    let e = c.run_prove.ensures in
+    rw (c.in-Ordered-Prove.is, c.in-Ordered-Prove.field-0-is) (proving_answered _ _ e.whole e.exactly e.all_read e.reads e.refused e.part e.faults)
+
+pub returns-in-Ordered-Check-clause-answered : goal.returns-in-Ordered-Check-clause-answered
+returns-in-Ordered-Check-clause-answered g c =
+    let e = c.run_check.ensures in
+    rw (c.in-Ordered-Check.is, c.in-Ordered-Check.field-0-is) (checking_answered _ _ e.whole e.exactly e.all_read e.reads e.part e.faults)
+
+pub returns-in-Ordered-ChooseMatrix-clause-answered : goal.returns-in-Ordered-ChooseMatrix-clause-answered
+returns-in-Ordered-ChooseMatrix-clause-answered g c =
+    let e = c.run_plan.ensures in
+    rw (c.in-Ordered-ChooseMatrix.is, c.in-Ordered-ChooseMatrix.field-0-is) (planning_answered _ _ _ _ e.whole e.part e.faults)
 
 pub returns-in-Refused-clause-answered : goal.returns-in-Refused-clause-answered
 returns-in-Refused-clause-answered g c = rw c.in-Refused.is (refusal_answered _)
