@@ -6,12 +6,25 @@ through again where that reads like the definition.
 bytes of the input. tools/fuzz and the scripts beside it compare the program with this. It isn't run on its own.
 """
 import functools
+import importlib.machinery
+import importlib.util
 import itertools
 import operator
+import os
 import re
 import struct
 from typing import NamedTuple
 
+
+def script_beside(name):
+    """A script of this folder whose name has no ending, as a module."""
+    loader = importlib.machinery.SourceFileLoader(name, os.path.join(os.path.dirname(os.path.abspath(__file__)), name))
+    module = importlib.util.module_from_spec(importlib.util.spec_from_loader(name, loader))
+    loader.exec_module(module)
+    return module
+
+
+check_cases = script_beside("check_cases")
 PACKET = 188
 LARGEST = 7 * PACKET
 MAGIC = b"FECTRAC1"
@@ -160,12 +173,25 @@ class Equation:
         return self.holds
 
 
+def runs_of(positions):
+    """The maximal runs of a set of positions, rising, as "FIRST LENGTH"."""
+    runs = []
+    for at in sorted(positions):
+        if runs and sum(runs[-1]) == at:
+            runs[-1][1] += 1
+        else:
+            runs.append([at, 1])
+    return [f"{first} {length}" for first, length in runs]
+
+
 class Play(NamedTuple):
-    """A closed window: what each position shows (None where nothing), how many are repaired, and whether the desk had a
-    solution. The first window starts at position 0, and each other one where the last one ended."""
+    """A closed window: what each position shows (None where nothing), how many are repaired, whether the desk had a
+    solution, and the lines of its gap case without the port, where it had one and a position shows nothing. The first window
+    starts at position 0, and each other one where the last one ended."""
     shown: list
     repaired: int
     consistent: bool
+    case: list
 
 
 class Desk:
@@ -273,8 +299,17 @@ class Desk:
         window = range(self.mark, self.mark + count)
         shown = [source.get(at) for at in window]
         repaired = sum(at in source and at not in self.media for at in window)
+        case = self.case(words, count) if consistent and None in shown else None
         self.move_mark(shown, consistent)
-        return Play(shown, repaired, consistent)
+        return Play(shown, repaired, consistent, case)
+
+    def case(self, words, count):
+        """The lines of the gap case of a window of so many positions, without the port."""
+        equations = self.equations.values()
+        end = max([self.mark + count, *(equation.last + 1 for equation in equations)])
+        return [f"{self.mark} {count}", *(f"known {run}" for run in runs_of([*self.kept, *self.media])),
+                *("line {} {} {}".format(*equation.shape) for equation in equations),
+                *(f"open {run}" for run in runs_of(at for at in range(self.mark, end) if at not in words)), "end"]
 
     def move_mark(self, shown, consistent):
         """Moves the mark behind a window that showed these words."""
@@ -293,8 +328,9 @@ class Desk:
         while count and (self.kept or self.media or self.equations):
             yield self.play(*self.peeled(), self.window)
             count -= 1
-        self.mark += count * self.window
-        yield from [Play([None] * self.window, 0, True)] * count
+        for _ in range(count):
+            yield Play([None] * self.window, 0, True, self.case({}, self.window))
+            self.mark += self.window
 
     def flush(self):
         """The plays at the end: each window ends behind the closure's highest position at the latest."""
@@ -367,6 +403,13 @@ def repair(records, ports, window, depth, hold):
         lines += [f"gap {port} {first} {length}" for first, length in gaps_of(shown)]
     lines.append(f"other {len(records) - sum(map(len, own.values()))}")
     return lanes, "".join(line + "\n" for line in lines)
+
+
+def prove(records, port, window, depth, hold):
+    """The texts of the gap cases of a flow, one for each play that has one."""
+    own = [(time, KINDS[at - port], datagram) for time, at, datagram in records if at - port in KINDS]
+    plays, _, _ = run_of(own, window, depth, hold)
+    return "".join(f"case {port} " + "".join(line + "\n" for line in play.case) for play in plays if play.case)
 
 
 # ---- Traces ----
@@ -648,19 +691,22 @@ def from_capture(data, most):
 # ---- The words of the command line ----
 
 NEEDED = object()
-REPAIRS, ENCODES = ["repair", "drill"], ["encode", "drill"]
+REPAIRS, ENCODES = ["repair", "drill", "prove"], ["encode", "drill"]
 
 # Commands, name, least and greatest or the two words, default, how often.
 TABLE = [
     (["repair", "inspect"], "flow", (1, 65531), NEEDED, None),
+    (["prove"], "flow", (1, 65531), NEEDED, 1),
     (REPAIRS, "window", (1, 100), 100, 1),
     (REPAIRS, "depth", (1, 1000), 400, 1),
     (REPAIRS, "hold", (1, 3600000000), 0, 1),
     (["repair", "drill", "sample"], "workers", (0, 16), 4, 1),
-    (["repair", "encode", "drill", "inspect", "fromcap", "tocap", "monitor"], "max", (8, 1099511627776), 1099511627776, 1),
+    (["repair", "encode", "drill", "inspect", "fromcap", "tocap", "monitor", "prove", "check"], "max", (8, 1099511627776), 1099511627776, 1),
     (ENCODES, "columns", (0, 255), NEEDED, 1),
     (ENCODES, "rows", (0, 255), NEEDED, 1),
-    (ENCODES, "fec", ("column", "both"), "both", 1),
+    (["plan"], "burst", (1, 20), NEEDED, 1),
+    (["plan"], "most", (1, 100), NEEDED, 1),
+    ([*ENCODES, "plan"], "fec", ("column", "both"), "both", 1),
     (ENCODES, "layout", ("block", "staggered"), "block", 1),
     (ENCODES, "packets", (1, 7), 7, 1),
     (ENCODES, "rate", (1, 10000000000), 10000000, 1),
@@ -674,7 +720,7 @@ TABLE = [
     (["sample"], "datagrams", (1, 20000), 1000, 1),
     (["sample"], "loss", (0, 20), 3, 1),
 ]
-COMMANDS = ["repair", "encode", "drill", "inspect", "sample", "fromcap", "tocap", "monitor"]
+COMMANDS = ["repair", "encode", "drill", "inspect", "sample", "fromcap", "tocap", "monitor", "prove", "check", "plan"]
 MANY = ("flow", "drop")
 
 
@@ -809,8 +855,29 @@ def do_monitor(asked, data):
     return text.encode(), {}, ending
 
 
+def do_prove(asked, data):
+    records, ending = read_trace(data, asked["max"])
+    text = prove(records or [], asked["flow"][0], asked["window"], asked["depth"], asked["hold"])
+    return text.encode(), {}, ending
+
+
+def do_check(asked, data):
+    """By the checker that knows nothing but the text of cases."""
+    text, status, line = check_cases.check(data, asked["max"])
+    return text.encode(), {}, Ends(status, line)
+
+
+def do_plan(asked, _):
+    """The least of all matrices that fit."""
+    both = asked["fec"] == "both"
+    fitting = [(columns * rows, columns, rows) for columns in range(asked["burst"], 21) for rows in range(4, 21)
+               if not layout_fault(columns, rows, asked["fec"])
+               and 100 * (columns + both * rows) <= asked["most"] * columns * rows]
+    return ("columns {1} rows {2}\n".format(*min(fitting)) if fitting else "none\n").encode(), {}, DONE
+
+
 DOES = {"repair": do_repair, "encode": do_encode, "drill": do_drill, "sample": do_sample, "inspect": do_inspect,
-        "fromcap": do_fromcap, "tocap": do_tocap, "monitor": do_monitor}
+        "fromcap": do_fromcap, "tocap": do_tocap, "monitor": do_monitor, "prove": do_prove, "check": do_check, "plan": do_plan}
 
 
 def answer(words, data):

@@ -213,6 +213,8 @@ def runs(large):
     trace = trace_of(stream, [5000, 6000], 7 if large else 1, 13)
     capture, _ = model.to_capture(model.read_trace(trace, len(trace))[0], model.DONE)
     broken = b"".join(stream[at:at + 188] for at in range(0, len(stream), 2 * 188))
+    gaps = trace_of(stream, [5000], 7 if large else 1, 3)
+    prove = ["prove", "flow=5000", "window=20", "depth=60"]
     return {"repair": (["repair", "flow=5000", "flow=6000", "window=20", "depth=60"], trace),
             "drill": (["drill", "columns=4", "rows=5", "every=13", "window=20", "depth=60"], stream),
             "sample": (["sample", "seed=3", f"datagrams={400 if large else 3}"], b""),
@@ -220,7 +222,10 @@ def runs(large):
             "inspect": (["inspect", "flow=5000"], trace),
             "fromcap": (["fromcap"], capture),
             "tocap": (["tocap"], trace),
-            "monitor": (["monitor"], broken)}
+            "monitor": (["monitor"], broken),
+            "prove": (prove, gaps),
+            "check": (["check"], whole_of(prove, gaps).out),
+            "plan": (["plan", "burst=5", "most=20"], b"")}
 
 
 def whole_of(words, data):
