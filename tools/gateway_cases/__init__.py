@@ -1,0 +1,1 @@
+"""The cases of tools/try_gateway, and what they have in common."""
