@@ -1,5 +1,6 @@
 -- What the checking of a text of cases comes to: this project's own.
 use Rattle.std.specs.Prelude.{◌≡◌, ◌≢◌, ◌⊎◌, ◌+◌, ◌<◌, ◌≤◌, ℕ, ⊤, Option, None, Some, IfSome, List, [], length, take, All}
+use Rattle.fg_io.specs.Texts.{Texts}
 use Rattle.fg_io.specs.Sink.{Gains, GainsPart}
 use Rattle.fg_proof.specs.declared.case.Case.{Case}
 use Rattle.fg_proof.specs.declared.judging.Answer.{Answer}
@@ -81,7 +82,7 @@ TellsExactly max input checked =
     → IsChecked max bytes cases ending → AreAnswers cases answers → Tells checked ending answers)
 
 -- The sink has gained a prefix of those lines.
-abbrev pub ChecksPart : ℕ → Option (List ℕ) → Option (List ℕ) → Option (List ℕ) → Type 0
+abbrev pub ChecksPart : ℕ → Texts
 ChecksPart max input written written' =
     IfSome input (λ bytes. (cases : List Case) (ending : CheckEnding) (text : List ℕ)
     → IsChecked max bytes cases ending → IsVerdicts cases text → GainsPart written text written')

@@ -2,6 +2,7 @@
 use Rattle.std.specs.Prelude.{◌≡◌, ◌+◌, ◌-◌, ◌≤◌, ◌<◌, ◌^◌, ℕ, Bool, true, Option, None, Some, IfSome, List, [], ◌∷◌, ◌++◌, length, map, take, drop, All}
 use Rattle.std.specs.List.{Contains, flat_map}
 use Rattle.std.specs.Io.KnownBytes.{IsAtEnd}
+use Rattle.fg_io.specs.Texts.{ReadTexts}
 use Rattle.fg_io.specs.declared.input_buffer.Ahead.{Ahead}
 use Rattle.fg_io.specs.declared.input_buffer.Ahead.TheVariants as ahead
 use Rattle.fg_io.specs.InputBuffer.{InputState}
@@ -151,5 +152,5 @@ pub record HasWalked
   pub tells : Tells checked ending told.answers
 
 -- What a fault leaves: the input was read no further than a byte past the limit, and the sink has gained a prefix of the text.
-abbrev pub Breaks : ℕ → Option (List ℕ) → Option (List ℕ) → Option (List ℕ) → Option (List ℕ) → Type 0
+abbrev pub Breaks : ℕ → ReadTexts
 Breaks max first now before after = ChecksPart max first before after × IsReadTo max None first now

@@ -8,6 +8,3 @@ mod reading;
 mod walk;
 
 pub use walk::{Checked, check_cases};
-
-#[cfg(test)]
-mod tests;

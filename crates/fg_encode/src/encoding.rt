@@ -194,6 +194,3 @@ fn add<K: Sink>(
     trace.add(&record_header(time, port, datagram.len() as u16), out)?;
     trace.add(datagram, out)
 }
-
-#[cfg(test)]
-mod tests;

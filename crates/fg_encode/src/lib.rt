@@ -9,9 +9,6 @@ mod encoding;
 pub mod laws;
 mod lines;
 pub mod stream;
-#[cfg(test)]
-mod tests;
-
 pub use batch::Batch;
 pub use encoder::Encoder;
 pub use encoding::encode;

@@ -8,9 +8,6 @@ ghost use Rattle.fg_encode.specs.Stream.{OneCut};
 ghost use Rattle.fg_encode.specs.StreamReader.{StandsAfter, Walks, EndsHere, ending_told, new_reader};
 ghost use Rattle.fg_encode.specs.StreamSteps.{Accepts, fault_from, reader_at};
 
-#[cfg(test)]
-mod tests;
-
 use fg_io::{Ahead, Fault, InputBuffer, Source};
 use fg_ts::{PACKET_LENGTH, TsFault, packet_count};
 use fg_words::PAYLOAD_LIMIT;

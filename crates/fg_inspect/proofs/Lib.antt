@@ -1,6 +1,5 @@
 -- Lemmas on the definitions of this crate.
 mod Opening
-mod Reaching
 mod Readings
 mod Telling
 mod Texts

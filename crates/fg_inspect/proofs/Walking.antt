@@ -11,6 +11,7 @@ use Rattle.fg_trace.specs.declared.step.TraceFault.{TraceFault}
 use Rattle.fg_trace.specs.declared.step.TraceFault.TheVariants as fault
 use Rattle.fg_trace.specs.Laws.{OneTrace, WalksTheFront}
 use Rattle.fg_trace.proofs.Opening.{few_spelled, stands_still}
+use Rattle.fg_trace.proofs.Reached.{stands_more}
 use Rattle.fg_trace.specs.Reader.{Answer, ReaderState, StandsAfter, Walks}
 use Rattle.fg_trace.specs.Trace.{Record, Ending, IsTrace, spelling, trace_of}
 use Rattle.fg_trace.specs.Finish.{finish_of}
@@ -39,13 +40,6 @@ leaves_part law flows (Some bytes) now reader records before after stands h = λ
     let walked : records ≡ take (length records) all = law reader bytes now records all end stands trace in
     let split : all ≡ records ++ drop (length records) all = sym (take-append-drop (length records) all) ∙ ap (λ t. t ++ drop (length records) all) (sym walked) in
     h (drop (length records) all) text (subst (λ (rs : List Record). IsText flows rs text) split is)
-
--- where the reader stands after a record
-stands_more : (reader next : ReaderState) (first left now : Option (List ℕ)) (records : List Record) (answer : Answer) (time port size : ℕ)
-    → answer ≡ Ok (Datagram time port size) → ((records : List Record) → StandsAfter reader first left records → Walks answer next first now records)
-    → StandsAfter reader first left records → StandsAfter next first now (records ++ (record { time = time; port = port; datagram = next.payload }) ∷ [])
-stands_more reader next first left now records answer time port size is walks h =
-    subst (λ (a : Answer). Walks a next first now records) is (walks records h)
 
 -- A record
 

@@ -46,18 +46,3 @@ pub record HasToldAll
   pub answer_is : answer ≡ finish_of end
   pub of_input : IfSome first (λ bytes. IsTrace bytes max records end)
   pub told : HasTold flows records lines before after
-
--- The answer of an inspection that comes to this.
-abbrev pub answer_to : Result Finish Fault → Finish
-answer_to (Ok answer) = answer
-answer_to (Err Read) = finish.ReadFault
-answer_to (Err Write) = finish.WriteFault
-answer_to (Err Memory) = finish.Memory
-
--- The input, which had `first`, was read as far as that answer needs.
-abbrev pub IsReadTo : ℕ → Result Finish Fault → Option (List ℕ) → Option (List ℕ) → Type 0
-IsReadTo max came first now = IfSome first (λ bytes. IsReadFor max (answer_to came) bytes now)
-
--- The reader stands after some records.
-abbrev pub Stands : ReaderState → Option (List ℕ) → Option (List ℕ) → Type 0
-Stands reader first now = (records : List Record) × StandsAfter reader first now records

@@ -8,6 +8,3 @@ mod walk;
 
 pub use reading::Reading;
 pub use walk::inspect;
-
-#[cfg(test)]
-mod tests;

@@ -7,8 +7,9 @@ ghost use Rattle.fg_trace.specs.Reader.{StandsAfter};
 ghost use Rattle.fg_trace.specs.Trace.{Record, Ending, NotTrace as NoMagic, IsTrace};
 ghost use Rattle.fg_trace.specs.Finish.{IsFault, ReadsAll, finish_of};
 ghost use Rattle.fg_trace.specs.Reading.{HasReached, IsReadFor};
+ghost use Rattle.fg_trace.specs.Reached.{IsReadTo, Stands, answer_to};
 ghost use Rattle.fg_inspect.specs.Inspect.{Tells, TellsPart};
-ghost use Rattle.fg_inspect.specs.Steps.{HasToldAll, IsNew, IsUnderway, IsReadTo, Stands, answer_to};
+ghost use Rattle.fg_inspect.specs.Steps.{HasToldAll, IsNew, IsUnderway};
 
 use crate::laws::one_text;
 use crate::lines::Lines;

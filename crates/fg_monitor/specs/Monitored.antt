@@ -1,6 +1,7 @@
 -- What the monitoring of a stream comes to: this project's own. The stream is cut into packets of 188 bytes (ISO/IEC 13818-1).
 use Rattle.std.specs.Prelude.{ℕ, List, Option, IfSome}
 use Rattle.fg_io.specs.Sink.{Gains, GainsPart}
+use Rattle.fg_io.specs.Texts.{Texts}
 use Rattle.fg_encode.specs.Stream.{IsCut, StreamEnding}
 use Rattle.fg_monitor.specs.Text.{IsText}
 
@@ -17,7 +18,7 @@ pub record Monitors (max : ℕ) (ending : StreamEnding) (input written written' 
   pub gained : Gains written text written'
 
 -- The sink has gained a prefix of that text.
-abbrev pub MonitorsPart : ℕ → Option (List ℕ) → Option (List ℕ) → Option (List ℕ) → Type 0
+abbrev pub MonitorsPart : ℕ → Texts
 MonitorsPart max input written written' =
     IfSome input (λ bytes. (packets : List (List ℕ)) (ending : StreamEnding) (text : List ℕ)
     → IsStreamOf max bytes packets ending → IsText packets ending text → GainsPart written text written')

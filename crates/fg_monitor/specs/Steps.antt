@@ -3,6 +3,7 @@ use Rattle.std.specs.Prelude.{◌≡◌, ◌⊎◌, ◌+◌, ◌%◌, ◌≤◌,
 use Rattle.std.specs.Option.{is_some}
 use Rattle.std.specs.List.{flat_map}
 use Rattle.std.specs.Io.KnownBytes.{IsAtEnd}
+use Rattle.fg_io.specs.Texts.{ReadTexts}
 use Rattle.fg_io.specs.InputBuffer.{InputState}
 use Rattle.fg_io.specs.Sent.{Sent}
 use Rattle.fg_ts.specs.Fields.{AnnouncesBreak, HasPayload, counter_of, pid_of}
@@ -86,5 +87,5 @@ pub record HasWalked
 
 -- What a fault leaves: the stream was read no further than a byte past the limit, and the sink has gained a prefix of the
 -- text.
-abbrev pub Breaks : ℕ → Option (List ℕ) → Option (List ℕ) → Option (List ℕ) → Option (List ℕ) → Type 0
+abbrev pub Breaks : ℕ → ReadTexts
 Breaks max first now before after = MonitorsPart max first before after × IsReadTo max None first now

@@ -8,6 +8,3 @@ mod walk;
 
 pub use continuity::{Break, Monitor};
 pub use walk::monitor_stream;
-
-#[cfg(test)]
-mod tests;

@@ -46,7 +46,7 @@ misses_this words xs j none below =
     (j, omega arith, refl, none, λ k less other. below k (omega (arith, other)))
 
 -- an element has a place
-place_of : (xs : List ℕ) (x : ℕ) → Contains xs x → (k : ℕ) × (k < length xs) × (get_or xs k 0 ≡ x)
+pub place_of : (xs : List ℕ) (x : ℕ) → Contains xs x → (k : ℕ) × (k < length xs) × (get_or xs k 0 ≡ x)
 place_of xs x c = (c.0, c.1, get_or_default xs c.0 0 x c.1 ∙ c.2)
 
 module _ (words : ℕ → Option Word) (equation : Equation) where

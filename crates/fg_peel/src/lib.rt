@@ -24,8 +24,6 @@ pub mod laws;
 mod recovery;
 mod slot_row;
 mod span;
-#[cfg(test)]
-mod tests;
 
 pub use entry_row::EntryRow;
 pub use span::Missing;
@@ -83,7 +81,7 @@ pub struct Line {
 }
 
 /// What the words at the end of a peeling are worth.
-#[derive(Clone, Copy, Debug, PartialEq, Eq)]
+#[derive(Clone, Copy, PartialEq)]
 pub enum Verdict {
     /// Each recovered word is a media word, and each equation comes out.
     Sound,

@@ -9,7 +9,7 @@ use fg_shape::slot;
 use fg_words::Word;
 
 /// Which slots of a line have no word.
-#[derive(Clone, Copy, Debug, PartialEq, Eq)]
+#[derive(Clone, Copy)]
 pub enum Missing {
     /// None: the line is complete.
     Nothing,

@@ -125,6 +125,3 @@ impl Source for Made {
         Ok(count)
     }
 }
-
-#[cfg(test)]
-mod tests;

@@ -209,6 +209,3 @@ impl<S: Source> Source for Thinned<S> {
         }
     }
 }
-
-#[cfg(test)]
-mod tests;

@@ -2,7 +2,7 @@ use Rattle.std.proofs.Common.{ℕ, List, [], Option, Ok}
 use Rattle.fg_io.proofs.FaultLemmas.{on_err}
 use Rattle.fg_trace.specs.Reader.{StandsAfter}
 use Rattle.fg_inspect.specs.Inspect.{TellsPart}
-use Rattle.fg_inspect.proofs.Reaching.{failed_reached, read_to}
+use Rattle.fg_trace.proofs.Reached.{failed_reached, read_to}
 use Rattle.fg_inspect.proofs.Walking.{underway, tells, tells_part}
 use Rattle.fg_inspect.proofs.walk.tell_records.Goals as goal
 

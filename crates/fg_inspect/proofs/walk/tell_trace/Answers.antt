@@ -5,10 +5,10 @@ use Rattle.fg_trace.specs.declared.step.TraceFault.{TraceFault}
 use Rattle.fg_trace.specs.declared.step.TraceFault.TheVariants as fault
 use Rattle.fg_trace.specs.Reader.{ReaderState, Opens}
 use Rattle.fg_inspect.specs.Inspect.{Tells}
-use Rattle.fg_inspect.specs.Steps.{IsReadTo}
+use Rattle.fg_trace.specs.Reached.{IsReadTo}
 use Rattle.fg_trace.proofs.Opening.{never_refused}
 use Rattle.fg_inspect.proofs.Opening.{none_is_part, tells_none}
-use Rattle.fg_inspect.proofs.Reaching.{differs_at, failed_at}
+use Rattle.fg_trace.proofs.Reached.{differs_at, failed_at}
 use Rattle.fg_inspect.proofs.walk.tell_trace.Goals as goal
 
 pub tell_records-requires-clause-begun : goal.tell_records-requires-clause-begun

@@ -1,0 +1,66 @@
+//! A pass asks for an equation by its key.
+
+ghost use Rattle.std.specs.Prelude.{◌≡◌};
+
+use super::admit;
+use super::scene::open;
+use super::script::{sum_of, word_of};
+use fg_board::{Admitter, Asked, Board, Key};
+use fg_shape::Shape;
+use std::alloc::{AllocError, Global};
+use std::sync::Wait;
+use std::test::Fail;
+
+// The key of a row of four datagrams, of which the first came.
+fn row_of_four(
+    wait: &impl Wait,
+    alloc: Global,
+    board: &Board,
+    admitter: &mut Admitter,
+) -> Result<Option<Key>, AllocError>
+    requires { admitter.old.seat.turn ≡ board.now.name }
+    ensures { admitter.new.seat.turn ≡ admitter.old.seat.turn }
+{
+    let shape = Shape { offset: 1, na: 4 };
+    let first = word_of(0).share(alloc)?;
+    let parity = sum_of(0, shape).share(alloc)?;
+    let _ = admit::media(wait, board, admitter, 0, 0, first);
+    match admit::parity(wait, board, admitter, 0, shape, parity) {
+        Some((_, key)) => Ok(key),
+        None => Ok(None),
+    }
+}
+
+// Whether it is that row.
+fn is_row_of_four(answer: Asked) -> bool {
+    match answer {
+        Asked::Live {
+            base,
+            shape,
+            parity,
+        } => { base == 0 && shape.offset == 1 && shape.na == 4 && parity.same(&sum_of(0, shape)) }
+        Asked::Gone { mark: _, epoch: _ } => false,
+    }
+}
+
+// Whether a pass is told the row.
+fn row_is_told(wait: &impl Wait, alloc: Global) -> Result<bool, AllocError> {
+    let (board, mut admitter) = open(alloc, 10, 40, 0)?;
+    let mut pass = board.pass(&mut admitter);
+    let Some(key) = row_of_four(wait, alloc, &board, &mut admitter)? else {
+        return Ok(false);
+    };
+    let answer = board.ask(wait, &mut pass, key);
+    board.back(&mut admitter, pass);
+    if admitter.made() != 0 {
+        return Ok(false);
+    }
+    board.close(admitter);
+    Ok(is_row_of_four(answer))
+}
+
+#[test]
+fn an_equation_is_asked_for(rt: HostRuntime) -> Result<(), Fail> {
+    assert!(rt; row_is_told(&rt, rt.alloc())?);
+    Ok(())
+}

@@ -1,0 +1,271 @@
+//! Scripts: what a board's admitter and its passes do, each with the answer that is wanted.
+
+use super::scene::{Scene, Who};
+use fg_board::{Fate, Look};
+use fg_desk::{Outcome, Played, Reply, Tray};
+use fg_shape::Shape;
+use fg_words::Word;
+use std::alloc::{AllocError, Global};
+use std::process::Abort;
+use std::sync::Wait;
+use std::test::Fail;
+
+/// A word of which a payload bit is flipped has this number more than the word had.
+pub(super) const FLIPPED: u32 = 1 << 20;
+
+/// A call, and what is wanted of it. Words go by numbers.
+#[derive(Clone, Copy)]
+pub(super) enum Step {
+    /// A media datagram of SSRC 0: its sequence number, its word, and the reply.
+    Media(u16, u32, Reply),
+    /// A media datagram of any SSRC: the SSRC, its sequence number, its word, and the reply.
+    From(u32, u16, u32, Reply),
+    /// Media datagrams that are all admitted: the first sequence number, how many, and which of them
+    /// are lost. The words have the sequence numbers.
+    Run(u16, u16, u128),
+    /// A parity datagram: the sequence number of its base, offset and count of its shape, the word
+    /// at its first slot, and the reply. The words at its slots are numbered as the slots are.
+    Parity(u16, u8, u8, u32, Reply),
+    /// A take: the serial number of the job's equation, and the slot that has no word.
+    Take(Who, Option<(u64, Option<u64>)>),
+    /// The job's word is published.
+    Publish(Who, Fate),
+    /// The job's check is vouched for: whether its equation comes out.
+    Vouch(Who, bool, Fate),
+    /// The job's word is offered, and the job is kept.
+    Offer(Who, Fate),
+    /// The job's check is attested, and the job is kept: whether its equation comes out.
+    Attest(Who, bool, Fate),
+    /// The job is given back.
+    GiveBack(Who, Fate),
+    /// The job is given back, and then its word is offered.
+    BackAndOffer(Who, Fate),
+    /// The job is given back, and then its check is attested: whether its equation comes out.
+    BackAndAttest(Who, bool, Fate),
+    /// A look by the key of the equation of this serial number, at a position.
+    Look(Who, usize, u64, Sight),
+    /// A play, which is due before a sequence number of SSRC 0.
+    Play(u16, Shows),
+    /// A flush step.
+    Flush(Shows),
+    /// A held step at a time. None where no word has waited for long enough.
+    Held(u64, Option<Shows>),
+}
+
+/// What a look shows: the word that has the number of the position, no word, or that the equation is
+/// gone, with the mark and the epoch.
+#[derive(Clone, Copy, PartialEq, Eq)]
+pub(super) enum Sight {
+    Word,
+    Nothing,
+    Gone(u64, u64),
+}
+
+/// What a play shows: how many positions, which of them show no word, which show a repaired one, and
+/// which show the word with a bit flipped.
+#[derive(Clone, Copy)]
+pub(super) struct Shows {
+    pub outcome: Outcome,
+    pub count: u32,
+    pub missing: u128,
+    pub repaired: u128,
+    pub flipped: u128,
+}
+
+/// What a play shows, as `Shows` tells it.
+pub(super) fn to_show(
+    outcome: Outcome,
+    count: u32,
+    missing: u128,
+    repaired: u128,
+    flipped: u128,
+) -> Shows {
+    Shows {
+        outcome,
+        count,
+        missing,
+        repaired,
+        flipped,
+    }
+}
+
+/// The media word of this number.
+pub(super) fn word_of(number: u32) -> Word {
+    let mut word = Word::zero();
+    word.pt = 33;
+    word.ts = number % FLIPPED;
+    word.len = 1316;
+    for packet in 0..7usize {
+        word.bytes[188 * packet] = 0x47;
+        word.bytes[188 * packet + 1] = (number % 256) as u8;
+        word.bytes[188 * packet + 2] = (number / 256 % 256) as u8;
+    }
+    if number >= FLIPPED {
+        word.bytes[1315] = 1;
+    }
+    word
+}
+
+/// The sum of the words at the slots of a shape, of which the first has this number.
+pub(super) fn sum_of(number: u32, shape: Shape) -> Word {
+    let mut sum = Word::zero();
+    for j in 0..u32::from(shape.na) {
+        let at = j.wrapping_mul(u32::from(shape.offset));
+        sum.xor_in(&word_of((number % FLIPPED).wrapping_add(at)));
+    }
+    if number >= FLIPPED {
+        sum.bytes[1315] ^= 1;
+    }
+    sum
+}
+
+fn run_is_admitted(
+    scene: &mut Scene,
+    wait: &impl Wait,
+    seq: u16,
+    count: u16,
+    lost: u128,
+) -> Result<bool, AllocError> {
+    let mut admitted = true;
+    for i in 0..count {
+        if lost >> (i % 128) & 1 == 0 {
+            let seq = seq.wrapping_add(i);
+            let reply = scene.media(wait, seq, 0, word_of(u32::from(seq)))?;
+            admitted &= reply == Some(Reply::Admitted);
+        }
+    }
+    Ok(admitted)
+}
+
+/// What a look shows. None where it is another word than the one of this number.
+fn seen(look: Look, number: u32) -> Option<Sight> {
+    match look {
+        Look::Known(word) => {
+            if word.same(&word_of(number)) {
+                Some(Sight::Word)
+            } else {
+                None
+            }
+        }
+        Look::Unknown => Some(Sight::Nothing),
+        Look::Gone { mark, epoch } => Some(Sight::Gone(mark, epoch)),
+    }
+}
+
+/// Whether a play shows this, from the position 0 or a later one on.
+fn is_shown(done: Option<(Played, Tray)>, want: Shows) -> bool {
+    let Some((played, tray)) = done else {
+        return false;
+    };
+    if played.count != want.count || played.verdict != want.outcome {
+        return false;
+    }
+    let first = (played.first % u64::from(FLIPPED)) as u32;
+    for i in 0..128u32 {
+        if !is_shown_at(&tray, i, first.wrapping_add(i) % FLIPPED, want) {
+            return false;
+        }
+    }
+    true
+}
+
+fn is_shown_at(tray: &Tray, i: u32, position: u32, want: Shows) -> bool {
+    let missing = i >= want.count || want.missing >> (i % 128) & 1 == 1;
+    let flipped = want.flipped >> (i % 128) & 1 == 1;
+    let number = if flipped {
+        position % FLIPPED + FLIPPED
+    } else {
+        position
+    };
+    let right = match tray.word(i) {
+        Some(word) => !missing && word.same(&word_of(number)),
+        None => missing,
+    };
+    right && tray.repaired(i) == (want.repaired >> (i % 128) & 1 == 1)
+}
+
+fn looks(scene: &mut Scene, wait: &impl Wait, who: Who, serial: usize, slot: u64) -> Option<Sight> {
+    let look = scene.look(wait, who, serial, slot)?;
+    seen(look, (slot % u64::from(FLIPPED)) as u32)
+}
+
+/// Whether a held step shows this, or finds nothing where that is wanted.
+fn is_held(
+    scene: &mut Scene,
+    wait: &impl Wait,
+    time: u64,
+    want: Option<Shows>,
+) -> Result<bool, AllocError> {
+    let done = scene.held(wait, time)?;
+    Ok(match want {
+        Some(want) => is_shown(done, want),
+        None => done.is_none(),
+    })
+}
+
+/// Whether a call of the admitter, or a look, answers as is wanted.
+fn answers(scene: &mut Scene, wait: &impl Wait, step: Step) -> Result<bool, AllocError> {
+    match step {
+        Step::Media(seq, number, want) => {
+            Ok(scene.media(wait, seq, 0, word_of(number))? == Some(want))
+        }
+        Step::From(ssrc, seq, number, want) => {
+            Ok(scene.media(wait, seq, ssrc, word_of(number))? == Some(want))
+        }
+        Step::Run(seq, count, lost) => run_is_admitted(scene, wait, seq, count, lost),
+        Step::Parity(base, offset, na, number, want) => {
+            let shape = Shape { offset, na };
+            Ok(scene.parity(wait, base, shape, sum_of(number, shape))? == Some(want))
+        }
+        Step::Look(who, serial, slot, want) => {
+            Ok(looks(scene, wait, who, serial, slot) == Some(want))
+        }
+        Step::Play(seq, want) => Ok(is_shown(scene.play(wait, seq, 0)?, want)),
+        Step::Flush(want) => Ok(is_shown(scene.flush(wait)?, want)),
+        Step::Held(time, want) => is_held(scene, wait, time, want),
+        _ => is_brought(scene, wait, step),
+    }
+}
+
+/// Whether a pass that takes, brings or gives back is answered as is wanted.
+fn is_brought(scene: &mut Scene, wait: &impl Wait, step: Step) -> Result<bool, AllocError> {
+    match step {
+        Step::Take(who, want) => Ok(scene.take(wait, who)? == want),
+        Step::Publish(who, want) => Ok(scene.publish(wait, who)? == Some(want)),
+        Step::Vouch(who, zero, want) => Ok(scene.vouch(wait, who) == Some((zero, want))),
+        Step::Offer(who, want) => Ok(scene.offer(wait, who)? == Some(want)),
+        Step::Attest(who, zero, want) => Ok(scene.attest(wait, who) == Some((zero, want))),
+        Step::GiveBack(who, want) => Ok(scene.give_back(wait, who) == Some(want)),
+        Step::BackAndOffer(who, want) => {
+            Ok(scene.back_and_offer(wait, who)? == Some((Fate::Done, want)))
+        }
+        Step::BackAndAttest(who, zero, want) => {
+            Ok(scene.back_and_attest(wait, who) == Some((zero, Fate::Done, want)))
+        }
+        _ => Ok(false),
+    }
+}
+
+/// A new board follows a script, and ends. Its words may wait for ever.
+pub(super) fn follows(
+    rt: &(impl Abort + Wait),
+    alloc: Global,
+    script: &[Step],
+) -> Result<(), Fail> {
+    follows_with(rt, alloc, 0, script)
+}
+
+/// As `follows`, where a word may wait for so many microseconds.
+pub(super) fn follows_with(
+    rt: &(impl Abort + Wait),
+    alloc: Global,
+    hold: u64,
+    script: &[Step],
+) -> Result<(), Fail> {
+    let mut scene = Scene::new(alloc, 100, 400, hold)?;
+    for (i, step) in script.iter().enumerate() {
+        assert!(rt; answers(&mut scene, rt, *step)?, "step {i}");
+    }
+    assert!(rt; scene.close());
+    Ok(())
+}

@@ -1,4 +1,0 @@
-use Rattle.fg_peel.proofs.tests.+play_all.Given as goal
-
-abbrev pub decreases-play_all : goal.decreases-play_all
-decreases-play_all l = l.depth

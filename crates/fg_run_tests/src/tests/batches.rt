@@ -1,0 +1,252 @@
+//! Batches of records, which several flows run side by side where there are workers.
+use super::workers::{Counts, PLAYS};
+use super::*;
+use std::sync::atomic::Ordering;
+
+/// The flows of these tests.
+const PORTS: [u16; 4] = [5000, 5010, 5020, 5030];
+
+/// An outside with room for them.
+const ROOMY: Setting<'static> = Setting {
+    ports: &PORTS,
+    ..PLAIN
+};
+
+/// The trace of media datagrams of these numbers on each of the flows in turn.
+fn in_turn(alloc: Global, ports: &[u16], numbers: &[u16]) -> Result<Vec<u8>, AllocError> {
+    let mut bytes = Vec::from_slice(alloc, b"FECTRAC1")?;
+    for number in numbers {
+        for port in ports {
+            push_sent(alloc, &mut bytes, *port, Sent::Media(*number))?;
+        }
+    }
+    Ok(bytes)
+}
+
+/// How many lines of the report begin so.
+fn count_lines(outside: &Outside, beginning: &[u8]) -> usize {
+    let lines = outside.out.bytes().split(|byte| *byte == b'\n');
+    lines.filter(|line| line.starts_with(beginning)).count()
+}
+
+#[test]
+fn two_flows_in_one_batch(rt: HostRuntime) -> Result<(), Fail> {
+    let alloc = rt.alloc();
+    let bytes = in_turn(alloc, &PORTS[..2], &[10, 11, 12])?;
+    assert_eq!(rt; bytes.len(), 8_048);
+    let line = "repair flow=5000 flow=5010";
+    let (ended, outside) = run_line(&rt, alloc, &ROOMY, line, &bytes)?;
+    assert_eq!(rt; ended.status, 0);
+    assert_eq!(rt; count_lines(&outside, b"flow 5000 shown 3 "), 1);
+    assert_eq!(rt; count_lines(&outside, b"flow 5010 shown 3 "), 1);
+    for port in &PORTS[..2] {
+        outside.check_lane(&rt, alloc, *port, Some(&[10, 11, 12]))?;
+    }
+    Ok(())
+}
+
+/// Holds the first play until so many were about to be made.
+#[derive(Drop)]
+struct Meeting<'a, W: Wait> {
+    counts: Counts<'a, W>,
+    least: u64,
+}
+
+impl<W: Wait + Sync> Gate for Meeting<'_, W> {
+    fn at(&self, _worker: u32, point: u32) {
+        if point == PLAYS && self.counts.plays.fetch_add(1, Ordering::SeqCst) == 0 {
+            self.counts.hold(&self.counts.plays, self.least);
+        }
+    }
+}
+
+/// The numbers of media datagrams of which the last makes a play of four due.
+const FIVE: [u16; 5] = [10, 11, 12, 13, 14];
+
+/// Runs five media datagrams on each of the flows in one batch, and holds the first play until so many are about to be made.
+fn check_meeting<W: Abort + Threads + Wait + Sync>(
+    rt: &W,
+    alloc: Global,
+    line: &str,
+    ports: &[u16],
+    least: u64,
+) -> Result<(), AllocError> {
+    let gate = Meeting {
+        counts: Counts::new(rt),
+        least,
+    };
+    let bytes = in_turn(alloc, ports, &FIVE)?;
+    let (ended, outside) = run_gated(rt, alloc, &ROOMY, line, &bytes, &gate)?;
+    assert_eq!(rt; ended.status, 0);
+    assert_eq!(rt; gate.counts.failed.load(Ordering::SeqCst), 0);
+    for port in ports {
+        let begins = format!(in alloc; "flow {port} shown 5 repaired 0 missing 0 windows 2 ")?;
+        assert_eq!(rt; count_lines(&outside, begins.as_bytes()), 1);
+        outside.check_lane(rt, alloc, *port, Some(&FIVE))?;
+    }
+    Ok(())
+}
+
+#[test]
+fn two_flows_play_side_by_side(rt: HostRuntime) -> Result<(), Fail> {
+    let line = "repair flow=5000 flow=5010 window=4 depth=4 workers=1";
+    check_meeting(&rt, rt.alloc(), line, &PORTS[..2], 2)?;
+    Ok(())
+}
+
+// While the first that plays is held, one other thread has two flows to go on with.
+#[test]
+fn others_go_on_beside_a_flow_that_is_held(rt: HostRuntime) -> Result<(), Fail> {
+    let line = "repair flow=5000 flow=5010 flow=5020 flow=5030 window=4 depth=4 workers=1";
+    check_meeting(&rt, rt.alloc(), line, &PORTS, 3)?;
+    Ok(())
+}
+
+// A batch has at most 256 records.
+#[test]
+fn a_batch_that_ends_by_its_number(rt: HostRuntime) -> Result<(), Fail> {
+    let alloc = rt.alloc();
+    let sent = numbers(alloc, 600)?;
+    let mut bytes = in_turn(alloc, &PORTS[..1], &sent)?;
+    push_sent(alloc, &mut bytes, 5010, Sent::Media(7))?;
+    let setting = Setting {
+        piece: 100_000,
+        lane: 800_000,
+        ..ROOMY
+    };
+    let line = "repair flow=5000 flow=5010 flow=5020 window=50 depth=100 workers=2";
+    let (ended, outside) = run_line(&rt, alloc, &setting, line, &bytes)?;
+    assert_eq!(rt; ended.status, 0);
+    assert_eq!(rt;
+        count_lines(
+            &outside,
+            b"flow 5000 shown 600 repaired 0 missing 0 windows 12 "
+        ),
+        1
+    );
+    assert_eq!(rt;
+        count_lines(
+            &outside,
+            b"flow 5020 shown 0 repaired 0 missing 0 windows 0 "
+        ),
+        1
+    );
+    outside.check_lane(&rt, alloc, 5000, Some(sent.as_slice()))?;
+    outside.check_lane(&rt, alloc, 5010, Some(&[7]))?;
+    outside.check_lane(&rt, alloc, 5020, Some(&[]))?;
+    Ok(())
+}
+
+// It has at most 1,048,576 bytes of payloads, so 16 of the greatest records.
+#[test]
+fn a_batch_that_ends_by_its_bytes(rt: HostRuntime) -> Result<(), Fail> {
+    let alloc = rt.alloc();
+    let big = vec![in alloc; 0x47; 65_535]?;
+    let mut bytes = Vec::from_slice(alloc, b"FECTRAC1")?;
+    for number in 0..20 {
+        push_sent(alloc, &mut bytes, 5000, Sent::Media(number))?;
+        push_record(&mut bytes, 5000, &big)?;
+    }
+    let setting = Setting {
+        piece: 100_000,
+        ..ROOMY
+    };
+    let line = "repair flow=5000 flow=5010 workers=2";
+    let (ended, outside) = run_line(&rt, alloc, &setting, line, &bytes)?;
+    assert_eq!(rt; ended.status, 0);
+    let media = b"media 5000 admitted 20 duplicate 0 conflict 0 late 0 bad 20";
+    assert_eq!(rt; count_lines(&outside, media), 1);
+    outside.check_lane(&rt, alloc, 5000, Some(numbers(alloc, 20)?.as_slice()))?;
+    Ok(())
+}
+
+/// A put that fails, by its number, and how many datagrams the two lanes have then; `None` where there is no lane.
+const PUTS: [(u64, Option<usize>, Option<usize>); 6] = [
+    // The lanes are made,
+    (0, None, None),
+    (1, Some(0), None),
+    // what the batch shows is put flow after flow,
+    (2, Some(0), Some(0)),
+    (3, Some(4), Some(0)),
+    // and the flows are flushed.
+    (4, Some(4), Some(4)),
+    (5, Some(5), Some(4)),
+];
+
+/// Checks that a lane has the first so many of the five datagrams.
+fn check_front<W: Abort>(
+    rt: &W,
+    alloc: Global,
+    outside: &Outside,
+    port: u16,
+    count: Option<usize>,
+) -> Result<(), AllocError> {
+    let front = count.and_then(|count| FIVE.get(..count));
+    outside.check_lane(rt, alloc, port, front)
+}
+
+#[test]
+fn a_put_that_fails_leaves_the_first_flows_ahead(rt: HostRuntime) -> Result<(), Fail> {
+    let alloc = rt.alloc();
+    let bytes = in_turn(alloc, &PORTS[..2], &FIVE)?;
+    let line = "repair flow=5000 flow=5010 window=4 depth=4 workers=1";
+    for (call, first, second) in &PUTS {
+        let setting = Setting {
+            puts: &[*call],
+            ..ROOMY
+        };
+        let (ended, outside) = run_line(&rt, alloc, &setting, line, &bytes)?;
+        assert_eq!(rt; ended.status, 3);
+        check_front(&rt, alloc, &outside, 5000, *first)?;
+        check_front(&rt, alloc, &outside, 5010, *second)?;
+        assert!(rt; outside.out.bytes().is_empty());
+    }
+    Ok(())
+}
+
+/// Whether the source's call that is to fail was made: none of those that are left does.
+fn has_failed(input: &mut MemSource) -> bool {
+    for _ in 0..1_000 {
+        match input.read(&mut [0; 1_000]) {
+            Ok(0) => return true,
+            Ok(_) => {}
+            Err(_) => return false,
+        }
+    }
+    false
+}
+
+/// What comes of three loads, of which only the first batch of the third can be read, by the puts that fail: the status, how many
+/// datagrams the lane has, and whether the third was read at all.
+const THIRD_LOAD: [(&[u64], u8, u16, bool); 4] = [
+    // It is read beside the run of the second, which is put all the same, and so is the batch that was whole.
+    (&[], 2, 2_300, true),
+    // Where these can't be put both have failed, and of the two they are the first in the trace: the batch,
+    (&[4], 3, 2_044, true),
+    // or the load.
+    (&[3], 3, 1_020, true),
+    // Before that what the first has shown is put, and where it can't be nothing is read.
+    (&[2], 3, 0, false),
+];
+
+// A batch has 256 records here, and a load four batches. The batch in which the read fails is not run.
+#[test]
+fn a_read_that_fails_beside_a_run(rt: HostRuntime) -> Result<(), Fail> {
+    let alloc = rt.alloc();
+    let bytes = in_turn(alloc, &PORTS[..1], &numbers(alloc, 2_400)?)?;
+    let line = "repair flow=5000 flow=5010 window=4 depth=4 workers=1";
+    for (puts, status, count, is_read) in &THIRD_LOAD {
+        let setting = Setting {
+            lane: 3_100_000,
+            // Each record has 1,340 bytes, and a read gives 1,000.
+            reads: &[3_150],
+            puts,
+            ..ROOMY
+        };
+        let (ended, mut outside) = run_line(&rt, alloc, &setting, line, &bytes)?;
+        assert_eq!(rt; ended.status, *status);
+        outside.check_lane(&rt, alloc, 5000, Some(numbers(alloc, *count)?.as_slice()))?;
+        assert_eq!(rt; has_failed(&mut outside.input), *is_read);
+    }
+    Ok(())
+}

@@ -1,0 +1,3 @@
+//! Made streams and thinned encodings by example.
+mod made;
+mod thinned;
