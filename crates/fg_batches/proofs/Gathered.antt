@@ -17,7 +17,8 @@ use Rattle.fg_results.specs.Repair.{others_of}
 use Rattle.fg_results.proofs.Zips.{zip_length}
 use Rattle.fg_engine.specs.Engine.{TellsTail}
 use Rattle.fg_engine.proofs.Standing.{others_of_flow, others_of_none, IsOfNone}
-use Rattle.fg_engine.proofs.Walking.{ended, few_records}
+use Rattle.fg_results.proofs.FlowRecords.{few_records}
+use Rattle.fg_engine.proofs.Walking.{ended}
 use Rattle.fg_batches.specs.declared.gathering.Gathering.{Gathering}
 use Rattle.fg_batches.specs.declared.gathering.Heading.{Heading}
 use Rattle.fg_batches.specs.Batches.{AreItemsOf, HoldsBatch}

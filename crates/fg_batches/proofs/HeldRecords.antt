@@ -13,7 +13,8 @@ use Rattle.fg_flows.specs.Sheaf.{Item}
 use Rattle.fg_results.specs.Flow.{is_of, records_of}
 use Rattle.fg_results.proofs.ArrivalLemmas.{one_more_record}
 use Rattle.fg_results.proofs.Zips.{zip_push, zip_length}
-use Rattle.fg_engine.proofs.Standing.{is_of_no, not_of, IsOfNone}
+use Rattle.fg_results.proofs.FlowRecords.{is_of_no}
+use Rattle.fg_engine.proofs.Standing.{not_of, IsOfNone}
 use Rattle.fg_batches.specs.Batches.{IsItemOf, AreItemsOf}
 use Rattle.fg_batches.specs.Load.{join_items}
 

@@ -17,7 +17,7 @@ use Rattle.fg_results.specs.Stops.{ByBatch}
 use Rattle.fg_results.proofs.Zips.{zip_length}
 use Rattle.fg_engine.specs.declared.shelved.Shelved.{Shelved}
 use Rattle.fg_engine.specs.Engine.{LanesStop}
-use Rattle.fg_engine.proofs.Walking.{few_records}
+use Rattle.fg_results.proofs.FlowRecords.{few_records}
 use Rattle.fg_batches.specs.BatchView.{BatchView}
 use Rattle.fg_batches.specs.Batches.{AreItemsOf, BreaksEmptying, CanRunAll, HaveExchanged, HaveRun, HoldsBatch, WaitFor, waiting}
 use Rattle.fg_batches.specs.declared.gathering.Gathering.{Gathering}

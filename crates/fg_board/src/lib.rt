@@ -9,10 +9,7 @@ mod admitter;
 mod board;
 mod job;
 pub mod laws;
-mod pass;
-#[cfg(test)]
-mod tests;
-mod turns;
+mod pass;mod turns;
 
 pub use admitter::Admitter;
 pub use board::Board;

@@ -1,7 +1,7 @@
 -- Entries among more slots, so that they need seldom be moved.
 use Rattle.std.proofs.Common.{◌≡◌, ◌+◌, ◌-◌, ◌<◌, ◌≤◌, ℕ, List, length, drop, get_or, set, sym, ap, ◌∙◌, ⊎_elim, arith, length-drop}
 use Rattle.std.proofs.lemmas.Bool.{cases_lt, cases_eq}
-use Rattle.std.proofs.lemmas.List.{ext_get_or, get_or-take, get_or-drop, get_or_past, get_or-set_same, get_or-set_other, length-set, length-take}
+use Rattle.std.proofs.lemmas.List.{ext_get_or, get_or-take, get_or-drop, get_or_past, get_or-set_same, get_or-set_other, length-set, length-take, set-set}
 use Rattle.fg_peel.specs.declared.Slot.{Slot}
 use Rattle.fg_peel.specs.declared.Slot.TheVariants.{Empty}
 use Rattle.fg_buffer.specs.BufferEntries.{slack, live_entries, IsEmptyPast, AreStored}
@@ -93,3 +93,14 @@ module _
         ∙ sym (stored_at front old are k)
         ∙ sym (get_or-set_other (live_entries front old) i k entry Empty other))
         (cases_eq k i))
+
+-- An entry is put where what stood there was taken away.
+pub put_live :
+    (front : ℕ) (old cleared new view : List Slot) → AreStored front old → (i : ℕ) (entry : Slot) → i < length view
+    → live_entries front old ≡ view → cleared ≡ set old (front + i) Empty → new ≡ set cleared (front + i) entry
+    → live_entries front new ≡ set view i entry
+put_live front old cleared new view are i entry within is clear put =
+    let inside : i < length (live_entries front old) = omega (arith, within, ap (λ (ss : List Slot). length ss) is) in
+    ap (live_entries front) (put ∙ ap (λ (ss : List Slot). set ss (front + i) entry) clear ∙ set-set old (front + i) Empty entry)
+    ∙ live_set front old are i entry inside
+    ∙ ap (λ (ss : List Slot). set ss i entry) is

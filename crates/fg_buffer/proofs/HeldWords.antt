@@ -211,6 +211,21 @@ module _ (slots : List SmallSlot) (words : Slab Word) (h : AreHeld slots words) 
     capacity = capacity;
   }
 
+-- A share comes where nothing is said.
+module _
+    (slots : List SmallSlot) (words : Slab Word) (h : AreHeld slots words) (view : List Slot) (is : said_by words slots ≡ view)
+    (i : ℕ) (s : SmallSlot) (within : i < length view) (empty : get_or view i Empty ≡ Empty) (plain : has_place s ≡ false) where
+  put_changes : Changes slots words words i s
+  put_changes =
+      puts_there slots words h i (omega (arith, within, ap (λ (ss : List Slot). length ss) is, said_count words slots)) s
+      (ap (λ (ss : List Slot). get_or ss i Empty) is ∙ empty) plain
+
+  pub put_held : AreHeld (set slots i s) words
+  put_held = changes_held slots words words i s put_changes h
+
+  pub put_said : said_by words (set slots i s) ≡ set view i (said words s)
+  put_said = changes_said slots words words i s put_changes ∙ ap (λ (ss : List Slot). set ss i (said words s)) is
+
 no_place : (s : SmallSlot) → ((place : ℕ) → s ≡ Found place → ⊥) → has_place s ≡ false
 no_place Nothing other = refl
 no_place (Media share) other = refl

@@ -15,5 +15,6 @@ pub mod BufferChanges
 pub mod BufferLoops
 pub mod BufferMaps
 pub mod BufferPeels
+pub mod BufferPuts
 pub mod BufferStored
 pub mod BufferViews

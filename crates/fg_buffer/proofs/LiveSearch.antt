@@ -14,6 +14,18 @@ use Rattle.fg_buffer.proofs.LiveViews.{listed}
 abbrev pub lines_in : List (ℕ × Line) → List Line
 lines_in rest = map (λ entry. entry.1) rest
 
+-- A walk goes past its first line, of which this is so. Each line is left of the walk, or this is so of it.
+pub past_first :
+    (IsDone : Line → Type 0) (all : List (ℕ × Line)) (entry : ℕ × Line) (rest : List (ℕ × Line)) → all ≡ entry ∷ rest
+    → IsDone entry.1 → (line : Line) → Contains (lines_in all) line ⊎ IsDone line → Contains (lines_in rest) line ⊎ IsDone line
+past_first IsDone all entry rest cut done line so = ⊎_elim
+    (λ left. ⊎_elim
+    (λ here. inr (rw here done))
+    (λ there. inl there)
+    (Contains-cases entry.1 (lines_in rest) line (rw cut at left)))
+    (λ before. inr before)
+    so
+
 -- What is left of a walk is held under its key, and no line before it is sought.
 pub record Searches (IsSought : Line → Type 0) (lines : Slab Line) (rest : List (ℕ × Line)) : Type 0 where
   pub keyed : (entry : ℕ × Line) → Contains rest entry → get lines entry.0 ≡ Some entry.1
@@ -50,13 +62,7 @@ module _ (IsSought : Line → Type 0) (lines : Slab Line) where
       → Searches IsSought lines all → Searches IsSought lines rest
   search_goes_on all entry rest cut not searches = record {
     keyed = λ other c. searches.keyed other (rw cut (Contains-there entry rest other c));
-    others = λ line h. ⊎_elim
-        (λ left. ⊎_elim
-        (λ here. inr (rw here not))
-        (λ there. inl there)
-        (Contains-cases entry.1 (lines_in rest) line (rw cut at left)))
-        (λ done. inr done)
-        (searches.others line h);
+    others = λ line h. past_first (λ sought. IsSought sought → ⊥) all entry rest cut not line (searches.others line h);
   }
 
   pub search_ends :

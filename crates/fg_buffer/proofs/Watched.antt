@@ -1,5 +1,5 @@
 -- Two slots without a word.
-use Rattle.std.proofs.Common.{◌≡◌, ◌⊎◌, ◌<◌, ◌≤◌, ◌∷◌, ℕ, List, [], true, false, get_or, length, Option, Some, None, inl, inr, sym, subst, ◌∙◌, ⊎_elim, arith}
+use Rattle.std.proofs.Common.{◌≡◌, ◌⊎◌, ◌<◌, ◌≤◌, ◌∷◌, ℕ, List, [], true, false, get_or, length, Option, Some, None, inl, sym, subst, ◌∙◌, ⊎_elim, arith}
 use Rattle.std.proofs.lemmas.List.Elements.{Contains-get_or}
 use Rattle.std.specs.List.{Contains}
 use Rattle.slab.specs.Slab.{Slab, get, entries}
@@ -10,10 +10,10 @@ use Rattle.fg_peel.specs.declared.Line.{Line}
 use Rattle.fg_peel.specs.Equation.{Equation, slots}
 use Rattle.fg_peel.specs.Slots.{equation_of}
 use Rattle.fg_peel.specs.Live.{Live}
-use Rattle.fg_peel.proofs.Lists.{Contains-here, Contains-there, Contains-cases, Contains-nil}
+use Rattle.fg_peel.proofs.Lists.{Contains-here, Contains-there, Contains-nil}
 use Rattle.fg_buffer.specs.LiveEquations.{IsStuck, AreStuck}
 use Rattle.fg_buffer.specs.LiveInside.{Holds, state_of}
-use Rattle.fg_buffer.proofs.LiveSearch.{lines_in}
+use Rattle.fg_buffer.proofs.LiveSearch.{lines_in, past_first}
 use Rattle.fg_buffer.proofs.LiveViews.{listed, standing_of, settled_under}
 
 -- An equation that lacks the words at two slots is stuck.
@@ -58,13 +58,7 @@ module _ (IsDone : Line → Type 0) (lines : Slab Line) where
       → Passes IsDone lines all → Passes IsDone lines rest
   pass_goes_on all entry rest cut done passes = record {
     keyed = λ other c. passes.keyed other (rw cut (Contains-there entry rest other c));
-    others = λ line h. ⊎_elim
-        (λ left. ⊎_elim
-        (λ here. inr (rw here done))
-        (λ there. inl there)
-        (Contains-cases entry.1 (lines_in rest) line (rw cut at left)))
-        (λ before. inr before)
-        (passes.others line h);
+    others = λ line h. past_first IsDone all entry rest cut done line (passes.others line h);
   }
 
   pub pass_ends :

@@ -203,14 +203,5 @@ buffer_code =
     (coded× coded_ℕ (coded× coded_ℕ (coded× words_code (coded× words_code (coded× words_code (coded× words_code
     (coded× (set.code coded_ℕ) (set.code coded_ℕ))))))))
     (λ r. (r.mark, (r.reach, (r.kept, (r.media, (r.solved, (r.cached, (r.bare, r.repaired))))))))
-    (λ p. record {
-      mark = p.0;
-      reach = p.1.0;
-      kept = p.1.1.0;
-      media = p.1.1.1.0;
-      solved = p.1.1.1.1.0;
-      cached = p.1.1.1.1.1.0;
-      bare = p.1.1.1.1.1.1.0;
-      repaired = p.1.1.1.1.1.1.1;
-    })
+    (λ p. record { mark = p.0; reach = p.1.0; kept = p.1.1.0; media = p.1.1.1.0; solved = p.1.1.1.1.0; cached = p.1.1.1.1.1.0; bare = p.1.1.1.1.1.1.0; repaired = p.1.1.1.1.1.1.1 })
     (λ _. refl)

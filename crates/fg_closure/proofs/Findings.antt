@@ -10,6 +10,7 @@ use Rattle.fg_shape.specs.Shape.{IsShape, position_limit}
 use Rattle.fg_peel.proofs.Lists.{Contains-from_map}
 use Rattle.fg_peel.proofs.Maps.{get_of_entry}
 use Rattle.fg_peel.proofs.SlotRange.{last_at}
+use Rattle.fg_playout.proofs.Equations.{live_at}
 use Rattle.fg_playout.specs.State.{State, Live, known, last_slot}
 use Rattle.fg_playout.specs.Solution.{InClosure, given}
 use Rattle.fg_playout.specs.Facts.{Holds}
@@ -18,7 +19,7 @@ use Rattle.fg_closure.specs.declared.closure.Closure.{Closure}
 use Rattle.fg_closure.specs.Flags.{IsFlagged, slots_at, IsLineAt, IsTold, AllHaveFlags, NothingFollows, IsOnTheWay, NonePast}
 use Rattle.fg_closure.specs.Found.{IsFoundOf}
 use Rattle.fg_closure.specs.Holes.{IsLookedAt, IsHole, HasMissing}
-use Rattle.fg_closure.proofs.Searches.{all_flagged, is_listed, true_within}
+use Rattle.fg_closure.proofs.Searches.{all_flagged, true_within}
 
 -- The last slot of a line.
 abbrev pub last_of : LineSlots → ℕ
@@ -237,7 +238,7 @@ reach_looked_at desk closure count place end is all reach position =
             (λ line. inr (
             let at = (is.lines line.0 line.1).0 line.2 in
             let last = last_is_of desk line.0 line.1 at in let upto = within.1 in let e = line.3 in
-            (at.live.equation, is_listed desk line.1.serial at.live at.listed, omega arith)
+            (at.live.equation, live_at desk line.1.serial at.live at.listed, omega arith)
             ))
             reach.told;
       },

@@ -4,6 +4,7 @@ use Rattle.std.proofs.lemmas.List.{get_or_default}
 use Rattle.std.proofs.lemmas.List.Elements.{Contains-get_or}
 use Rattle.std.proofs.lemmas.Bool.{cases_eq}
 use Rattle.fg_shape.proofs.ShapeLemmas.{length-slots_of, get_or-slots_of, slots_apart, number_of_slot}
+use Rattle.fg_peel.proofs.Misses.{place_of}
 use Rattle.fg_peel.specs.declared.span.Missing.TheVariants.{Nothing, One, Several}
 use Rattle.fg_closure.specs.declared.search.LineSlots.{LineSlots}
 use Rattle.fg_closure.specs.Flags.{IsFlagged, slots_at, HasFlags, AreWithout}
@@ -51,10 +52,6 @@ pub misses_this :
 misses_this P xs j position None here none is below =
     (j, omega arith, here, none, λ k less other. below k (omega (arith, other)))
 misses_this P xs j position (Some other) here none is below = absurd (cc)
-
--- an element has a place
-place_of : (xs : List ℕ) (x : ℕ) → Contains xs x → (k : ℕ) × (k < length xs) × (get_or xs k 0 ≡ x)
-place_of xs x c = (c.0, c.1, get_or_default xs c.0 0 x c.1 ∙ c.2)
 
 module _ (P : ℕ → Type 0) (line : LineSlots) where
   -- a second slot that is without

@@ -10,6 +10,7 @@ use Rattle.fg_peel.specs.declared.span.Missing.TheVariants.{Nothing, One, Severa
 use Rattle.fg_peel.specs.Equation.{Equation, slots}
 use Rattle.fg_peel.proofs.Lists.{Contains-map, Contains-from_map}
 use Rattle.fg_peel.proofs.Maps.{get_of_entry, entry_of_get}
+use Rattle.fg_playout.proofs.Equations.{live_at}
 use Rattle.fg_playout.specs.State.{State, Live, known, live_equations}
 use Rattle.fg_playout.specs.Solution.{InClosure, given, derived}
 use Rattle.fg_closure.specs.declared.search.LineSlots.{LineSlots}
@@ -97,10 +98,6 @@ one_complete first place line lines waiting old new missing has here told filled
 pub same_slots : (desk : State) (place : ℕ) (line : LineSlots) (at : IsLineAt desk place line) → slots_at line ≡ slots at.live.equation
 same_slots desk place line at = rw (at.base_is, at.offset_is, at.count_is) refl
 
-pub is_listed : (desk : State) (serial : ℕ) (live : Live) → get desk.equations serial ≡ Some live → Contains (live_equations desk) live.equation
-is_listed desk serial live is =
-    Contains-map (λ (entry : ℕ × Live). entry.1.equation) (entries desk.equations) (serial, live) (entry_of_get desk.equations serial live is)
-
 -- Below the mark, what is kept is known.
 pub known_below : (desk : State) (position : ℕ) → position < desk.mark → IsSome (get desk.kept position) → IsSome (known desk position)
 known_below desk position below some = rw (lt-ltb position desk.mark below) some
@@ -122,7 +119,7 @@ way_on desk first place line lines old new (One slot) has here told filled way =
     (λ past. past)
     (cases_lt slot desk.mark) in
     let follows : InClosure desk slot =
-    derived at.live.equation (is_listed desk line.serial at.live at.listed) (listed slot told.0) ahead
+    derived at.live.equation (live_at desk line.serial at.live at.listed) (listed slot told.0) ahead
     (λ other c differ. way.within other (told.2 other (subst (λ (s : List ℕ). Contains s other) (sym same) c) differ)) in
     let after : IsOnTheWay desk first lines (set old (slot - first) true) = record {
       facts = way.facts;

@@ -17,7 +17,7 @@ use Rattle.fg_buffer.specs.BufferEntries.{positions_below}
 use Rattle.fg_playout.specs.Play.{Play, Shown, IsPlay, Flushes}
 use Rattle.fg_playout.specs.Held.{IsHeldStep}
 use Rattle.fg_desk.specs.Contents.{Contents, IsPlaceAfter, ChangesInPlay, opened}
-use Rattle.fg_core.specs.Board.{IsCurrent, IsHeld, AdmitsParityOn, PlaysOn, FlushesOn, PlaysHeldOn, GivesKey, opened_board, with_vouched}
+use Rattle.fg_core.specs.Board.{BoardState, IsCurrent, IsHeld, AdmitsParityOn, PlaysOn, FlushesOn, PlaysHeldOn, GivesKey, opened_board, with_vouched}
 use Rattle.fg_core.specs.Core.{play_of}
 use Rattle.fg_core.specs.Flow.{no_note, note_at, says, is_vouched, is_handed_out, board_of, with_handed, AreKept}
 use Rattle.fg_core.specs.declared.key.Key.{Key}
@@ -109,6 +109,27 @@ module _ (old new : Contents) (notes : List Note) (kept : AreKept old notes) whe
     some.1,
     keeps_notes notes old new kept (held_follows old new kept.bare time _ (play_of played shown) held.plays some.1),
   )
+
+-- A step of the desk that a flow holds is one on its board. `Step` is what the desk's call owes, `On` what the flow's does, and
+-- `Count` and `Still` are what both say of the tray.
+pub step_on_board :
+    (Step : State → State → Type 0) (On : BoardState → BoardState → Type 0) (Count : Played → Type 0) (Still : Type 0)
+    (result : Option Played) (held desk new : Contents) (notes notes' : List Note) (board : BoardState)
+    → (Step held.state new.state → IfSome result (λ played. Count played × ChangesInPlay played.verdict held new)
+    → IfNone result (new ≡ record held { state = new.state }) → On (board_of held notes) (board_of new notes))
+    → desk ≡ held → notes' ≡ notes → board_of held notes ≡ board
+    → Step desk.state new.state → IfSome result (λ played. Count played × ChangesInPlay played.verdict desk new)
+    → IfNone result ((new ≡ record desk { state = new.state }) × Still) → On board (board_of new notes')
+step_on_board Step On Count Still result held desk new notes notes' board follows same same_notes is step some none =
+    subst (λ (ns : List Note). On board (board_of new ns)) (sym same_notes)
+    (subst (λ (b : BoardState). On b (board_of new notes)) is
+    (follows (subst (λ (d : Contents). Step d.state new.state) same step)
+    (subst (λ (d : Contents). IfSome result (λ played. Count played × ChangesInPlay played.verdict d new)) same some)
+    (subst (λ (d : Contents). IfNone result (new ≡ record d { state = new.state })) same (first result none))))
+  where
+    first : (r : Option Played) → IfNone r ((new ≡ record desk { state = new.state }) × Still) → IfNone r (new ≡ record desk { state = new.state })
+    first None both = both.0
+    first (Some played) both = both
 
 -- A note is put at the place of a key.
 module _

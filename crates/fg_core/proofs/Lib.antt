@@ -8,7 +8,7 @@ mod Growing
 mod Holding
 mod Inputs
 mod Known
-mod Noting
+pub mod Noting
 mod Next
 mod OneDesk
 mod Opening

@@ -69,7 +69,7 @@ in_below (suc n) test q less is = go (test n) refl (in_below n test q)
         (λ other. stays_in (positions_below n test) n q (rest (omega (arith, less, other)) is))
         (cases_eq q n)
 
-same_bool : (a b : Bool) → (a ≡ true → b ≡ true) → (b ≡ true → a ≡ true) → a ≡ b
+pub same_bool : (a b : Bool) → (a ≡ true → b ≡ true) → (b ≡ true → a ≡ true) → a ≡ b
 same_bool true b to from = sym (to refl)
 same_bool false true to from = from refl
 same_bool false false to from = refl

@@ -4,7 +4,7 @@ use fg_shape::Shape;
 use fg_words::Word;
 
 /// What became of a word or a check that a pass brought.
-#[derive(Clone, Copy, Debug, PartialEq, Eq)]
+#[derive(Clone, Copy, PartialEq)]
 pub enum Fate {
     /// It was taken.
     Done,

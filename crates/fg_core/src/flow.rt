@@ -1,17 +1,18 @@
 //! The state of a board: a desk, and which of its live equations are handed out and which were vouched for.
 
-ghost use Rattle.std.specs.Prelude.{◌≡◌, ◌≢◌, ◌↔◌, ◌<◌, ◌≤◌, length, Some, None, Option, IsSome, IfOk, IfErr, IfSome, IfNone, IsTrue, option_map};
+ghost use Rattle.std.specs.Prelude.{◌≡◌, ◌≢◌, ◌↔◌, ◌<◌, ◌≤◌, length, replicate, Some, None, Option, IsSome, IfOk, IfErr, IfSome, IfNone, IsTrue, option_map};
 ghost use Rattle.std.specs.FinMap.{get};
 ghost use Rattle.fg_words.specs.Word.{IsMedia};
 ghost use Rattle.fg_shape.specs.Shape.{IsShape};
 ghost use Rattle.fg_peel.specs.Equation.{IsSettled};
+ghost use Rattle.fg_peel.specs.Live.{live_limit};
 ghost use Rattle.fg_playout.specs.State.{Live, current};
 ghost use Rattle.fg_playout.specs.Admission.{IsDue, IsFresh};
 ghost use Rattle.fg_playout.specs.Play.{HasMore};
 ghost use Rattle.fg_playout.specs.Room.{HasRoom};
-ghost use Rattle.fg_desk.specs.Contents.{CanFill, known_in};
+ghost use Rattle.fg_desk.specs.Contents.{CanFill, known_in, opened};
 ghost use Rattle.fg_core.specs.Board.{opened_board, IsCurrent, IsHeld, AdmitsMediaOn, AdmitsParityOn, PlaysOn, FlushesOn, PlaysHeldOn, Takes, Offers, Publishes, Attests, Vouches, GivesBack, Looks, Asks, TellsReadable, with_vouched, VouchedAreComplete};
-ghost use Rattle.fg_core.specs.Flow.{with_handed};
+ghost use Rattle.fg_core.specs.Flow.{with_handed, no_note};
 ghost use Rattle.fg_core.specs.Core.{play_of};
 
 use crate::fate::{Asked, Fate, Look};
@@ -30,6 +31,20 @@ use std::marker::Model;
 struct Held {
     desk: Desk,
     notes: Notes,
+}
+
+impl Held {
+    /// An empty desk, of which nothing is noted.
+    fn new(alloc: Global, window: u32, depth: u32, hold: u64) -> Result<Held, AllocError>
+        requires window { (1 ≤ window) × (window ≤ 100) }
+        requires depth { (window ≤ depth) × (depth ≤ 1000) }
+        ensures desk { IfOk result (λ held. held.desk ≡ opened (record { window = window; depth = depth; hold = hold })) }
+        ensures notes { IfOk result (λ held. held.notes ≡ replicate live_limit no_note) }
+    {
+        let notes = Notes::new(alloc)?;
+        let desk = Desk::new(alloc, window, depth, hold)?;
+        Ok(Held { desk, notes })
+    }
 }
 
 /// What a board's turn guards. It is one handle, so that it moves cheaply: each turn takes it out and puts it back.
@@ -75,10 +90,7 @@ impl Flow {
         requires depth { (window ≤ depth) × (depth ≤ 1000) }
         ensures { IfOk result (λ flow. flow ≡ opened_board (record { window = window; depth = depth; hold = hold })) }
     {
-        let held = Held {
-            desk: Desk::new(alloc, window, depth, hold)?,
-            notes: Notes::new(alloc)?,
-        };
+        let held = Held::new(alloc, window, depth, hold)?;
         Ok(Flow {
             held: Box::new(alloc, held)?,
         })

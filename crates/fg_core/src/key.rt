@@ -1,7 +1,7 @@
 //! Keys, by which equations of a board are named.
 
 /// Names a live equation, as long as it is live and no solved word was withdrawn.
-#[derive(Clone, Copy, Debug, PartialEq, Eq)]
+#[derive(Clone, Copy, PartialEq, Eq)]
 pub struct Key {
     /// Its place among the live equations.
     pub place: u32,

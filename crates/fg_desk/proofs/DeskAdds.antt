@@ -20,6 +20,7 @@ use Rattle.fg_buffer.specs.LiveEquations.{LiveState, AreLive}
 use Rattle.fg_playout.proofs.Added.{added}
 use Rattle.fg_playout.proofs.AdmissionsAdd.{stays_listed}
 use Rattle.fg_desk.proofs.DeskPlays.{ComeByPeeling, sound_from}
+use Rattle.fg_desk.proofs.Limits.{one_call_more}
 use Rattle.fg_playout.proofs.Parities.{IsNew, with_equation_holds}
 use Rattle.fg_peel.proofs.Places.{free_place}
 
@@ -60,20 +61,7 @@ module _
   holds_with = with_equation_holds (state_of parts) place equation sound.facts is_new opened from
 
   limited : AreLimited (with_line parts (lines_with parts place equation))
-  limited =
-      let runs = sound.limits.runs_limit in
-      let admitted = sound.limits.admitted_limit in
-      let epoch = sound.limits.epoch_limit in
-      record {
-        depth_limit = sound.limits.depth_limit;
-        reach_is = sound.limits.reach_is;
-        mark_limit = sound.limits.mark_limit;
-        top_limit = sound.limits.top_limit;
-        runs_limit = omega (arith, runs);
-        admitted_limit = omega (arith, admitted);
-        calls_limit = omega (arith, calls);
-        epoch_limit = omega (arith, epoch);
-      }
+  limited = one_call_more parts (parts.admitted + 1) sound.limits (omega arith) calls
 
   -- What came from a peeling still does.
   peeled_still :

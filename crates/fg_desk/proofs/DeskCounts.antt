@@ -13,6 +13,7 @@ use Rattle.fg_desk.specs.Contents.{IsPlaceAfter}
 use Rattle.fg_desk.specs.Inside.{Parts, AreSound, state_of}
 use Rattle.fg_playout.proofs.Added.{added}
 use Rattle.fg_desk.proofs.DeskPlays.{sound_from}
+use Rattle.fg_desk.proofs.Limits.{one_call_more}
 use Rattle.fg_playout.proofs.Opened.{counted_holds}
 use Rattle.fg_playout.proofs.Parities.{base_is}
 
@@ -21,20 +22,7 @@ counted_parts parts = record parts { calls = parts.calls + 1 }
 
 pub counted_sound : (parts : Parts) → AreSound parts → parts.calls < 2 ^ 62 → AreSound (counted_parts parts)
 counted_sound parts sound calls =
-    let runs = sound.limits.runs_limit in
-    let admitted = sound.limits.admitted_limit in
-    let epoch = sound.limits.epoch_limit in
-    sound_from (counted_parts parts)
-    (record {
-      depth_limit = sound.limits.depth_limit;
-      reach_is = sound.limits.reach_is;
-      mark_limit = sound.limits.mark_limit;
-      top_limit = sound.limits.top_limit;
-      runs_limit = omega (arith, runs);
-      admitted_limit = omega (arith, admitted);
-      calls_limit = omega (arith, calls);
-      epoch_limit = omega (arith, epoch);
-    })
+    sound_from (counted_parts parts) (one_call_more parts parts.admitted sound.limits (omega arith) calls)
     (counted_holds (state_of parts) sound.facts) sound.cached sound.solved sound.peeled sound.settled sound.rooms sound.beside
 
 pub counted_after_media :

@@ -11,6 +11,7 @@ use Rattle.fg_desk.specs.Inside.{AreLimited, Parts, AreSound, state_of}
 use Rattle.fg_buffer.specs.PlayoutBuffer.{BufferState, buffer_received, buffer_known, buffer_words, IsBuffer, IsHighestWord}
 use Rattle.fg_desk.specs.Storage.{IsRecovered}
 use Rattle.fg_desk.proofs.DeskPlays.{with_found, sound_without_found}
+use Rattle.fg_desk.proofs.Limits.{one_call_more}
 use Rattle.fg_desk.proofs.DeskRecovers.{has_closure, words_kept}
 use Rattle.fg_desk.proofs.DeskWords.{or_cases, or_neither, received_ahead, unsolved_below, uncached_below}
 use Rattle.fg_playout.proofs.Opened.{counted_holds}
@@ -44,19 +45,9 @@ module _
 
   sound_at : PeelingsKeepWords → parts.calls < 2 ^ 62 → AreSound (counted_with parts (with_found parts cached))
   sound_at keep calls =
-      let runs = sound.limits.runs_limit in
-      let admitted = sound.limits.admitted_limit in
-      let epoch = sound.limits.epoch_limit in
-      let limits : AreLimited (counted_with parts (with_found parts cached)) = record {
-        depth_limit = sound.limits.depth_limit;
-        reach_is = sound.limits.reach_is;
-        mark_limit = sound.limits.mark_limit;
-        top_limit = sound.limits.top_limit;
-        runs_limit = omega (arith, runs);
-        admitted_limit = omega (arith, admitted);
-        calls_limit = omega (arith, calls);
-        epoch_limit = omega (arith, epoch);
-      } in
+      let limits : AreLimited (counted_with parts (with_found parts cached)) =
+      one_call_more parts parts.admitted sound.limits (omega arith) calls
+      in
       sound_without_found (counted_with parts (with_found parts cached)) limits (counted_holds (state_of parts) sound.facts)
       no_solved no_found
       (λ serial live is settled.

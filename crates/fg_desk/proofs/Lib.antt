@@ -16,13 +16,13 @@ pub mod DeskShows
 pub mod DeskTimes
 pub mod DeskWays
 pub mod DeskWords
+pub mod Limits
 pub mod LiveLines
 pub mod Lost
-pub mod PlainRuns
 pub mod SettledEquations
 pub mod SettledWords
 pub mod ShownWords
 pub mod Survivors
 pub mod TrayPlaces
 pub mod Twins
-pub mod DatagramCounts
+pub mod Within

@@ -2,7 +2,7 @@
 
 ghost use Rattle.std.specs.Prelude.{◌≡◌, ◌≢◌, ◌+◌, ◌-◌, ◌↔◌, ◌<◌, ◌≤◌, ◌^◌, ℕ, length, min, Option, Some, None, IsTrue, IsSome, IfOk, IfSome, IfNone, option_map};
 ghost use Rattle.std.specs.Option.{option_copied};
-ghost use Rattle.std.specs.FinMap.{get, len};
+ghost use Rattle.std.specs.FinMap.{get, len, empty};
 ghost use Rattle.std.specs.FinSet.{contains};
 ghost use Rattle.fg_words.specs.Word.{HasRoom as WordHasRoom, IsMedia};
 ghost use Rattle.fg_shape.specs.Shape.{IsShape, position_limit};
@@ -10,7 +10,9 @@ ghost use Rattle.fg_peel.specs.Equation.{IsSettled};
 ghost use Rattle.fg_peel.specs.declared.Line.{Line as LiveLine};
 ghost use Rattle.fg_playout.specs.State.{known, current, Live};
 ghost use Rattle.fg_playout.specs.Facts.{Holds};
-ghost use Rattle.fg_buffer.specs.LiveEquations.{live_of, IsAmong};
+ghost use Rattle.fg_buffer.specs.LiveEquations.{live_of, no_equations, IsAmong};
+ghost use Rattle.fg_buffer.specs.PlayoutBuffer.{opened_buffer};
+ghost use Rattle.fg_hold.specs.Waiting.{Waits, since};
 ghost use Rattle.fg_playout.specs.Room.{HasRoom, farthest_limit, call_limit};
 ghost use Rattle.fg_desk.specs.Contents.{opened, AreSolved, CanFill, IsLiveAt, IsPlaceAfter, GivesWay, IsAfterArrival, ChangesInPlay, filled, known_in, shared_at, kept_from};
 ghost use Rattle.fg_playout.specs.Admission.{sender_of, own, another, IsFresh, IsDue, IsReplyAt, IsEquationReply, IsLeastFree, AdmitsMedia, AdmitsParity, base_on, begun, counted, farther as farther_top, with_media, with_equation};
@@ -68,7 +70,7 @@ pub struct Desk {
 
 /// A play: which positions it closed, and its outcome. The tray has the words of one that `play`, `flush_step`
 /// or `held_step` made, and the desk keeps those of one that was made in place.
-#[derive(Clone, Copy, Debug, PartialEq, Eq)]
+#[derive(Clone, Copy, PartialEq)]
 pub struct Played {
     /// The first position that was played.
     pub first: u64,
@@ -105,21 +107,46 @@ impl Desk {
         requires depth { (window ≤ depth) × (depth ≤ 1000) }
         ensures { IfOk result (λ desk. desk ≡ opened (record { window = window; depth = depth; hold = hold })) }
     {
-        Ok(Desk {
+        let watches = Watches::new(alloc)?;
+        let waiting = Waiting::new(alloc, hold)?;
+        let buffer = PlayoutBuffer::new(alloc, depth)?;
+        let lines = LiveEquations::new(alloc)?;
+        Ok(Desk::joined(window, depth, waiting, buffer, lines, watches))
+    }
+
+    /// The desk of parts in which nothing is yet. Apart from `new`, whose parts may each fail.
+    fn joined(
+        window: u32,
+        depth: u32,
+        waiting: Waiting,
+        buffer: PlayoutBuffer,
+        lines: LiveEquations,
+        watches: Watches,
+    ) -> Desk
+        requires window { (1 ≤ window) × (window ≤ 100) }
+        requires depth { (window ≤ depth) × (depth ≤ 1000) }
+        requires clock { waiting.clock ≡ 0 }
+        requires since { (position : ℕ) → since waiting position ≡ 0 }
+        requires waits { Waits waiting 0 empty }
+        requires buffer { buffer ≡ opened_buffer (depth + 100) }
+        requires lines { lines ≡ no_equations }
+        ensures { result ≡ opened (record { window = window; depth = depth; hold = waiting.hold }) }
+    {
+        Desk {
             window,
             depth,
-            waiting: Waiting::new(alloc, hold)?,
+            waiting,
             top: None,
             previous: None,
             origin: 0,
             runs: 0,
-            buffer: PlayoutBuffer::new(alloc, depth)?,
-            lines: LiveEquations::new(alloc)?,
-            watches: Watches::new(alloc)?,
+            buffer,
+            lines,
+            watches,
             admitted: 0,
             calls: 0,
             epoch: 0,
-        })
+        }
     }
 
     /// The first position that isn't played yet.

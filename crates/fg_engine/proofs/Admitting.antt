@@ -13,11 +13,11 @@ use Rattle.fg_playout.specs.Admission.{AdmitsMedia}
 use Rattle.fg_playout.specs.Play.{Play}
 use Rattle.fg_playout.specs.Run.{Arrival, carries, protects, refused, time_of, ArePlaysHeld, ArePlaysBefore, TakesThen}
 use Rattle.fg_playout.specs.Laws.{AreHeldSteps, HavePlayedBefore, HavePlayedThen, still_held, then_played, FreshIsDecided}
-use Rattle.fg_desk.specs.Arrivals.{StaysWithin, HeldWithin}
+use Rattle.fg_desk.specs.Arrivals.{StaysWithin, HeldWithin, ThenStaysWithin}
 use Rattle.fg_report.specs.declared.flow_sum.FlowSum.{FlowSum}
 use Rattle.fg_results.specs.Flow.{IsReadAs, lane_of}
-use Rattle.fg_engine.specs.Steps.{Grows, HaveShown, HaveHeld, BreakOff, ThenStaysWithin, AdmitsDatagram, AdmitsThen, BreaksAtDatagram, BreaksThen, with_plays}
-use Rattle.fg_engine.proofs.Before.{nothing_before}
+use Rattle.fg_engine.specs.Steps.{Grows, HaveShown, HaveHeld, BreakOff, AdmitsDatagram, AdmitsThen, BreaksAtDatagram, BreaksThen, with_plays}
+use Rattle.fg_desk.proofs.Within.{nothing_before}
 use Rattle.fg_results.proofs.ShownLemmas.{lane_more}
 use Rattle.fg_engine.proofs.Counting.{plays_more}
 use Rattle.fg_engine.proofs.Growing.{grows_none, grows_join}
@@ -183,16 +183,3 @@ then_breaks_off kind time bytes old ready sum between before middle after port s
             );
           });
     }
-
--- A word of no bytes.
-no_word : Word
-no_word = record { pt = 0; ts = 0; len = 0; bytes = [] }
-
--- The desk has room for what comes before a datagram of this time, and so where its held plays are made.
-pub held_within : (old : State) (time : ℕ) → StaysWithin old → HeldWithin old time
-held_within old time within some plays new steps = within (refused time kind.Media) plays new (still_held some steps)
-
-pub then_within :
-    (old ready : State) (time : ℕ) (held : List Play) → StaysWithin old → ArePlaysHeld old time held ready → ThenStaysWithin ready
-then_within old ready time held within holds seq ssrc plays new played =
-    within (carries time seq ssrc no_word) (held ++ plays) new (then_played held plays ready holds refl played)

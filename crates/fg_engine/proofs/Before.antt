@@ -1,7 +1,7 @@
 -- What is played before a media datagram: all that is left, where its SSRC is fresh, and else what is due.
 use Rattle.std.proofs.Common.{◌≡◌, ℕ, [], Option, refl, sym, ap, subst, ◌∙◌, inl, inr, ⊎_elim}
 use Rattle.fg_io.specs.Outlet.{Lanes}
-use Rattle.fg_desk.specs.Arrivals.{FlushesWithin}
+use Rattle.fg_desk.specs.Arrivals.{FlushesWithin, ThenStaysWithin}
 use Rattle.fg_playout.specs.State.{State}
 use Rattle.fg_playout.specs.Admission.{IsDue, IsFresh, counted}
 use Rattle.fg_playout.specs.Play.{HasMore}
@@ -9,15 +9,7 @@ use Rattle.fg_playout.specs.Room.{HasRoom}
 use Rattle.fg_playout.specs.Run.{ArePlaysBefore, by_flush, IsFlush}
 use Rattle.fg_playout.specs.Laws.{HavePlayed, HavePlayedBefore, AreFlushSteps, FlushStepsEnd, ReadyAfterPlays, FreshIsDecided}
 use Rattle.fg_report.specs.declared.flow_sum.FlowSum.{FlowSum}
-use Rattle.fg_engine.specs.Steps.{HaveShown, BreakOff, ThenStaysWithin}
-
--- Nothing was played yet.
-pub nothing_before : FreshIsDecided → (old : State) (seq ssrc : ℕ) → HavePlayedBefore old seq ssrc [] old
-nothing_before decided old seq ssrc = ⊎_elim (λ fresh. inl (fresh, refl)) (λ stale. inr (stale, refl)) (decided old ssrc)
-
--- Where nothing comes before, the desk has room.
-pub room_before : FreshIsDecided → (old : State) → ThenStaysWithin old → HasRoom old
-room_before decided old within = (within 0 0 [] old (nothing_before decided old 0 0)).1
+use Rattle.fg_engine.specs.Steps.{HaveShown, BreakOff}
 
 module _ (old : State) (seq ssrc : ℕ) where
   pub flushes_if_fresh : ThenStaysWithin old → IsFresh old ssrc → FlushesWithin old

@@ -8,13 +8,8 @@ use Rattle.fg_playout.specs.declared.reply.Reply.{Reply}
 use Rattle.fg_playout.specs.State.{State}
 use Rattle.fg_playout.specs.Admission.{AdmitsParity}
 use Rattle.fg_playout.specs.Run.{Arrival, protects, refused, time_of, TakesThen}
+use Rattle.fg_results.proofs.FlowRecords.{as_parity}
 use Rattle.fg_results.specs.Flow.{IsReadAsParity, IsReadAs, parity_of}
-
--- On a port that isn't for media a datagram is read as a parity datagram.
-as_parity : (kind : Kind) (bytes : List ℕ) (arrival : Arrival) → kind ≢ Media → IsReadAsParity kind bytes arrival → IsReadAs kind bytes arrival
-as_parity Media bytes arrival other read = absurd (other refl)
-as_parity Column bytes arrival other read = read
-as_parity Row bytes arrival other read = read
 
 pub parity_is_read :
     (kind : Kind) (time : ℕ) (bytes : List ℕ) (parity : ParityRead) → kind ≢ Media → IsParityDatagram bytes parity

@@ -129,6 +129,39 @@ within_one_more count between new so_far next play within is some counted =
     (subst (λ (n : ℕ). CountsWithin (with_plays so_far between.mark (play ∷ [])) n) (sym (mark_after count between play new is))
     (plays_within so_far between.mark play within many))
 
+-- What a loop over plays keeps: what it has shown so far, with what holds of the player, of the lanes and of their faults.
+pub record HavePlayedOn
+    (Are : List Play → State → Type 0) (old : State) (sum : FlowSum) (before : Option Lanes) (new : State) (sum' : FlowSum)
+    (now : Option Lanes) (Player Still Faults : Type 0) : Type 0 where
+  pub so : HaveShown Are old sum before new sum' now
+  pub counts : CountsWithin sum' new.mark
+  pub port : sum'.port ≡ sum.port
+  pub player : Player
+  pub still : Still
+  pub playout : new.playout ≡ old.playout
+  pub faults : Faults
+
+-- One more play, which is one from `on`, where the desk has been told a time.
+pub one_play_more :
+    {Player Still Faults Player' Still' Faults' : Type 0} (Are : List Play → State → Type 0) (old : State) (sum : FlowSum)
+    (before : Option Lanes) (count : ℕ) (between on new : State) (so_far next : FlowSum) (middle after : Option Lanes) (play : Play)
+    → HavePlayedOn Are old sum before between so_far middle Player Still Faults
+    → on.mark ≡ between.mark → on.playout ≡ between.playout
+    → ((plays : List Play) → Are plays between → Are (plays ++ play ∷ []) new) → IsPlay count on play new → 1 ≤ count
+    → next ≡ with_plays so_far play.first (play ∷ []) → Grows middle so_far.port (lane_of (play ∷ [])) after
+    → next.port ≡ so_far.port → Player' → Still' → Faults'
+    → HavePlayedOn Are old sum before new next after Player' Still' Faults'
+one_play_more Are old sum before count between on new so_far next middle after play h mark playout join is some counted grows port player still faults =
+    record {
+      so = one_more_shown Are old sum before count between on new so_far next middle after play h.so mark join is h.port counted grows;
+      counts = within_one_more count on new so_far next play (subst (CountsWithin so_far) (sym mark) h.counts) is some counted;
+      port = port ∙ h.port;
+      player = player;
+      still = still;
+      playout = keeps_playout count on play new is ∙ playout ∙ h.playout;
+      faults = faults;
+    }
+
 -- A play that is due comes after those before it.
 pub due_after :
     (old between new : State) (seq ssrc : ℕ) (play : Play) → PlaysDueJoin → IsDue between seq ssrc

@@ -26,6 +26,7 @@ use Rattle.fg_playout.specs.State.{State, opening}
 use Rattle.fg_report.specs.declared.flow_sum.FlowSum.{FlowSum}
 use Rattle.fg_engine.specs.declared.engine.Engine.{Engine}
 use Rattle.fg_engine.specs.Engine.{FlowStands, EngineStands, HasCome, BreaksAfter}
+use Rattle.fg_results.proofs.FlowRecords.{is_of_no}
 use Rattle.fg_results.specs.Flow.{Arrives, records_of, is_of}
 use Rattle.fg_results.specs.Repair.{others_of}
 use Rattle.fg_engine.specs.View.{FlowView}
@@ -71,13 +72,6 @@ new_more plan items all i port new pushed long at h each =
     (subst (λ n. AreNew plan n (items ++ new ∷ [])) (sym (length_push items new)) (λ k d below. new_at plan items (length items) new refl stands each k d below (cases_eq k (length items))))
 
 -- Which flow a record is of
-
-pub is_of_no : (flow : ℕ) (r : Record) → ((k : Kind) → port_of flow k ≡ r.port → ⊥) → is_of flow r ≡ false
-is_of_no flow r never =
-    let media : flow ≡ r.port → ⊥ = never kind.Media in
-    let column : flow + 2 ≡ r.port → ⊥ = never kind.Column in
-    let row : flow + 4 ≡ r.port → ⊥ = never kind.Row in
-    grind (arith, nat_tests)
 
 pub not_of : (port : ℕ) (records : List Record) (r : Record) → is_of port r ≡ false → records_of port (records ++ r ∷ []) ≡ records_of port records
 not_of port records r e =

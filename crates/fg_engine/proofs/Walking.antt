@@ -12,6 +12,7 @@ use Rattle.fg_trace.specs.Laws.{WalksTheFront}
 use Rattle.fg_trace.proofs.Opening.{few_spelled, stands_still}
 use Rattle.fg_trace.specs.Reader.{Answer, ReaderState, StandsAfter, Walks}
 use Rattle.fg_trace.specs.Trace.{Record, Ending, IsTrace, trace_of}
+use Rattle.fg_results.proofs.FlowRecords.{few_records}
 use Rattle.fg_engine.specs.declared.engine.Engine.{Engine}
 use Rattle.fg_engine.specs.Engine.{LanesGrow, GrowAll, IsRunning, HasCome, BreaksAfter, LanesStop, HasWalked, TookAll, TellsTail}
 use Rattle.fg_results.specs.Lanes.{OthersStay}
@@ -19,14 +20,6 @@ use Rattle.fg_results.specs.Stops.{Growth, StopsIn}
 use Rattle.fg_engine.proofs.Lanes.{told_map}
 use Rattle.fg_engine.proofs.Standing.{shown_at}
 use Rattle.fg_engine.proofs.Stopping.{Follows, taking_stops}
-
--- Few records
-
-pub few_records : (plan : Plan) → PlanFits plan → (first now : Option (List ℕ)) (reader : ReaderState) (records : List Record) → reader.max ≡ plan.max → StandsAfter reader first now records → length records < 2 ^ 43
-few_records plan fits first now reader records max h =
-    let most : plan.max ≤ 2 ^ 42 = fits.max.1 in
-    let within : length (trace_of records) ≤ plan.max = subst (λ n. length (trace_of records) ≤ n) max (subst (λ n. n ≤ reader.max) h.place h.within) in
-    omega (arith, few_spelled records)
 
 pub running : {D : Type 0} → (plan : Plan) → PlanFits plan → (first now : Option (List ℕ)) (reader : ReaderState) (engine : Engine D) (before after : Option Lanes) → reader.max ≡ plan.max → HasWalked plan first now reader engine before after → IsRunning plan engine
 running plan fits first now reader engine before after max h = record {

@@ -175,10 +175,6 @@ pub record BreakOff (Are : List Play → State → Type 0) (port : ℕ) (before 
 abbrev pub HaveHeld : State → ℕ → List Play → State → Type 0
 HaveHeld old time plays now = (old.playout.hold ≢ 0) × AreHeldSteps old time plays now
 
--- All desks that plays before some media datagram leave have room still, where no word waits for too long.
-abbrev pub ThenStaysWithin : State → Type 0
-ThenStaysWithin old = (seq ssrc : ℕ) → BeforeWithin old seq ssrc
-
 -- A datagram of this kind and time is read. Taking it so, its plays are made, and it is admitted or gets its reply.
 pub record AdmitsBy
     (Taking : State → Arrival → List Play → Option Reply → State → Type 0) (kind : Kind) (time : ℕ) (bytes : List ℕ)

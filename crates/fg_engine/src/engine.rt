@@ -1,5 +1,5 @@
 //! All flows of a repair, from the first record to the end of the lanes.
-ghost use Rattle.std.specs.Prelude.{◌≡◌, ◌≤◌, ◌<◌, ◌++◌, ℕ, Option, List, [], ◌∷◌, length, map, All, None, IfOk, IfErr, IfSome, IfNone, OnOk, OnErr};
+ghost use Rattle.std.specs.Prelude.{◌≡◌, ◌≤◌, ◌<◌, ◌++◌, ℕ, Option, List, [], ◌∷◌, length, map, slice_index, slice_index_or, All, None, IfOk, IfErr, IfSome, IfNone, OnOk, OnErr};
 ghost use Rattle.fg_io.specs.Faults.{Counts};
 ghost use Rattle.fg_io.specs.Outlet.{Lanes};
 ghost use Rattle.fg_trace.specs.Finish.{finish_after};
@@ -10,7 +10,8 @@ ghost use Rattle.fg_flows.specs.declared.Plan.{Plan};
 ghost use Rattle.fg_flows.specs.Plan.{PlanFits, playout_of};
 ghost use Rattle.fg_playout.specs.State.{opening};
 ghost use Rattle.fg_results.specs.Stops.{ByRecord};
-ghost use Rattle.fg_engine.specs.Engine.{EngineStands, IsRunning, HasCome, BreaksAfter, LanesStop, HasWalked, HasRead, TookAll, told_finish, IsFlushing, AreReady, HasEnded, BreaksAtFlush, LanesWhole, GrowAll, AreThere, MakesFirst};
+ghost use Rattle.fg_engine.specs.View.{FlowView};
+ghost use Rattle.fg_engine.specs.Engine.{EngineStands, FlowStands, IsRunning, HasCome, BreaksAfter, LanesStop, HasWalked, HasRead, TookAll, told_finish, IsFlushing, AreReady, HasEnded, BreaksAtFlush, LanesWhole, GrowAll, AreThere, MakesFirst};
 
 use crate::flow::Flow;
 use crate::player::LaneWriter;
@@ -34,6 +35,27 @@ pub struct Engine<D: WindowState> {
     pub other: u64,
 }
 
+/// The flows of the plan over these windows, which are in their order, before the first record.
+fn flows_over<D: WindowState>(
+    alloc: Global,
+    plan: &Plan,
+    windows: Vec<D>,
+) -> Result<Vec<Flow<D>>, AllocError>
+    requires fits { PlanFits plan.now }
+    requires count { length windows.items ≡ length plan.now.table }
+    requires empty { All (λ window. D.state window ≡ opening (playout_of plan.now)) windows.items }
+    ensures count { IfOk result (λ flows. length flows.items ≡ length plan.now.table) }
+    ensures flows { IfOk result (λ flows. (k : ℕ) (d : FlowView) → k < length plan.now.table
+        → FlowStands plan.now [] (slice_index plan.now.table k) (slice_index_or flows.items k d) []) }
+{
+    let mut flows = Vec::with_capacity(alloc, windows.len())?;
+    for window in windows {
+        let port = plan.table.port(flows.len());
+        flows.push(Flow::new(alloc, port, window))?;
+    }
+    Ok(flows)
+}
+
 impl<D: WindowState> Engine<D> {
     /// The flows of the plan over these windows, which are in their order, before the first record. All further memory is
     /// taken here.
@@ -43,11 +65,7 @@ impl<D: WindowState> Engine<D> {
         requires empty { All (λ window. D.state window ≡ opening (playout_of plan.now)) windows.items }
         ensures { IfOk result (λ engine. EngineStands plan.now [] engine (λ _. [])) }
     {
-        let mut flows = Vec::with_capacity(alloc, windows.len())?;
-        for window in windows {
-            let port = plan.table.port(flows.len());
-            flows.push(Flow::new(alloc, port, window))?;
-        }
+        let flows = flows_over(alloc, plan, windows)?;
         let writer = LaneWriter::new(alloc, plan.window)?;
         Ok(Engine {
             flows,

@@ -13,10 +13,10 @@ ghost use Rattle.fg_playout.specs.Play.{HasMore};
 ghost use Rattle.fg_playout.specs.Room.{HasRoom, farthest_limit};
 ghost use Rattle.fg_playout.specs.Run.{Arrival, time_of, ArePlaysHeld, ArePlaysDue, ArePlaysBefore, TakesThen, IsFlush};
 ghost use Rattle.fg_playout.specs.Laws.{HavePlayed, HavePlayedBefore, AreFlushSteps};
-ghost use Rattle.fg_desk.specs.Arrivals.{StaysWithin, HeldWithin, FlushesWithin};
+ghost use Rattle.fg_desk.specs.Arrivals.{StaysWithin, HeldWithin, FlushesWithin, ThenStaysWithin};
 ghost use Rattle.fg_results.specs.Flow.{IsReadAs, lane_of};
 ghost use Rattle.fg_engine.specs.Steps.{HasTaken, IsUnderway, TakesRecord, BreaksAtRecord, EndsFlow, BreaksAtEnd};
-ghost use Rattle.fg_engine.specs.Steps.{CountsWithin, Grows, GrowsPart, HaveShown, HaveHeld, BreakOff, ThenStaysWithin, AdmitsDatagram, AdmitsThen, BreaksAtDatagram, BreaksThen, with_plays, played_as};
+ghost use Rattle.fg_engine.specs.Steps.{CountsWithin, Grows, GrowsPart, HaveShown, HaveHeld, BreakOff, AdmitsDatagram, AdmitsThen, BreaksAtDatagram, BreaksThen, with_plays, played_as};
 
 use crate::counts::count_answer;
 use crate::player::Player;

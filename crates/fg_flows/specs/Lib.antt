@@ -3,4 +3,5 @@ pub mod Flows
 pub mod Index
 pub mod Laws
 pub mod Plan
+pub mod Selection
 pub mod Sheaf

@@ -1,4 +1,4 @@
-//! The flows of a repair: which UDP port belongs to which flow, and what a repair is told.
+//! The flows of a repair: which UDP port belongs to which flow, and what a repair and a pick are told.
 #![tactic(auto)]
 
 ghost use Rattle.std.specs.Prelude.{◌≡◌, ◌+◌, ◌<◌, ◌↔◌, ℕ, List, IfErr, IfNone, IfOk, IfSome, IsTrue, OnOk, length, slice_index};
@@ -7,6 +7,7 @@ ghost use Rattle.fg_flows.specs.Index.{IsIndex};
 
 pub use fg_shape::Kind;
 use fg_shape::LAST_PORT;
+pub use selection::{Ports, Selection, Sources};
 pub use sheaf::Sheaf;
 use std::alloc::{AllocError, AllocFailed, Global};
 use std::collections::HashMap;
@@ -14,6 +15,7 @@ use std::marker::Model;
 use thiserror::Error;
 
 pub mod laws;
+mod selection;
 mod sheaf;
 #[cfg(test)]
 mod tests;

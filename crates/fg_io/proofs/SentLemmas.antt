@@ -85,3 +85,7 @@ Sent-at f xs i d x first second third start held within is once again =
     (GainsPart-longer first third _ (flat_map f (drop (suc i) xs))
     (Sent-part first second third (start ++ flat_map f (take i xs)) held (f (get_or xs i d)) once
     (subst (λ x. GainsPart second (held ++ f x) third) is again))))
+
+-- what is sent is a part, whatever is held
+pub part_sent : (before at : Option (List ℕ)) (text held : List ℕ) → Sent before text held at → GainsPart before text at
+part_sent before at text held sent = subst (λ t. GainsPart before t at) (append-nil text) (Sent-stop before at text held [] sent)

@@ -14,4 +14,5 @@ pub mod Safe
 pub mod Sent
 pub mod Sink
 pub mod Source
+pub mod Texts
 pub mod Standard

@@ -16,18 +16,13 @@ use Rattle.fg_playout.specs.Run.{Arrival, carries, protects, refused, time_of, A
 use Rattle.fg_playout.specs.Laws.{HavePlayedBefore, still_held, then_played, FreshIsDecided}
 use Rattle.fg_playout.specs.PlayedOn.{PlayOn, held_on, before_on, taken_then_on}
 use Rattle.fg_playout.specs.DesksJoin.{played_before_on, played_then_on}
-use Rattle.fg_desk.specs.Arrivals.{StaysWithin, HeldWithin}
+use Rattle.fg_desk.specs.Arrivals.{StaysWithin, HeldWithin, ThenStaysWithin}
+use Rattle.fg_results.proofs.FlowRecords.{as_parity}
 use Rattle.fg_results.specs.Flow.{IsReadAsParity, IsReadAs, parity_of}
-use Rattle.fg_prove.specs.Steps.{HaveTold, HavePart, Tells, Breaks, HaveHeld, have_held_on, ThenStaysWithin, AdmitsDatagram, AdmitsThen, BreaksAtDatagram, BreaksThen}
+use Rattle.fg_prove.specs.Steps.{HaveTold, HavePart, Tells, Breaks, HaveHeld, have_held_on, AdmitsDatagram, AdmitsThen, BreaksAtDatagram, BreaksThen}
 use Rattle.fg_prove.proofs.Telling.{told_none, told_more, part_more, no_part}
 
 -- How a parity datagram is read
-
--- On a port that isn't for media a datagram is read as a parity datagram.
-as_parity : (kind : Kind) (bytes : List ℕ) (arrival : Arrival) → kind ≢ Media → IsReadAsParity kind bytes arrival → IsReadAs kind bytes arrival
-as_parity Media bytes arrival other read = absurd (other refl)
-as_parity Column bytes arrival other read = read
-as_parity Row bytes arrival other read = read
 
 -- A datagram on a parity port that was read so, and does so.
 abbrev ParityTakes : State → Kind → ℕ → List ℕ → State → Type 0
@@ -190,22 +185,3 @@ then_breaks_off kind time bytes port old ready held between before middle after 
       part = part_more port (held_on old (time_of arrival) at.plays ready at.are) (played_then_on ready arrival off.plays off.now off.are)
           held between before middle after at.told off.part;
     }
-
--- Room
-
--- A word of no bytes.
-no_word : Word
-no_word = record { pt = 0; ts = 0; len = 0; bytes = [] }
-
--- The desk has room for what comes before a datagram of this time, and so where its held plays are made.
-pub held_within : (old : State) (time : ℕ) → StaysWithin old → HeldWithin old time
-held_within old time within some plays new steps = within (refused time Media) plays new (still_held some steps)
-
-pub then_within :
-    (old ready : State) (time : ℕ) (held : List Play) → StaysWithin old → ArePlaysHeld old time held ready → ThenStaysWithin ready
-then_within old ready time held within holds seq ssrc plays new played =
-    within (carries time seq ssrc no_word) (held ++ plays) new (then_played held plays ready holds refl played)
-
--- Where nothing comes before, the desk has room.
-pub room_before : FreshIsDecided → (old : State) → ThenStaysWithin old → HasRoom old
-room_before decided old within = (within 0 0 [] old (nothing_played decided old 0 0).0).1

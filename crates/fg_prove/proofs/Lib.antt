@@ -5,7 +5,6 @@ mod OfGaps
 mod OneProof
 mod Opening
 mod Playing
-mod Reaching
 mod Taking
 mod Telling
 mod Texts

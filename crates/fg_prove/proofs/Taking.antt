@@ -21,6 +21,7 @@ use Rattle.fg_playout.specs.Laws.{AreFlushSteps, RunsStayWithin, FlushesStayWith
 use Rattle.fg_playout.specs.PlayedOn.{PlayOn, all_taken_on, taken_on, flushed_on}
 use Rattle.fg_playout.specs.DesksJoin.{flush_steps_on, played_for_on, TakenDesksJoin, OneTakenDesks, RunDesksEnd, TakenDesksComeFirst, DesksBeforeComeNextInRuns, FlushDesksComeNext}
 use Rattle.fg_desk.specs.Arrivals.{StaysWithin, FlushesWithin}
+use Rattle.fg_results.proofs.FlowRecords.{is_of_no}
 use Rattle.fg_results.specs.Flow.{is_of, records_of, IsReadAs, Arrives}
 use Rattle.fg_results.proofs.ArrivalLemmas.{one_more_record, few_arrive, arrivals_are_read, one_kind, one_list_arrives, arrivals_begin}
 use Rattle.fg_results.proofs.Zips.{zip_push}
@@ -36,14 +37,6 @@ use Rattle.fg_prove.proofs.Telling.{cases_split, told_none, told_more, told_part
 use Rattle.fg_prove.proofs.Texts.{cases_text-append}
 
 -- A record more
-
--- A record on none of a flow's ports is none of its records.
-is_of_no : (flow : ℕ) (r : Record) → ((k : Kind) → port_of flow k ≡ r.port → ⊥) → is_of flow r ≡ false
-is_of_no flow r never =
-    let media : flow ≡ r.port → ⊥ = never kind.Media in
-    let column : flow + 2 ≡ r.port → ⊥ = never kind.Column in
-    let row : flow + 4 ≡ r.port → ⊥ = never kind.Row in
-    grind (arith, nat_tests)
 
 no_more_record : (flow : ℕ) (records : List Record) (r : Record) → ((k : Kind) → port_of flow k ≡ r.port → ⊥) → records_of flow (records ++ r ∷ []) ≡ records_of flow records
 no_more_record flow records r never =

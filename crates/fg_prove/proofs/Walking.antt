@@ -10,24 +10,18 @@ use Rattle.fg_trace.specs.declared.step.Step.TheVariants.{Datagram}
 use Rattle.fg_trace.specs.declared.step.TraceFault.{TraceFault}
 use Rattle.fg_trace.specs.Laws.{OneTrace, WalksTheFront}
 use Rattle.fg_trace.proofs.Opening.{few_spelled, stands_still}
+use Rattle.fg_trace.proofs.Reached.{stands_more}
 use Rattle.fg_trace.specs.Reader.{Answer, ReaderState, StandsAfter, Walks}
 use Rattle.fg_trace.specs.Trace.{Record, Ending, IsTrace, trace_of}
 use Rattle.fg_trace.specs.Finish.{finish_of}
 use Rattle.fg_playout.specs.State.{State, opening}
 use Rattle.fg_proof.specs.declared.case.Case.{Case}
 use Rattle.fg_proof.specs.Text.{cases_text}
+use Rattle.fg_results.proofs.FlowRecords.{few_records}
 use Rattle.fg_prove.specs.Laws.{OneProof}
 use Rattle.fg_prove.specs.Proved.{AreProvedFor, Proves, ProvesPart}
 use Rattle.fg_prove.specs.Steps.{FirstHasTaken, HasPart, IsUnderway, HasTakenAll}
 use Rattle.fg_prove.proofs.Taking.{HasEnded, taken_nothing}
-
--- Few records
-
-pub few_records : (plan : Plan) → PlanFits plan → (first now : Option (List ℕ)) (reader : ReaderState) (records : List Record) → reader.max ≡ plan.max → StandsAfter reader first now records → length records < 2 ^ 43
-few_records plan fits first now reader records max h =
-    let most : plan.max ≤ 2 ^ 42 = fits.max.1 in
-    let within : length (trace_of records) ≤ plan.max = subst (λ n. length (trace_of records) ≤ n) max (subst (λ n. n ≤ reader.max) h.place h.within) in
-    omega (arith, few_spelled records)
 
 -- Parts
 
@@ -43,13 +37,6 @@ leaves_part law plan (Some bytes) now reader records before after max stands h =
     let walked : records ≡ take (length records) all = law reader bytes now records all end stands (subst (λ n. IsTrace bytes n all end) (sym max) trace) in
     let split : all ≡ records ++ drop (length records) all = sym (take-append-drop (length records) all) ∙ ap (λ t. t ++ drop (length records) all) (sym walked) in
     h (drop (length records) all) cases (subst (λ (rs : List Record). AreProvedFor plan rs cases) split are)
-
--- where the reader stands after a record
-stands_more : (reader next : ReaderState) (first left now : Option (List ℕ)) (records : List Record) (answer : Answer) (time port size : ℕ)
-    → answer ≡ Ok (Datagram time port size) → ((records : List Record) → StandsAfter reader first left records → Walks answer next first now records)
-    → StandsAfter reader first left records → StandsAfter next first now (records ++ (record { time = time; port = port; datagram = next.payload }) ∷ [])
-stands_more reader next first left now records answer time port size is walks h =
-    subst (λ (a : Answer). Walks a next first now records) is (walks records h)
 
 -- A record
 

@@ -117,10 +117,6 @@ HaveHeld old time plays now = (old.playout.hold ≢ 0) × AreHeldSteps old time 
 abbrev pub have_held_on : (old : State) (time : ℕ) (plays : List Play) (now : State) → HaveHeld old time plays now → List PlayOn
 have_held_on old time plays now have = held_steps_on old time plays now have.1
 
--- All desks that plays before some media datagram leave have room still, where no word waits for too long.
-abbrev pub ThenStaysWithin : State → Type 0
-ThenStaysWithin old = (seq ssrc : ℕ) → BeforeWithin old seq ssrc
-
 -- A datagram of this kind and time is read. Taking it so, its plays are made and their cases told, and it is admitted or gets its
 -- reply.
 pub record AdmitsBy
@@ -196,16 +192,3 @@ pub record HasTakenAll
   pub answer_is : answer ≡ finish_of end
   pub of_input : IfSome first (λ bytes. IsTrace bytes plan.max records end)
   pub taken : FirstHasTaken plan records state before held after
-
--- The answer of a proof that comes to this.
-abbrev pub answer_to : Result Finish Fault → Finish
-answer_to (Ok answer) = answer
-answer_to (Err fault) = finish_after fault
-
--- The input, which had `first`, was read as far as that answer needs.
-abbrev pub IsReadTo : ℕ → Result Finish Fault → Option (List ℕ) → Option (List ℕ) → Type 0
-IsReadTo max came first now = IfSome first (λ bytes. IsReadFor max (answer_to came) bytes now)
-
--- The reader stands after some records.
-abbrev pub Stands : ReaderState → Option (List ℕ) → Option (List ℕ) → Type 0
-Stands reader first now = (records : List Record) × StandsAfter reader first now records

@@ -3,10 +3,7 @@
 
 mod gaps;
 pub mod laws;
-mod prover;
-#[cfg(test)]
-mod tests;
-mod text;
+mod prover;mod text;
 mod walk;
 
 pub use walk::prove_flow;

@@ -16,10 +16,10 @@ ghost use Rattle.fg_playout.specs.Run.{Arrival, time_of, ArePlaysHeld, ArePlaysB
 ghost use Rattle.fg_playout.specs.Laws.{HavePlayedBefore, AreFlushSteps};
 ghost use Rattle.fg_playout.specs.PlayedOn.{flushed_on, held_on, before_on};
 ghost use Rattle.fg_playout.specs.DesksJoin.{flush_steps_on, played_before_on};
-ghost use Rattle.fg_desk.specs.Arrivals.{StaysWithin, HeldWithin, BeforeWithin, FlushesWithin};
+ghost use Rattle.fg_desk.specs.Arrivals.{StaysWithin, HeldWithin, BeforeWithin, FlushesWithin, ThenStaysWithin};
 ghost use Rattle.fg_desk.specs.Contents.{opened};
 ghost use Rattle.fg_results.specs.Flow.{IsReadAs};
-ghost use Rattle.fg_prove.specs.Steps.{Tells, Breaks, IsQuiet, TellsOne, BreaksOne, HaveHeld, have_held_on, ThenStaysWithin, AdmitsDatagram, AdmitsThen, BreaksAtDatagram, BreaksThen};
+ghost use Rattle.fg_prove.specs.Steps.{Tells, Breaks, IsQuiet, TellsOne, BreaksOne, HaveHeld, have_held_on, AdmitsDatagram, AdmitsThen, BreaksAtDatagram, BreaksThen};
 
 use crate::gaps::Gaps;
 use fg_desk::Desk;

@@ -6,11 +6,12 @@ ghost use Rattle.fg_trace.specs.Reader.{StandsAfter};
 ghost use Rattle.fg_trace.specs.Trace.{Record, Ending, NotTrace as NoMagic, IsTrace};
 ghost use Rattle.fg_trace.specs.Finish.{IsFault, ReadsAll, finish_of};
 ghost use Rattle.fg_trace.specs.Reading.{HasReached, IsReadFor};
+ghost use Rattle.fg_trace.specs.Reached.{IsReadTo, Stands, answer_to};
 ghost use Rattle.fg_flows.specs.Plan.{PlanFits, playout_of};
 ghost use Rattle.fg_playout.specs.State.{opening};
 ghost use Rattle.fg_desk.specs.Arrivals.{StaysWithin};
 ghost use Rattle.fg_prove.specs.Proved.{Proves, ProvesPart};
-ghost use Rattle.fg_prove.specs.Steps.{FirstHasTaken, HasPart, IsUnderway, HasTakenAll, IsReadTo, Stands, answer_to};
+ghost use Rattle.fg_prove.specs.Steps.{FirstHasTaken, HasPart, IsUnderway, HasTakenAll};
 
 use crate::laws::one_proof;
 use crate::prover::Prover;

@@ -3,6 +3,8 @@ pub mod CountLemmas
 pub mod Existing
 pub mod Fronts
 pub mod Gaining
+pub mod FlowRecords
+pub mod Picked
 pub mod RepairLemmas
 pub mod ShownLemmas
 pub mod StopLemmas

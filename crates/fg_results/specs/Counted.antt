@@ -32,5 +32,5 @@ RepairCounts growth answer sources sinks =
     CountsAhead (MayHaveFailedToRead growth answer) (answer ≡ finish.ReadFault) (answer ≡ finish.WriteFault) sources sinks
 
 -- The same of a part of it that answers a `Fault` where it isn't Ok, and that may read on while it writes.
-abbrev pub CountsBeside : {A : Type 0} → Result A Fault → List (ℕ × ℕ) → List (ℕ × ℕ) → Type 0
+abbrev pub CountsBeside : {A : Type 0} → (came : Result A Fault) → (sources sinks : List (ℕ × ℕ)) → Type 0
 CountsBeside result sources sinks = CountsAhead (IsErr result) (Answers result Read) (Answers result Write) sources sinks

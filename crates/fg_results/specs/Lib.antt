@@ -5,5 +5,6 @@ pub mod Existence
 pub mod Flow
 pub mod Lanes
 pub mod Laws
+pub mod Picked
 pub mod Repair
 pub mod Stops

@@ -2,6 +2,7 @@
 //! calls laws of the crates below.
 ghost use Rattle.fg_results.specs.Existence.{FlowResultExists, ResultsExist};
 ghost use Rattle.fg_results.specs.Laws.{OneFlowResult, OneResult, OneGained, ShownIsFront, ByRecordIsOneWay, ByRecordCountsInAnyWay, StopsLeaveParts};
+ghost use Rattle.fg_results.specs.Picked.{NamedFlowsArePicked, PickedFlowResult, PickedResults};
 
 use fg_fechead::laws::{parity_datagrams_are_decided, parity_datagrams_read_one_way};
 use fg_playout::laws::{one_run, one_taking, runs_exist, taken_plays_come_first};
@@ -69,3 +70,11 @@ pub fn stops_leave_parts()
     one_flow_result();
     results_exist();
 }
+
+/// What is picked of records gives a flow, of which all is picked, the results that all records give it. So a trace can be cut
+/// by its flows, and each part repaired alone.
+pub fn picked_flows()
+    ensures flow { PickedFlowResult }
+    ensures plan { PickedResults }
+    ensures named { NamedFlowsArePicked }
+{}

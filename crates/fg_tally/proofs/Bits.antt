@@ -10,6 +10,7 @@ use Rattle.std.specs.FinSet.{FinSet, contains, insert, empty, contains-empty, co
 use mir.Syntax.{w32}
 use Rattle.fg_peel.proofs.Maps.{was_or_inserted}
 use Rattle.fg_shape.proofs.ShapeLemmas.{slots_apart}
+use Rattle.fg_core.proofs.Noting.{same_bool}
 use Rattle.fg_tally.specs.Folding.{slots_in}
 
 -- A set with one more number
@@ -27,12 +28,6 @@ beside_inserted s k q other =
 pub still_in : (s : FinSet nat_cmp) (k q : ℕ) → contains s q ≡ true → contains (insert s k) q ≡ true
 still_in s k q is =
     ⊎_elim (λ same. has_inserted s k q same) (λ other. beside_inserted s k q other ∙ is) (cases_eq q k)
-
--- Two truths that follow from each other are one.
-same_truth : (a b : Bool) → (a ≡ true → b ≡ true) → (b ≡ true → a ≡ true) → a ≡ b
-same_truth true b to from = sym (to refl)
-same_truth false true to from = from refl
-same_truth false false to from = refl
 
 -- Bits
 
@@ -128,5 +123,5 @@ module _ (bits base offset n k : ℕ) (below : k < n) (within : k < 32) where
   pub with_bit : slots_in with_one base offset n ≡ insert (slots_in bits base offset n) (base + k * offset)
   with_bit = same_set nat_cmp_total nat_cmp-IsAntisymmetric
       (slots_in with_one base offset n) (insert (slots_in bits base offset n) (base + k * offset))
-      (λ q. same_truth (contains (slots_in with_one base offset n) q)
+      (λ q. same_bool (contains (slots_in with_one base offset n) q)
       (contains (insert (slots_in bits base offset n) (base + k * offset)) q) (in_more q) (was_less q))

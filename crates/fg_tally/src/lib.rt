@@ -9,9 +9,6 @@ mod folding;
 mod missing;
 mod tallies;
 mod tally;
-#[cfg(test)]
-mod tests;
-
 pub use answers::{Begun, Folded, Held};
 pub use tallies::Tallies;
 pub use tally::Tally;

@@ -3,6 +3,7 @@ pub mod Endings
 pub mod Fields
 pub mod Fronts
 pub mod Opening
+pub mod Reached
 pub mod Reaching
 pub mod Records
 pub mod Stopping

@@ -47,3 +47,7 @@ longest bytes max records fit within e = record {
   };
   most = λ others b. fewer records others b.rest fit b.fit (after_magic_same _ _ (sym e ∙ b.spelled ∙ append_assoc magic (flat_map spelling others) b.rest));
 }
+
+-- a trace of records more
+pub trace_more : (rs ss : List Record) → trace_of (rs ++ ss) ≡ trace_of rs ++ flat_map spelling ss
+trace_more rs ss = ap (λ t. magic ++ t) (flat_map-append spelling rs ss) ∙ sym (append_assoc magic (flat_map spelling rs) (flat_map spelling ss))

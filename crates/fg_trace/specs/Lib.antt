@@ -2,6 +2,7 @@
 pub mod Finish
 pub mod Header
 pub mod Laws
+pub mod Reached
 pub mod Reader
 pub mod Reading
 pub mod Trace

@@ -5,9 +5,6 @@ ghost use Rattle.std.specs.Prelude.{◌≡◌, ℕ, ◌<◌, ◌/◌, ◌↔◌,
 ghost use Rattle.fg_ts.specs.Fields.{AnnouncesBreak, HasPayload, adaptation_field_control, counter_of, null_pid, pid_of};
 ghost use Rattle.fg_ts.specs.Packets.{ArePackets, FirstFault, IsFirstUnsynced, IsSynced};
 
-#[cfg(test)]
-mod tests;
-
 /// The length of a transport packet in bytes.
 pub const PACKET_LENGTH: usize = 188;
 

@@ -7,8 +7,6 @@ ghost use Rattle.fg_words.specs.Word.{padded_word, transport_word, zero_word, wo
 mod lanes;
 pub mod laws;
 mod shared;
-#[cfg(test)]
-mod tests;
 
 use fg_ts::{PACKET_LENGTH, SYNC_BYTE};
 pub use shared::Shared;

@@ -1,16 +1,13 @@
 //! A flow's windows on its board, for the thread that admits and plays.
 ghost use Rattle.std.specs.Prelude.{◌≡◌, ◌≤◌};
 
-use crate::crewed::arrivals::Progress;
-use crate::crewed::held_places::Waiting;
-use crate::crewed::points::{CALLER, Hears, PLAYING};
-use crate::crewed::signal::Signal;
 use fg_board::{Admitter, Board};
 use fg_crew::Hints;
 use fg_desk::{Played, Reply, Tray};
 use fg_engine::WindowState;
 use fg_shape::Shape;
 use fg_words::{Shared, Word};
+use fg_workers::{CALLER, Hears, HeldEquation, PLAYING, Progress, Signal};
 use std::sync::Wait;
 
 /// A flow's windows on its board. Its workers are told and hinted of what is admitted: before what plays, and in between after so
@@ -80,7 +77,7 @@ impl<'a, W: Wait, G: Hears> WindowState for BoardWindow<'a, W, G> {
             .admitter
             .admit_parity(self.wait, self.board, base, shape, share);
         if let Some(key) = key {
-            self.signal.held.tell(Waiting {
+            self.signal.held.tell(HeldEquation {
                 key,
                 base: self.progress.position(base),
                 shape,

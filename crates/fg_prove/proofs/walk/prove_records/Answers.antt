@@ -2,7 +2,7 @@ use Rattle.std.proofs.Common.{ℕ, List, [], Option, Ok, ◌∙◌}
 use Rattle.fg_io.proofs.FaultLemmas.{on_err}
 use Rattle.fg_trace.specs.Reader.{StandsAfter}
 use Rattle.fg_prove.specs.Proved.{ProvesPart}
-use Rattle.fg_prove.proofs.Reaching.{failed_reached, read_to}
+use Rattle.fg_trace.proofs.Reached.{failed_reached, read_to}
 use Rattle.fg_prove.proofs.Walking.{underway}
 use Rattle.fg_prove.proofs.walk.prove_records.Goals as goal
 

@@ -7,10 +7,10 @@ use Rattle.fg_trace.specs.declared.step.TraceFault.TheVariants as fault
 use Rattle.fg_trace.specs.Reader.{ReaderState, Opens}
 use Rattle.fg_desk.specs.Contents.{Contents}
 use Rattle.fg_prove.specs.Proved.{Proves}
-use Rattle.fg_prove.specs.Steps.{IsReadTo}
+use Rattle.fg_trace.specs.Reached.{IsReadTo}
 use Rattle.fg_trace.proofs.Opening.{never_refused}
 use Rattle.fg_prove.proofs.Opening.{none_is_part, proves_none}
-use Rattle.fg_prove.proofs.Reaching.{differs_at, failed_at}
+use Rattle.fg_trace.proofs.Reached.{differs_at, failed_at}
 use Rattle.fg_prove.proofs.walk.prove_trace.Goals as goal
 
 pub prove_records-requires-clause-begun : goal.prove_records-requires-clause-begun

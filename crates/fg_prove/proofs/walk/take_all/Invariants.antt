@@ -1,5 +1,6 @@
 use Rattle.std.proofs.Common.{◌≡◌, ℕ, ◌-◌, Option, None, List}
-use Rattle.fg_prove.specs.Steps.{IsUnderway, Stands}
+use Rattle.fg_trace.specs.Reached.{Stands}
+use Rattle.fg_prove.specs.Steps.{IsUnderway}
 use Rattle.fg_prove.proofs.walk.take_all.Given as goal
 
 abbrev pub invariant-loop-finish : goal.invariant-loop-finish

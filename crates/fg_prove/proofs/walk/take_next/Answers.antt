@@ -7,7 +7,8 @@ use Rattle.fg_trace.specs.Trace.{Ended, Cut, TooLong}
 use Rattle.fg_prove.specs.Steps.{IsUnderway}
 use Rattle.fg_prove.specs.Proved.{ProvesPart}
 use Rattle.fg_prove.proofs.Taking.{stays_within, told_is_part}
-use Rattle.fg_prove.proofs.Walking.{few_records, underway_more, part_at_record, part_at_fault, taken_all}
+use Rattle.fg_results.proofs.FlowRecords.{few_records}
+use Rattle.fg_prove.proofs.Walking.{underway_more, part_at_record, part_at_fault, taken_all}
 use Rattle.fg_prove.proofs.walk.take_next.Goals as goal
 
 pub take_record-requires-clause-within : goal.take_record-requires-clause-within

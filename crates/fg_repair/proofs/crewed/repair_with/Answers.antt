@@ -4,11 +4,11 @@ use Rattle.std.specs.List.{All}
 use Rattle.std.proofs.lemmas.List.{with_items_is}
 use Rattle.std.specs.Vec.{with_items}
 use Rattle.fg_flows.specs.Plan.{playout_of}
-use Rattle.fg_repair.specs.declared.crewed.post.Post.{Post}
-use Rattle.fg_repair.specs.declared.crewed.post.Host.{Host}
-use Rattle.fg_repair.specs.Crewed.{IsNewHost}
-use Rattle.fg_repair.proofs.Crewing.{alike_long}
-use Rattle.fg_repair.proofs.Crossing.{flow_tallies_sync}
+use Rattle.fg_workers.specs.declared.post.Post.{Post}
+use Rattle.fg_workers.specs.declared.post.Host.{Host}
+use Rattle.fg_workers.specs.Crewed.{IsNewHost}
+use Rattle.fg_workers.proofs.Crewing.{alike_long}
+use Rattle.fg_workers.proofs.Crossing.{flow_tallies_sync}
 use Rattle.fg_repair.proofs.crewed.repair_with.Goals as goal
 
 pub repair_beside-requires-clause-begins : goal.repair_beside-requires-clause-begins

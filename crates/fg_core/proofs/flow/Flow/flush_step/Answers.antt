@@ -1,33 +1,19 @@
-use Rattle.std.proofs.Common.{◌≡◌, List, sym, length, Option, Some, None, IfSome, IfNone, option_map, subst}
-use Rattle.fg_desk.specs.declared.desk.Played.{Played}
-use Rattle.fg_desk.specs.Contents.{Contents, ChangesInPlay}
+use Rattle.std.proofs.Common.{◌≡◌, length, option_map}
+use Rattle.fg_playout.specs.State.{State}
 use Rattle.fg_playout.specs.Play.{Flushes}
 use Rattle.fg_core.specs.Board.{BoardState, FlushesOn}
 use Rattle.fg_core.specs.Core.{play_of}
-use Rattle.fg_core.specs.Flow.{board_of}
-use Rattle.fg_core.specs.declared.notes.Note.{Note}
-use Rattle.fg_core.proofs.Calling.{flushes_on}
+use Rattle.fg_core.proofs.Calling.{flushes_on, step_on_board}
 use Rattle.fg_core.proofs.Holding.{desk_of, notes_of}
 use Rattle.fg_core.proofs.flow.Flow.flush_step.Goals as goal
 
-first_of : (P Q : Type 0) (result : Option Played) → IfNone result (P × Q) → IfNone result P
-first_of P Q None both = both.0
-first_of P Q (Some played) both = both
-
 pub returns-clause-flushes : goal.returns-clause-flushes
 returns-clause-flushes c =
-    let f = c.self.inside in
-    let old : Contents = f.held.value.desk in
-    let new : Contents = c.flush_step.new.self in
-    let shown = c.flush_step.new.tray.shown in
-    let value = desk_of c.deref_mut.ensures.value in
-    let result = c.flush_step.result in
-    let e = c.flush_step.ensures in
-    subst (λ (notes : List Note). FlushesOn c.args.self.now (option_map (λ played. play_of played shown) result) (board_of new notes))
-    (sym (notes_of c.deref_mut.ensures.value))
-    (subst (λ (b : BoardState). FlushesOn b (option_map (λ played. play_of played shown) result) (board_of new f.held.value.notes)) c.self.view_is
-    (flushes_on old new f.held.value.notes c.self.invariant result shown
-    (subst (λ (d : Contents). Flushes d.state (option_map (λ played. play_of played shown) result) new.state) value e.flushes)
-    (subst (λ (d : Contents). IfSome result (λ played. (played.count ≡ length shown) × ChangesInPlay played.verdict d new)) value e.some)
-    (subst (λ (d : Contents). IfNone result (new ≡ record d { state = new.state })) value
-    (first_of (new ≡ record c.deref_mut.result.now.desk { state = new.state }) (c.flush_step.new.tray ≡ c.args.tray.now) result e.none))))
+    let held = c.self.inside.held.value in
+    let play = option_map (λ played. play_of played c.flush_step.new.tray.shown) c.flush_step.result in
+    step_on_board (λ (old new : State). Flushes old play new) (λ (old new : BoardState). FlushesOn old play new)
+    (λ played. played.count ≡ length c.flush_step.new.tray.shown) (c.flush_step.new.tray ≡ c.args.tray.now) c.flush_step.result
+    held.desk _ c.flush_step.new.self held.notes _ c.args.self.now
+    (flushes_on held.desk c.flush_step.new.self held.notes c.self.invariant c.flush_step.result c.flush_step.new.tray.shown)
+    (desk_of c.deref_mut.ensures.value) (notes_of c.deref_mut.ensures.value) c.self.view_is
+    c.flush_step.ensures.flushes c.flush_step.ensures.some c.flush_step.ensures.none

@@ -9,12 +9,12 @@ pub invariant_of-result : goal.invariant_of-result
 invariant_of-result c =
     let playout : Playout = record { window = c.args.window; depth = c.args.depth; hold = c.args.hold } in
     subst (λ (h : Held). AreKept h.desk h.notes)
-    (sym (c.in_ok-new-3.ensures.ok ∙ (λ i. record { desk = c.in_ok-new.ensures i; notes = c.in_ok-new-2.ensures i })))
+    (sym (c.in_ok-new.ensures.ok ∙ (λ i. record { desk = c.in_ok-held.ensures.desk i; notes = c.in_ok-held.ensures.notes i })))
     (opened_kept playout)
 
 pub returns : goal.returns
 returns c =
     let playout : Playout = record { window = c.args.window; depth = c.args.depth; hold = c.args.hold } in
     ap (λ (h : Held). board_of h.desk h.notes)
-    (c.in_ok-new-3.ensures.ok ∙ (λ i. record { desk = c.in_ok-new.ensures i; notes = c.in_ok-new-2.field-0 }))
-    ∙ opened_is playout c.in_ok-new-2.field-0
+    (c.in_ok-new.ensures.ok ∙ (λ i. record { desk = c.in_ok-held.ensures.desk i; notes = c.in_ok-held.held.notes }))
+    ∙ opened_is playout c.in_ok-held.held.notes

@@ -1,6 +1,7 @@
 use Rattle.std.proofs.lemmas.Result.{IfOk-weaker, on_err_weaker}
 use Rattle.fg_io.proofs.FaultLemmas.{on_err}
-use Rattle.fg_engine.proofs.Admitting.{held_within, then_within, admitted_whole, held_breaks_off, then_breaks_off}
+use Rattle.fg_desk.proofs.Within.{held_within, then_within}
+use Rattle.fg_engine.proofs.Admitting.{admitted_whole, held_breaks_off, then_breaks_off}
 use Rattle.fg_engine.proofs.flow.Flow.admit.Goals as goal
 
 pub play_held-requires-clause-within : goal.play_held-requires-clause-within

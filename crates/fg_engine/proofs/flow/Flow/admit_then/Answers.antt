@@ -7,9 +7,10 @@ use Rattle.fg_shape.specs.declared.kind.Kind.TheVariants.{Media}
 use Rattle.fg_playout.specs.Room.{HasRoom}
 use Rattle.fg_playout.specs.Laws.{HavePlayedBefore}
 use Rattle.fg_playout.specs.Run.{ArePlaysBefore}
+use Rattle.fg_desk.specs.Arrivals.{ThenStaysWithin}
 use Rattle.fg_engine.specs.View.{FlowView}
-use Rattle.fg_engine.specs.Steps.{AdmitsThen, BreaksThen, BreakOff, HaveShown, ThenStaysWithin}
-use Rattle.fg_engine.proofs.Before.{room_before}
+use Rattle.fg_engine.specs.Steps.{AdmitsThen, BreaksThen, BreakOff, HaveShown}
+use Rattle.fg_desk.proofs.Within.{room_before}
 use Rattle.fg_engine.proofs.Admitting.{plays_nothing, breaks_at_once, media_is_refused, media_is_admitted, media_breaks_off}
 use Rattle.fg_io.proofs.FaultLemmas.{on_err}
 use Rattle.fg_engine.proofs.flow.Flow.admit_then.Goals as goal

@@ -5,7 +5,7 @@ use Rattle.fg_playout.specs.Run.{ArePlaysDue}
 use Rattle.fg_playout.specs.Laws.{HavePlayed}
 use Rattle.fg_engine.specs.Steps.{played_as}
 use Rattle.fg_io.proofs.FaultLemmas.{on_err}
-use Rattle.fg_engine.proofs.Showing.{retold, one_more_shown, breaks_off, within_one_more, due_after, fails, keeps_playout}
+use Rattle.fg_engine.proofs.Showing.{retold, one_play_more, breaks_off, due_after, fails}
 use Rattle.fg_engine.proofs.flow.Flow.play_due.Goals as goal
 
 pub put_play-requires-clause-player : goal.put_play-requires-clause-player
@@ -22,19 +22,12 @@ loop-self-preserved g c =
     let play = played_as c.play-played.result (g.D.WindowState.shows c.play-played.new.self c.play-played.result) in
     let join = due_after old.state from to c.args.seq c.args.ssrc play c.runs_join.ensures.plays (c.loop-self-test.ensures.0 refl) c.play-played.ensures.play in
     let holds = (c.requires.within c.args.seq c.args.ssrc now.invariant.so.plays from (inr (c.requires.stale, now.invariant.so.are))).0 in
-    record {
-      so = one_more_shown (HavePlayed old.state c.args.seq c.args.ssrc) old.state old.sum (g.P.Player.lanes c.args.lanes.now)
-          from.playout.window from from to now.self-inside.sum c.put_play.new.sum
-          (g.P.Player.lanes now.lanes) (g.P.Player.lanes c.put_play.new.to) play
-          now.invariant.so refl join c.play-played.ensures.play now.invariant.port c.in_ok-put_play.ensures.counts c.in_ok-put_play.ensures.puts;
-      counts = within_one_more from.playout.window from to now.self-inside.sum c.put_play.new.sum play
-          now.invariant.counts c.play-played.ensures.play holds.window.0 c.in_ok-put_play.ensures.counts;
-      port = c.in_ok-put_play.ensures.port ∙ now.invariant.port;
-      player = c.put_play.ensures.player ∙ now.invariant.player;
-      still = subst (g.P.Player.takes c.put_play.new.to) now.invariant.port c.put_play.ensures.still;
-      playout = keeps_playout from.playout.window from play to c.play-played.ensures.play ∙ now.invariant.playout;
-      faults = c.in_ok-put_play.ensures.faults.no_write (λ e. e) ∙ now.invariant.faults;
-    }
+    one_play_more (HavePlayed old.state c.args.seq c.args.ssrc) old.state old.sum (g.P.Player.lanes c.args.lanes.now) from.playout.window from from to
+    now.self-inside.sum c.put_play.new.sum (g.P.Player.lanes now.lanes) (g.P.Player.lanes c.put_play.new.to) play now.invariant refl refl
+    join c.play-played.ensures.play holds.window.0 c.in_ok-put_play.ensures.counts c.in_ok-put_play.ensures.puts c.in_ok-put_play.ensures.port
+    (c.put_play.ensures.player ∙ now.invariant.player)
+    (subst (g.P.Player.takes c.put_play.new.to) now.invariant.port c.put_play.ensures.still)
+    (c.in_ok-put_play.ensures.faults.no_write (λ e. e) ∙ now.invariant.faults)
 
 pub returns-in_err-put_play-clause-breaks : goal.returns-in_err-put_play-clause-breaks
 returns-in_err-put_play-clause-breaks g c =

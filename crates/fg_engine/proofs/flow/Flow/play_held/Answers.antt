@@ -6,7 +6,7 @@ use Rattle.fg_playout.specs.Held.{at_time}
 use Rattle.fg_engine.specs.Steps.{played_as}
 use Rattle.fg_io.proofs.FaultLemmas.{on_err}
 use Rattle.fg_engine.proofs.Admitting.{held_off}
-use Rattle.fg_engine.proofs.Showing.{shown_none, one_more_shown, breaks_off, within_one_more, held_after, held_shows, keeps_playout}
+use Rattle.fg_engine.proofs.Showing.{shown_none, one_play_more, breaks_off, held_after, held_shows}
 use Rattle.fg_engine.proofs.flow.Flow.play_held.Goals as goal
 
 pub returns-then-hold-eq0-clause-plays : goal.returns-then-hold-eq0-clause-plays
@@ -28,19 +28,12 @@ loop-played-preserved g c =
     let some = subst (λ (flow : FlowView). flow.state.playout.hold ≢ 0) c.self.view_is (λ none. c.if-hold-eq0.false (c.hold.ensures ∙ none)) in
     let holds = (c.requires.within some now.invariant.so.plays from now.invariant.so.are).0 in
     let count = min from.playout.window (step.greatest + 1 - from.mark) in
-    record {
-      so = one_more_shown (AreHeldSteps old.state c.args.time) old.state old.sum (g.P.Player.lanes c.args.lanes.now)
-          count from (at_time from c.args.time) to now.self-inside.sum c.put_play.new.sum
-          (g.P.Player.lanes now.lanes) (g.P.Player.lanes c.put_play.new.to) play
-          now.invariant.so refl join step.plays now.invariant.port c.in_ok-put_play.ensures.counts c.in_ok-put_play.ensures.puts;
-      counts = within_one_more count (at_time from c.args.time) to now.self-inside.sum c.put_play.new.sum play
-          now.invariant.counts step.plays (held_shows from to c.args.time play step holds.window.0) c.in_ok-put_play.ensures.counts;
-      port = c.in_ok-put_play.ensures.port ∙ now.invariant.port;
-      player = c.put_play.ensures.player ∙ now.invariant.player;
-      still = subst (g.P.Player.takes c.put_play.new.to) now.invariant.port c.put_play.ensures.still;
-      playout = keeps_playout count (at_time from c.args.time) play to step.plays ∙ now.invariant.playout;
-      faults = c.in_ok-put_play.ensures.faults.no_write (λ e. e) ∙ now.invariant.faults;
-    }
+    one_play_more (AreHeldSteps old.state c.args.time) old.state old.sum (g.P.Player.lanes c.args.lanes.now) count from (at_time from c.args.time) to
+    now.self-inside.sum c.put_play.new.sum (g.P.Player.lanes now.lanes) (g.P.Player.lanes c.put_play.new.to) play now.invariant refl refl
+    join step.plays (held_shows from to c.args.time play step holds.window.0) c.in_ok-put_play.ensures.counts c.in_ok-put_play.ensures.puts c.in_ok-put_play.ensures.port
+    (c.put_play.ensures.player ∙ now.invariant.player)
+    (subst (g.P.Player.takes c.put_play.new.to) now.invariant.port c.put_play.ensures.still)
+    (c.in_ok-put_play.ensures.faults.no_write (λ e. e) ∙ now.invariant.faults)
 
 pub returns-in_err-put_play-clause-breaks : goal.returns-in_err-put_play-clause-breaks
 returns-in_err-put_play-clause-breaks g c =

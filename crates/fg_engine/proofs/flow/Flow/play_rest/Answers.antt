@@ -4,7 +4,7 @@ use Rattle.fg_playout.specs.Run.{IsFlush}
 use Rattle.fg_playout.specs.Laws.{AreFlushSteps}
 use Rattle.fg_engine.specs.Steps.{played_as}
 use Rattle.fg_io.proofs.FaultLemmas.{on_err}
-use Rattle.fg_engine.proofs.Showing.{retold, one_more_shown, breaks_off, within_one_more, step_after, step_shows, keeps_playout}
+use Rattle.fg_engine.proofs.Showing.{retold, one_play_more, breaks_off, step_after, step_shows}
 use Rattle.fg_engine.proofs.flow.Flow.play_rest.Goals as goal
 
 pub put_play-requires-clause-player : goal.put_play-requires-clause-player
@@ -23,19 +23,12 @@ loop-played-preserved g c =
     let join = step_after old.state from to play c.flushes_end.ensures.joined step in
     let holds = (c.requires.within now.invariant.so.plays from now.invariant.so.are).0 in
     let count = min from.playout.window (step.highest + 1 - from.mark) in
-    record {
-      so = one_more_shown (AreFlushSteps old.state) old.state old.sum (g.P.Player.lanes c.args.lanes.now)
-          count from from to now.self-inside.sum c.put_play.new.sum
-          (g.P.Player.lanes now.lanes) (g.P.Player.lanes c.put_play.new.to) play
-          now.invariant.so refl join step.plays now.invariant.port c.in_ok-put_play.ensures.counts c.in_ok-put_play.ensures.puts;
-      counts = within_one_more count from to now.self-inside.sum c.put_play.new.sum play
-          now.invariant.counts step.plays (step_shows from to play step holds.window.0) c.in_ok-put_play.ensures.counts;
-      port = c.in_ok-put_play.ensures.port ∙ now.invariant.port;
-      player = c.put_play.ensures.player ∙ now.invariant.player;
-      still = subst (g.P.Player.takes c.put_play.new.to) now.invariant.port c.put_play.ensures.still;
-      playout = keeps_playout count from play to step.plays ∙ now.invariant.playout;
-      faults = c.in_ok-put_play.ensures.faults.no_write (λ e. e) ∙ now.invariant.faults;
-    }
+    one_play_more (AreFlushSteps old.state) old.state old.sum (g.P.Player.lanes c.args.lanes.now) count from from to
+    now.self-inside.sum c.put_play.new.sum (g.P.Player.lanes now.lanes) (g.P.Player.lanes c.put_play.new.to) play now.invariant refl refl
+    join step.plays (step_shows from to play step holds.window.0) c.in_ok-put_play.ensures.counts c.in_ok-put_play.ensures.puts c.in_ok-put_play.ensures.port
+    (c.put_play.ensures.player ∙ now.invariant.player)
+    (subst (g.P.Player.takes c.put_play.new.to) now.invariant.port c.put_play.ensures.still)
+    (c.in_ok-put_play.ensures.faults.no_write (λ e. e) ∙ now.invariant.faults)
 
 pub returns-in_err-put_play-clause-breaks : goal.returns-in_err-put_play-clause-breaks
 returns-in_err-put_play-clause-breaks g c =

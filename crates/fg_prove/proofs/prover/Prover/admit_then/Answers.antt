@@ -11,7 +11,8 @@ use Rattle.fg_playout.specs.DesksJoin.{played_before_on}
 use Rattle.fg_desk.specs.Arrivals.{BeforeWithin}
 use Rattle.fg_desk.specs.Contents.{Contents}
 use Rattle.fg_prove.specs.Steps.{Tells, Breaks, BreaksThen}
-use Rattle.fg_prove.proofs.Admitting.{room_before, plays_nothing, breaks_at_once, media_is_refused, media_is_admitted, media_breaks_off}
+use Rattle.fg_desk.proofs.Within.{room_before}
+use Rattle.fg_prove.proofs.Admitting.{plays_nothing, breaks_at_once, media_is_refused, media_is_admitted, media_breaks_off}
 use Rattle.fg_prove.proofs.prover.Prover.admit_then.Goals as goal
 
 pub admit_parity-requires : goal.admit_parity-requires

@@ -2,7 +2,8 @@ use Rattle.std.proofs.Common.{ℕ, subst}
 use Rattle.std.proofs.lemmas.Result.{on_ok_weaker, on_err_weaker}
 use Rattle.fg_io.proofs.FaultLemmas.{on_err}
 use Rattle.fg_prove.specs.Steps.{AdmitsThen, BreaksThen}
-use Rattle.fg_prove.proofs.Admitting.{held_within, then_within, admitted_whole, held_breaks_off, then_breaks_off}
+use Rattle.fg_desk.proofs.Within.{held_within, then_within}
+use Rattle.fg_prove.proofs.Admitting.{admitted_whole, held_breaks_off, then_breaks_off}
 use Rattle.fg_prove.proofs.prover.Prover.take.Goals as goal
 
 pub play_held-requires : goal.play_held-requires

@@ -2,8 +2,8 @@ use Rattle.std.proofs.Common.{sym, subst}
 use Rattle.std.specs.Global.{Vec}
 use Rattle.std.specs.List.{All}
 use Rattle.fg_flows.specs.Plan.{playout_of}
-use Rattle.fg_repair.specs.declared.crewed.post.Host.{Host}
-use Rattle.fg_repair.specs.Crewed.{IsNewHost}
+use Rattle.fg_workers.specs.declared.post.Host.{Host}
+use Rattle.fg_workers.specs.Crewed.{IsNewHost}
 use Rattle.fg_repair.proofs.crewed.repairing.repair_here.Goals as goal
 
 pub windows_on-requires-clause-new : goal.windows_on-requires-clause-new

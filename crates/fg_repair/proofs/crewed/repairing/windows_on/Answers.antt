@@ -3,10 +3,10 @@ use Rattle.std.proofs.lemmas.List.{length_push}
 use Rattle.fg_playout.specs.State.{opening}
 use Rattle.fg_board.specs.Actors.{desk_of}
 use Rattle.fg_repair.specs.declared.crewed.board_window.BoardWindow.{BoardWindow}
-use Rattle.fg_repair.specs.declared.crewed.post.Post.{Post}
-use Rattle.fg_repair.specs.declared.crewed.post.Host.{Host}
-use Rattle.fg_repair.specs.Crewed.{IsNewHost}
-use Rattle.fg_repair.proofs.Crewing.{all_next, all_more, alike_next}
+use Rattle.fg_workers.specs.declared.post.Post.{Post}
+use Rattle.fg_workers.specs.declared.post.Host.{Host}
+use Rattle.fg_workers.specs.Crewed.{IsNewHost}
+use Rattle.fg_workers.proofs.Crewing.{all_next, all_more, alike_next}
 use Rattle.fg_repair.proofs.crewed.repairing.windows_on.Goals as goal
 
 pub invariant_of-push : goal.invariant_of-push

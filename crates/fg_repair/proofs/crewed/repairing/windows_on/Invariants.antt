@@ -3,7 +3,7 @@ use Rattle.std.specs.List.{All}
 use Rattle.fg_shape.specs.Playout.{Playout}
 use Rattle.fg_playout.specs.State.{opening}
 use Rattle.fg_board.specs.Actors.{desk_of}
-use Rattle.fg_repair.specs.Crewed.{IsNewHost}
+use Rattle.fg_workers.specs.Crewed.{IsNewHost}
 use Rattle.fg_repair.proofs.crewed.repairing.windows_on.Given as goal
 
 abbrev pub invariant-loop-host : goal.invariant-loop-host

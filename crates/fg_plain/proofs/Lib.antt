@@ -1,0 +1,2 @@
+pub mod DatagramCounts
+pub mod PlainRuns

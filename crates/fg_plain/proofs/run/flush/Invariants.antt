@@ -1,0 +1,12 @@
+use Rattle.std.proofs.Common.{◌≡◌, ◌-◌, ◌^◌}
+use Rattle.fg_plain.proofs.PlainRuns.{HaveFlushedSo}
+use Rattle.fg_plain.proofs.run.flush.Given as goal
+
+abbrev pub invariant-loop-played : goal.invariant-loop-played
+invariant-loop-played l = record {
+  so : HaveFlushedSo l.fn.desk.state l.fn.plays.items l.desk.state l.plays.items;
+  tray : l.tray.window ≡ l.fn.tray.window;
+}
+
+abbrev pub decreases-loop-played : goal.decreases-loop-played
+decreases-loop-played l = 2 ^ 61 - l.desk.state.mark
