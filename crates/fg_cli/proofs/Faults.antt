@@ -59,31 +59,13 @@ same_word ss i j few x y =
 
 -- the depth is set once at most, after every command
 depth_once : (c : Command) (n : ℕ) → AtMost (most_of c key.Depth) n → n ≤ 1
-depth_once command.Repair n few = few
-depth_once command.Encode n few = few
-depth_once command.Drill n few = few
-depth_once command.Inspect n few = few
-depth_once command.Sample n few = few
-depth_once command.FromCapture n few = few
-depth_once command.ToCapture n few = few
-depth_once command.Monitor n few = few
 depth_once command.Prove n few = few
-depth_once command.Check n few = few
-depth_once command.ChooseMatrix n few = few
+depth_once _ n few = few
 
 -- no command has both a layout and flow words
 no_both : (c : Command) → Knows c key.Columns → Knows c key.Flow → ⊥
 no_both command.Repair x y = cc
-no_both command.Encode x y = cc
-no_both command.Drill x y = cc
-no_both command.Inspect x y = cc
-no_both command.Sample x y = cc
-no_both command.FromCapture x y = cc
-no_both command.ToCapture x y = cc
-no_both command.Monitor x y = cc
-no_both command.Prove x y = cc
-no_both command.Check x y = cc
-no_both command.ChooseMatrix x y = cc
+no_both _ x y = cc
 
 one_of_line : (c : Command) (ss : List Setting) (a b : WordFault) → length (values_of key.Depth ss) ≤ 1 → FirstOfLine c ss a → FirstOfLine c ss b → a ≡ b
 one_of_line c ss fault.NoCommand b few x y = absurd x

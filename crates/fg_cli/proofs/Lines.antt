@@ -7,7 +7,7 @@ use Rattle.fg_cli.specs.declared.grammar.Command.{Command}
 use Rattle.fg_cli.specs.declared.grammar.Key.{Key}
 use Rattle.fg_cli.specs.declared.grammar.Key.TheVariants as key
 use Rattle.fg_cli.specs.declared.settings.Setting.{Setting}
-use Rattle.fg_cli.specs.Grammar.{row, same_key, Allows, command_text, most_of}
+use Rattle.fg_cli.specs.Grammar.{row, same_key, command_text, most_of}
 use Rattle.fg_cli.specs.declared.grammar.Command.TheVariants as command
 use Rattle.fg_cli.specs.Lines.{setting_text, values_of, IsKnown, AtMost, IsLine, CanBegin}
 use Rattle.fg_cli.specs.Reading.{AreBounded, InRanges}
@@ -29,28 +29,27 @@ head_of P x xs all = all 0 x (omega arith)
 pub cons_parts : {X : Type 0} (a b : X) (xs ys : List X) → a ∷ xs ≡ b ∷ ys → (a ≡ b) × (xs ≡ ys)
 cons_parts a b xs ys e = (cc, cc)
 
-abbrev Fits : Setting → Type 0
-Fits s = Allows (row s.key).range s.value
-
--- settings are told by their words
-settings_unique : (xs ys : List Setting) → InRanges xs → InRanges ys → map setting_text xs ≡ map setting_text ys → xs ≡ ys
-settings_unique [] [] p q e = refl
-settings_unique [] (y ∷ ys) p q e = absurd (cc)
-settings_unique (x ∷ xs) [] p q e = absurd (cc)
-settings_unique (x ∷ xs) (y ∷ ys) p q e =
+-- settings of one command are told by their words
+settings_unique : (c : Command) (xs ys : List Setting) → All (IsKnown c) xs → All (IsKnown c) ys → map setting_text xs ≡ map setting_text ys → xs ≡ ys
+settings_unique c [] [] p q e = refl
+settings_unique c [] (y ∷ ys) p q e = absurd (cc)
+settings_unique c (x ∷ xs) [] p q e = absurd (cc)
+settings_unique c (x ∷ xs) (y ∷ ys) p q e =
     let parts = cons_parts (setting_text x) (setting_text y) (map setting_text xs) (map setting_text ys) e in
-    let head : x ≡ y = setting_injective x y (head_of Fits x xs p) (head_of Fits y ys q) parts.0 in
-    let tail : xs ≡ ys = settings_unique xs ys (tail_of Fits x xs p) (tail_of Fits y ys q) parts.1 in
+    let head : x ≡ y = setting_injective c x y (head_of (IsKnown c) x xs p) (head_of (IsKnown c) y ys q) parts.0 in
+    let tail : xs ≡ ys = settings_unique c xs ys (tail_of (IsKnown c) x xs p) (tail_of (IsKnown c) y ys q) parts.1 in
     cc
 
 pub one_line : (words : List (List ℕ)) (b c : Command) (xs ys : List Setting) → IsLine words b xs → IsLine words c ys → (b ≡ c) × (xs ≡ ys)
 one_line words b c xs ys p q =
     let parts = cons_parts (command_text b) (command_text c) (map setting_text xs) (map setting_text ys) (sym p.spelled ∙ q.spelled) in
-    (command_injective b c parts.0, settings_unique xs ys (in_ranges b xs p.known) (in_ranges c ys q.known) parts.1)
+    let same : b ≡ c = command_injective b c parts.0 in
+    let P : Command → Type 0 = λ x. All (IsKnown x) xs in
+    (same, settings_unique c xs ys (subst P same p.known) q.known parts.1)
 
 -- words that are settings and one more are the settings and one more
 last_setting :
-    (c : Command) (xs ys : List Setting) (w : List ℕ) → InRanges xs → All (IsKnown c) ys → map setting_text xs ++ w ∷ [] ≡ map setting_text ys
+    (c : Command) (xs ys : List Setting) (w : List ℕ) → All (IsKnown c) xs → All (IsKnown c) ys → map setting_text xs ++ w ∷ [] ≡ map setting_text ys
     → (last : Setting) × (ys ≡ xs ++ last ∷ []) × (w ≡ setting_text last) × IsKnown c last
 last_setting c [] [] w p q e = absurd (cc)
 last_setting c [] (y ∷ []) w p q e = (y, refl, (cons_parts w (setting_text y) [] [] e).0, head_of (IsKnown c) y [] q)
@@ -60,8 +59,8 @@ last_setting c [] (y ∷ z ∷ zs) w p q e =
 last_setting c (x ∷ xs) [] w p q e = absurd (cc)
 last_setting c (x ∷ xs) (y ∷ ys) w p q e =
     let parts = cons_parts (setting_text x) (setting_text y) (map setting_text xs ++ w ∷ []) (map setting_text ys) e in
-    let head : x ≡ y = setting_injective x y (head_of Fits x xs p) (head_of (IsKnown c) y ys q).1 parts.0 in
-    let rest = last_setting c xs ys w (tail_of Fits x xs p) (tail_of (IsKnown c) y ys q) parts.1 in
+    let head : x ≡ y = setting_injective c x y (head_of (IsKnown c) x xs p) (head_of (IsKnown c) y ys q) parts.0 in
+    let rest = last_setting c xs ys w (tail_of (IsKnown c) x xs p) (tail_of (IsKnown c) y ys q) parts.1 in
     let tail : ys ≡ xs ++ rest.0 ∷ [] = rest.1 in
     (rest.0, cc, rest.2, rest.3)
 
@@ -115,7 +114,8 @@ no_line_more words c ss i d below line none b ys more =
     sym (take_more words i d below ∙ ap (λ l. l ++ get_or words i d ∷ []) line.spelled) ∙ more.spelled in
     let parts = cons_parts (command_text c) (command_text b) (map setting_text ss ++ get_or words i d ∷ []) (map setting_text ys) whole in
     let same : b ≡ c = command_injective b c (sym parts.0) in
-    let last = last_setting b ss ys (get_or words i d) (in_ranges c ss line.known) more.known parts.1 in
+    let R : Command → Type 0 = λ x. All (IsKnown x) ss in
+    let last = last_setting b ss ys (get_or words i d) (subst R (sym same) line.known) more.known parts.1 in
     let P : Command → Type 0 = λ x. IsKnown x last.0 in
     let Q : List Setting → Type 0 = λ l. AtMost (most_of b last.0.key) (length (values_of last.0.key l)) in
     let few = at_most_is (most_of b last.0.key) (length (values_of last.0.key (ss ++ last.0 ∷ []))) (length (values_of last.0.key ss) + 1)
@@ -148,41 +148,11 @@ line_begins words c ss i line = inr (
 -- the command alone is a line
 no_values : (k : Key) → AtMost (row k).most 0
 no_values key.Flow = tt
-no_values key.Window = lit≤ tt
-no_values key.Depth = lit≤ tt
-no_values key.Hold = lit≤ tt
-no_values key.Workers = lit≤ tt
-no_values key.Max = lit≤ tt
-no_values key.Columns = lit≤ tt
-no_values key.Rows = lit≤ tt
-no_values key.Fec = lit≤ tt
-no_values key.Layout = lit≤ tt
-no_values key.Packets = lit≤ tt
-no_values key.Rate = lit≤ tt
-no_values key.Port = lit≤ tt
-no_values key.Seq = lit≤ tt
-no_values key.Ssrc = lit≤ tt
-no_values key.Stamp = lit≤ tt
-no_values key.Drop = lit≤ tt
-no_values key.Every = lit≤ tt
-no_values key.Seed = lit≤ tt
-no_values key.Datagrams = lit≤ tt
-no_values key.Loss = lit≤ tt
-no_values key.Burst = lit≤ tt
-no_values key.Most = lit≤ tt
+no_values _ = lit≤ tt
 
 none_of : (c : Command) (k : Key) → AtMost (most_of c k) 0
 none_of command.Prove k = lit≤ tt
-none_of command.Repair k = no_values k
-none_of command.Encode k = no_values k
-none_of command.Drill k = no_values k
-none_of command.Inspect k = no_values k
-none_of command.Sample k = no_values k
-none_of command.FromCapture k = no_values k
-none_of command.ToCapture k = no_values k
-none_of command.Monitor k = no_values k
-none_of command.Check k = no_values k
-none_of command.ChooseMatrix k = no_values k
+none_of _ k = no_values k
 
 pub command_line : (words : List (List ℕ)) (c : Command) → slice_get words 0 ≡ Some (command_text c) → IsLine (take 1 words) c []
 command_line [] c e = absurd (cc)

@@ -25,16 +25,7 @@ third_letter words = 0
 -- no command begins with a dash
 no_dash : (c : Command) (word : List ℕ) (words others : List (List ℕ)) → command_text c ∷ words ≡ (45 ∷ word) ∷ others → ⊥
 no_dash command.Repair word words others e = let same : 114 ≡ 45 = ap first_letter e in omega (arith, same)
-no_dash command.Encode word words others e = let same : 101 ≡ 45 = ap first_letter e in omega (arith, same)
-no_dash command.Drill word words others e = let same : 100 ≡ 45 = ap first_letter e in omega (arith, same)
-no_dash command.Inspect word words others e = let same : 105 ≡ 45 = ap first_letter e in omega (arith, same)
-no_dash command.Sample word words others e = let same : 115 ≡ 45 = ap first_letter e in omega (arith, same)
-no_dash command.FromCapture word words others e = let same : 102 ≡ 45 = ap first_letter e in omega (arith, same)
-no_dash command.ToCapture word words others e = let same : 116 ≡ 45 = ap first_letter e in omega (arith, same)
-no_dash command.Monitor word words others e = let same : 109 ≡ 45 = ap first_letter e in omega (arith, same)
-no_dash command.Prove word words others e = let same : 112 ≡ 45 = ap first_letter e in omega (arith, same)
-no_dash command.Check word words others e = let same : 99 ≡ 45 = ap first_letter e in omega (arith, same)
-no_dash command.ChooseMatrix word words others e = let same : 112 ≡ 45 = ap first_letter e in omega (arith, same)
+no_dash _ word words others e = let same = ap first_letter e in omega (arith, same)
 
 same_words : (p q : Question) → question_words p ≡ question_words q → p ≡ q
 same_words Help Help e = refl

@@ -109,3 +109,6 @@ most_in ss all none =
     let here = (none_missing ss key.Most (key.Fec ∷ []) rest).0 in
     first_of_some (λ n. (1 ≤ n) × (n ≤ 100)) (values_of key.Most ss) 0 (values_in key.Most ss all)
     (is_there name.Most (nat_eq (length (values_of key.Most ss)) 0) here)
+
+pub flows_in : (ss : List Setting) → InRanges ss → All IsFlowPort (values_of key.PickedFlow ss)
+flows_in ss all k d below = values_in key.PickedFlow ss all k d below

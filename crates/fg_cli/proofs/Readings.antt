@@ -35,15 +35,7 @@ order_layout command.Encode ss (order.Encode s m) x k = (s, x.0)
 order_layout command.Drill ss (order.Drill s p l m) x k = (s, x.0)
 order_layout command.Encode ss _ x k = absurd x
 order_layout command.Drill ss _ x k = absurd x
-order_layout command.Repair ss o x k = absurd (cc)
-order_layout command.Inspect ss o x k = absurd (cc)
-order_layout command.Sample ss o x k = absurd (cc)
-order_layout command.FromCapture ss o x k = absurd (cc)
-order_layout command.ToCapture ss o x k = absurd (cc)
-order_layout command.Monitor ss o x k = absurd (cc)
-order_layout command.Prove ss o x k = absurd (cc)
-order_layout command.Check ss o x k = absurd (cc)
-order_layout command.ChooseMatrix ss o x k = absurd (cc)
+order_layout _ ss o x k = absurd (cc)
 
 table_at : (a b : List ℕ) → a ≡ b → IsTable a → IsTable b
 table_at a b e h = let P : List ℕ → Type 0 = λ l. IsTable l in subst P e h
@@ -55,14 +47,7 @@ order_flows command.Prove ss (order.Prove plan) x k = table_at plan.table (value
 order_flows command.Repair ss _ x k = absurd x
 order_flows command.Inspect ss _ x k = absurd x
 order_flows command.Prove ss _ x k = absurd x
-order_flows command.Encode ss o x k = absurd (cc)
-order_flows command.Drill ss o x k = absurd (cc)
-order_flows command.Sample ss o x k = absurd (cc)
-order_flows command.FromCapture ss o x k = absurd (cc)
-order_flows command.ToCapture ss o x k = absurd (cc)
-order_flows command.Monitor ss o x k = absurd (cc)
-order_flows command.Check ss o x k = absurd (cc)
-order_flows command.ChooseMatrix ss o x k = absurd (cc)
+order_flows _ ss o x k = absurd (cc)
 
 line_has_no_fault : (c : Command) (ss : List Setting) (o : Order) (f : WordFault) → AreWhole c ss → IsOrder c ss o → FirstOfLine c ss f → ⊥
 line_has_no_fault c ss o fault.NoCommand whole x y = y

@@ -6,12 +6,13 @@ use Rattle.fg_shape.specs.declared.encoding.Settings.{Settings}
 use Rattle.fg_shape.specs.declared.encoding.Losses.{Losses}
 use Rattle.fg_shape.specs.Limits.{IsLayout}
 use Rattle.fg_flows.specs.declared.Plan.{Plan}
+use Rattle.fg_flows.specs.declared.selection.Selection.{Selection}
 use Rattle.fg_cli.specs.declared.Order.{Order}
 use Rattle.fg_cli.specs.declared.Order.TheVariants as order
 use Rattle.fg_cli.specs.declared.grammar.Command.{Command}
 use Rattle.fg_cli.specs.declared.grammar.Command.TheVariants as command
 use Rattle.fg_cli.specs.declared.settings.Setting.{Setting}
-use Rattle.fg_cli.specs.Orders.{AreLosses, AreSettings, IsOrder, IsPlan, IsReading}
+use Rattle.fg_cli.specs.Orders.{AreLosses, AreSettings, IsOrder, IsPlan, IsReading, IsSelection}
 use Rattle.fg_cli.proofs.Lines.{one_line}
 
 abbrev made : (l d : ℕ) (rows staggered : Bool) → IsLayout l d rows → Layout
@@ -63,6 +64,16 @@ same_losses ss a b x y =
     let every : a.every ≡ b.every = x.every ∙ sym y.every in
     λ i. record { drops = drops i; every = every i }
 
+same_selection : (ss : List Setting) (a b : Selection) → IsSelection ss a → IsSelection ss b → a ≡ b
+same_selection ss a b x y =
+    let flows : a.flows ≡ b.flows = x.flows ∙ sym y.flows in
+    let ports : a.ports ≡ b.ports = x.ports ∙ sym y.ports in
+    let sources : a.sources ≡ b.sources = x.sources ∙ sym y.sources in
+    let without : a.without ≡ b.without = x.without ∙ sym y.without in
+    let from : a.from ≡ b.from = x.from ∙ sym y.from in
+    let until : a.until ≡ b.until = x.until ∙ sym y.until in
+    λ i. record { flows = flows i; ports = ports i; sources = sources i; without = without i; from = from i; until = until i }
+
 same_order : (c : Command) (ss : List Setting) (a b : Order) → IsOrder c ss a → IsOrder c ss b → a ≡ b
 same_order command.Repair ss (order.Repair p) (order.Repair q) x y = ap (λ z. order.Repair z) (same_plan ss _ _ _ p q refl x y)
 same_order command.Encode ss (order.Encode s m) (order.Encode t n) x y =
@@ -96,6 +107,14 @@ same_order command.ChooseMatrix ss (order.ChooseMatrix b m r) (order.ChooseMatri
     let most : m ≡ n = x.1 ∙ sym y.1 in
     let rows : r ≡ s = x.2 ∙ sym y.2 in
     λ i. order.ChooseMatrix (burst i) (most i) (rows i)
+same_order command.Survey ss (order.Survey m j) (order.Survey n k) x y =
+    let max : m ≡ n = x.0 ∙ sym y.0 in
+    let json : j ≡ k = x.1 ∙ sym y.1 in
+    λ i. order.Survey (max i) (json i)
+same_order command.Pick ss (order.Pick s m) (order.Pick t n) x y =
+    let selection = same_selection ss s t x.0 y.0 in
+    let max : m ≡ n = x.1 ∙ sym y.1 in
+    λ i. order.Pick (selection i) (max i)
 same_order command.Repair ss (order.Repair a0) _ x y = absurd y
 same_order command.Repair ss _ b x y = absurd x
 same_order command.Encode ss (order.Encode a0 a1) _ x y = absurd y
@@ -118,6 +137,10 @@ same_order command.Check ss (order.Check a0) _ x y = absurd y
 same_order command.Check ss _ b x y = absurd x
 same_order command.ChooseMatrix ss (order.ChooseMatrix a0 a1 a2) _ x y = absurd y
 same_order command.ChooseMatrix ss _ b x y = absurd x
+same_order command.Survey ss (order.Survey a0 a1) _ x y = absurd y
+same_order command.Survey ss _ b x y = absurd x
+same_order command.Pick ss (order.Pick a0 a1) _ x y = absurd y
+same_order command.Pick ss _ b x y = absurd x
 
 pub one_reading : (words : List (List ℕ)) (a b : Order) → IsReading words a → IsReading words b → a ≡ b
 one_reading words a b x y =

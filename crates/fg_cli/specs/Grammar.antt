@@ -37,19 +37,22 @@ pub record TableRow : Type 0 where
   pub absent : Absent
   pub most : Option ℕ
 
--- A name that must be there, once; one that may be left out; and one that may be left out for nothing.
+-- A name that must be there, once; one that may be left out; and one that may be left out for nothing, and stands so often.
 abbrev pub needed : List ℕ → Range → Absent → TableRow
 needed name range absent = record { name = name; range = range; absent = absent; most = Some 1 }
 
 abbrev pub optional : List ℕ → Range → ℕ → TableRow
 optional name range default = record { name = name; range = range; absent = Default default; most = Some 1 }
 
--- The table, a row for each name.
+abbrev pub named : List ℕ → Range → ℕ → TableRow
+named name range most = record { name = name; range = range; absent = Nothing; most = Some most }
+
+-- The table, a row for each name. `flow`, `port` and `ssrc` say something else after `pick`, and have a row of their own there.
 abbrev pub row : Key → TableRow
 row key.Flow = record { name = codes "flow"; range = Number 1 LAST_PORT; absent = Needed name.Flow; most = None }
 row key.Window = optional (codes "window") (Number 1 100) 100
 row key.Depth = optional (codes "depth") (Number 1 1000) 400
-row key.Hold = record { name = codes "hold"; range = Number 1 3600000000; absent = Nothing; most = Some 1 }
+row key.Hold = named (codes "hold") (Number 1 3600000000) 1
 row key.Workers = optional (codes "workers") (Number 0 16) 4
 row key.Max = optional (codes "max") (Number 8 1099511627776) 1099511627776
 row key.Columns = needed (codes "columns") (Number 0 255) (Needed name.Columns)
@@ -62,13 +65,20 @@ row key.Port = optional (codes "port") (Number 1 LAST_PORT) 5000
 row key.Seq = optional (codes "seq") (Number 0 65535) 0
 row key.Ssrc = optional (codes "ssrc") (Number 0 4294967295) 0
 row key.Stamp = optional (codes "stamp") (Number 0 4294967295) 0
-row key.Drop = record { name = codes "drop"; range = Number 1 9999999999999; absent = Nothing; most = Some 1000 }
-row key.Every = record { name = codes "every"; range = Number 2 9999999999999; absent = Nothing; most = Some 1 }
+row key.Drop = named (codes "drop") (Number 1 9999999999999) 1000
+row key.Every = named (codes "every") (Number 2 9999999999999) 1
 row key.Seed = needed (codes "seed") (Number 0 9999999999999) (Needed name.Seed)
 row key.Datagrams = optional (codes "datagrams") (Number 1 20000) 1000
 row key.Loss = optional (codes "loss") (Number 0 20) 3
 row key.Burst = needed (codes "burst") (Number 1 20) (Needed name.Burst)
 row key.Most = needed (codes "most") (Number 1 100) (Needed name.Most)
+row key.PickedFlow = named (codes "flow") (Number 1 LAST_PORT) 64
+row key.PickedPort = named (codes "port") (Number 0 65535) 64
+row key.PickedSource = named (codes "ssrc") (Number 0 4294967295) 16
+row key.Without = named (codes "without") (Number 0 4294967295) 16
+row key.From = optional (codes "from") (Number 0 18446744073709551615) 0
+row key.Until = named (codes "until") (Number 0 18446744073709551615) 1
+row key.Format = optional (codes "format") (Either (codes "lines") (codes "json")) 0
 
 -- How often a name may stand after a command: as often as its row says, but once after `prove`, which is of one flow.
 abbrev pub most_of : Command → Key → Option ℕ
@@ -92,7 +102,7 @@ told_after command key = told_row key
 abbrev pub commands : List Command
 commands =
     command.Repair ∷ command.Encode ∷ command.Drill ∷ command.Inspect ∷ command.Sample ∷ command.FromCapture ∷ command.ToCapture
-    ∷ command.Monitor ∷ command.Prove ∷ command.Check ∷ command.ChooseMatrix ∷ []
+    ∷ command.Monitor ∷ command.Prove ∷ command.Check ∷ command.ChooseMatrix ∷ command.Survey ∷ command.Pick ∷ []
 
 -- The word of a command.
 abbrev pub command_text : Command → List ℕ
@@ -107,6 +117,8 @@ command_text command.Monitor = codes "monitor"
 command_text command.Prove = codes "prove"
 command_text command.Check = codes "check"
 command_text command.ChooseMatrix = codes "plan"
+command_text command.Survey = codes "survey"
+command_text command.Pick = codes "pick"
 
 -- What the help says of a command, and of a name.
 abbrev pub command_about : Command → List ℕ
@@ -121,6 +133,8 @@ command_about command.Monitor = codes "writes a line for each break in a stream'
 command_about command.Prove = codes "writes a case for each window that shows a gap"
 command_about command.Check = codes "judges cases of gaps, a line for each"
 command_about command.ChooseMatrix = codes "writes the least matrix that brings a burst back"
+command_about command.Survey = codes "tells what a trace holds: ports, streams, losses, matrix"
+command_about command.Pick = codes "writes the trace of some of a trace's records"
 
 abbrev pub about : Key → List ℕ
 about key.Flow = codes "media port P, with P+2 and P+4"
@@ -146,6 +160,13 @@ about key.Datagrams = codes "media datagrams of the stream"
 about key.Loss = codes "records of a hundred left out"
 about key.Burst = codes "datagrams that are lost in succession"
 about key.Most = codes "percent of parity at most"
+about key.PickedFlow = codes "ports P, P+2 and P+4"
+about key.PickedPort = codes "a further port"
+about key.PickedSource = codes "only this source's media"
+about key.Without = codes "not this source's media"
+about key.From = codes "first time, in microseconds"
+about key.Until = codes "first time left out, microseconds"
+about key.Format = codes "lines of words, or of JSON"
 
 -- The names that may stand after a command. Where several that must be there aren't, the first is told.
 abbrev pub keys_of : Command → List Key
@@ -164,6 +185,9 @@ keys_of command.Monitor = key.Max ∷ []
 keys_of command.Prove = key.Flow ∷ key.Window ∷ key.Depth ∷ key.Hold ∷ key.Max ∷ []
 keys_of command.Check = key.Max ∷ []
 keys_of command.ChooseMatrix = key.Burst ∷ key.Most ∷ key.Fec ∷ []
+keys_of command.Survey = key.Max ∷ key.Format ∷ []
+keys_of command.Pick =
+    key.PickedFlow ∷ key.PickedPort ∷ key.PickedSource ∷ key.Without ∷ key.From ∷ key.Until ∷ key.Max ∷ []
 
 -- The place of a name's row, by which names are told apart.
 abbrev pub place : Key → ℕ
@@ -190,6 +214,13 @@ place key.Datagrams = 19
 place key.Loss = 20
 place key.Burst = 21
 place key.Most = 22
+place key.PickedFlow = 23
+place key.PickedPort = 24
+place key.PickedSource = 25
+place key.Without = 26
+place key.From = 27
+place key.Until = 28
+place key.Format = 29
 
 abbrev pub same_key : Key → Key → Bool
 same_key a b = nat_eq (place a) (place b)

@@ -1,5 +1,5 @@
 -- The help of the program, from the table of the words, and its version. All of it is this project's own.
-use Rattle.std.specs.Prelude.{◌≡◌, ℕ, List, [], ◌∷◌, ◌++◌, Option, Some, None, codes, drop, length, nat_eq, if◌then◌else◌}
+use Rattle.std.specs.Prelude.{◌≡◌, ℕ, List, [], ◌∷◌, ◌++◌, Option, Some, None, codes, drop, length, min, nat_eq, if◌then◌else◌}
 use Rattle.std.specs.Fmt.{decimal}
 use Rattle.std.specs.List.{flat_map}
 use Rattle.fg_cli.specs.declared.help.Question.{Question}
@@ -30,12 +30,12 @@ absent_text range (Needed name) = codes "needed"
 absent_text range (Default n) = codes "default " ++ value_text range n
 absent_text range Nothing = codes "default none"
 
--- A text with blanks behind it, up to column 26.
+-- A text with blanks behind it, up to column 26, and one at least.
 unfoldable pub blanks : List ℕ
 blanks = codes "                          "
 
 abbrev pub padded : List ℕ → List ℕ
-padded text = text ++ drop (length text) blanks
+padded text = text ++ drop (min (length text) 25) blanks
 
 -- How a name and its values are spelled, in a column of their own.
 unfoldable pub spelling : List ℕ → Range → List ℕ
@@ -75,9 +75,9 @@ intro =
     ∷ codes "       fgate --version"
     ∷ codes ""
     ∷ codes "Standard input is a trace; for encode, drill and monitor a stream, for fromcap a"
-    ∷ codes "capture, for check the text of prove. Standard output is the report, for encode"
-    ∷ codes "or fromcap a trace, for tocap a capture. Each flow goes to the file PORT.ts of"
-    ∷ codes "this folder."
+    ∷ codes "capture, for check the text of prove. Standard output is the report, for encode,"
+    ∷ codes "fromcap or pick a trace, for tocap a capture. Each flow goes to the file PORT.ts"
+    ∷ codes "of this folder."
     ∷ [])
 
 -- The lines that name the first rule that the words break.

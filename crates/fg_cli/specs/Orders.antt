@@ -1,13 +1,15 @@
 -- What a command line orders, and the first rule that one breaks.
-use Rattle.std.specs.Prelude.{◌≡◌, ◌+◌, ◌^◌, ◌<◌, ◌≤◌, ◌∷◌, [], ℕ, List, Some, None, length, nat_eq, take}
+use Rattle.std.specs.Prelude.{◌≡◌, ◌+◌, ◌^◌, ◌<◌, ◌≤◌, ◌∷◌, [], ℕ, List, Some, None, length, nat_eq, slice_get, take}
 use Rattle.fg_shape.specs.declared.encoding.Settings.{Settings}
 use Rattle.fg_shape.specs.declared.encoding.Losses.{Losses}
 use Rattle.fg_shape.specs.Limits.{FirstLayoutFault}
 use Rattle.fg_shape.specs.Losses.{LossesFit}
 use Rattle.fg_shape.specs.Settings.{SettingsFit}
 use Rattle.fg_flows.specs.declared.Plan.{Plan}
+use Rattle.fg_flows.specs.declared.selection.Selection.{Selection}
 use Rattle.fg_flows.specs.Flows.{FirstFlowFault, IsTable}
 use Rattle.fg_flows.specs.Plan.{PlanFits}
+use Rattle.fg_flows.specs.Selection.{SelectionFits}
 use Rattle.fg_cli.specs.declared.Order.{Order}
 use Rattle.fg_cli.specs.declared.Order.TheVariants as order
 use Rattle.fg_cli.specs.declared.WordFault.{WordFault}
@@ -64,6 +66,15 @@ pub record AreLosses (settings : List Setting) (losses : Losses) : Type 0 where
   pub drops : losses.drops ≡ values_of key.Drop settings
   pub every : losses.every ≡ number_of key.Every settings
 
+-- What is picked, as it is set.
+pub record IsSelection (settings : List Setting) (selection : Selection) : Type 0 where
+  pub flows : selection.flows ≡ values_of key.PickedFlow settings
+  pub ports : selection.ports ≡ values_of key.PickedPort settings
+  pub sources : selection.sources ≡ values_of key.PickedSource settings
+  pub without : selection.without ≡ values_of key.Without settings
+  pub from : selection.from ≡ number_of key.From settings
+  pub until : selection.until ≡ slice_get (values_of key.Until settings) 0
+
 -- The order of a command with these settings. A drill repairs the one flow that it encodes, and a sample one
 -- on port 5000; the trace inside them has at most 2^42 bytes.
 abbrev pub IsOrder : Command → List Setting → Order → Type 0
@@ -88,6 +99,9 @@ IsOrder command.Check settings (order.Check max) = max ≡ number_of key.Max set
 IsOrder command.ChooseMatrix settings (order.ChooseMatrix burst most rows) =
     (burst ≡ number_of key.Burst settings) × (most ≡ number_of key.Most settings)
     × (rows ≡ nat_eq (number_of key.Fec settings) 1)
+IsOrder command.Survey settings (order.Survey max json) =
+    (max ≡ number_of key.Max settings) × (json ≡ nat_eq (number_of key.Format settings) 1)
+IsOrder command.Pick settings (order.Pick selection max) = IsSelection settings selection × (max ≡ number_of key.Max settings)
 IsOrder _ settings _ = ⊥
 
 -- The words have this reading.
@@ -150,3 +164,5 @@ OrderFits (order.Monitor max) = MaxFits max
 OrderFits (order.Prove plan) = PlanFits plan × MaxFits plan.max × (length plan.table ≡ 1)
 OrderFits (order.Check max) = MaxFits max
 OrderFits (order.ChooseMatrix burst most rows) = (1 ≤ burst) × (burst ≤ 20) × (1 ≤ most) × (most ≤ 100)
+OrderFits (order.Survey max json) = MaxFits max
+OrderFits (order.Pick selection max) = SelectionFits selection × MaxFits max

@@ -1,6 +1,6 @@
 //! The commands, and the names that may stand after them: one row for each name.
 ghost use Rattle.std.specs.Prelude.{◌≡◌, ◌<◌, ◌^◌, ◌≤◌, ◌↔◌, IfNone, IfSome, IsTrue};
-ghost use Rattle.fg_cli.specs.Grammar.{Knows, Number, Either, about, command_about, command_text, commands, keys_of, most_of, needed, optional, row, told_after, told_row};
+ghost use Rattle.fg_cli.specs.Grammar.{Knows, Number, Either, about, command_about, command_text, commands, keys_of, most_of, named, needed, optional, row, told_after, told_row};
 ghost use Rattle.fg_cli.specs.Reading.{BeginsPlain, Reads, range_seen, row_seen};
 
 use crate::Name;
@@ -20,6 +20,8 @@ pub enum Command {
     Prove,
     Check,
     ChooseMatrix,
+    Survey,
+    Pick,
 }
 
 /// A name that may stand before an equals sign.
@@ -48,6 +50,13 @@ pub enum Key {
     Loss,
     Burst,
     Most,
+    PickedFlow,
+    PickedPort,
+    PickedSource,
+    Without,
+    From,
+    Until,
+    Format,
 }
 
 /// The values that a name takes.
@@ -97,6 +106,8 @@ impl Command {
             Command::Prove,
             Command::Check,
             Command::ChooseMatrix,
+            Command::Survey,
+            Command::Pick,
         ]
     }
 
@@ -116,6 +127,8 @@ impl Command {
             Command::Prove => "prove",
             Command::Check => "check",
             Command::ChooseMatrix => "plan",
+            Command::Survey => "survey",
+            Command::Pick => "pick",
         }
     }
 
@@ -157,6 +170,12 @@ impl Command {
         if word == "plan" {
             return Some(Command::ChooseMatrix);
         }
+        if word == "survey" {
+            return Some(Command::Survey);
+        }
+        if word == "pick" {
+            return Some(Command::Pick);
+        }
         None
     }
 
@@ -176,6 +195,8 @@ impl Command {
             Command::Prove => "writes a case for each window that shows a gap",
             Command::Check => "judges cases of gaps, a line for each",
             Command::ChooseMatrix => "writes the least matrix that brings a burst back",
+            Command::Survey => "tells what a trace holds: ports, streams, losses, matrix",
+            Command::Pick => "writes the trace of some of a trace's records",
         }
     }
 
@@ -184,8 +205,9 @@ impl Command {
         ensures { result.now ≡ keys_of self }
     {
         use Key::{
-            Burst, Columns, Datagrams, Depth, Drop, Every, Fec, Flow, Hold, Layout, Loss, Max,
-            Most, Packets, Port, Rate, Rows, Seed, Seq, Ssrc, Stamp, Window, Workers,
+            Burst, Columns, Datagrams, Depth, Drop, Every, Fec, Flow, Format, From, Hold, Layout,
+            Loss, Max, Most, Packets, PickedFlow, PickedPort, PickedSource, Port, Rate, Rows, Seed,
+            Seq, Ssrc, Stamp, Until, Window, Without, Workers,
         };
         match self {
             Command::Repair => &[Flow, Window, Depth, Hold, Workers, Max],
@@ -201,6 +223,16 @@ impl Command {
             Command::FromCapture | Command::ToCapture | Command::Monitor | Command::Check => &[Max],
             Command::Prove => &[Flow, Window, Depth, Hold, Max],
             Command::ChooseMatrix => &[Burst, Most, Fec],
+            Command::Survey => &[Max, Format],
+            Command::Pick => &[
+                PickedFlow,
+                PickedPort,
+                PickedSource,
+                Without,
+                From,
+                Until,
+                Max,
+            ],
         }
     }
 
@@ -256,12 +288,7 @@ impl Key {
             },
             Key::Window => optional_row("window", Values::Number(1, 100), 100),
             Key::Depth => optional_row("depth", Values::Number(1, 1_000), 400),
-            Key::Hold => Row {
-                name: "hold",
-                values: Values::Number(1, 3_600_000_000),
-                absent: Absent::Nothing,
-                most: Some(1),
-            },
+            Key::Hold => named_row("hold", Values::Number(1, 3_600_000_000), 1),
             Key::Workers => optional_row("workers", Values::Number(0, 16), 4),
             Key::Max => optional_row(
                 "max",
@@ -278,23 +305,20 @@ impl Key {
             Key::Seq => optional_row("seq", Values::Number(0, 65_535), 0),
             Key::Ssrc => optional_row("ssrc", Values::Number(0, 4_294_967_295), 0),
             Key::Stamp => optional_row("stamp", Values::Number(0, 4_294_967_295), 0),
-            Key::Drop => Row {
-                name: "drop",
-                values: Values::Number(1, 9_999_999_999_999),
-                absent: Absent::Nothing,
-                most: Some(1_000),
-            },
-            Key::Every => Row {
-                name: "every",
-                values: Values::Number(2, 9_999_999_999_999),
-                absent: Absent::Nothing,
-                most: Some(1),
-            },
+            Key::Drop => named_row("drop", Values::Number(1, 9_999_999_999_999), 1_000),
+            Key::Every => named_row("every", Values::Number(2, 9_999_999_999_999), 1),
             Key::Seed => needed_row("seed", Values::Number(0, 9_999_999_999_999), Name::Seed),
             Key::Datagrams => optional_row("datagrams", Values::Number(1, 20_000), 1_000),
             Key::Loss => optional_row("loss", Values::Number(0, 20), 3),
             Key::Burst => needed_row("burst", Values::Number(1, 20), Name::Burst),
             Key::Most => needed_row("most", Values::Number(1, 100), Name::Most),
+            Key::PickedFlow => named_row("flow", Values::Number(1, u64::from(LAST_PORT)), 64),
+            Key::PickedPort => named_row("port", Values::Number(0, 65_535), 64),
+            Key::PickedSource => named_row("ssrc", Values::Number(0, 4_294_967_295), 16),
+            Key::Without => named_row("without", Values::Number(0, 4_294_967_295), 16),
+            Key::From => optional_row("from", Values::Number(0, u64::MAX), 0),
+            Key::Until => named_row("until", Values::Number(0, u64::MAX), 1),
+            Key::Format => optional_row("format", Values::Either("lines", "json"), 0),
         }
     }
 
@@ -342,6 +366,13 @@ impl Key {
             Key::Loss => "records of a hundred left out",
             Key::Burst => "datagrams that are lost in succession",
             Key::Most => "percent of parity at most",
+            Key::PickedFlow => "ports P, P+2 and P+4",
+            Key::PickedPort => "a further port",
+            Key::PickedSource => "only this source's media",
+            Key::Without => "not this source's media",
+            Key::From => "first time, in microseconds",
+            Key::Until => "first time left out, microseconds",
+            Key::Format => "lines of words, or of JSON",
         }
     }
 }
@@ -367,6 +398,18 @@ fn optional_row(name: &'static str, values: Values, default: u64) -> Row
         values,
         absent: Absent::Default(default),
         most: Some(1),
+    }
+}
+
+/// The row of a name that may be left out for nothing, and stands so often at most.
+fn named_row(name: &'static str, values: Values, most: usize) -> Row
+    ensures { row_seen result ≡ named name.now (range_seen values) most }
+{
+    Row {
+        name,
+        values,
+        absent: Absent::Nothing,
+        most: Some(most),
     }
 }
 

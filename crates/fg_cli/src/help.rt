@@ -1,5 +1,5 @@
 //! The help of the program, written from the table of the words, and its version.
-ghost use Rattle.std.specs.Prelude.{◌≡◌, ◌++◌, ◌∷◌, [], ◌-◌, ◌≤◌, IfNone, IfOk, IfSome, OnOk, drop, length, map, string_bytes};
+ghost use Rattle.std.specs.Prelude.{◌≡◌, ◌++◌, ◌∷◌, [], ◌-◌, ◌≤◌, IfNone, IfOk, IfSome, OnOk, drop, length, map, min, string_bytes};
 ghost use Rattle.std.specs.Fmt.{decimal};
 ghost use Rattle.std.specs.List.{flat_map};
 ghost use Rattle.fg_cli.specs.Grammar.{commands, value_text};
@@ -23,9 +23,9 @@ usage: fgate COMMAND NAME=VALUE ..
        fgate --version
 
 Standard input is a trace; for encode, drill and monitor a stream, for fromcap a
-capture, for check the text of prove. Standard output is the report, for encode
-or fromcap a trace, for tocap a capture. Each flow goes to the file PORT.ts of
-this folder.
+capture, for check the text of prove. Standard output is the report, for encode,
+fromcap or pick a trace, for tocap a capture. Each flow goes to the file PORT.ts
+of this folder.
 ";
 
 /// The lines that name the first rule that the words break.
@@ -261,19 +261,15 @@ fn push_spelling(text: &mut Vec<u8>, name: &str, values: Values) -> Result<(), A
     Ok(())
 }
 
-/// Pushes blanks behind what begins at the start, up to the column.
+/// Pushes blanks behind what begins at the start, up to the column, and one at least.
 #[tactic(auto, unfolding(crate::specs::Help::blanks))]
 fn push_blanks(text: &mut Vec<u8>, start: usize) -> Result<(), AllocError>
     requires { start ≤ length text.old.items }
     ensures { OnOk result (text.new.items
-        ≡ text.old.items ++ drop (length text.old.items - start) blanks) }
+        ≡ text.old.items ++ drop (min (length text.old.items - start) 25) blanks) }
 {
-    let width = text.len() - start;
-    let blanks = BLANKS.as_bytes();
-    if width >= blanks.len() {
-        return Ok(());
-    }
-    text.extend_from_slice(&blanks[width..])
+    let width = (text.len() - start).min(25);
+    text.extend_from_slice(&BLANKS.as_bytes()[width..])
 }
 
 /// Pushes the values that a name takes.

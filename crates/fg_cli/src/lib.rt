@@ -4,7 +4,7 @@
 ghost use Rattle.std.specs.Prelude.{IfErr, IfOk, map, string_bytes};
 ghost use Rattle.fg_cli.specs.Orders.{IsFault, IsReading, OrderFits};
 
-use fg_flows::{FlowFault, Plan, Table, TableFault};
+use fg_flows::{FlowFault, Plan, Selection, Table, TableFault};
 use fg_shape::{LayoutFault, Losses, Settings};
 use std::alloc::{AllocError, Global};
 use thiserror::Error;
@@ -73,6 +73,16 @@ pub enum Order {
         burst: u8,
         most: u8,
         rows: bool,
+    },
+    /// Tell what a trace of at most so many bytes holds, as lines of JSON or of words.
+    Survey {
+        max: u64,
+        json: bool,
+    },
+    /// Write the trace of the records that are picked of a trace of at most so many bytes.
+    Pick {
+        selection: Selection,
+        max: u64,
     },
 }
 

@@ -1,23 +1,24 @@
 //! The order that a command and its settings make.
-ghost use Rattle.std.specs.Prelude.{◌≡◌, ◌∷◌, [], ◌^◌, ◌≤◌, All, IfErr, IfOk, length, nat_eq};
+ghost use Rattle.std.specs.Prelude.{◌≡◌, ◌∷◌, [], ◌^◌, ◌<◌, ◌≤◌, All, IfErr, IfOk, length, nat_eq};
 ghost use Rattle.fg_shape.specs.Kind.{IsFlowPort};
 ghost use Rattle.fg_shape.specs.Limits.{FirstLayoutFault};
 ghost use Rattle.fg_shape.specs.Settings.{SettingsFit};
 ghost use Rattle.fg_flows.specs.Flows.{IsTable, IsTableFault};
 ghost use Rattle.fg_flows.specs.Plan.{PlanFits};
+ghost use Rattle.fg_flows.specs.Selection.{SelectionFits};
 ghost use Rattle.fg_cli.specs.declared.grammar.Command.TheVariants as command;
 ghost use Rattle.fg_cli.specs.declared.grammar.Key.TheVariants as key;
 ghost use Rattle.fg_cli.specs.declared.ReadWords.TheVariants as answer;
-ghost use Rattle.fg_cli.specs.Grammar.{most_of};
+ghost use Rattle.fg_cli.specs.Grammar.{most_of, row};
 ghost use Rattle.fg_cli.specs.Lines.{AtMost, IsKnown, number_of, values_of};
-ghost use Rattle.fg_cli.specs.Orders.{AreLosses, AreSettings, AreWhole, DepthIsBelow, IsOrder, IsPlan, MaxFits, OrderFits};
+ghost use Rattle.fg_cli.specs.Orders.{AreLosses, AreSettings, AreWhole, DepthIsBelow, IsOrder, IsPlan, IsSelection, MaxFits, OrderFits};
 ghost use Rattle.fg_shape.specs.Losses.{LossesFit};
-ghost use Rattle.fg_cli.specs.Reading.{AreBounded, CanBeOrdered, InRanges, IsLineFault, IsShallow, Orders};
+ghost use Rattle.fg_cli.specs.Reading.{AreBounded, CanBeOrdered, InRanges, IsLineFault, IsShallow, Orders, greatest_of};
 
 use crate::grammar::{Command, Key};
-use crate::settings::{Setting, is_of, missing, number, place};
+use crate::settings::{Setting, first, is_of, missing, number, place};
 use crate::{Order, ReadWords, WordFault};
-use fg_flows::{Plan, Table, TableFault};
+use fg_flows::{Plan, Ports, Selection, Sources, Table, TableFault};
 use fg_shape::{Drops, Layout, LayoutFault, Losses, Settings};
 use std::alloc::{AllocError, Global};
 
@@ -76,6 +77,8 @@ fn whole_order(alloc: Global, command: Command, settings: &[Setting]) -> Result<
         Command::Prove => prove(alloc, settings),
         Command::Check => check(settings),
         Command::ChooseMatrix => choose_matrix(settings),
+        Command::Survey => survey(settings),
+        Command::Pick => pick(alloc, settings),
     }
 }
 
@@ -202,6 +205,26 @@ fn choose_matrix(settings: &[Setting]) -> Result<Order, ReadWords>
     Ok(Order::ChooseMatrix { burst, most, rows })
 }
 
+/// What `survey` orders.
+fn survey(settings: &[Setting]) -> Result<Order, ReadWords>
+    requires { CanBeOrdered command.Survey settings.now }
+    ensures { Orders command.Survey settings.now result }
+{
+    let max = max_of(settings);
+    let json = number(settings, Key::Format) == 1;
+    Ok(Order::Survey { max, json })
+}
+
+/// What `pick` orders.
+fn pick(alloc: Global, settings: &[Setting]) -> Result<Order, ReadWords>
+    requires { CanBeOrdered command.Pick settings.now }
+    ensures { Orders command.Pick settings.now result }
+{
+    let selection = selection(alloc, settings)?;
+    let max = max_of(settings);
+    Ok(Order::Pick { selection, max })
+}
+
 /// The most bytes that the command takes.
 fn max_of(settings: &[Setting]) -> u64
     requires bounded { AreBounded settings.now }
@@ -291,22 +314,60 @@ fn flows(alloc: Global, settings: &[Setting]) -> Result<Table, TableFault>
     ensures table { IfOk result IsTable }
     ensures faults { IfErr result (IsTableFault (values_of key.Flow settings.now)) }
 {
-    let ports = ports(alloc, settings)?;
-    Table::new(alloc, &ports)
+    let ports = ports(alloc, settings, Key::Flow)?;
+    Table::new(alloc, ports.as_slice())
 }
 
-/// The ports of the flows that are named, in order.
-fn ports(alloc: Global, settings: &[Setting]) -> Result<Vec<u16>, AllocError>
-    requires { AreBounded settings.now }
-    ensures { IfOk result (λ ports. ports.items ≡ values_of key.Flow settings.now) }
+/// The ports that the name is given, in order.
+fn ports(alloc: Global, settings: &[Setting], key: Key) -> Result<Ports, AllocError>
+    requires bounded { AreBounded settings.now }
+    requires range { greatest_of (row key).range < 2 ^ 16 }
+    ensures { IfOk result (λ ports. ports ≡ values_of key settings.now) }
 {
-    let mut ports = Vec::new(alloc);
+    let mut ports = Ports::new(alloc);
     for setting in settings {
-        if is_of(setting, Key::Flow) {
-            ports.push(setting.value as u16)?;
+        if is_of(setting, key) {
+            ports.add(setting.value as u16)?;
         }
     }
     Ok(ports)
+}
+
+/// The synchronization sources that the name is given, in order.
+fn sources(alloc: Global, settings: &[Setting], key: Key) -> Result<Sources, AllocError>
+    requires bounded { AreBounded settings.now }
+    requires range { greatest_of (row key).range < 2 ^ 32 }
+    ensures { IfOk result (λ sources. sources ≡ values_of key settings.now) }
+{
+    let mut sources = Sources::new(alloc);
+    for setting in settings {
+        if is_of(setting, key) {
+            sources.add(setting.value as u32)?;
+        }
+    }
+    Ok(sources)
+}
+
+/// What is picked.
+fn selection(alloc: Global, settings: &[Setting]) -> Result<Selection, AllocError>
+    requires bounded { AreBounded settings.now }
+    requires ranges { InRanges settings.now }
+    requires few { (key : Key) → AtMost (most_of command.Pick key) (length (values_of key settings.now)) }
+    ensures selection { IfOk result (IsSelection settings.now) }
+    ensures fits { IfOk result SelectionFits }
+{
+    let flows = ports(alloc, settings, Key::PickedFlow)?;
+    let named = ports(alloc, settings, Key::PickedPort)?;
+    let left = sources(alloc, settings, Key::PickedSource)?;
+    let without = sources(alloc, settings, Key::Without)?;
+    Ok(Selection {
+        flows,
+        ports: named,
+        sources: left,
+        without,
+        from: number(settings, Key::From),
+        until: first(settings, Key::Until),
+    })
 }
 
 /// The table of one flow.

@@ -111,16 +111,28 @@ pub fn count(settings: &[Setting], key: Key) -> usize
     count
 }
 
+/// The value that the name is given first.
+pub fn first(settings: &[Setting], key: Key) -> Option<u64>
+    requires { AreBounded settings.now }
+    ensures value { result ≡ slice_get (values_of key settings.now) 0 }
+    ensures bound { IfSome result (λ value. value ≤ greatest_of (row key).range) }
+{
+    for setting in settings {
+        if is_of(setting, key) {
+            return Some(setting.value);
+        }
+    }
+    None
+}
+
 /// The value that the name is given first, or its default.
 pub fn number(settings: &[Setting], key: Key) -> u64
     requires { AreBounded settings.now }
     ensures value { result ≡ number_of key settings.now }
     ensures bound { result ≤ greatest_of (row key).range }
 {
-    for setting in settings {
-        if is_of(setting, key) {
-            return setting.value;
-        }
+    if let Some(value) = first(settings, key) {
+        return value;
     }
     match key.row().absent {
         Absent::Default(value) => value,

@@ -98,6 +98,10 @@ fn least_and_greatest(rt: HostRuntime) {
         "check max=1099511627776",
         "plan burst=1 most=100 fec=column",
         "plan most=1 burst=20 fec=both",
+        "survey max=8 format=json",
+        "pick",
+        "pick flow=1 flow=65531 flow=1 port=0 port=65535 ssrc=0 without=4294967295 from=0 until=0 max=8",
+        "pick from=18446744073709551615 until=18446744073709551615",
     ] {
         accept(&rt, rt.alloc(), line);
     }
@@ -125,6 +129,10 @@ fn below_and_above(rt: HostRuntime) -> Result<(), Fail> {
         ),
         ("monitor", "max=7 max=1099511627777"),
         ("plan", "burst=0 burst=21 most=0 most=101"),
+        (
+            "pick",
+            "flow=0 flow=65532 port=65536 ssrc=4294967296 without=4294967296 from=18446744073709551616",
+        ),
     ] {
         refuse_each(&rt, rt.alloc(), command, words)?;
     }
@@ -150,6 +158,8 @@ fn forms_of_words(rt: HostRuntime) -> Result<(), Fail> {
         ("prove", "workers=4"),
         ("check", "flow=5000"),
         ("plan", "max=8"),
+        ("survey", "flow=5000 format=xml format="),
+        ("pick", "format=json seq=5 until=-1 window=5"),
     ] {
         refuse_each(&rt, rt.alloc(), command, words)?;
     }
@@ -172,6 +182,7 @@ fn names_that_stand_twice(rt: HostRuntime) -> Result<(), Fail> {
     )?;
     refuse(&rt, rt.alloc(), "sample seed=1 seed=2", BadWord(2))?;
     refuse(&rt, rt.alloc(), "prove flow=5000 flow=6000", BadWord(2))?;
+    refuse(&rt, rt.alloc(), "pick until=5 until=6", BadWord(2))?;
     accept(&rt, rt.alloc(), "inspect flow=5000 flow=6000");
     accept(&rt, rt.alloc(), "drill columns=4 rows=4 drop=5 drop=5");
     Ok(())
@@ -278,6 +289,28 @@ fn a_thousand_and_one_drops(rt: HostRuntime) -> Result<(), Fail> {
 }
 
 #[test]
+fn seventeen_sources(rt: HostRuntime) -> Result<(), Fail> {
+    let words = with_many(rt.alloc(), "pick port=7", "ssrc", 17, 5000, 0)?;
+    assert_eq!(rt; fault_of(rt.alloc(), &words), Some(BadWord(18)));
+    Ok(())
+}
+
+#[test]
+fn what_is_picked(rt: HostRuntime) -> Result<(), Fail> {
+    let line = "pick ssrc=7 port=8 flow=5000 without=9 flow=1";
+    let Order::Pick { selection, max } = order(rt.alloc(), line)? else {
+        panic!(rt; "another order");
+    };
+    assert_eq!(rt; selection.flows.as_slice(), [5000, 1].as_slice());
+    assert_eq!(rt; selection.ports.as_slice(), [8].as_slice());
+    assert_eq!(rt; selection.sources.as_slice(), [7].as_slice());
+    assert_eq!(rt; selection.without.as_slice(), [9].as_slice());
+    assert_eq!(rt; (selection.from, selection.until), (0, None));
+    assert_eq!(rt; max, 1_099_511_627_776);
+    Ok(())
+}
+
+#[test]
 fn defaults_of_repair(rt: HostRuntime) -> Result<(), Fail> {
     let Order::Repair(plan) = order(rt.alloc(), "repair flow=7000")? else {
         panic!(rt; "another order");
@@ -364,7 +397,7 @@ fn has(text: &[u8], piece: &str) -> bool {
 }
 
 /// Parts of the help, as they are to look.
-const HELP_PARTS: [&str; 4] = [
+const HELP_PARTS: [&str; 5] = [
     "
 fgate repair: writes each flow of a trace, repaired, to PORT.ts
   flow=1..65531           media port P, with P+2 and P+4, up to 64 times; needed
@@ -386,6 +419,16 @@ fgate encode: encodes a transport stream with parity
   drop=1..9999999999999   a record left out, up to 1000 times; default none
   every=2..9999999999999  its multiples are left out; default none
 
+",
+    "
+fgate pick: writes the trace of some of a trace's records
+  flow=1..65531           ports P, P+2 and P+4, up to 64 times; default none
+  port=0..65535           a further port, up to 64 times; default none
+  ssrc=0..4294967295      only this source's media, up to 16 times; default none
+  without=0..4294967295   not this source's media, up to 16 times; default none
+  from=0..18446744073709551615 first time, in microseconds; default 0
+  until=0..18446744073709551615 first time left out, microseconds; default none
+  max=8..1099511627776    most bytes of the input; default 1099511627776
 ",
     "
   words: layout 4         fec=both, and fewer than 4 columns

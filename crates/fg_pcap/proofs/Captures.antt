@@ -21,7 +21,8 @@ use Rattle.fg_pcap.specs.Reading.{HasPart, IsRefusal, StandsAfter}
 use Rattle.fg_pcap.proofs.Datagrams.{datagrams_front, one_list}
 use Rattle.fg_pcap.proofs.Packets.{header_length, one_packet, spelled_more}
 use Rattle.fg_pcap.proofs.Standing.{stands_begin}
-use Rattle.fg_pcap.proofs.Underway.{trace_more, end_of}
+use Rattle.fg_trace.proofs.Traces.{trace_more}
+use Rattle.fg_pcap.proofs.Underway.{end_of}
 
 -- The file header
 

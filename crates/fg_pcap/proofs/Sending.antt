@@ -10,16 +10,6 @@ use Rattle.fg_pcap.specs.Capture.{Frame}
 use Rattle.fg_pcap.specs.Frame.{GivesDatagram, GivesNone}
 use Rattle.fg_pcap.specs.Reading.{SendsFrames, SendsPart}
 
--- A result that says more
-
-pub on_ok : {T E : Type 0} (r : Result T E) (P Q : Type 0) → (P → Q) → OnOk r P → OnOk r Q
-on_ok (Ok x) P Q f h = f h
-on_ok (Err e) P Q f h = tt
-
-pub on_err : {T E : Type 0} (r : Result T E) (P Q : Type 0) → (P → Q) → OnErr r P → OnErr r Q
-on_err (Ok x) P Q f h = tt
-on_err (Err e) P Q f h = f h
-
 -- One frame
 
 pub none_sent : (frame : Frame) (held : List ℕ) (written : Option (List ℕ)) → GivesNone frame.bytes → SendsFrames (frame ∷ []) held held written written

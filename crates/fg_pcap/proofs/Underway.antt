@@ -2,10 +2,12 @@
 use Rattle.std.proofs.Common.{◌≡◌, inr, ℕ, ◌+◌, ◌-◌, ◌*◌, ◌^◌, Option, None, Some, IfSome, List, [], ◌∷◌, ◌++◌, map, take, drop, sym, ap, ◌∙◌, refl, subst, arith, append_assoc, append-nil}
 use Rattle.std.specs.List.{flat_map}
 use Rattle.std.proofs.lemmas.Grind.{flat_map-append}
+use Rattle.fg_io.proofs.SentLemmas.{part_sent}
 use Rattle.fg_io.specs.InputBuffer.{InputState, TakesMore}
 use Rattle.fg_io.specs.Sent.{Sent}
 use Rattle.fg_io.specs.Sink.{Gains, GainsPart}
 use Rattle.fg_io.proofs.SentLemmas.{Sent-then, Sent-part, Sent-stop, Sent-whole, Sent-cut}
+use Rattle.fg_trace.proofs.Traces.{trace_more}
 use Rattle.fg_trace.specs.Trace.{Record, magic, spelling, trace_of}
 use Rattle.fg_pcap.specs.declared.file_header.Format.{Format}
 use Rattle.fg_pcap.specs.declared.file_header.TimeUnit.{TimeUnit}
@@ -31,9 +33,6 @@ frame_is unit header held time size bytes when is count =
 map_more : (unit : TimeUnit) (ps : List Packet) (p : Packet) → map (frame_of unit) (ps ++ p ∷ []) ≡ map (frame_of unit) ps ++ frame_of unit p ∷ []
 map_more unit [] p = refl
 map_more unit (q ∷ ps) p = ap (λ t. frame_of unit q ∷ t) (map_more unit ps p)
-
-pub trace_more : (rs ss : List Record) → trace_of (rs ++ ss) ≡ trace_of rs ++ flat_map spelling ss
-trace_more rs ss = ap (λ t. magic ++ t) (flat_map-append spelling rs ss) ∙ sym (append_assoc magic (flat_map spelling rs) (flat_map spelling ss))
 
 -- One record more
 
@@ -67,9 +66,6 @@ part_standing format input None now packets records before after stands datagram
 part_standing format input (Some bytes) now packets records before after stands datagrams part =
     let begun = stands_begin format input bytes now packets stands in
     record { packets = packets; rest = input.held ++ begun.0; begins = begun.2; records = records; datagrams = datagrams; part = part }
-
-part_sent : (before at : Option (List ℕ)) (text held : List ℕ) → Sent before text held at → GainsPart before text at
-part_sent before at text held sent = subst (λ t. GainsPart before t at) (append-nil text) (Sent-stop before at text held [] sent)
 
 -- nothing more was sent
 pub part_here : (format : Format) (input : InputState) (max : ℕ) (first now : Option (List ℕ)) (held : List ℕ) (before at : Option (List ℕ)) → input.max ≡ max → IsUnderway format first now input held before at → IfSome first (λ bytes. HasPart format max bytes before at)

@@ -11,6 +11,7 @@ use Rattle.fg_io.proofs.SourceLemmas.{Gives-told}
 use Rattle.fg_trace.specs.declared.step.Step.TheVariants.{Datagram}
 use Rattle.fg_trace.specs.declared.step.TraceFault.{TraceFault}
 use Rattle.fg_trace.proofs.Opening.{few_spelled, stands_still}
+use Rattle.fg_trace.proofs.Reached.{stands_more}
 use Rattle.fg_trace.specs.Reader.{Answer, ReaderState, StandsAfter, Walks}
 use Rattle.fg_trace.specs.Trace as trace
 use Rattle.fg_trace.specs.Trace.{Record, Begins, Ending, IsTrace, trace_of}
@@ -64,13 +65,6 @@ pub leaves_part : (first now : Option (List ℕ)) (reader : ReaderState) (record
 leaves_part None now reader records before after stands fit part = tt
 leaves_part (Some bytes) now reader records before after stands fit part = λ answer all is.
     GainsPart-front before after (capture_of records) (text_of answer all) (written_front bytes reader.max all records answer fit (begins bytes now reader records stands) is) part
-
--- where the reader stands after a record
-pub stands_more : (reader next : ReaderState) (first left now : Option (List ℕ)) (records : List Record) (answer : Answer) (time port size : ℕ)
-    → answer ≡ Ok (Datagram time port size) → ((records : List Record) → StandsAfter reader first left records → Walks answer next first now records)
-    → StandsAfter reader first left records → StandsAfter next first now (records ++ (record { time = time; port = port; datagram = next.payload }) ∷ [])
-stands_more reader next first left now records answer time port size is walks h =
-    subst (λ (a : Answer). Walks a next first now records) is (walks records h)
 
 -- A record
 

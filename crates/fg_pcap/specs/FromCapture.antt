@@ -2,6 +2,7 @@
 use Rattle.std.specs.Prelude.{◌≡◌, ◌+◌, ◌<◌, ◌≤◌, ◌⊎◌, ℕ, ⊤, Option, Some, IfSome, List, [], ◌++◌, length}
 use Rattle.fg_io.specs.declared.fault.Fault.{Fault}
 use Rattle.fg_io.specs.declared.fault.Fault.TheVariants.{Read, Write, Memory}
+use Rattle.fg_io.specs.Texts.{Texts}
 use Rattle.fg_io.specs.Sink.{Gains, GainsPart}
 use Rattle.fg_trace.specs.Trace.{Record, trace_of}
 use Rattle.fg_pcap.specs.declared.finish.CaptureFinish.{CaptureFinish}
@@ -58,7 +59,7 @@ pub record Converts (max : ℕ) (answer : CaptureFinish) (input written written'
   pub gained : Gains written trace written'
 
 -- The sink has gained a prefix of it.
-abbrev pub ConvertsPart : ℕ → Option (List ℕ) → Option (List ℕ) → Option (List ℕ) → Type 0
+abbrev pub ConvertsPart : ℕ → Texts
 ConvertsPart max input written written' =
     IfSome input (λ bytes. (trace : List ℕ) (end : CaptureEnding)
     → ComesTo bytes max trace end → GainsPart written trace written')

@@ -1,6 +1,7 @@
 -- How far the writing of a capture has come. No public contract cites what stands here.
 use Rattle.std.specs.Prelude.{◌≡◌, ℕ, Option, IfSome, Result, Ok, Err, List, length}
 use Rattle.std.specs.List.{AllByRecursion}
+use Rattle.fg_io.specs.Texts.{ReadTexts}
 use Rattle.fg_io.specs.Sent.{Sent}
 use Rattle.fg_io.specs.declared.fault.Fault.{Fault}
 use Rattle.fg_io.specs.declared.fault.Fault.TheVariants.{Read, Write, Memory}
@@ -43,5 +44,5 @@ pub record HasSpelled
   pub read : IsReadTo max answer first now
 
 -- What a fault leaves: a prefix is written, and the input was read no further than a byte past the limit.
-abbrev pub Breaks : ℕ → Option (List ℕ) → Option (List ℕ) → Option (List ℕ) → Option (List ℕ) → Type 0
+abbrev pub Breaks : ℕ → ReadTexts
 Breaks max first now before after = SpellsPart max first before after × IsReadTo max finish.ReadFault first now

@@ -1,6 +1,7 @@
 -- What the writing of a trace as a capture comes to. This project's own.
 use Rattle.std.specs.Prelude.{◌≡◌, ℕ, ◌+◌, ◌<◌, ◌≤◌, ◌⊎◌, ⊤, List, [], ◌∷◌, ◌++◌, Option, Some, IfSome, length}
 use Rattle.std.specs.List.{AllByRecursion}
+use Rattle.fg_io.specs.Texts.{Texts}
 use Rattle.fg_io.specs.Sink.{Gains, GainsPart}
 use Rattle.fg_trace.specs.Reading.{most_held}
 use Rattle.fg_trace.specs.Trace as trace
@@ -66,7 +67,7 @@ pub record Spells (max : ℕ) (answer : SpellingFinish) (input before after : Op
   pub gained : Gains before (text_of answer records) after
 
 -- The sink has gained a prefix of that.
-abbrev pub SpellsPart : ℕ → Option (List ℕ) → Option (List ℕ) → Option (List ℕ) → Type 0
+abbrev pub SpellsPart : ℕ → Texts
 SpellsPart max input before after =
     IfSome input (λ bytes. (answer : SpellingFinish) (records : List Record)
     → IsSpelled answer bytes max records → GainsPart before (text_of answer records) after)

@@ -1,47 +1,48 @@
 -- The answer of a drill, as the program's.
-use Rattle.std.proofs.Common.{◌≡◌, ◌⊎◌, inl, inr, ℕ, Option, None, Some, IfSome, Ok, Err, List, [], ◌∷◌, refl, sym, ap, ◌∙◌, subst}
+use Rattle.std.proofs.Common.{◌≡◌, ◌⊎◌, ◌≤◌, ◌^◌, inl, inr, ℕ, Option, None, Some, IfSome, Ok, Err, List, [], ◌∷◌, refl, sym, ap, ◌∙◌, subst}
 use Rattle.std.specs.Io.KnownBytes.{IsAtEnd}
 use Rattle.fg_io.specs.Outlet.{Lanes}
 use Rattle.fg_ts.specs.declared.TsFault.TheVariants as packets
 use Rattle.fg_shape.specs.declared.encoding.Losses.{Losses}
 use Rattle.fg_shape.specs.declared.encoding.Settings.{Settings}
+use Rattle.fg_shape.specs.Losses.{MayLose}
+use Rattle.fg_shape.specs.Settings.{CanEncode}
 use Rattle.fg_trace.specs.declared.step.Finish.TheVariants as finish
 use Rattle.fg_trace.specs.Trace.{Record}
 use Rattle.fg_flows.specs.declared.Plan.{Plan}
+use Rattle.fg_flows.specs.Plan.{PlanFits}
 use Rattle.fg_encode.specs.declared.stream.StreamFault.TheVariants.{NotTransport, TooLong}
 use Rattle.fg_encode.specs.Reading.{IsStreamReadFor}
 use Rattle.fg_encode.specs.Stream.{LeavesNothing, StreamEnding, IsCut}
 use Rattle.fg_results.specs.Stops.{Growth, ByRecord, ByBatch, growth_of}
 use Rattle.fg_drill.specs.Drill.{Answer, Drills, DrillsPart, IsFault as IsDrillFault, StopsLanes as DrillStops, StreamComesBack, answer_to, ending_of, records_sent}
+use Rattle.fg_drill.specs.DrillLaws.{DrillsAreExact, DrillsComeBack}
 use Rattle.fg_drill.proofs.DrillReading.{told_none, told_of}
-use Rattle.fg_cli.specs.declared.Order.TheVariants.{Drill}
-use Rattle.fg_run.specs.declared.ended.Why.{Why}
-use Rattle.fg_run.specs.declared.ended.Why.TheVariants as why
-use Rattle.fg_run.specs.declared.request.Request.TheVariants.{Ordered}
-use Rattle.fg_run.specs.Answered.{RequestAnswered}
-use Rattle.fg_run.specs.Counted.{DrillCounts, DrillMayHaveFailed, MayHaveFailedBeside, RequestCounts}
-use Rattle.fg_run.specs.Encode.{EndsStream, IsStreamAnswer}
-use Rattle.fg_run.specs.Ended.{IsFault}
-use Rattle.fg_run.specs.Endings.{why_of_drill, why_of_stream}
-use Rattle.fg_run.specs.Reading.{ReadsStream}
-use Rattle.fg_run.specs.Run.{DrillComesBack, DrillsFor}
+use Rattle.fg_drill.proofs.PartLemmas.{no_drill}
+use Rattle.fg_encode.proofs.ReadLemmas.{unread}
+use Rattle.fg_commands.specs.declared.ended.Why.{Why}
+use Rattle.fg_commands.specs.declared.ended.Why.TheVariants as why
+use Rattle.fg_commands.specs.Answered.{RequestAnswered}
+use Rattle.fg_commands.specs.Ended.{IsFault}
+use Rattle.fg_commands.specs.Endings.{why_of_stream}
+use Rattle.fg_commands.specs.Streams.{EndsStream, IsStreamAnswer, ReadsStream}
+use Rattle.fg_commands.proofs.Completing.{complete_told}
+use Rattle.fg_commands.proofs.Lawful.{Lawful, none_wrong}
+use Rattle.fg_commands.proofs.Streams.{no_fault}
+use Rattle.fg_commands.proofs.Told.{Tells, finish_tells}
+use Rattle.fg_run.specs.Counted.{DrillCounts, DrillMayHaveFailed, MayHaveFailedBeside}
+use Rattle.fg_run.specs.Drilling.{DrillComesBack, DrillsFor, drilling, why_of_drill}
 use Rattle.fg_run.specs.Stopping.{StopsLanes}
-use Rattle.fg_run.proofs.Completing.{complete_told, none_wrong}
-use Rattle.fg_run.proofs.Counting.{counts_as}
-use Rattle.fg_run.proofs.Stopping.{fault_of, is_fault}
+use Rattle.fg_run.proofs.Counting.{counts_ahead, failed_beside}
+use Rattle.fg_run.proofs.Stopping.{drill_stops_first}
 
 -- a fault's answer is that of a fault
-no_fault : (end : StreamEnding) → IsFault (why_of_stream end) → ⊥
-no_fault None h = h
-no_fault (Some (TooLong n)) h = h
-no_fault (Some (NotTransport fault)) h = h
-
 drill_fault_of : (answer : Answer) → IsFault (why_of_drill answer) → IsDrillFault answer
-drill_fault_of (Ok finish) h = fault_of finish h
+drill_fault_of (Ok finish) h = finish_tells.fault_of finish h
 drill_fault_of (Err fault) h = absurd (no_fault (Some fault) h)
 
 is_drill_fault : (answer : Answer) → IsDrillFault answer → IsFault (why_of_drill answer)
-is_drill_fault (Ok finish) h = is_fault finish h
+is_drill_fault (Ok finish) h = finish_tells.is_fault finish h
 is_drill_fault (Err fault) h = absurd h
 
 -- the outputs are whole
@@ -137,39 +138,44 @@ write_of (Ok finish.Memory) e = absurd (let a = e in cc)
 write_of (Err (TooLong n)) e = absurd (let a = e in cc)
 write_of (Err (NotTransport fault)) e = absurd (let a = e in cc)
 
-drill_failed : (growth : Growth) (answer : Answer) → DrillMayHaveFailed growth answer → MayHaveFailedBeside growth (why_of_drill answer)
-drill_failed ByRecord answer e = ap why_of_drill e
-drill_failed ByBatch answer fault = is_drill_fault answer fault
+tells : Tells why_of_drill IsDrillFault (λ answer. answer ≡ Ok finish.ReadFault) (λ answer. answer ≡ Ok finish.WriteFault)
+tells = record {
+  is_fault = is_drill_fault;
+  fault_of = drill_fault_of;
+  read = λ answer e. ap why_of_drill e;
+  read_of = read_of;
+  write = λ answer e. ap why_of_drill e;
+  write_of = write_of;
+}
 
-drill_counts : {sources sinks : List (ℕ × ℕ)} → (settings : Settings) (plan : Plan) (losses : Losses) (max : ℕ) (answer : Answer) → DrillCounts (growth_of plan) answer sources sinks
-    → RequestCounts (Ordered (Drill settings plan losses max)) (why_of_drill answer) sources sinks
-drill_counts settings plan losses max answer h = counts_as (drill_failed (growth_of plan) answer) (read_of answer) (ap why_of_drill) (write_of answer) h
+failed : (growth : Growth) (answer : Answer) → DrillMayHaveFailed growth answer → MayHaveFailedBeside growth (why_of_drill answer)
+failed ByRecord answer e = ap why_of_drill e
+failed ByBatch answer fault = is_drill_fault answer fault
 
 pub drill_answered : {S O K : Type 0} {left : S → Option (List ℕ)} {input_faults : S → ℕ} {input input' : S}
     {lanes_of : O → Option Lanes} {lane_faults : O → ℕ} {lanes lanes' : O} {written : K → Option (List ℕ)} {out_faults : K → ℕ} {out out' : K}
-    → (settings : Settings) (plan : Plan) (losses : Losses) (max : ℕ) (answer : Answer)
+    → DrillsAreExact → DrillsComeBack → (settings : Settings) (plan : Plan) (losses : Losses) (max : ℕ) (answer : Answer)
+    → CanEncode settings → PlanFits plan → plan.table ≡ settings.port ∷ [] → MayLose losses → max ≤ 2 ^ 40
     → IsDrillFault answer ⊎ Drills settings plan losses max answer (left input) (lanes_of lanes) (lanes_of lanes') (written out) (written out')
-    → IfSome (left input) (λ bytes. (payloads : List (List ℕ)) (end : StreamEnding) → IsCut settings.packets max bytes payloads end → IsDrillFault answer ⊎ (answer ≡ answer_to end))
     → IfSome (ending_of answer) (λ ending. LeavesNothing ending → IsAtEnd (left input'))
     → IfSome (left input) (λ bytes. IsStreamReadFor max (ending_of answer) bytes (left input'))
     → (IsDrillFault answer → DrillsPart settings plan losses max (left input) (lanes_of lanes) (lanes_of lanes') written out out')
     → (IsDrillFault answer → IfSome (left input) (λ bytes. (payloads : List (List ℕ)) (end : StreamEnding) → IsCut settings.packets max bytes payloads end
     → DrillStops plan answer (records_sent settings losses payloads) (lanes_of lanes) (lanes_of lanes')))
-    → IfSome (left input) (λ bytes. IsDrillFault answer ⊎ StreamComesBack settings plan losses max answer bytes (lanes_of lanes) (lanes_of lanes'))
     → DrillCounts (growth_of plan) answer ((input_faults input, input_faults input') ∷ [])
     ((out_faults out, out_faults out') ∷ (lane_faults lanes, lane_faults lanes') ∷ [])
-    → RequestAnswered (Ordered (Drill settings plan losses max)) (why_of_drill answer) left input_faults input input' lanes_of lane_faults lanes lanes' written out_faults out out'
-drill_answered settings plan losses max answer whole is ends read part stopped back counts =
-    let due = exactly settings.packets max answer _ is in
+    → RequestAnswered (drilling settings plan losses max) (why_of_drill answer) left input_faults input input' lanes_of lane_faults lanes lanes' written out_faults out out'
+drill_answered exact back settings plan losses max answer can fits table lose most whole ends read part stopped counts =
+    let due = exactly settings.packets max answer _ (exact settings plan losses max answer _ _ _ _ _ whole) in
     record {
       answers = drills_for settings plan losses max answer _ _ _ _ _ whole;
-      comes_back = drill_comes_back settings plan losses max answer _ _ _ back;
+      comes_back = drill_comes_back settings plan losses max answer _ _ _ (back settings plan losses max answer _ _ _ _ _ can fits table lose most whole);
       exactly = due;
       complete = complete_told _ _ _ (why_of_drill answer) _ (IsStreamAnswer settings.packets max) due (λ e. counts.read (read_of answer e)) (λ e. counts.write (write_of answer e));
       part = λ fault. part (drill_fault_of answer fault);
       stops = λ fault. stops settings plan losses max answer _ _ _ (stopped (drill_fault_of answer fault));
       no_report = λ last e. absurd last;
-      counts = drill_counts settings plan losses max answer counts;
+      counts = counts_ahead tells answer (failed (growth_of plan) answer) counts;
       nothing_read = λ h. absurd h;
       nothing_written = λ h. absurd h;
       no_lane = λ h. absurd h;
@@ -177,3 +183,22 @@ drill_answered settings plan losses max answer whole is ends read part stopped b
       reads = reads settings plan losses max answer _ _ _ _ _ _ whole read;
       all_read = all_read answer _ ends;
     }
+
+-- where nothing was drilled
+no_memory : (input : Option (List ℕ)) (P : List ℕ → Type 0) → IfSome input (λ bytes. IsFault why.Memory ⊎ P bytes)
+no_memory None P = tt
+no_memory (Some bytes) P = inl tt
+
+no_end : EndsStream why.Memory → ⊥
+no_end (inl e) = let a = e in cc
+no_end (inr e) = let a = e.1 in cc
+
+pub lawful : (settings : Settings) (plan : Plan) (losses : Losses) (max : ℕ) → Lawful (drilling settings plan losses max)
+lawful settings plan losses max = record {
+  breaks = failed_beside (growth_of plan);
+  part = λ {K} input lanes written out. no_drill settings plan losses max input lanes written out;
+  stops = drill_stops_first settings plan losses max finish.Memory;
+  comes_back = λ input lanes written. no_memory input _;
+  reads = λ bytes. inl (tt, unread max bytes);
+  reads_all = no_end;
+}

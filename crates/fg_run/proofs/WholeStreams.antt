@@ -7,8 +7,8 @@ use Rattle.std.proofs.lemmas.List.{get_or-take, get_or-drop, length-take, length
 use Rattle.std.proofs.lemmas.List.FromFn.{length-map-range_with_len}
 use Rattle.fg_ts.specs.Packets.{ArePackets}
 use Rattle.fg_encode.specs.Stream.{payload_of, IsAcceptable}
-use Rattle.fg_run.specs.declared.ended.Why.TheVariants as why
-use Rattle.fg_run.specs.Encode.{IsStreamAnswer}
+use Rattle.fg_commands.specs.declared.ended.Why.TheVariants as why
+use Rattle.fg_commands.specs.Streams.{IsStreamAnswer}
 
 -- so many payloads are enough, and each of them has a packet
 record Covers (packets count payloads : ℕ) : Type 0 where

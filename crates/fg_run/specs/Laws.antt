@@ -1,12 +1,12 @@
 -- Laws that show the definitions of requests and answers to be right.
 use Rattle.std.specs.Prelude.{◌≡◌, ◌≤◌, ℕ, List, length}
 use Rattle.fg_ts.specs.Packets.{ArePackets}
-use Rattle.fg_run.specs.declared.ended.Why.{Why}
-use Rattle.fg_run.specs.declared.ended.Why.TheVariants.{Done}
-use Rattle.fg_run.specs.Encode.{IsStreamAnswer}
+use Rattle.fg_commands.specs.declared.ended.Why.{Why}
+use Rattle.fg_commands.specs.declared.ended.Why.TheVariants.{Done}
+use Rattle.fg_commands.specs.Streams.{IsStreamAnswer}
 use Rattle.fg_run.specs.declared.request.Request.{Request}
 use Rattle.fg_run.specs.Request.{Asks}
-use Rattle.fg_run.specs.Run.{IsAnswer}
+use Rattle.fg_run.specs.Behaviours.{behaviour_of}
 
 -- Words ask for at most one request.
 abbrev pub OneRequest : Type 0
@@ -17,7 +17,7 @@ OneRequest =
 abbrev pub OneAnswer : Type 0
 OneAnswer =
     (request : Request) (bytes : List ℕ) (one other : Why)
-    → IsAnswer request bytes one → IsAnswer request bytes other → one ≡ other
+    → (behaviour_of request).is_answer bytes one → (behaviour_of request).is_answer bytes other → one ≡ other
 
 -- A stream of whole packets within the limit ends with its last payload.
 abbrev pub WholeStreamsAreDone : Type 0

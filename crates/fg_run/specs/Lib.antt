@@ -1,10 +1,9 @@
 pub mod Answered
+pub mod Behaviours
 pub mod Counted
-pub mod Encode
-pub mod Ended
-pub mod Endings
+pub mod Drilling
 pub mod Laws
-pub mod Reading
+pub mod Repairing
 pub mod Request
-pub mod Run
+pub mod Sampling
 pub mod Stopping

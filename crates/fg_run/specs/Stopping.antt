@@ -5,8 +5,8 @@ use Rattle.fg_trace.specs.declared.step.Finish.{Finish}
 use Rattle.fg_trace.specs.Trace.{Record, Ending, IsTrace}
 use Rattle.fg_flows.specs.declared.Plan.{Plan}
 use Rattle.fg_results.specs.Stops.{Stops, growth_of}
-use Rattle.fg_run.specs.declared.ended.Why.{Why}
-use Rattle.fg_run.specs.Endings.{why_of_finish}
+use Rattle.fg_commands.specs.declared.ended.Why.{Why}
+use Rattle.fg_commands.specs.Endings.{why_of_finish}
 
 -- With this answer a repair of these records stopped at a stage where the plan lets it: each lane has gained exactly what was
 -- shown up to there, but for the one that a put broke.

@@ -1,31 +1,21 @@
 //! Answering a request.
-ghost use Rattle.std.specs.Prelude.{◌≡◌, ◌⊎◌, ◌∷◌, []};
-ghost use Rattle.fg_io.specs.Faults.{CountsFaults};
-ghost use Rattle.fg_io.specs.Sink.{Gains, GainsPart};
-ghost use Rattle.fg_flows.specs.Plan.{PlanFits};
-ghost use Rattle.fg_cli.specs.Help.{answer_text};
+ghost use Rattle.std.specs.Prelude.{◌≡◌};
 ghost use Rattle.fg_cli.specs.declared.WordFault.{WordFault as AnyWordFault};
-ghost use Rattle.fg_cli.specs.declared.Order.{Order as AnyOrder};
-ghost use Rattle.fg_run.specs.Answered.{RequestAnswered};
-ghost use Rattle.fg_run.specs.Ended.{IsFault};
+ghost use Rattle.fg_commands.specs.Answered.{RequestAnswered};
+ghost use Rattle.fg_run.specs.Behaviours.{behaviour_of};
 ghost use Rattle.fg_run.specs.Request.{RequestFits};
 
-use crate::capturing::{run_fromcap, run_tocap};
-use crate::checking::run_check;
-use crate::drilling::run_drill;
-use crate::encoding::run_encode;
-use crate::ended::Why;
-use crate::inspection::run_inspect;
-use crate::monitoring::run_monitor;
-use crate::planning::run_plan;
-use crate::proving::run_prove;
+use crate::drill::run_drill;
 use crate::repairing::repair;
 use crate::request::Request;
 use crate::sample::sample;
-use fg_cli::{Order, Question};
+use fg_cli::Order;
+use fg_commands::{
+    Why, answer_question, run_check, run_encode, run_fromcap, run_inspect, run_monitor, run_pick,
+    run_plan, run_prove, run_survey, run_tocap,
+};
 use fg_crew::Gate;
-use fg_io::laws::parts_of_writes;
-use fg_io::{Outlet, Sink, Source, write_all};
+use fg_io::{Outlet, Sink, Source};
 use std::alloc::Global;
 use std::sync::Wait;
 use std::thread::Threads;
@@ -47,7 +37,7 @@ pub fn answer<
     gate: &G,
 ) -> Why
     requires { RequestFits request }
-    ensures answered { RequestAnswered request result S.left S.faults input.old input.new
+    ensures answered { RequestAnswered (behaviour_of request) result S.left S.faults input.old input.new
         O.lanes O.faults lanes.old lanes.new K.written K.faults out.old out.new }
     ensures words { (fault : AnyWordFault) → result ≡ Why.Words fault → request ≡ Request.Refused fault }
 {
@@ -86,24 +76,12 @@ pub fn answer<
         Request::Ordered(Order::ChooseMatrix { burst, most, rows }) => {
             run_plan(alloc, burst, most, rows, out).why
         }
+        Request::Ordered(Order::Survey { max, json }) => {
+            run_survey(alloc, max, json, input, out).why
+        }
+        Request::Ordered(Order::Pick { selection, max }) => {
+            run_pick(alloc, &selection, max, input, out).why
+        }
         Request::Refused(fault) => Why::Words(fault),
-    }
-}
-
-/// Writes the answer to a question, and tells why that ended.
-fn answer_question<K: Sink>(alloc: Global, question: Question, out: &mut K) -> Why
-    ensures whole { IsFault result ⊎ ((result ≡ Why.Done)
-        × Gains (K.written out.old) (answer_text question) (K.written out.new)) }
-    ensures part { IsFault result → GainsPart (K.written out.old) (answer_text question) (K.written out.new) }
-    ensures faults { CountsFaults (result ≡ Why.ReadFault) (result ≡ Why.WriteFault) []
-        ((K.faults out.old, K.faults out.new) ∷ []) }
-{
-    parts_of_writes();
-    let Ok(text) = question.answer(alloc) else {
-        return Why::Memory;
-    };
-    match write_all(out, &text) {
-        Ok(()) => Why::Done,
-        Err(fault) => fault.into(),
     }
 }

@@ -1,19 +1,21 @@
-//! What is sent of a stream, repaired.
-ghost use Rattle.std.specs.Prelude.{◌≡◌, ◌⊎◌, ◌≤◌, ◌^◌, ◌∷◌, [], ℕ, Ok, List, IfSome};
+//! The drill of a stream: what is sent of it, repaired.
+ghost use Rattle.std.specs.Prelude.{◌≡◌, ◌⊎◌, ◌≤◌, ◌^◌, ◌∷◌, [], Ok, IfSome};
 ghost use Rattle.std.specs.Io.KnownBytes.{IsAtEnd};
 ghost use Rattle.fg_io.specs.Faults.{CountsFaults};
 ghost use Rattle.fg_shape.specs.Settings.{CanEncode};
 ghost use Rattle.fg_shape.specs.Losses.{MayLose};
-ghost use Rattle.fg_encode.specs.Reading.{IsStreamReadFor};
-ghost use Rattle.fg_encode.specs.Stream.{LeavesNothing, StreamEnding as AnyEnding, IsCut};
+ghost use Rattle.fg_encode.specs.Stream.{LeavesNothing};
 ghost use Rattle.fg_flows.specs.Plan.{PlanFits};
 ghost use Rattle.fg_results.specs.Repair.{OutputsPart};
 ghost use Rattle.fg_results.specs.Stops.{growth_of};
-ghost use Rattle.fg_drill.specs.Drill.{Drills, DrillsPart, IsFault, StopsLanes, StreamComesBack, answer_to, ending_of, records_sent};
+ghost use Rattle.fg_drill.specs.Drill.{IsFault, answer_to, ending_of};
 ghost use Rattle.fg_drill.specs.DrillSteps.{DrillsTrace, IsEndingsAnswer, StopsTrace, TellsAll, TellsEnding};
 ghost use Rattle.fg_thin.specs.ThinnedSource.{fixed_of, trace_left};
+ghost use Rattle.fg_commands.specs.Answered.{RequestAnswered};
 ghost use Rattle.fg_run.specs.Counted.{DrillCounts};
+ghost use Rattle.fg_run.specs.Drilling.{drilling, why_of_drill};
 
+use fg_commands::Why;
 use fg_crew::Gate;
 use fg_drill::laws::drills::{drills_come_back, repairs_are_drills};
 use fg_flows::Plan;
@@ -30,13 +32,13 @@ use std::alloc::Global;
 use std::sync::Wait;
 use std::thread::Threads;
 
-/// Encodes the stream in the input, which may have at most `max` bytes, 8 to 2^40, leaves out the records that are lost, and has
-/// the rest repaired.
+/// Encodes the stream in the input, which may have at most `max` bytes, 8 to 2^40, leaves out the records that are lost, has the
+/// rest repaired, and tells why that ended.
 ///
-/// The lanes and `out` gain what a repair gives for the rest. A `StreamFault` tells how the stream ends early; what comes before is
-/// sent and repaired all the same. After a fault the lanes have gained prefixes, and the report is begun only once all lanes are
-/// whole.
-pub(crate) fn drill<
+/// The lanes and `out` gain what a repair gives for the rest. `NotTransport` and `TooLong` tell how the stream ends early; what comes
+/// before is sent and repaired all the same. After a fault the lanes have gained prefixes, and the report is begun only once all lanes
+/// are whole.
+pub(crate) fn run_drill<
     W: Threads + Wait + Sync,
     S: Source + Send,
     K: Sink + Send,
@@ -53,39 +55,15 @@ pub(crate) fn drill<
     out: &mut K,
     lanes: &mut O,
     gate: &G,
-) -> Result<Finish, StreamFault>
+) -> Why
     requires settings { CanEncode settings }
     requires plan { PlanFits plan.now }
     requires flow { plan.now.table ≡ settings.port ∷ [] }
     requires inner { plan.now.max ≡ 2 ^ 42 }
     requires losses { MayLose losses }
     requires max { (8 ≤ max) × (max ≤ 2 ^ 40) }
-
-    // Every answer but a fault's or want of memory's is that of the stream's ending, and then the outputs are whole.
-    ensures whole { IsFault result ⊎ Drills settings plan.now losses max result (S.left input.old)
-        (O.lanes lanes.old) (O.lanes lanes.new) (K.written out.old) (K.written out.new) }
-    ensures exactly { IfSome (S.left input.old) (λ bytes. (payloads : List (List ℕ)) (ending : AnyEnding)
-        → IsCut settings.packets max bytes payloads ending → IsFault result ⊎ (result ≡ answer_to ending)) }
-    ensures all_read { IfSome (ending_of result) (λ ending. LeavesNothing ending → IsAtEnd (S.left input.new)) }
-
-    // The input is read as far as the answer needs, and at most a byte past the limit.
-    ensures reads { IfSome (S.left input.old) (λ bytes.
-        IsStreamReadFor max (ending_of result) bytes (S.left input.new)) }
-
-    // After a fault or want of memory they are parts, and the lanes stand at a stage of the repair.
-    ensures part { IsFault result → DrillsPart settings plan.now losses max (S.left input.old)
-        (O.lanes lanes.old) (O.lanes lanes.new) K.written out.old out.new }
-    ensures stops { IsFault result → IfSome (S.left input.old) (λ bytes. (payloads : List (List ℕ)) (ending : AnyEnding)
-        → IsCut settings.packets max bytes payloads ending
-        → StopsLanes plan.now result (records_sent settings losses payloads)
-        (O.lanes lanes.old) (O.lanes lanes.new)) }
-
-    // With no fault the stream comes back.
-    ensures comes_back { IfSome (S.left input.old) (λ bytes. IsFault result
-        ⊎ StreamComesBack settings plan.now losses max result bytes (O.lanes lanes.old) (O.lanes lanes.new)) }
-    ensures faults { DrillCounts (growth_of plan.now) result
-        ((S.faults input.old, S.faults input.new) ∷ [])
-        ((K.faults out.old, K.faults out.new) ∷ (O.faults lanes.old, O.faults lanes.new) ∷ []) }
+    ensures { RequestAnswered (drilling settings plan.now losses max) result S.left S.faults input.old input.new
+        O.lanes O.faults lanes.old lanes.new K.written K.faults out.old out.new }
 {
     // What the source gives is the trace of what is sent, so its repair is the stream's drill, and what comes back follows.
     repairs_are_drills();
@@ -93,12 +71,22 @@ pub(crate) fn drill<
     payloads_are_the_cut();
     thinned_traces_are_traces();
     let Ok(thinning) = Thinning::new(alloc, settings, losses, max) else {
-        return Ok(Finish::Memory);
+        return Why::Memory;
     };
     let mut source = thinning.of(&mut *input);
     let answer = repair_sent(rt, alloc, plan, &mut source, out, lanes, gate);
     let _input = source.into_inner();
-    answer
+    why_of(answer)
+}
+
+/// The answer of a drill that ends so.
+fn why_of(answer: Result<Finish, StreamFault>) -> Why
+    ensures { result ≡ why_of_drill answer }
+{
+    match answer {
+        Ok(finish) => finish.into(),
+        Err(fault) => Some(fault).into(),
+    }
 }
 
 /// Has what is sent of a stream repaired, and answers how the stream ends.

@@ -4,38 +4,22 @@
 ghost use Rattle.std.specs.Prelude.{◌≡◌, ◌≤◌, ◌∷◌, [], map, string_bytes};
 ghost use Rattle.fg_results.specs.Counted.{CountsAhead};
 ghost use Rattle.fg_run.specs.Answered.{WordsAnswered};
-ghost use Rattle.fg_run.specs.Ended.{IsFault, TellsFault, status_of};
+ghost use Rattle.fg_commands.specs.Ended.{IsFault, TellsFault, status_of};
 
 mod answer;
-mod capturing;
-mod checking;
 mod drill;
-mod drilling;
-mod encoding;
-mod ended;
-mod fault_line;
-mod inspection;
 pub mod laws;
-mod monitoring;
-mod planning;
-mod proving;
 mod repairing;
 mod request;
 mod sample;
-#[cfg(test)]
-mod tests;
 
-pub use capturing::{run_fromcap, run_tocap};
-pub use checking::run_check;
-pub use encoding::run_encode;
-pub use ended::{Ended, Why};
+pub use fg_commands::{
+    Ended, Why, run_check, run_encode, run_fromcap, run_inspect, run_monitor, run_pick, run_plan,
+    run_prove, run_survey, run_tocap, tell_end,
+};
 use fg_crew::Gate;
 use fg_io::laws::parts_of_writes;
 use fg_io::{Outlet, Sink, Source};
-pub use inspection::run_inspect;
-pub use monitoring::run_monitor;
-pub use planning::run_plan;
-pub use proving::run_prove;
 use request::Request;
 use std::alloc::{AllocError, Global};
 use std::sync::Wait;
@@ -46,13 +30,14 @@ use std::thread::Threads;
 /// `--help` and `--version`, each as the only word, write their text to `out`. `repair` repairs the flows of the trace in the
 /// input: each flow's lane gains its repaired stream, and `out` the report. Workers, where the words ask for some, are threads
 /// that recover words beside the caller's, for a drill and a sample too; the gate hears of their steps. Only what a fault leaves,
-/// and what is counted then, depends on whether there are any. `encode` writes the trace of the stream's encoding to `out`, and `inspect` a line for each record
-/// of the trace. `drill` encodes the stream, leaves records out, and repairs the rest; `sample` does so with a stream that it
-/// makes, and reads nothing. `fromcap` writes the trace of a capture's datagrams to `out`, `tocap` a capture of a trace's
-/// records, and `monitor` a line for each break of a stream's continuity. `prove` writes a case for each repaired window that shows
-/// a gap in the one flow that it takes, `check` judges a text of cases and writes a line for each, and `plan` writes the matrix
-/// that it chooses for a burst, and reads nothing. Words that break a rule are refused: then nothing is read, written or made. The
-/// line that says why goes to `err`; a fault of `err` changes no answer.
+/// and what is counted then, depends on whether there are any. `encode` writes the trace of the stream's encoding to `out`, and
+/// `inspect` a line for each record of the trace. `drill` encodes the stream, leaves records out, and repairs the rest; `sample`
+/// does so with a stream that it makes, and reads nothing. `fromcap` writes the trace of a capture's datagrams to `out`, `tocap`
+/// a capture of a trace's records, and `monitor` a line for each break of a stream's continuity. `prove` writes a case for each
+/// repaired window that shows a gap in the one flow that it takes, `check` judges a text of cases and writes a line for each, and
+/// `plan` writes the matrix that it chooses for a burst, and reads nothing. `survey` tells what a trace holds, and `pick` writes the
+/// trace of some of a trace's records. Words that break a rule are refused: then nothing is read, written or made. The line that says why goes to `err`; a fault of
+/// `err` changes no answer.
 pub fn run<
     W: Threads + Wait + Sync,
     S: Source + Send,
@@ -95,18 +80,4 @@ pub fn run<
         Err(AllocError) => Why::Memory,
     };
     tell_end(err, why)
-}
-
-/// Tells how a call ended: writes the line that says why to `err`, and answers with the status. A fault of `err`
-/// changes nothing else.
-pub fn tell_end<E: Sink>(err: &mut E, why: Why) -> Ended
-    ensures why { result.why ≡ why }
-    ensures status { result.status ≡ status_of why }
-    ensures err { TellsFault why (E.written err.old) (E.faults err.old)
-        (E.written err.new) (E.faults err.new) }
-    ensures quiet { why ≡ Why.Done → err.new ≡ err.old }
-    ensures never_falls { E.faults err.old ≤ E.faults err.new }
-{
-    let _ = fault_line::write_fault_line(err, why);
-    Ended::of(why)
 }

@@ -1,10 +1,9 @@
 //! The repair of a trace.
 ghost use Rattle.fg_flows.specs.Plan.{PlanFits};
-ghost use Rattle.fg_cli.specs.declared.Order.TheVariants.{Repair};
-ghost use Rattle.fg_run.specs.declared.request.Request.TheVariants.{Ordered};
-ghost use Rattle.fg_run.specs.Answered.{RequestAnswered};
+ghost use Rattle.fg_commands.specs.Answered.{RequestAnswered};
+ghost use Rattle.fg_run.specs.Repairing.{repairing};
 
-use crate::ended::Why;
+use fg_commands::Why;
 use fg_crew::Gate;
 use fg_drill::laws::drills::repairs_come_back;
 use fg_flows::Plan;
@@ -23,7 +22,7 @@ pub(crate) fn repair<
     G: Gate,
 >(rt: &W, alloc: Global, plan: &Plan, input: &mut S, out: &mut K, lanes: &mut O, gate: &G) -> Why
     requires { PlanFits plan.now }
-    ensures { RequestAnswered (Ordered (Repair plan.now)) result S.left S.faults input.old input.new
+    ensures { RequestAnswered (repairing plan.now) result S.left S.faults input.old input.new
         O.lanes O.faults lanes.old lanes.new K.written K.faults out.old out.new }
 {
     repairs_come_back();

@@ -8,7 +8,7 @@ ghost use Rattle.std.specs.Str.{IsUtf8};
 ghost use Rattle.std.specs.Vec.Iter.{into_iter_items};
 ghost use Rattle.fg_results.specs.Counted.{CountsAhead};
 ghost use Rattle.fg_run.specs.Answered.{WordsAnswered};
-ghost use Rattle.fg_run.specs.Ended.{IsFault, TellsFault, status_of};
+ghost use Rattle.fg_commands.specs.Ended.{IsFault, TellsFault, status_of};
 
 use fg_crew::NoGate;
 use fg_io::{

@@ -1,9 +1,9 @@
 use Rattle.std.proofs.Common.{◌≡◌, ◌∙◌, [], IfSome, ap, subst}
+use Rattle.fg_io.proofs.FaultLemmas.{err_more}
 use Rattle.fg_io.specs.InputBuffer.{InputState}
 use Rattle.fg_io.proofs.FaultLemmas.{on_err as any_err}
 use Rattle.fg_pcap.specs.Reading.{HasPart, StandsAfter}
 use Rattle.fg_pcap.proofs.Captures.{converts_part, nothing_written, refusal_converts, never_refused_after}
-use Rattle.fg_pcap.proofs.Sending.{on_err}
 use Rattle.fg_pcap.proofs.conversion.convert.Goals as goal
 
 pub returns-in_err-trace-clause-part : goal.returns-in_err-trace-clause-part
@@ -17,7 +17,7 @@ returns-in-Ok-clause-part g c =
     let first = g.S.Source.left c.args.from.now in
     let limit : c.open.new.input.max ≡ c.args.max = c.open.ensures.max ∙ ap (λ (t : InputState). t.max) c.in_ok-input.ensures in
     let stands : StandsAfter c.in-Ok.format c.open.new.input first (g.S.Source.left c.open.new.from) [] = rw c.in-Ok.is at c.in_ok-format.ensures.opens in
-    on_err c.convert_packets.result _ _
+    err_more c.convert_packets.result _ _
     (λ part. converts_part c.in-Ok.format c.args.max first _ _ (subst (λ n. IfSome first (λ bytes. HasPart c.in-Ok.format n bytes (g.K.Sink.written c.args.out.now) (g.K.Sink.written c.convert_packets.new.out))) limit (part first stands)))
     c.convert_packets.ensures.part
 

@@ -1,5 +1,6 @@
+use Rattle.fg_io.proofs.FaultLemmas.{err_more, ok_more}
 use Rattle.fg_io.proofs.FaultLemmas.{on_err as any_err}
-use Rattle.fg_pcap.proofs.Sending.{on_ok, on_err, none_sent, one_sent, header_part, payload_part}
+use Rattle.fg_pcap.proofs.Sending.{none_sent, one_sent, header_part, payload_part}
 use Rattle.fg_pcap.proofs.conversion.send_frame.Goals as goal
 
 pub returns-in_default-clause-sent : goal.returns-in_default-clause-sent
@@ -12,12 +13,12 @@ returns-in_err-add-clause-part g c =
 
 pub returns-clause-sent : goal.returns-clause-sent
 returns-clause-sent g c =
-    on_ok c.add-2.result _ _
+    ok_more c.add-2.result _ _
     (λ again. one_sent (record { time = c.args.time; bytes = c.args.frame.now }) c.in-Some.port c.in-Some.payload.now c.args.trace.now _ _ _ _ _ _ c.in-Some.ensures.found c.record_header.ensures c.in_ok-add.ensures.sent again)
     c.add-2.ensures.sent
 
 pub returns-clause-part : goal.returns-clause-part
 returns-clause-part g c =
-    on_err c.add-2.result _ _
+    err_more c.add-2.result _ _
     (λ again. payload_part (record { time = c.args.time; bytes = c.args.frame.now }) c.in-Some.port c.in-Some.payload.now c.args.trace.now _ _ _ _ _ c.in-Some.ensures.found c.record_header.ensures c.in_ok-add.ensures.sent again)
     c.add-2.ensures.part

@@ -1,4 +1,4 @@
-use Rattle.fg_run.proofs.OneAnswers.{one_answer}
+use Rattle.fg_run.proofs.Behaviours.{one_answer}
 use Rattle.fg_run.proofs.laws.one_answer.Goals as goal
 
 pub returns : goal.returns

@@ -1,0 +1,28 @@
+//! The judgement of a text of cases.
+ghost use Rattle.std.specs.Prelude.{◌≡◌, ◌≤◌, ◌^◌};
+ghost use Rattle.fg_commands.specs.Checking.{checking};
+ghost use Rattle.fg_commands.specs.Ended.{status_of};
+ghost use Rattle.fg_commands.specs.Filter.{FilterAnswered};
+
+use crate::ended::{Ended, why_of_judged};
+use fg_check::check_cases;
+use fg_check::laws::{one_check, one_text, one_told};
+use fg_io::{Sink, Source};
+use std::alloc::Global;
+
+/// Judges the cases in the text in the input, which may have at most `max` bytes, and writes a line to `out` for each.
+///
+/// `NotCase` and `TooLong` tell where the text stops fitting. The cases before are judged. After a fault `out` has gained a
+/// prefix of the lines.
+pub fn run_check<S: Source, K: Sink>(alloc: Global, max: u64, input: &mut S, out: &mut K) -> Ended
+    requires least { 8 ≤ max }
+    requires limit { max ≤ 2 ^ 40 }
+    ensures status { result.status ≡ status_of result.why }
+    ensures answered { FilterAnswered (checking max) result.why S.left S.faults input.old input.new
+        K.written K.faults out.old out.new }
+{
+    one_check();
+    one_text();
+    one_told();
+    Ended::of(why_of_judged(check_cases(alloc, max, input, out)))
+}

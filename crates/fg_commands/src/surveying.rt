@@ -1,0 +1,30 @@
+//! The survey of a trace.
+ghost use Rattle.std.specs.Prelude.{◌≡◌, ◌≤◌, ◌^◌};
+ghost use Rattle.fg_commands.specs.Ended.{status_of};
+ghost use Rattle.fg_commands.specs.Filter.{FilterAnswered};
+ghost use Rattle.fg_commands.specs.Surveying.{surveying};
+
+use crate::ended::Ended;
+use fg_io::{Sink, Source};
+use fg_survey::survey;
+use std::alloc::Global;
+
+/// Writes to `out` what the trace in the input holds, which may have at most `max` bytes; `json` asks for a JSON object a line.
+///
+/// The text is written once all was read, that of the whole records before `Cut` and `TooLong`. After a failed read there is
+/// none, and after a failed write `out` has gained a prefix of it.
+pub fn run_survey<S: Source, K: Sink>(
+    alloc: Global,
+    max: u64,
+    json: bool,
+    input: &mut S,
+    out: &mut K,
+) -> Ended
+    requires least { 8 ≤ max }
+    requires limit { max ≤ 2 ^ 40 }
+    ensures status { result.status ≡ status_of result.why }
+    ensures answered { FilterAnswered (surveying json max) result.why S.left S.faults input.old input.new
+        K.written K.faults out.old out.new }
+{
+    Ended::of(survey(alloc, max, json, input, out).into())
+}

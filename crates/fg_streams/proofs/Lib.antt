@@ -1,0 +1,9 @@
+mod BurstLemmas
+mod Closing
+mod Marking
+mod Positioned
+mod Positions
+mod Ranking
+mod Received
+mod Summing
+mod Timing

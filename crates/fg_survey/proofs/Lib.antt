@@ -1,0 +1,10 @@
+mod Counting
+mod LaneLemmas
+mod MatrixTexts
+mod Opening
+mod Readings
+mod Sections
+mod Sheets
+mod Streaming
+mod TallyLemmas
+mod Walking

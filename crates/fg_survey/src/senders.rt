@@ -1,0 +1,35 @@
+//! The senders of a trace.
+ghost use Rattle.std.specs.Prelude.{◌≡◌, ◌<◌, ℕ, List, IfSome, Option, None, get_or, length, false};
+ghost use Rattle.fg_survey.specs.Senders.{listed, same_sender};
+ghost use Rattle.fg_survey.specs.Steps.{IsFoundAt};
+
+/// A sender on a port.
+#[derive(Clone, Copy, Debug, PartialEq, Eq)]
+pub struct Sender {
+    /// The UDP port.
+    pub port: u16,
+    /// The synchronization source.
+    pub ssrc: u32,
+}
+
+impl Sender {
+    /// Whether the two are the same.
+    pub(crate) fn same(&self, other: &Sender) -> bool
+        ensures { result ≡ same_sender self.now other.now }
+    {
+        self.port == other.port && self.ssrc == other.ssrc
+    }
+}
+
+/// The place of a sender.
+pub(crate) fn find(senders: &[Sender], sender: Sender) -> Option<usize>
+    ensures found { IfSome result (λ place. IsFoundAt senders.now sender place) }
+    ensures none { result ≡ None → listed senders.now sender ≡ false }
+{
+    for i in 0..senders.len() {
+        if sender.same(&senders[i]) {
+            return Some(i);
+        }
+    }
+    None
+}
