@@ -545,6 +545,19 @@ def inspected(number, time, port, datagram, ports):
     return line + "{} base {} offset {} na {}\n".format(kind, *read[:3])
 
 
+# ---- Picking ----
+
+def is_picked(record, asked):
+    """Whether a record fits what is asked for: by its port, by the source of a media datagram, and by its time."""
+    time, port, datagram = record
+    ports = {flow + kind for flow in asked["flow"] for kind in KINDS} | set(asked["port"])
+    read = read_media(datagram)
+    sent_by = None if isinstance(read, int) else read[1]
+    return ((not ports or port in ports)
+            and (sent_by is None or (sent_by in (asked["ssrc"] or [sent_by]) and sent_by not in asked["without"]))
+            and asked["from"] <= time and (asked["until"] is None or time < asked["until"]))
+
+
 # ---- Continuity ----
 
 class Packet(NamedTuple):
@@ -688,6 +701,161 @@ def from_capture(data, most):
     return records, DONE if at == len(data) else Ends(4, f"cut at byte {at}")
 
 
+# ---- The survey of a trace ----
+
+LATE_BY, MOST_STREAMS = 1024, 256
+
+
+def surveyed_line(kind, counts, json, port=None):
+    """A line of counts, on a port where one is told."""
+    if json:
+        named = [*([("port", port)] if port is not None else []), *counts]
+        return '{"kind":"%s"%s}\n' % (kind, "".join(f',"{name}":{number}' for name, number in named))
+    return " ".join([kind, *([str(port)] if port is not None else []), *(f"{name} {number}" for name, number in counts)]) + "\n"
+
+
+def extended(numbers):
+    """For each datagram of a stream its position (None where it is late) and the top before it (None before the first)."""
+    first, top, found = None, None, []
+    for seq in numbers:
+        before = top
+        if top is None:
+            first = top = place = seq
+        else:
+            place = top + (seq - top + 32768) % 65536 - 32768
+            place = None if place < first or place <= top - LATE_BY else place
+            top = max(top, place) if place is not None else top
+        found.append((place, before))
+    return found
+
+
+def jitters(arrivals):
+    """Sixteen times the jitter after each datagram but the first (RFC 3550, A.8)."""
+    transits, jitter = [(time * 9 // 100 - ts) % 2 ** 32 for time, _, ts, _ in arrivals], 0
+    for before, now in zip(transits, transits[1:]):
+        by = min((now - before) % 2 ** 32, (before - now) % 2 ** 32)
+        jitter += by - (jitter + 8) // 16
+        yield jitter
+
+
+def bursts_of(received, first, top):
+    """The slot and the length of each maximal run of positions that weren't received, and when the one before was."""
+    known = sorted(received)
+    return [(before + 1 - first, after - before - 1, received[before])
+            for before, after in zip(known, known[1:]) if after > before + 1]
+
+
+def surveyed_stream(port, ssrc, arrivals, start, json):
+    """The lines of a stream of datagrams, each with its time, sequence number, timestamp and payload."""
+    places = extended([seq for _, seq, _, _ in arrivals])
+    received, late, duplicate, behind, jumps = {}, 0, 0, [], 0
+    for (time, _, _, _), (place, top) in zip(arrivals, places):
+        if place is None:
+            late += 1
+        elif place in received:
+            duplicate += 1
+        else:
+            received[place] = time
+            if top is not None and place < top:
+                behind.append(top - place)
+            jumps += top is not None and place > top + 1024
+    first, top = min(received), max(received)
+    expected = top - first + 1
+    pids = {(payload[at + 1] & 0x1f) << 8 | payload[at + 2] for _, _, _, payload in arrivals for at in range(0, len(payload), PACKET)}
+    text = surveyed_line("stream", [
+        ("ssrc", ssrc), ("first", first), ("expected", expected), ("received", len(received)), ("lost", expected - len(received)),
+        ("duplicate", duplicate), ("late", late), ("reordered", len(behind)), ("deepest", max(behind, default=0)), ("jumps", jumps),
+        ("pids", len(pids))], json, port)
+    bursts = bursts_of(received, first, top)
+    steps = [("1", 1, 1), ("2", 2, 2), ("4", 3, 4), ("8", 5, 8), ("16", 9, 16), ("32", 17, 32), ("more", 33, 2 ** 64)]
+    text += surveyed_line("bursts", [("ssrc", ssrc), ("runs", len(bursts)), *(
+        (name, sum(least <= length <= most for _, length, _ in bursts)) for name, least, most in steps)], json, port)
+    for slot, length, at in sorted(bursts, key=lambda burst: (-burst[1], burst[0]))[:10]:
+        text += surveyed_line("burst", [("ssrc", ssrc), ("slot", slot), ("length", length), ("at", max(at - start, 0))], json, port)
+    told = [jitter // 16 * 100 // 9 for jitter in jitters(arrivals)]
+    times = [time for time, _, _, _ in arrivals]
+    silence, since = max(((after - before, before) for before, after in zip(times, times[1:]) if after > before),
+                         key=lambda rise: rise[0], default=(0, 0))
+    return text + surveyed_line("jitter", [
+        ("ssrc", ssrc), ("last", told[-1] if told else 0), ("most", max(told, default=0)), ("silence", silence),
+        ("at", max(since - start, 0))], json, port), max(behind, default=0)
+
+
+def protected(port, records, media, parity, told):
+    """Offset, number, and how far the stream's top was ahead of the base, of each parity datagram on the second port above this
+    one and on the fourth that comes after the first media datagram here."""
+    tops, last, found = {}, None, ([], [])
+    for (_, at, _), own, says in zip(records, media, parity):
+        if at == port and own is not None:
+            last = port, own[1]
+            first, top = tops.get(last, (own[0], own[0]))
+            place = top + (own[0] - top + 32768) % 65536 - 32768
+            tops[last] = first, top if place < first or place <= top - LATE_BY else max(top, place)
+        elif last is not None and says is not None and at in (port + 2, port + 4):
+            ahead = (tops[last][1] - says[0]) % 65536 if last in told else 0
+            found[at == port + 4].append((says[1], says[2], ahead if ahead < 32768 else 0))
+    return found
+
+
+def commonest(values):
+    return min(values, key=lambda value: (-values.count(value), value))
+
+
+def surveyed_matrix(port, columns, rows, deepest, json):
+    """The matrix that the parity shows, and the words for a repair."""
+    if not columns and not rows:
+        return ""
+    width, height = commonest([p[:2] for p in columns]) if columns else (commonest([p[1] for p in rows]), 0)
+    same = sum(p[:2] == (width, height) for p in columns) + sum(p[:2] == (1, width) for p in rows)
+    lag = max(p[2] for p in columns + rows)
+    window = min(100, width * height if height else width)
+    depth = min(1000, window + lag + deepest + 1)
+    text = surveyed_line("matrix", [("columns", width), ("rows", height), ("same", same),
+                                    ("other", len(columns) + len(rows) - same), ("lag", lag)], json, port)
+    if json:
+        return text + surveyed_line("words", [("flow", port), ("window", window), ("depth", depth)], json)
+    return text + f"words flow={port} window={window} depth={depth}\n"
+
+
+def survey(records, ending, json):
+    """The text of a survey."""
+    times, start = [time for time, _, _ in records], records[0][0] if records else 0
+    media = [read_media(datagram) for _, _, datagram in records]
+    media = [None if isinstance(read, int) else read for read in media]
+    parity = [None if read is not None or isinstance(read_parity(datagram), int) else read_parity(datagram)
+              for read, (_, _, datagram) in zip(media, records)]
+    text = surveyed_line("trace", [
+        ("records", len(records)), ("bytes", sum(len(datagram) for _, _, datagram in records)),
+        ("span", max(times, default=0) - min(times, default=0)),
+        ("backward", sum(time < most for time, most in zip(times[1:], itertools.accumulate(times, max))))], json)
+    for port in sorted({port for _, port, _ in records}):
+        own = [at for at, record in enumerate(records) if record[1] == port]
+        kinds = sum(media[at] is not None for at in own), sum(parity[at] is not None for at in own)
+        text += surveyed_line("port", [
+            ("records", len(own)), ("bytes", sum(len(records[at][2]) for at in own)), ("first", max(times[own[0]] - start, 0)),
+            ("last", max(times[own[-1]] - start, 0)), ("media", kinds[0]), ("parity", kinds[1]), ("other", len(own) - sum(kinds))],
+            json, port)
+    streams = {}
+    for at, read in enumerate(media):
+        if read is not None:
+            streams.setdefault((records[at][1], read[1]), []).append(at)
+    told, deepest = list(streams)[:MOST_STREAMS], {}
+    for port, ssrc in told:
+        arrivals = [(times[at], media[at][0], struct.unpack_from(">I", records[at][2], 4)[0], records[at][2][12:])
+                    for at in streams[port, ssrc]]
+        lines, depth = surveyed_stream(port, ssrc, arrivals, start, json)
+        text, deepest[port] = text + lines, max(deepest.get(port, 0), depth)
+    for port in sorted(deepest):
+        text += surveyed_matrix(port, *protected(port, records, media, parity, told), deepest[port], json)
+    others = sum(len(streams[key]) for key in list(streams)[MOST_STREAMS:])
+    if others:
+        text += surveyed_line("more", [("streams", others)], json)
+    end, _, place = ending.line.partition(" at byte ")
+    if json:
+        return text + '{"kind":"tail","end":"%s"%s}\n' % (end or "ended", place and ',"byte":' + place)
+    return text + f"tail {ending.line or 'ended'}\n"
+
+
 # ---- The words of the command line ----
 
 NEEDED = object()
@@ -701,7 +869,7 @@ TABLE = [
     (REPAIRS, "depth", (1, 1000), 400, 1),
     (REPAIRS, "hold", (1, 3600000000), 0, 1),
     (["repair", "drill", "sample"], "workers", (0, 16), 4, 1),
-    (["repair", "encode", "drill", "inspect", "fromcap", "tocap", "monitor", "prove", "check"], "max", (8, 1099511627776), 1099511627776, 1),
+    (["repair", "encode", "drill", "inspect", "fromcap", "tocap", "monitor", "prove", "check", "survey", "pick"], "max", (8, 1099511627776), 1099511627776, 1),
     (ENCODES, "columns", (0, 255), NEEDED, 1),
     (ENCODES, "rows", (0, 255), NEEDED, 1),
     (["plan"], "burst", (1, 20), NEEDED, 1),
@@ -719,8 +887,15 @@ TABLE = [
     (["sample"], "seed", (0, 9999999999999), NEEDED, 1),
     (["sample"], "datagrams", (1, 20000), 1000, 1),
     (["sample"], "loss", (0, 20), 3, 1),
+    (["survey"], "format", ("lines", "json"), "lines", 1),
+    (["pick"], "flow", (1, 65531), None, 64),
+    (["pick"], "port", (0, 65535), None, 64),
+    (["pick"], "ssrc", (0, 4294967295), None, 16),
+    (["pick"], "without", (0, 4294967295), None, 16),
+    (["pick"], "from", (0, 18446744073709551615), 0, 1),
+    (["pick"], "until", (0, 18446744073709551615), None, 1),
 ]
-COMMANDS = ["repair", "encode", "drill", "inspect", "sample", "fromcap", "tocap", "monitor", "prove", "check", "plan"]
+COMMANDS = ["repair", "encode", "drill", "inspect", "sample", "fromcap", "tocap", "monitor", "prove", "check", "plan", "survey", "pick"]
 MANY = ("flow", "drop")
 
 
@@ -732,7 +907,7 @@ def value_of(text, values):
     """The value that the text spells, or None."""
     if isinstance(values[0], str):
         return text if text in values else None
-    if not re.fullmatch("0|[1-9][0-9]{0,12}", text):
+    if not re.fullmatch("0|[1-9][0-9]{0,19}", text):
         return None
     return int(text) if values[0] <= int(text) <= values[1] else None
 
@@ -770,7 +945,7 @@ def settings_of(command, words):
     for name, (_, _, _, default, _) in rows.items():
         if name not in settings and default is NEEDED:
             return f"words: missing {name}", None
-    return {name: settings.get(name, []) if name in MANY else settings.get(name, [rows[name][3]])[0] for name in rows}, places
+    return {name: settings.get(name, []) if name in MANY or rows[name][4] != 1 else settings.get(name, [rows[name][3]])[0] for name in rows}, places
 
 
 def asked_of(words):
@@ -793,7 +968,7 @@ def asked_of(words):
         fault = layout_fault(settings["columns"], settings["rows"], settings["fec"])
         if fault:
             return f"words: layout {fault}", None
-    if "flow" in settings:
+    if "flow" in settings and command != "pick":
         fault = ports_fault(settings["flow"])
         if fault:
             return f"words: flows {fault}", None
@@ -837,6 +1012,11 @@ def do_inspect(asked, data):
     return "".join(lines).encode(), {}, ending
 
 
+def do_survey(asked, data):
+    records, ending = read_trace(data, asked["max"])
+    return b"" if records is None else survey(records, ending, asked["format"] == "json").encode(), {}, ending
+
+
 def do_fromcap(asked, data):
     records, ending = from_capture(data, asked["max"])
     return b"" if records is None else MAGIC + spelled(records), {}, ending
@@ -848,6 +1028,11 @@ def do_tocap(asked, data):
         return b"", {}, ending
     capture, ending = to_capture(records, ending)
     return capture, {}, ending
+
+
+def do_pick(asked, data):
+    records, ending = read_trace(data, asked["max"])
+    return b"" if records is None else MAGIC + spelled(record for record in records if is_picked(record, asked)), {}, ending
 
 
 def do_monitor(asked, data):
@@ -876,8 +1061,9 @@ def do_plan(asked, _):
     return ("columns {1} rows {2}\n".format(*min(fitting)) if fitting else "none\n").encode(), {}, DONE
 
 
-DOES = {"repair": do_repair, "encode": do_encode, "drill": do_drill, "sample": do_sample, "inspect": do_inspect,
-        "fromcap": do_fromcap, "tocap": do_tocap, "monitor": do_monitor, "prove": do_prove, "check": do_check, "plan": do_plan}
+DOES = {"repair": do_repair, "encode": do_encode, "drill": do_drill, "sample": do_sample, "inspect": do_inspect, "survey": do_survey,
+        "fromcap": do_fromcap, "tocap": do_tocap, "monitor": do_monitor, "prove": do_prove, "check": do_check, "plan": do_plan,
+        "pick": do_pick}
 
 
 def answer(words, data):

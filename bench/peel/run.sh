@@ -13,8 +13,8 @@ echo 'peel_times: fg_words fg_shape fg_peel slab' >> "$work/crates.txt"
 cp "$here/program.txt" "$work/crates/peel_times/src/main.rt"
 # The walk through the lines is proved as in the peeler's own tests.
 for name in line_fits lines_fit; do
-    cp -r "$top/crates/fg_peel/proofs/tests/$name" "$work/crates/peel_times/proofs/"
-    sed -i "s/fg_peel\.proofs\.tests\.$name/peel_times.proofs.$name/" "$work/crates/peel_times/proofs/$name"/*.antt
+    cp -r "$top/crates/fg_peel_tests/proofs/peeling/$name" "$work/crates/peel_times/proofs/"
+    sed -i "s/fg_peel_tests\.proofs\.peeling\.$name/peel_times.proofs.$name/" "$work/crates/peel_times/proofs/$name"/*.antt
 done
 cd "$work/crates/peel_times"
 rt run

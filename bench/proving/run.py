@@ -1,0 +1,69 @@
+#!/usr/bin/env python3
+"""Measures what it takes to prove the program from nothing, in units of an example of the kit, outside the gate.
+
+run.py [gate]
+
+In one run: the check of the kit's `examples/worked/bikes` with one job, which is the unit; then the first command of README.md on
+a copy of the checkout with nothing kept. With `gate`, also `rt ci --anew` on such a copy. Each is told in seconds of the clock and
+in seconds of processors, its children's counted in, and as a multiple of the unit. It wants a machine that does nothing else.
+"""
+import os
+import resource
+import shutil
+import subprocess
+import sys
+import tempfile
+import time
+
+TOP = os.path.dirname(os.path.dirname(os.path.dirname(os.path.abspath(__file__))))
+KIT = os.path.dirname(subprocess.run(["rt", "doc"], capture_output=True, text=True, check=True).stdout.strip())
+EXAMPLE = "rattle/examples/worked/bikes"
+FIRST = "tools/prove fgate && cd crates/fgate && rt run -- repair flow=5000 < data/four_lost.trace"
+
+
+def spent(command, folder):
+    """The seconds that a command takes in a folder: of the clock, and of processors."""
+
+    def processors():
+        used = resource.getrusage(resource.RUSAGE_CHILDREN)
+        return used.ru_utime + used.ru_stime
+
+    begun, before = time.monotonic(), processors()
+    done = subprocess.run(["bash", "-c", command], cwd=folder, capture_output=True, text=True)
+    if done.returncode:
+        sys.exit(f"run.py: {command} failed:\n{done.stdout[-2000:]}{done.stderr[-2000:]}")
+    return time.monotonic() - begun, processors() - before
+
+
+def unit(room):
+    shutil.copytree(f"{KIT}/{EXAMPLE}", f"{room}/unit")
+    return spent("rt check --jobs 1", f"{room}/unit")
+
+
+def checkout(room, name):
+    subprocess.run(["git", "clone", "-q", TOP, f"{room}/{name}"], check=True)
+    return f"{room}/{name}"
+
+
+def tell(what, clock, processors, of):
+    print(
+        f"{what}: {clock:.0f} s of the clock, {processors:.0f} s of processors; "
+        f"{clock / of[0]:.1f} and {processors / of[1]:.1f} units",
+        flush=True,
+    )
+
+
+def main():
+    words = sys.argv[1:]
+    if words not in ([], ["gate"]):
+        sys.exit(__doc__)
+    with tempfile.TemporaryDirectory(prefix="proving-") as room:
+        print(f"{len(os.sched_getaffinity(0))} processors")
+        one = unit(room)
+        tell("the unit", *one, one)
+        tell("the first command", *spent(FIRST, checkout(room, "first")), one)
+        if words:
+            tell("the gate", *spent("rt ci --anew", checkout(room, "gate")), one)
+
+
+main()
