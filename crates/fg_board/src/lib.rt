@@ -9,7 +9,8 @@ mod admitter;
 mod board;
 mod job;
 pub mod laws;
-mod pass;mod turns;
+mod pass;
+mod turns;
 
 pub use admitter::Admitter;
 pub use board::Board;

@@ -9,6 +9,7 @@ mod encoding;
 pub mod laws;
 mod lines;
 pub mod stream;
+
 pub use batch::Batch;
 pub use encoder::Encoder;
 pub use encoding::encode;

@@ -1,8 +1,8 @@
 //! The worked example, and traces with each kind of line.
 ghost use Rattle.std.specs.Prelude.{◌≤◌};
 
-use fg_inspect::*;
 use fg_flows::Table;
+use fg_inspect::*;
 use fg_io::{MemSink, MemSource, SafeSource, Source};
 use fg_trace::Finish;
 use std::alloc::{AllocError, Global};

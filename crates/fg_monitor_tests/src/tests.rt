@@ -1,9 +1,9 @@
 //! Streams with each kind of fault and with none.
 ghost use Rattle.std.specs.Prelude.{◌≤◌, ◌^◌};
 
-use fg_monitor::*;
 use fg_encode::stream::StreamFault;
 use fg_io::{Fault, MemSink, MemSource, SafeSource, Source};
+use fg_monitor::*;
 use fg_ts::TsFault;
 use std::alloc::{AllocError, Global};
 use std::process::Abort;

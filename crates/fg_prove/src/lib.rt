@@ -3,7 +3,8 @@
 
 mod gaps;
 pub mod laws;
-mod prover;mod text;
+mod prover;
+mod text;
 mod walk;
 
 pub use walk::prove_flow;

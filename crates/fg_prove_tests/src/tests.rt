@@ -1,9 +1,9 @@
 //! The worked block of 16 media datagrams, as it is sent with all of its parity, and what is told where some are lost.
 ghost use Rattle.std.specs.Prelude.{◌≤◌, length};
 
-use fg_prove::*;
 use fg_flows::{Plan, Table};
 use fg_io::{MemSink, MemSource, SafeSource, Source};
+use fg_prove::*;
 use fg_trace::Finish;
 use std::alloc::{AllocError, Global};
 use std::process::Abort;

@@ -9,6 +9,7 @@ mod folding;
 mod missing;
 mod tallies;
 mod tally;
+
 pub use answers::{Begun, Folded, Held};
 pub use tallies::Tallies;
 pub use tally::Tally;

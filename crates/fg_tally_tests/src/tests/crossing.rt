@@ -1,7 +1,7 @@
 //! Tallies are shared by threads.
 
-use fg_tally::Tallies;
 use fg_board::Board;
+use fg_tally::Tallies;
 use std::alloc::{AllocError, Global};
 use std::test::Fail;
 

@@ -3,9 +3,9 @@
 ghost use Rattle.std.specs.Prelude.{◌≡◌, ◌≤◌};
 
 use super::scene::{admit_media, admit_parity, fold, play};
-use fg_tally::{Begun, Folded, Tallies};
 use fg_board::{Admitter, Board, Key};
 use fg_shape::Shape;
+use fg_tally::{Begun, Folded, Tallies};
 use std::alloc::{AllocError, Global};
 use std::sync::Wait;
 use std::test::Fail;

@@ -1,8 +1,8 @@
 //! A flow and its tallies, kept plainly. Words are timestamps alone, and no equation spans 100 positions.
 
-use fg_tally::{Begun, Folded, Held};
 use fg_board::{Fate, Key};
 use fg_shape::Shape;
+use fg_tally::{Begun, Folded, Held};
 use std::alloc::{AllocError, Global};
 
 /// Positions are below this.

@@ -3,10 +3,10 @@
 use super::plain::{Plain, Sum};
 use super::scene::word_of;
 use super::stage::{Stage, open};
-use fg_tally::{Begun, Folded};
 use fg_board::{Fate, Look};
 use fg_desk::{Outcome, Played, Reply, Tray};
 use fg_shape::Shape;
+use fg_tally::{Begun, Folded};
 use fg_words::Word;
 use rand_core::utils::NextWord;
 use rand_pcg::Pcg32;

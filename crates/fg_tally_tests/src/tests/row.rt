@@ -3,9 +3,9 @@
 ghost use Rattle.std.specs.Prelude.{◌≡◌, ◌≤◌};
 
 use super::scene::{admit_media, admit_parity, fold};
-use fg_tally::{Begun, Folded, Tallies, Tally};
 use fg_board::{Admitter, Board, Fate, Key};
 use fg_shape::Shape;
+use fg_tally::{Begun, Folded, Tallies, Tally};
 use std::alloc::{AllocError, Global};
 use std::sync::Wait;
 use std::test::Fail;

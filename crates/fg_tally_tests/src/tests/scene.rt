@@ -2,10 +2,10 @@
 
 ghost use Rattle.std.specs.Prelude.{◌≡◌, ◌≤◌};
 
-use fg_tally::{Folded, Tally};
 use fg_board::{Admitter, Board, Key};
 use fg_desk::{Played, Reply, Tray};
 use fg_shape::{Shape, contains, shape_ok};
+use fg_tally::{Folded, Tally};
 use fg_words::{Shared, Word};
 use std::alloc::{AllocError, Global};
 use std::sync::Wait;

@@ -3,10 +3,10 @@
 ghost use Rattle.std.specs.Prelude.{◌≡◌, ◌≤◌, ◌+◌, IfOk};
 
 use super::scene::{fold, play, send_media, send_parity};
-use fg_tally::{Begun, Folded, Held, Tallies};
 use fg_board::{Admitter, Board, Fate, Key, Look, Pass};
 use fg_desk::{Played, Reply, Tray};
 use fg_shape::Shape;
+use fg_tally::{Begun, Folded, Held, Tallies};
 use fg_words::Word;
 use std::alloc::{AllocError, Global};
 use std::marker::Model;
