@@ -14,8 +14,6 @@ mod help;
 pub mod laws;
 mod making;
 mod settings;
-#[cfg(test)]
-mod tests;
 
 pub use grammar::Command;
 pub use help::{Question, help_text, version_text};

@@ -6,7 +6,5 @@ mod ordering;
 mod reading;
 mod runs_of;
 mod search;
-#[cfg(test)]
-mod tests;
 
 pub use closure::Closure;

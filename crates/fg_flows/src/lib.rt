@@ -17,8 +17,6 @@ use thiserror::Error;
 pub mod laws;
 mod selection;
 mod sheaf;
-#[cfg(test)]
-mod tests;
 
 /// The most flows that a table has.
 const MOST_FLOWS: usize = 64;

@@ -170,6 +170,3 @@ fn clear_flows(flows: &mut [Vec<Entry>])
         flow.clear();
     }
 }
-
-#[cfg(test)]
-mod tests;

@@ -307,6 +307,3 @@ fn read_between<S: Source>(
         Err(Failed) => Err(Fault::Read),
     }
 }
-
-#[cfg(test)]
-mod tests;

@@ -44,6 +44,3 @@ pub use standard::{ReaderSource, StderrSink, StdinSource, StdoutSink, WriterSink
 /// value.
 #[derive(Clone, Copy, Debug, PartialEq, Eq)]
 pub struct Failed;
-
-#[cfg(test)]
-mod tests;

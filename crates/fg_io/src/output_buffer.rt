@@ -107,6 +107,3 @@ impl OutputBuffer {
         true
     }
 }
-
-#[cfg(test)]
-mod tests;

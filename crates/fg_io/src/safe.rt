@@ -129,6 +129,3 @@ impl Outlet for SafeOutlet {
         Ok(())
     }
 }
-
-#[cfg(test)]
-mod tests;

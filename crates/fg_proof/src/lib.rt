@@ -4,8 +4,6 @@
 mod case;
 mod judging;
 pub mod laws;
-#[cfg(test)]
-mod tests;
 
 pub use case::Case;
 pub use fg_runs::{Rules, Runs};

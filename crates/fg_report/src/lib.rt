@@ -18,6 +18,3 @@ pub use marks::Marks;
 pub use report::write_report;
 pub use shelf::Shelf;
 pub use tail::Tail;
-
-#[cfg(test)]
-mod tests;

@@ -74,6 +74,3 @@ impl Shelf {
         outcome
     }
 }
-
-#[cfg(test)]
-mod tests;

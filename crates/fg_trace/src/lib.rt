@@ -16,6 +16,3 @@ pub use header::MAGIC;
 pub use reader::Reader;
 pub use step::{Finish, Step, TraceFault};
 pub use write::{record_header, write_datagram};
-
-#[cfg(test)]
-mod tests;

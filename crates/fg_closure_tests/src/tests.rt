@@ -1,5 +1,5 @@
 //! A block of 4 columns and 4 rows whose middle is lost.
-use super::*;
+use fg_closure::*;
 use fg_desk::{Desk, Reply};
 use fg_runs::{Rules, Runs};
 use fg_shape::{Shape, shape_ok};

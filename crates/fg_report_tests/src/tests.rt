@@ -1,5 +1,7 @@
-use super::*;
+mod shelf;
+
 use fg_io::MemSink;
+use fg_report::*;
 use std::alloc::{AllocError, Global};
 use std::test::Fail;
 

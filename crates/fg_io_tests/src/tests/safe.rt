@@ -1,4 +1,4 @@
-use super::*;
+use fg_io::*;
 use std::test::Fail;
 
 fn first_read<S: Source>(source: &mut S, into: &mut [u8]) -> Result<usize, Failed> {
@@ -19,7 +19,7 @@ fn safe_source_gives_pieces(rt: HostRuntime) -> Result<(), Fail> {
 
 #[test]
 fn safe_sinks_take_all(rt: HostRuntime) {
-    assert_eq!(rt; crate::write_all(&mut SafeSink::new(), b"abc"), Ok(()));
+    assert_eq!(rt; write_all(&mut SafeSink::new(), b"abc"), Ok(()));
     assert_eq!(rt; SafeSink::new().write(b"abc"), Ok(3));
     assert_eq!(rt; SafeOutlet::new().put(5000, b"abc"), Ok(()));
 }

@@ -1,5 +1,4 @@
-use super::*;
-use crate::mem_sink::MemSink;
+use fg_io::*;
 use std::test::Fail;
 
 #[test]

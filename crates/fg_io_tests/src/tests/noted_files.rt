@@ -1,11 +1,19 @@
 //! Files that note how they are opened, and keep nothing.
 
-use crate::lane_name::LaneName;
+use super::lane_name;
 use std::alloc::{Alloc, Allocator, Global};
 use std::cell::Cell;
 use std::fs::{File, Metadata, OpenOptions};
 use std::io;
 use std::rt::Files;
+
+/// Whether the path is the name of the lane's file.
+fn is_lane(alloc: Global, path: &str, port: u16) -> bool {
+    match lane_name(alloc, port) {
+        Ok(name) => path == name.as_str(),
+        Err(_) => false,
+    }
+}
 
 /// Each file is the empty device, and there is nothing else.
 #[derive(Drop)]
@@ -44,7 +52,7 @@ impl NotedFiles {
     }
 
     fn is_right(&self, how: &OpenOptions, path: &str) -> bool {
-        path == LaneName::new(self.port.get()).as_str()
+        is_lane(self.rt.alloc(), path, self.port.get())
             && how.asks_truncate() == self.is_new.get()
             && how.asks_append() != self.is_new.get()
     }

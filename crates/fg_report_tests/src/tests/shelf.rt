@@ -1,5 +1,5 @@
-use super::*;
 use fg_io::MemOutlet;
+use fg_report::*;
 use std::test::Fail;
 
 fn needs_send<T: Send>(_value: &T) {}

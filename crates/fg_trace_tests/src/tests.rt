@@ -2,8 +2,8 @@
 ghost use Rattle.std.specs.Prelude.{◌≡◌, ◌≤◌, ◌<◌, ◌^◌, ℕ, List, length, IfOk, IfSome, true};
 ghost use Rattle.fg_trace.specs.Trace.{Record, IsTrace, Ended};
 
-use super::*;
 use fg_io::{Fault, MemSource, SafeSource, Source};
+use fg_trace::*;
 use std::alloc::{AllocError, Global};
 use std::test::Fail;
 

@@ -1,5 +1,5 @@
 //! What the judge says of cases at the bounds of its rules.
-use super::*;
+use fg_proof::*;
 use fg_shape::Shape;
 use std::alloc::{AllocError, Global};
 use std::process::Abort;

@@ -1,6 +1,6 @@
 ghost use Rattle.std.specs.Prelude.{◌≡◌, ◌<◌, ◌≤◌, length};
 
-use super::*;
+use fg_flows::*;
 use std::test::Fail;
 
 fn needs_send<T: Send>(_value: &T) {}

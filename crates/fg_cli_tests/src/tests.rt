@@ -2,10 +2,10 @@
 
 ghost use Rattle.std.specs.Prelude.{◌≤◌};
 
-use crate::{
+use WordFault::{BadWord, Depth, Flows, Layout, Missing};
+use fg_cli::{
     Command, Name, Order, Question, ReadWords, WordFault, help_text, read_words, version_text,
 };
-use WordFault::{BadWord, Depth, Flows, Layout, Missing};
 use fg_flows::FlowFault;
 use fg_shape::LayoutFault;
 use std::alloc::{AllocError, Global};

@@ -1,9 +1,14 @@
-mod noted_files;
+//! Sources, sinks and outlets by example.
 
-use super::*;
-use crate::lane_name::LaneName;
-use crate::standing::is_one_of;
+mod input_buffer;
+mod noted_files;
+mod output_buffer;
+mod safe;
+mod standard;
+
+use fg_io::*;
 use noted_files::NotedFiles;
+use std::alloc::{AllocError, Global};
 use std::ops::Range;
 use std::os::unix::fs::symlink;
 use std::test::Fail;
@@ -186,11 +191,16 @@ fn put_to_each<O: Outlet>(outlet: &mut O, ports: Range<u16>, piece: &[u8]) -> bo
     taken
 }
 
+/// The name of a lane's file.
+fn lane_name(alloc: Global, port: u16) -> Result<String, AllocError> {
+    format!(in alloc; "{port}.ts")
+}
+
 /// Removes the files of the lanes. Whether each held these bytes.
 fn take_each(rt: &HostRuntime, ports: Range<u16>, bytes: &[u8]) -> io::Result<bool> {
     let mut same = true;
     for port in ports {
-        let name = LaneName::new(port);
+        let name = lane_name(rt.alloc(), port)?;
         same = fs::read(rt, name.as_str())?.as_slice() == bytes && same;
         fs::remove_file(rt, name.as_str())?;
     }
@@ -261,33 +271,6 @@ fn folder_keeps_64_files_open(rt: HostRuntime) -> Result<(), Fail> {
     assert!(rt; stays_open(&rt, 65000)?);
     assert!(rt; stays_open(&rt, 65063)?);
     assert!(rt; !stays_open(&rt, 65064)?);
-    Ok(())
-}
-
-/// Makes a file with a second name and a link, and another of the same bytes. What is found of them, of a name that is
-/// missing, of a folder and of a device.
-fn found_by_name(rt: &HostRuntime) -> io::Result<[bool; 6]> {
-    fs::write(rt, "64998.ts", "abc")?;
-    fs::write(rt, "64997.ts", "abc")?;
-    fs::hard_link(rt, "64998.ts", "64996.ts")?;
-    symlink(rt, "64998.ts", "64995.ts")?;
-    Ok([
-        is_one_of(rt, "64998.ts", &["64997.ts", "64996.ts"]),
-        is_one_of(rt, "64995.ts", &["64998.ts"]),
-        is_one_of(rt, "64998.ts", &["64997.ts", "64994.ts", "."]),
-        is_one_of(rt, "64994.ts", &["64994.ts"]),
-        is_one_of(rt, ".", &["."]),
-        is_one_of(rt, "/dev/null", &["/dev/null"]),
-    ])
-}
-
-#[test]
-fn a_regular_file_is_found_by_each_of_its_names(rt: HostRuntime) -> Result<(), Fail> {
-    let found = found_by_name(&rt);
-    for name in ["64998.ts", "64997.ts", "64996.ts", "64995.ts"] {
-        let _ = fs::remove_file(&rt, name);
-    }
-    assert_eq!(rt; found?, [true, true, false, false, false, false]);
     Ok(())
 }
 

@@ -1,7 +1,7 @@
 ghost use Rattle.std.specs.Prelude.{◌≤◌};
 
-use super::*;
-use crate::mem_source::MemSource;
+use fg_io::*;
+use std::alloc::{AllocError, Global};
 use std::test::Fail;
 
 #[test]

@@ -2,7 +2,9 @@
 
 ghost use Rattle.std.specs.Prelude.{◌≤◌};
 
-use crate::{FlowFault, Kind, Table, TableFault};
+mod sheaf;
+
+use fg_flows::{FlowFault, Kind, Table, TableFault};
 use std::alloc::{AllocError, Global};
 use std::process::Abort;
 use std::test::Fail;
