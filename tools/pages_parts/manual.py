@@ -56,7 +56,7 @@ def name_rows(command):
 def last_sentence(line):
     """The last sentence of what stands above a block, to say what the example is."""
     line = re.sub(r"^(?:\d+\.|[-*]) +", "", line)
-    if not line or line.startswith(("|", "#")):
+    if not line or line.startswith(("|", "#", "!")):
         return ""
     return plain(re.split(r"(?<=[.?!:]) +(?=[A-Z`*])", line)[-1])
 
