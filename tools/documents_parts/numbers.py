@@ -62,19 +62,15 @@ class Code:
         files = sorted(self.top.glob(pattern))
         return sum(len(re.findall(within, file.read_text(encoding="utf-8"), re.M)) for file in files) if within else len(files)
 
-    def cases(self):
-        """The cases of the built program, by what its script pins."""
-        return int(re.search(r"^cases=(\d+)", (self.top / "tools/program/run").read_text(), re.M)[1])
+    def read(self, path, pattern):
+        """The number that stands where the pattern has its group, in a file of the repository."""
+        return float(re.search(pattern, (self.top / path).read_text(encoding="utf-8"), re.M)[1].replace("_", ""))
 
 
-def facts(code):
-    """Each number of the code by the name under which documents state it."""
+def of_words(code):
+    """What the table of words says."""
     return {
         "commands": len(code.help.commands),
-        "crates": code.count("crates.txt", r"^\w+"),
-        "edits": code.count("crates/*/must-fail/*.edit"),
-        "tests": code.count("crates/*/src/**/*.rt", r"^ *#\[test\]$"),
-        "cases": code.cases(),
         "flows": code.most("repair", "flow"),
         "last_port": code.greatest("repair", "flow"),
         "workers": code.greatest("repair", "workers"),
@@ -83,35 +79,76 @@ def facts(code):
         "window_default": code.default("repair", "window"),
         "depth": code.greatest("repair", "depth"),
         "depth_default": code.default("repair", "depth"),
-        "hold": code.greatest("repair", "hold"),
-        "max": code.greatest("repair", "max"),
         "columns": code.greatest("encode", "columns"),
         "rows": code.greatest("encode", "rows"),
-        "rows_least": code.least("encode", "rows"),
         "drops": code.most("drill", "drop"),
-        "datagrams": code.greatest("sample", "datagrams"),
-        "picked_sources": code.most("pick", "ssrc"),
+        "sample_port": code.default("drill", "port"),
+    }
+
+
+def of_folders(code):
+    """What can be counted in the repository, and what its tools have."""
+    return {
+        "crates": code.count("crates.txt", r"^\w+"),
+        "edits": code.count("crates/*/must-fail/*.edit"),
+        "tests": code.count("crates/*/src/**/*.rt", r"^ *#\[test\]$"),
+        "cases": code.read("tools/program/run", r"^cases=(\d+)"),
+        "drawn_losses": code.read("crates/fg_thin/specs/Thinned.antt", r"slot \+ (\d+) < count"),
+        "silence": code.read("tools/gateway_parts/words.py", r"silence: int = (\d+)"),
+        "latency": code.read("tools/gateway_parts/words.py", r"latency: int = (\d+)"),
+        "buffer_megabytes": code.read("tools/gateway_parts/outlets.py", r"QUEUE_ROOM, QUEUE_SECONDS = (\d+) << 20"),
+        "buffer_seconds": code.read("tools/gateway_parts/outlets.py", r"QUEUE_ROOM, QUEUE_SECONDS = \d+ << 20, (\d+)"),
+        "long_enough": code.read("tools/gateway_parts/pipes.py", r"LONG, LONGEST = (\d+)"),
+        "longest_pause": code.read("tools/gateway_parts/pipes.py", r"LONG, LONGEST = \d+, (\d+)"),
+        "unavailable": code.read("tools/gateway", r"^UNAVAILABLE = (\d+)"),
+        "bad_words": code.read("tools/fleet", r"^BAD_WORDS, UNAVAILABLE = (\d+)"),
+        "fleet_flows": code.read("tools/fleet_parts/plan.py", r"^MOST_FLOWS = (\d+)"),
+        "late": 1000 * code.read("tools/replay_link", r"^LATE = ([\d.]+)"),
+    }
+
+
+def of_crates(code):
+    """The constants of the crates."""
+    return {
         "matrix": code.constant("fg_plan/src/choosing.rt", "MOST_DATAGRAMS"),
         "packet": code.constant("fg_ts/src/lib.rt", "PACKET_LENGTH"),
         "packets": code.constant("fg_words/src/lib.rt", "PACKETS_LIMIT"),
         "payload": code.constant("fg_words/src/lib.rt", "PAYLOAD_LIMIT"),
         "payload_type": code.constant("fg_words/src/lib.rt", "TRANSPORT_TYPE"),
+        "vector": code.constant("fg_words/src/lanes.rt", "LANES"),
         "header": code.constant("fg_rtp/src/lib.rt", "HEADER_LENGTH"),
         "media": code.constant("fg_rtp/src/media.rt", "MEDIA_LIMIT"),
         "fec_header": code.constant("fg_fechead/src/lib.rt", "FEC_HEADER_LENGTH"),
+        "headers": code.constant("fg_fechead/src/lib.rt", "HEADERS_LENGTH"),
         "parity": code.constant("fg_fechead/src/lib.rt", "PARITY_LIMIT"),
         "parity_type": code.constant("fg_fechead/src/lib.rt", "PARITY_TYPE"),
         "live": code.constant("fg_buffer/src/live_equations.rt", "LIVE_LIMIT"),
         "kept": code.constant("fg_buffer/src/playout_buffer.rt", "KEPT"),
+        "spares": code.constant("fg_buffer/src/spares.rt", "SPARE_LIMIT"),
         "batch": code.constant("fg_flows/src/sheaf.rt", "MOST_RECORDS"),
+        "batch_megabytes": code.constant("fg_flows/src/sheaf.rt", "MOST_BYTES") / 2**20,
         "batches": code.constant("fg_batches/src/load.rt", "MOST_BATCHES"),
-        "load": code.constant("fg_flows/src/sheaf.rt", "MOST_RECORDS") * code.constant("fg_batches/src/load.rt", "MOST_BATCHES"),
         "streams": code.constant("fg_survey/src/streams.rt", "MOST"),
         "jump": code.constant("fg_streams/src/fates.rt", "JUMP"),
         "case_lines": code.constant("fg_check/src/gathering.rt", "LINES"),
+        "digits": code.constant("fg_check/src/reading.rt", "DIGITS"),
         "kept_length": code.constant("fg_pcap/src/capture_reader.rt", "MOST_KEPT"),
+        "capture_time": code.constant("fg_pcap/src/spelling.rt", "SECONDS_END"),
         "capture_datagram": code.constant("fg_pcap/src/spelling.rt", "MOST_DATAGRAM"),
         "half": code.constant("fg_unwrap/src/lib.rt", "HALF"),
+        "sequence_numbers": code.constant("fg_unwrap/src/lib.rt", "SEQUENCE_NUMBERS"),
+        "packet_draws": code.constant("fg_thin/src/made.rt", "STREAM"),
+        "loss_draws": code.constant("fg_thin/src/drawing.rt", "STREAM"),
+        "lanes_open": code.constant("fg_io/src/open_files.rt", "MOST"),
+        "word_bytes": code.constant("fgate/src/main.rt", "WORD"),
+        "rest": code.constant("fg_crew/src/pace.rt", "SHORTEST") / 1000,
+        "longest_rest": code.constant("fg_crew/src/pace.rt", "LONGEST") / 1000,
+        "backlog": code.constant("fg_crew/src/running.rt", "BACKLOG"),
+        "tallies": code.constant("fg_tally/src/tallies.rt", "PLACES"),
+        "turn_looks": code.constant("fg_turn/src/steps.rt", "LOOKS"),
+        "sleep_words": code.constant("fg_turn/src/sleepers.rt", "WORDS"),
+        "told_together": code.constant("fg_workers/src/signal.rt", "TOLD_TOGETHER"),
+        "settles": code.constant("fg_workers/src/walk.rt", "SETTLES_A_VISIT"),
     }
 
 
@@ -121,38 +158,96 @@ STATED = (
     ("crates", r"(?:[Aa]ll|[Tt]he|[Ii]ts|into) # crates\b|# crates,? (?:stand|in |of )"),
     ("edits", r"# (?:must-fail )?edits\b(?! (?:a|each) )|\| edits \| #"),
     ("tests", r"(?:[Aa]ll|[Tt]he) # tests\b|\| tests \| #"),
-    ("cases", r"# cases of `tools/program/run`|# of `tools/program/run`"),
-    ("flows", r"up to # (?:such |of these )?flows|at most # flows|1 to # flows|no more than # flows|there are at most # \||repairs up to #\."),
-    ("last_port", r"ports? (?:is|are|of flow `i`, counted from 0, is) 1 to #|a flow's media port, 1 to #"),
+    ("cases", r"# (?:cases )?of `tools/program/run`"),
+    ("flows", r"up to # (?:such |of these )?flows|at most # flows|1 to # flows|no more than # flows|`TooMany`.* at most #|"
+              r"repairs up to #\.|takes? up to # flows"),
+    ("last_port", r"ports? (?:is|are|of flow `i`(?:, counted from 0,)? is) 1 to #"),
     ("workers", r"up to # (?:threads|workers)|1 to # workers"),
-    ("window_default", r"default window of #|port 5000, window #"),
+    ("workers_default", r"`workers` threads, # where|`workers` is .*, # where it isn't said"),
+    ("window_default", r"default window of #|port 5000, (?:the )?window #"),
     ("depth_default", r"[Tt]he default of # suffices|port 5000, window \d+(?:,| and) depth #|default depth of #"),
+    ("sample_port", r"one flow on port #"),
+    ("depth", r"`depth` the lesser of #|come in that time, at most #"),
+    ("window", r"`window` is the lesser of #"),
     ("drops", r"up to # drops|more than # drops"),
-    ("matrix", r"L \* D is at most #|[Pp]roduct at most #|at most # datagrams in a matrix|L times D at most #"),
-    ("columns", r"L is 1 to #|how many media datagrams a row has: 1 to #|1 to # columns"),
-    ("rows", r"D(?: is|, the `rows`, is) 4 to #|4 to # rows"),
+    ("drawn_losses", r"(?:at most|more than) # media records"),
+    ("matrix", r"L \* D is at most #|`Product`: at most #|at most # datagrams in a matrix|L times D (?:is )?at most #"),
+    ("columns", r"L is 1 to #|how many media datagrams a row has: 1 to #|`Columns`: 1 to #|offset \| 1 to #"),
+    ("rows", r"D(?: is|, the `rows`, is) 4 to #|`Rows`: 4 to #|NA \| 1 to #"),
     ("packet", r"multiple of # bytes|^# bytes:|at each multiple of #"),
-    ("packets", r"1 to # (?:whole |transport )?packets|limit of # packets|at most # packets|# transport packets at most|"
-                r"# (?:transport )?packets a datagram"),
-    ("payload", r"1 to # bytes|188 to # bytes|zeros to # bytes|`bytes`, # bytes"),
-    ("payload_type", r"payload type # and whole|payload type is #|payload type # where"),
-    ("header", r"RTP header of # bytes|header, # bytes"),
-    ("fec_header", r"FEC header of # bytes|parity datagram is # bytes longer"),
+    ("packets", r"1 to # (?:whole |transport )?packets|limit of # packets|at most # packets|# transport packets|"
+                r"# packets a datagram|payloads of # packets|datagrams of # packets"),
+    ("payload", r"payload of 1 to # bytes|188 to # bytes|zeros to # bytes|`bytes`.* \(# bytes\)|has 1 to # bytes"),
+    ("payload_type", r"payload type # and|payload type is #|payload type # where|`PayloadType`: payload type #|`pt` #|"
+                     r"payload type \| #|3551's payload type #"),
+    ("header", r"RTP header of # bytes|header, # bytes|^1\. `Short`: at least #(?= bytes\n2\. `Version`: version)"),
+    ("headers", r"^1\. `Short`: at least #(?= bytes\n2\. `Version`: RTP)"),
+    ("fec_header", r"FEC header of # bytes|is # bytes longer than the longest"),
     ("media", r"largest media datagram (?:has|is) #"),
-    ("parity", r"largest parity datagram (?:has|is)? ?#"),
-    ("parity_type", r"payload type # \(a dynamic"),
-    ("live", r"# equations (?:of the flow )?(?:were|are) live"),
-    ("kept", r"kept for # positions|of the # positions before|the last # (?:positions|that have one)|among the last # positions"),
+    ("parity", r"largest parity datagram (?:has |is )?#"),
+    ("parity_type", r"payload type # \(a dynamic|payload type \| \d+ \| # \(own\)"),
+    ("vector", r"vectors of # bytes"),
+    ("live", r"# equations (?:of the flow )?(?:were|are) live|With # lines of twenty|Calls go # deep"),
+    ("kept", r"kept for # positions|of the # positions before|of the last # below M|last slot is # positions past"),
+    ("spares", r"used again\*\*, # at most"),
     ("batch", r"up to # records of all flows|batches of up to # records"),
+    ("batch_megabytes", r"records and # MB of payloads"),
     ("batches", r"up to # batches|# batches are a load"),
-    ("load", r"up to # records each time"),
-    ("streams", r"more than # streams|order in which they first appear, # at most|none of the #\b"),
-    ("jump", r"# or more behind|by more than #(?=;|\.| \|)"),
-    ("case_lines", r"at most # lines"),
-    ("kept_length", r"kept length (?:is )?(?:above|at most) #|\| at most # \|"),
+    ("streams", r"more than # streams|order (?:in which they first appear|of their first datagrams), # at most|none of the #\b|"
+                r"kB, at most # of each"),
+    ("jump", r"# or more behind|by more than #(?=;|\.| \|)|Times of the last # positions"),
+    ("case_lines", r"A case has (?:at most )?# lines"),
+    ("digits", r"have 1 to # digits"),
+    ("kept_length", r"kept length (?:is )?(?:above|at most) #|kept length \| at most #|snapshot length \| any \| 0, 0, #"),
+    ("capture_time", r"time is # microseconds or more"),
     ("capture_datagram", r"whose size is above #"),
-    ("half", r"from # before the top"),
+    ("half", r"from # before the top|ambiguous from # on"),
+    ("sequence_numbers", r"offset`, modulo #|top, modulo #|\(seq \+ i\) modulo #|from 0, modulo #"),
+    ("packet_draws", r"of stream # for the packets"),
+    ("loss_draws", r"of stream # for the losses"),
+    ("lanes_open", r"At most # lanes' files"),
+    ("word_bytes", r"longer than # bytes, becomes an empty word"),
+    ("rest", r"rest by the clock\*\*, # milliseconds"),
+    ("longest_rest", r"milliseconds and up to #\.|always rest # milliseconds"),
+    ("backlog", r"help where # hints wait"),
+    ("tallies", r"There are #, one for each place"),
+    ("turn_looks", r"A seat looks # times"),
+    ("sleep_words", r"ticket modulo #|of a row of #"),
+    ("told_together", r"told # at a time|positions of # admitted"),
+    ("settles", r"A visit settles # at most"),
+    ("silence", r"After # milliseconds without a datagram|for # milliseconds \(`--silence`\)"),
+    ("latency", r"`--latency`(?: milliseconds)?, #"),
+    ("buffer_seconds", r"buffer of # seconds, or"),
+    ("buffer_megabytes", r"seconds, or # MB"),
+    ("long_enough", r"had run for # seconds"),
+    ("longest_pause", r"and so on up to #\b"),
+    ("unavailable", r"statuses are \d+ and #|# where something is missing|143 or #"),
+    ("bad_words", r"statuses are #|# for words\b"),
+    ("fleet_flows", r"of at most # flows"),
+    ("late", r"later than # milliseconds"),
 )
+
+
+# How documents state figures of benches, rounded as they like.
+MEASURED = (
+    ("first_command_clock", r"took # minutes"),
+    ("first_command_processors", r"# processor minutes, on"),
+    ("flows_16_lost_3_workers_4_least", r"Several flows took from #"),
+    ("flows_64_lost_3_workers_4_most", r"Several flows took from [\d.]+ to #"),
+    ("large_pages_processors_least", r"16 and 64 flows took # to"),
+    ("large_pages_processors_most", r"16 and 64 flows took [\d.]+ to #"),
+    ("large_pages_memory_64_flows", r"64 flows without workers # MB"),
+    ("memory_64_flows_depth_400", r"64 flows without workers \d+ MB in place of #"),
+    ("memory_of_ports", r"ports take # MB"),
+    ("memory_of_a_stream", r"a stream # kB"),
+    ("memory_of_a_lane", r"a lane # kB"),
+    ("share_taken_anew", r"new one costs # times"),
+    ("wakes_and_short_rests_beside_4_workers", r"shorter rests a repair beside four workers took # times"),
+    ("load_written_and_read_after_its_run_most", r"One after another took up to # times"),
+) + tuple((f"memory_{flows}_flow{'s' * (flows > 1)}_depth_{depth}{workers}", rf"^\| {flows} \| {before}")
+          for flows in (1, 4, 16, 64) for depth, workers, before in (
+              (400, "", "#, "), (400, "_workers_4", r"[\d.]+, # MB"), (1000, "", r"[\d., ]*MB \| #, "),
+              (1000, "_workers_4", r"[\d., ]*MB \| [\d.]+, # MB")))
 
 
 def prose(text):
@@ -162,14 +257,19 @@ def prose(text):
 
 def stated(known, pages):
     """Each statement of a number: the page, the text, the fact's name, the number, and what it should be."""
-    patterns = [(name, re.compile(pattern.replace("#", NUMBER), re.M)) for name, pattern in STATED]
+    patterns = [(name, re.compile(pattern.replace("#", NUMBER), re.M)) for name, pattern in STATED + MEASURED]
     for page, text in pages.items():
         for name, pattern in patterns:
             for found in pattern.finditer(text):
                 number = next(part for part in found.groups() if part)
-                yield page, found[0], name, number, known[name]
+                yield page, found[0], name, number, known.get(name)
         for found in MARK.finditer(text):
             yield page, found[0], found[1], found[2], known.get(found[1])
+
+
+def agrees(number, truth):
+    """Whether a number that a document states is the true one, rounded to as many digits as it has behind its point."""
+    return truth is not None and value(number) == round(truth, len(number.partition(".")[2]))
 
 
 def of_figures(text):
@@ -186,13 +286,13 @@ def of_figures(text):
 def checked(repository, pages, least):
     """Each finding: a name, whether it is right, and what there is to say."""
     code = Code(repository)
-    known = facts(code)
+    known = {**of_words(code), **of_folders(code), **of_crates(code)}
     figures = repository / "docs/made/FIGURES.md"
     known.update(of_figures(figures.read_text(encoding="utf-8")) if figures.exists() else {})
     texts = {page.relative_to(repository).as_posix(): prose(page.read_text(encoding="utf-8")) for page in pages}
     statements = list(stated(known, texts))
-    wrong = "".join(f"{page}: {text!r}: {name} is {truth if truth is None else f'{truth:g}'}\n"
-                    for page, text, name, number, truth in statements if truth is None or value(number) != truth)
+    wrong = "".join(f"{page}: {text!r}: {name} {'is nowhere' if truth is None else f'is {truth:.12g}'}\n"
+                    for page, text, name, number, truth in statements if not agrees(number, truth))
     yield f"{len(statements)} numbers of the code and of benches", not wrong and len(statements) >= least, wrong or (
         f"at least {least} numbers\n")
 
