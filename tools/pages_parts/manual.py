@@ -102,7 +102,7 @@ def statuses(formats, command):
             comes = comes[of.end():]
         if status == "1":
             line, comes = "`words: ..`", "the words are faulty, as " + ("fgate(1) tells" if command else "DIAGNOSTICS tells")
-        if status == "1" in seen or command and reads_none(command) and status in ("2", "5"):
+        if status == "1" and "1" in seen or command and reads_none(command) and status in ("2", "5"):
             continue
         seen.add(status)
         comes = re.sub(r'(under ["[]\w+[^ ,.;:]*)', r"\1 in docs/FORMATS.md", comes)
