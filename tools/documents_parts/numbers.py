@@ -27,23 +27,25 @@ class Code:
         self.names = {(command.word, name.name): name for command in self.help.commands for name in command.names}
 
     def constant(self, path, name):
-        """The value of a constant of a file below crates, and of those that it is made from."""
-        file = self.top / "crates" / path
-        found = re.search(CONSTANT.format(name), file.read_text(encoding="utf-8"))
-        if found is None:
+        """The value of a constant of a file below crates, and of those that it is made from. Nothing where it isn't there."""
+        text = self.written(self.top / "crates" / path, name)
+        if text is None:
             return self.elsewhere(name)
-        text = re.sub(r"(?<=\d)_(?=\d)", "", found[1])
+        text = re.sub(r"(?<=\d)_(?=\d)", "", text)
         text = re.sub(r"\b[A-Z][A-Z_]+\b", lambda part: str(self.constant(path, part[0])), text)
-        if not re.fullmatch(r"[\d\s*+<()xa-f-]+", text):
-            raise ValueError(f"{path} {name}: {text}")
-        return eval(text)
+        return eval(text) if re.fullmatch(r"[\d\s*+<()xa-f-]+", text) else None
+
+    def written(self, file, name):
+        """What the file says that the constant is."""
+        found = re.search(CONSTANT.format(name), file.read_text(encoding="utf-8")) if file.exists() else None
+        return found and found[1]
 
     def elsewhere(self, name):
-        """The value of a public constant of another crate."""
+        """The value of a public constant of another file."""
         for file in sorted(self.top.glob("crates/*/src/*.rt")):
             if re.search("pub " + CONSTANT.format(name)[2:], file.read_text(encoding="utf-8")):
                 return self.constant(file.relative_to(self.top / "crates"), name)
-        raise ValueError(f"no crate has {name}")
+        return None
 
     def least(self, command, name):
         return int(self.names[command, name].values.split("..")[0])
@@ -63,8 +65,10 @@ class Code:
         return sum(len(re.findall(within, file.read_text(encoding="utf-8"), re.M)) for file in files) if within else len(files)
 
     def read(self, path, pattern):
-        """The number that stands where the pattern has its group, in a file of the repository."""
-        return float(re.search(pattern, (self.top / path).read_text(encoding="utf-8"), re.M)[1].replace("_", ""))
+        """The number that stands where the pattern has its group, in a file of the repository. Nothing where it isn't there."""
+        file = self.top / path
+        found = re.search(pattern, file.read_text(encoding="utf-8"), re.M) if file.exists() else None
+        return found and float(found[1].replace("_", ""))
 
 
 def of_words(code):
@@ -103,7 +107,7 @@ def of_folders(code):
         "unavailable": code.read("tools/gateway", r"^UNAVAILABLE = (\d+)"),
         "bad_words": code.read("tools/fleet", r"^BAD_WORDS, UNAVAILABLE = (\d+)"),
         "fleet_flows": code.read("tools/fleet_parts/plan.py", r"^MOST_FLOWS = (\d+)"),
-        "late": 1000 * code.read("tools/replay_link", r"^LATE = ([\d.]+)"),
+        "late_seconds": code.read("tools/replay_link", r"^LATE = ([\d.]+)"),
     }
 
 
@@ -126,7 +130,7 @@ def of_crates(code):
         "kept": code.constant("fg_buffer/src/playout_buffer.rt", "KEPT"),
         "spares": code.constant("fg_buffer/src/spares.rt", "SPARE_LIMIT"),
         "batch": code.constant("fg_flows/src/sheaf.rt", "MOST_RECORDS"),
-        "batch_megabytes": code.constant("fg_flows/src/sheaf.rt", "MOST_BYTES") / 2**20,
+        "batch_bytes": code.constant("fg_flows/src/sheaf.rt", "MOST_BYTES"),
         "batches": code.constant("fg_batches/src/load.rt", "MOST_BATCHES"),
         "streams": code.constant("fg_survey/src/streams.rt", "MOST"),
         "jump": code.constant("fg_streams/src/fates.rt", "JUMP"),
@@ -141,8 +145,8 @@ def of_crates(code):
         "loss_draws": code.constant("fg_thin/src/drawing.rt", "STREAM"),
         "lanes_open": code.constant("fg_io/src/open_files.rt", "MOST"),
         "word_bytes": code.constant("fgate/src/main.rt", "WORD"),
-        "rest": code.constant("fg_crew/src/pace.rt", "SHORTEST") / 1000,
-        "longest_rest": code.constant("fg_crew/src/pace.rt", "LONGEST") / 1000,
+        "rest_microseconds": code.constant("fg_crew/src/pace.rt", "SHORTEST"),
+        "longest_rest_microseconds": code.constant("fg_crew/src/pace.rt", "LONGEST"),
         "backlog": code.constant("fg_crew/src/running.rt", "BACKLOG"),
         "tallies": code.constant("fg_tally/src/tallies.rt", "PLACES"),
         "turn_looks": code.constant("fg_turn/src/steps.rt", "LOOKS"),
@@ -152,6 +156,8 @@ def of_crates(code):
     }
 
 
+# What the code has in another unit than the documents.
+UNITS = {"batch_bytes": 1 / 2**20, "rest_microseconds": 1 / 1000, "longest_rest_microseconds": 1 / 1000, "late_seconds": 1000}
 # How documents state them, with # for the number. What a pattern finds in any document is compared.
 STATED = (
     ("commands", r"(?:[Aa]ll|[Tt]he|[Ii]ts) # commands\b"),
@@ -191,7 +197,7 @@ STATED = (
     ("kept", r"kept for # positions|of the # positions before|of the last # below M|last slot is # positions past"),
     ("spares", r"used again\*\*, # at most"),
     ("batch", r"up to # records of all flows|batches of up to # records"),
-    ("batch_megabytes", r"records and # MB of payloads"),
+    ("batch_bytes", r"records and # MB of payloads"),
     ("batches", r"up to # batches|# batches are a load"),
     ("streams", r"more than # streams|order (?:in which they first appear|of their first datagrams), # at most|none of the #\b|"
                 r"kB, at most # of each"),
@@ -207,8 +213,8 @@ STATED = (
     ("loss_draws", r"of stream # for the losses"),
     ("lanes_open", r"At most # lanes' files"),
     ("word_bytes", r"longer than # bytes, becomes an empty word"),
-    ("rest", r"rest by the clock\*\*, # milliseconds"),
-    ("longest_rest", r"milliseconds and up to #\.|always rest # milliseconds"),
+    ("rest_microseconds", r"rest by the clock\*\*, # milliseconds"),
+    ("longest_rest_microseconds", r"milliseconds and up to #\.|always rest # milliseconds"),
     ("backlog", r"help where # hints wait"),
     ("tallies", r"There are #, one for each place"),
     ("turn_looks", r"A seat looks # times"),
@@ -224,7 +230,7 @@ STATED = (
     ("unavailable", r"statuses are \d+ and #|# where something is missing|143 or #"),
     ("bad_words", r"statuses are #|# for words\b"),
     ("fleet_flows", r"of at most # flows"),
-    ("late", r"later than # milliseconds"),
+    ("late_seconds", r"later than # milliseconds"),
 )
 
 
@@ -287,6 +293,7 @@ def checked(repository, pages, least):
     """Each finding: a name, whether it is right, and what there is to say."""
     code = Code(repository)
     known = {**of_words(code), **of_folders(code), **of_crates(code)}
+    known = {name: number and number * UNITS.get(name, 1) for name, number in known.items()}
     figures = repository / "docs/made/FIGURES.md"
     known.update(of_figures(figures.read_text(encoding="utf-8")) if figures.exists() else {})
     texts = {page.relative_to(repository).as_posix(): prose(page.read_text(encoding="utf-8")) for page in pages}
