@@ -256,6 +256,19 @@ MEASURED = (
               (1000, "_workers_4", r"[\d., ]*MB \| [\d.]+, # MB")))
 
 
+# A measure, and measures that are neither of the code nor of a bench: what a machine has to have, what is reckoned on paper, and
+# what was measured while the code was written.
+MEASURE = NUMBER + r"(?= (?:[kKMGT]B|Gb/s|times (?:as|the)|processor minutes|milliseconds|microseconds|seconds|minutes)\b)"
+OTHERWISE = (
+    r"# GB of memory", r"# GB of disk", r"has # minutes on two processors", r"stack below # KB", r"# TB of ", r"So # Gb/s",
+    r"datagram takes # milliseconds at", r"46, or # milliseconds at", r"After # TB \(`--max`\)", r"Each # seconds \(`--stats-period`\)",
+    r"two million gaps take # MB", r"back within # seconds",
+    r"some # milliseconds to put", r"there are batches too: up to # MB", r"`hold` takes # kB more", r"5, 10, 30 and # MB",
+    r"in # seconds and [\d.]+ MB", r"seconds and # MB; four", r"have 1 to # MB", r"from 2.7 to # MB", r"of their own, for # seconds",
+    r"two calls had # MB", r"An edit costs # seconds", r"costs 10 to # seconds",
+)
+
+
 def prose(text):
     """A document's text without its fenced blocks."""
     return links.FENCE.sub("", text)
@@ -271,6 +284,16 @@ def stated(known, pages):
                 yield page, found[0], name, number, known.get(name)
         for found in MARK.finditer(text):
             yield page, found[0], found[1], found[2], known.get(found[1])
+
+
+def loose(pages):
+    """Each measure that no pattern finds."""
+    patterns = [re.compile(pattern.replace("#", NUMBER), re.M) for pattern in [one for _, one in STATED + MEASURED] + list(OTHERWISE)]
+    for page, text in pages.items():
+        found = [one.span() for pattern in patterns + [MARK] for one in pattern.finditer(text)]
+        for measure in re.finditer(MEASURE, text):
+            if not any(start <= measure.start() < end for start, end in found):
+                yield page, " ".join(text[max(0, measure.start() - 40):measure.end() + 20].split())
 
 
 def agrees(number, truth):
@@ -300,6 +323,9 @@ def checked(repository, pages, least):
     statements = list(stated(known, texts))
     wrong = "".join(f"{page}: {text!r}: {name} {'is nowhere' if truth is None else f'is {truth:.12g}'}\n"
                     for page, text, name, number, truth in statements if not agrees(number, truth))
+    measures = "".join(f"{page}: .. {text} ..: documents_parts/numbers.py knows no such number\n"
+                       for page, text in loose(texts))
+    yield "measures, each of the code or of a bench", not measures, measures
     yield f"{len(statements)} numbers of the code and of benches", not wrong and len(statements) >= least, wrong or (
         f"at least {least} numbers\n")
 
