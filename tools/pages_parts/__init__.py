@@ -1,0 +1,1 @@
+"""The parts of tools/pages, each with one job. None is run on its own."""
