@@ -243,7 +243,7 @@ MEASURED = (
     ("large_pages_processors_least", r"16 and 64 flows took # to"),
     ("large_pages_processors_most", r"16 and 64 flows took [\d.]+ to #"),
     ("large_pages_memory_64_flows", r"64 flows without workers # MB"),
-    ("memory_64_flows_depth_400", r"64 flows without workers \d+ MB in place of #"),
+    ("without_large_pages_memory_64_flows", r"64 flows without workers \d+ MB in place of #"),
     ("memory_of_ports", r"ports take # MB"),
     ("memory_of_a_stream", r"a stream # kB"),
     ("memory_of_a_lane", r"a lane # kB"),
