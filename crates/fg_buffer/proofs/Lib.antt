@@ -11,6 +11,7 @@ pub mod LiveSearch
 pub mod LiveViews
 pub mod Lost
 pub mod Watched
+pub mod BufferBounds
 pub mod BufferChanges
 pub mod BufferLoops
 pub mod BufferMaps

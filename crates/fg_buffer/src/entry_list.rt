@@ -27,18 +27,20 @@ pub(crate) struct EntryList {
     front: usize,
     /// The entries, and before and after them empty slots.
     slots: SmallSlots,
+    /// No entry from this one on has a word: the search for the last one begins here.
+    end: usize,
 }
 
 impl Model for EntryList {
     ghost use Rattle.std.specs.Prelude.{List};
     ghost use Rattle.fg_peel.specs.declared.Slot.{Slot};
-    ghost use Rattle.fg_buffer.specs.BufferEntries.{live_entries, AreStored};
+    ghost use Rattle.fg_buffer.specs.BufferEntries.{live_entries, AreStored, HasNoWordFrom};
 
     ghost Value = { List Slot };
 
     ghost view = { λ a. live_entries a.front a.slots };
 
-    ghost invariant = { λ a. AreStored a.front a.slots };
+    ghost invariant = { λ a. AreStored a.front a.slots × HasNoWordFrom (live_entries a.front a.slots) a.end };
 }
 
 impl EntryList {
@@ -51,6 +53,7 @@ impl EntryList {
         Ok(EntryList {
             front: 0,
             slots: SmallSlots::new(alloc, count + SLACK)?,
+            end: 0,
         })
     }
 
@@ -92,6 +95,7 @@ impl EntryList {
     {
         let _passed = self.slots.clear(self.front + index);
         self.slots.put_media(self.front + index, share);
+        self.end = self.end.max(index + 1);
     }
 
     /// Puts the share of a solved word into an entry.
@@ -102,6 +106,7 @@ impl EntryList {
     {
         let _passed = self.slots.clear(self.front + index);
         self.slots.put_solved(self.front + index, share);
+        self.end = self.end.max(index + 1);
     }
 
     /// Puts a copy of a word into an empty entry, where it stands alone.
@@ -111,6 +116,7 @@ impl EntryList {
         ensures { self.new ≡ slice_set self.old index (Slot.Filled word.now) }
     {
         self.slots.fill(self.front + index, word);
+        self.end = self.end.max(index + 1);
     }
 
     /// Adds the word of another entry to the one that stands alone in an entry, in place.
@@ -148,7 +154,7 @@ impl EntryList {
         ensures some { IfSome result (IsLastWord self.now) }
         ensures none { IfNone result (HasNoWordFrom self.now KEPT) }
     {
-        for i in (KEPT..self.count()).rev() {
+        for i in (KEPT..self.end.min(self.count())).rev() {
             if self.at(i).word().is_some() {
                 return Some(i);
             }
@@ -166,6 +172,7 @@ impl EntryList {
         ensures moved { (k : ℕ) → slice_index_or self.new k Slot.Empty
             ≡ slice_index_or self.old (k + count) Slot.Empty }
     {
+        self.end = self.end.saturating_sub(count);
         let end = self.front + count;
         if end <= SLACK {
             pass_all(&mut self.slots, self.front, end, spares);

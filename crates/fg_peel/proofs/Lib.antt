@@ -29,3 +29,4 @@ pub mod Whole
 pub mod Wrong
 pub mod Places
 pub mod SlotRange
+pub mod FoundMedia

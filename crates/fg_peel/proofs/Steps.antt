@@ -61,7 +61,7 @@ module _ (old : List Slot) (at : ℕ) (word : Word) (within : at < length old) (
       omega (arith, changed, was)
 
 -- what the entries tell after a step
-fill-told :
+pub fill-told :
     (start : ℕ) (old : List Slot) (step : Step) → start ≤ step.position → step.position - start < length old
     → words_from start (set old (step.position - start) (Filled (given_word (words_from start old) step)))
     ≡ after_step (words_from start old) step

@@ -10,7 +10,7 @@ use Rattle.fg_peel.specs.declared.Slot.{Slot}
 use Rattle.fg_peel.specs.declared.Slot.TheVariants.{Empty, Media, Solved, Filled}
 use Rattle.fg_peel.specs.declared.span.Missing.TheVariants.{One}
 use Rattle.fg_peel.specs.declared.Verdict.{Verdict}
-use Rattle.fg_peel.specs.Equation.{Equation, slots, sum_at}
+use Rattle.fg_peel.specs.Equation.{Equation, slots, sum_at, AreMedia}
 use Rattle.fg_peel.specs.Peeling.{Step, IsPeeling, end_of, given_word}
 use Rattle.fg_peel.specs.Slots.{OnlyFills, IsMissing, words_from, recovered_in, equation_of, lines_of}
 use Rattle.fg_peel.specs.Peels.{IsPeel}
@@ -60,6 +60,10 @@ IsPeeled start equations old new = (steps : List Step) × IsPeeledBy start equat
 abbrev pub Fills : ℕ → Equation → ℕ → List Slot → List Slot → Type 0
 Fills start equation position old new =
     new ≡ slice_set old (position - start) (Filled (given_word (words_from start old) (record { equation = equation; position = position })))
+
+-- Where all words were media words, they are still.
+abbrev pub StayMedia : (ℕ → Option Word) → (ℕ → Option Word) → Type 0
+StayMedia old new = AreMedia old → AreMedia new
 
 -- A sum after a word was added, where there is one.
 abbrev pub with_added : Word → Option Word → Word

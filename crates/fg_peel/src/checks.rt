@@ -23,15 +23,14 @@ fn recovers_media<E: EntryRow>(entries: &E, index: usize) -> bool
     }
 }
 
-/// The least position whose recovered word is no media word. `all_media` tells that there is none, but
-/// where some were filled in.
-fn first_not_media<E: EntryRow>(span: &Span<'_, E>, all_media: bool, filled: bool) -> Option<u64>
+/// The least position whose recovered word is no media word. `all_media` tells that there is none.
+fn first_not_media<E: EntryRow>(span: &Span<'_, E>, all_media: bool) -> Option<u64>
     requires limit { IsWithinLimit E.slots span.now }
-    requires media { IsTrue all_media → filled ≡ false → AreMedia (recovered_words_in E.slots span.now) }
+    requires media { IsTrue all_media → AreMedia (recovered_words_in E.slots span.now) }
     ensures least { IfSome result (IsLeast (IsNoMedia (recovered_words_in E.slots span.now))) }
     ensures none { IfNone result (AreMedia (recovered_words_in E.slots span.now)) }
 {
-    if all_media && !filled {
+    if all_media {
         return None;
     }
     for i in 0..span.entries.count() {
@@ -82,20 +81,18 @@ fn is_new_least(place: u32, least: Option<u32>) -> bool
     }
 }
 
-/// The verdict on the words of a span. `all_media` tells that the recovered ones are media words, but
-/// where some were filled in.
+/// The verdict on the words of a span. `all_media` tells that the recovered ones are media words.
 pub(crate) fn verdict_on<E: EntryRow>(
     span: &Span<'_, E>,
     lines: &Slab<Line>,
     all_media: bool,
-    filled: bool,
 ) -> Verdict
     requires lines { HasAllSlots E.slots span.now lines.now }
-    requires media { IsTrue all_media → filled ≡ false → AreMedia (recovered_words_in E.slots span.now) }
+    requires media { IsTrue all_media → AreMedia (recovered_words_in E.slots span.now) }
     ensures { IsVerdict (recovered_words_in E.slots span.now)
         (words_in E.slots span.now) lines.now result }
 {
-    if let Some(slot) = first_not_media(span, all_media, filled) {
+    if let Some(slot) = first_not_media(span, all_media) {
         return Verdict::NotMedia { slot };
     }
     match first_broken(span, lines) {

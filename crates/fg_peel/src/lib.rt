@@ -13,7 +13,7 @@ ghost use Rattle.fg_peel.specs.Recovery.{IsPeelAfter};
 use checks::verdict_on;
 use fg_shape::Shape;
 use fg_words::{Shared, Word};
-use recovery::fill_all;
+use recovery::{both, fill_all};
 use slab::Slab;
 use slot_row::SlotRow;
 use span::Span;
@@ -181,6 +181,6 @@ pub fn peel_entries<E: EntryRow>(
     ensures peel { IsPeel start lines.now (E.slots entries.old) (E.slots entries.new) result }
     ensures rest { E.rest entries.new ≡ E.rest entries.old }
 {
-    let filled = fill_all(start, entries, lines);
-    verdict_on(&Span { start, entries }, lines, all_media, filled)
+    let found_media = fill_all(start, entries, lines);
+    verdict_on(&Span { start, entries }, lines, both(found_media, all_media))
 }

@@ -9,21 +9,20 @@ use Rattle.fg_peel.proofs.peel_entries.Goals as goal
 
 pub verdict_on-requires-clause-lines : goal.verdict_on-requires-clause-lines
 verdict_on-requires-clause-lines g c =
-    let filled = peeled_fills c.args.start c.args.lines.now (g.E.EntryRow.slots c.args.entries.now) (g.E.EntryRow.slots c.fill_all-filled.new.entries) c.fill_all-filled.ensures.peeled in (
-      fit_others c.args.start (g.E.EntryRow.slots c.args.entries.now) (g.E.EntryRow.slots c.fill_all-filled.new.entries) c.args.lines.now
+    let filled = peeled_fills c.args.start c.args.lines.now (g.E.EntryRow.slots c.args.entries.now) (g.E.EntryRow.slots c.fill_all-found_media.new.entries) c.fill_all-found_media.ensures.peeled in (
+      fit_others c.args.start (g.E.EntryRow.slots c.args.entries.now) (g.E.EntryRow.slots c.fill_all-found_media.new.entries) c.args.lines.now
           filled.count c.requires.lines,
       omega (arith, c.requires.limit, filled.count),
     )
 
 pub verdict_on-requires-clause-media : goal.verdict_on-requires-clause-media
-verdict_on-requires-clause-media g c = λ media none position word told.
-    (let all : AreMedia (words_from c.args.start (g.E.EntryRow.slots c.fill_all-filled.new.entries)) =
-    subst (λ (s : List Slot). AreMedia (words_from c.args.start s)) (sym (c.fill_all-filled.ensures.untouched none)) (c.requires.media media) in
-    all position word (recovered_told c.args.start (g.E.EntryRow.slots c.fill_all-filled.new.entries) position word told))
+verdict_on-requires-clause-media g c = λ media position word told.
+    (let yes = c.both.ensures media in c.fill_all-found_media.ensures.media yes.0 (c.requires.media yes.1)) position word
+    (recovered_told c.args.start (g.E.EntryRow.slots c.fill_all-found_media.new.entries) position word told)
 
 pub returns-clause-peel : goal.returns-clause-peel
 returns-clause-peel g c = record {
-  fills = peeled_fills c.args.start c.args.lines.now (g.E.EntryRow.slots c.args.entries.now) (g.E.EntryRow.slots c.fill_all-filled.new.entries) c.fill_all-filled.ensures.peeled;
-  peeling = ends_peeling c.args.start c.args.lines.now (g.E.EntryRow.slots c.args.entries.now) (g.E.EntryRow.slots c.fill_all-filled.new.entries) c.fill_all-filled.ensures.peeled c.fill_all-filled.ensures.closed;
+  fills = peeled_fills c.args.start c.args.lines.now (g.E.EntryRow.slots c.args.entries.now) (g.E.EntryRow.slots c.fill_all-found_media.new.entries) c.fill_all-found_media.ensures.peeled;
+  peeling = ends_peeling c.args.start c.args.lines.now (g.E.EntryRow.slots c.args.entries.now) (g.E.EntryRow.slots c.fill_all-found_media.new.entries) c.fill_all-found_media.ensures.peeled c.fill_all-found_media.ensures.closed;
   verdict = c.verdict_on.ensures;
 }

@@ -25,5 +25,5 @@ returns-clause-none g c =
     wrong_none c.args.span.now.start (g.E.EntryRow.slots c.args.span.now.entries.now)
     (λ k less. c.loop-i.invariant k (omega (arith, less)))
 
-pub returns-then-not-filled-clause-none : goal.returns-then-not-filled-clause-none
-returns-then-not-filled-clause-none g c = c.requires.media c.if-all_media.true c.if-not-filled.true
+pub returns-then-all_media-clause-none : goal.returns-then-all_media-clause-none
+returns-then-all_media-clause-none g c = c.requires.media c.if-all_media.true

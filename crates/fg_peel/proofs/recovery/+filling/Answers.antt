@@ -13,19 +13,19 @@ use Rattle.fg_peel.proofs.recovery.+filling.Goals as goal
 pub visit-missing-requires : goal.visit-missing-requires
 visit-missing-requires g t c = (c.requires.lines c.args.line.now c.requires.live, c.requires.limit)
 
-pub visit-fill-requires-clause-line : goal.visit-fill-requires-clause-line
-visit-fill-requires-clause-line g t c = c.requires.lines c.args.line.now c.requires.live
+pub visit-fill-media-requires-clause-line : goal.visit-fill-media-requires-clause-line
+visit-fill-media-requires-clause-line g t c = c.requires.lines c.args.line.now c.requires.live
 
 pub visit-follow-requires : goal.visit-follow-requires
 visit-follow-requires g t c κs within =
     let by = filled_by c.args.start (equations_of c.args.lines.now) c.args.line.now c.in-One.position (g.E.EntryRow.slots c.args.entries.now)
-    (g.E.EntryRow.slots c.fill.new.entries) (c.requires.lines c.args.line.now c.requires.live)
-    (live_equation c.args.lines.now c.args.line.now c.requires.live) c.in-One.ensures c.fill.ensures.fills in (
+    (g.E.EntryRow.slots c.fill-media.new.entries) (c.requires.lines c.args.line.now c.requires.live)
+    (live_equation c.args.lines.now c.args.line.now c.requires.live) c.in-One.ensures c.fill-media.ensures.fills in (
       omega (arith, by.counts),
       (
         within,
         (
-          fit_others c.args.start (g.E.EntryRow.slots c.args.entries.now) (g.E.EntryRow.slots c.fill.new.entries) c.args.lines.now
+          fit_others c.args.start (g.E.EntryRow.slots c.args.entries.now) (g.E.EntryRow.slots c.fill-media.new.entries) c.args.lines.now
               by.fills.count c.requires.lines,
           omega (arith, c.requires.limit, by.fills.count),
         ),
@@ -35,9 +35,9 @@ visit-follow-requires g t c κs within =
 pub visit-returns-in-One-clause-peeled : goal.visit-returns-in-One-clause-peeled
 visit-returns-in-One-clause-peeled g t c =
     let by = filled_by c.args.start (equations_of c.args.lines.now) c.args.line.now c.in-One.position (g.E.EntryRow.slots c.args.entries.now)
-    (g.E.EntryRow.slots c.fill.new.entries) (c.requires.lines c.args.line.now c.requires.live)
-    (live_equation c.args.lines.now c.args.line.now c.requires.live) c.in-One.ensures c.fill.ensures.fills in
-    IsPeeled-trans c.args.start (equations_of c.args.lines.now) (g.E.EntryRow.slots c.args.entries.now) (g.E.EntryRow.slots c.fill.new.entries) (g.E.EntryRow.slots c.follow.new.entries)
+    (g.E.EntryRow.slots c.fill-media.new.entries) (c.requires.lines c.args.line.now c.requires.live)
+    (live_equation c.args.lines.now c.args.line.now c.requires.live) c.in-One.ensures c.fill-media.ensures.fills in
+    IsPeeled-trans c.args.start (equations_of c.args.lines.now) (g.E.EntryRow.slots c.args.entries.now) (g.E.EntryRow.slots c.fill-media.new.entries) (g.E.EntryRow.slots c.follow.new.entries)
     (_, by) c.follow.ensures.peeled
 
 pub visit-returns-in-One-clause-closed : goal.visit-returns-in-One-clause-closed
@@ -46,10 +46,10 @@ visit-returns-in-One-clause-closed g t c = c.follow.ensures.closed c.args.line.n
 pub visit-returns-in-One-clause-stay : goal.visit-returns-in-One-clause-stay
 visit-returns-in-One-clause-stay g t c =
     let by = filled_by c.args.start (equations_of c.args.lines.now) c.args.line.now c.in-One.position (g.E.EntryRow.slots c.args.entries.now)
-    (g.E.EntryRow.slots c.fill.new.entries) (c.requires.lines c.args.line.now c.requires.live)
-    (live_equation c.args.lines.now c.args.line.now c.requires.live) c.in-One.ensures c.fill.ensures.fills in
+    (g.E.EntryRow.slots c.fill-media.new.entries) (c.requires.lines c.args.line.now c.requires.live)
+    (live_equation c.args.lines.now c.args.line.now c.requires.live) c.in-One.ensures c.fill-media.ensures.fills in
     let step : Step = record { equation = equation_of c.args.line.now; position = c.in-One.position } in
-    stay_closed_filled (words_from c.args.start (g.E.EntryRow.slots c.args.entries.now)) (words_from c.args.start (g.E.EntryRow.slots c.fill.new.entries))
+    stay_closed_filled (words_from c.args.start (g.E.EntryRow.slots c.args.entries.now)) (words_from c.args.start (g.E.EntryRow.slots c.fill-media.new.entries))
     (words_from c.args.start (g.E.EntryRow.slots c.follow.new.entries)) c.args.lines.now step by.end c.follow.ensures.closed c.follow.ensures.stay
 
 pub follow-contains-requires-clause-shape : goal.follow-contains-requires-clause-shape
@@ -95,7 +95,8 @@ follow-loop-line-preserved-then-contains g t c =
       closed_at_more (words_from c.args.start (g.E.EntryRow.slots c.loop-line.entries)) (words_from c.args.start (g.E.EntryRow.slots c.visit.new.entries)) c.args.lines.now
           c.args.filled c.loop-line.line-iterator entry c.next.new.self c.in-Some.ensures.steps (λ has. c.visit.ensures.closed)
           c.visit.ensures.stay c.loop-line.invariant.5,
-      c.visit.ensures.rest ∙ c.loop-line.invariant.6,
+      λ is. (let both = c.both-media.ensures is in λ all. c.visit.ensures.media both.0 (c.loop-line.invariant.6 both.1 all)),
+      c.visit.ensures.rest ∙ c.loop-line.invariant.7,
     )
 
 pub follow-loop-line-preserved : goal.follow-loop-line-preserved
@@ -111,9 +112,14 @@ follow-loop-line-preserved g t c =
           c.in-Some.ensures.steps (λ has. absurd (false≢true (sym c.if-contains.false ∙ c.contains.ensures.1 has)))
           (λ line listed closed. closed) c.loop-line.invariant.5,
       c.loop-line.invariant.6,
+      c.loop-line.invariant.7,
     )
 
 pub follow-returns-clause-closed : goal.follow-returns-clause-closed
 follow-returns-clause-closed g t c =
     closed_at_all (words_from c.args.start (g.E.EntryRow.slots c.loop-line.entries)) c.args.lines.now c.args.filled c.loop-line.line-iterator
     c.in-None.ensures.steps.0 c.loop-line.invariant.5
+
+pub visit-returns-in-One-clause-media : goal.visit-returns-in-One-clause-media
+visit-returns-in-One-clause-media g t c = λ is all.
+    (let both = c.both.ensures is in c.follow.ensures.media both.0 (c.fill-media.ensures.media both.1 all))

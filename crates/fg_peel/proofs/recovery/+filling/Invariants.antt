@@ -1,6 +1,6 @@
-use Rattle.std.proofs.Common.{◌≡◌, ◌+◌, ◌*◌}
+use Rattle.std.proofs.Common.{◌≡◌, ◌+◌, ◌*◌, IsTrue}
 use Rattle.fg_peel.specs.Slots.{equations_of, words_from}
-use Rattle.fg_peel.specs.Recovery.{IsPeeled, StayClosed, empty_count}
+use Rattle.fg_peel.specs.Recovery.{IsPeeled, StayClosed, StayMedia, empty_count}
 use Rattle.fg_peel.proofs.Lines.{AreLive}
 use Rattle.fg_peel.proofs.Closed.{ClosedAtBut}
 use Rattle.fg_peel.proofs.recovery.+filling.Given as goal
@@ -21,4 +21,5 @@ invariant-follow-loop-line g l =
     IsPeeled l.start (equations_of l.lines) (g.E.EntryRow.slots l.fn.entries) (g.E.EntryRow.slots l.entries) ×
     StayClosed (words_from l.start (g.E.EntryRow.slots l.fn.entries)) (words_from l.start (g.E.EntryRow.slots l.entries)) l.lines ×
     ClosedAtBut (words_from l.start (g.E.EntryRow.slots l.entries)) l.lines l.filled l.line-iterator ×
+    (IsTrue l.media → StayMedia (words_from l.start (g.E.EntryRow.slots l.fn.entries)) (words_from l.start (g.E.EntryRow.slots l.entries))) ×
     (g.E.EntryRow.rest l.entries ≡ g.E.EntryRow.rest l.fn.entries)

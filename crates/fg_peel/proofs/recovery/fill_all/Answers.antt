@@ -26,7 +26,8 @@ loop-line-preserved g c =
       closed_more (words_from c.args.start (g.E.EntryRow.slots c.loop-line.entries)) (words_from c.args.start (g.E.EntryRow.slots c.visit.new.entries)) c.args.lines.now
           c.loop-line.line-iterator entry c.next.new.self c.in-Some.ensures.steps c.visit.ensures.closed c.visit.ensures.stay
           c.loop-line.invariant.4,
-      c.visit.ensures.rest ∙ c.loop-line.invariant.5,
+      λ is. (let both = c.both-media.ensures is in λ all. c.visit.ensures.media both.0 (c.loop-line.invariant.5 both.1 all)),
+      c.visit.ensures.rest ∙ c.loop-line.invariant.6,
     )
 
 pub returns-clause-closed : goal.returns-clause-closed

@@ -1,6 +1,6 @@
-use Rattle.std.proofs.Common.{◌≡◌}
+use Rattle.std.proofs.Common.{◌≡◌, IsTrue}
 use Rattle.fg_peel.specs.Slots.{equations_of, words_from}
-use Rattle.fg_peel.specs.Recovery.{IsPeeled}
+use Rattle.fg_peel.specs.Recovery.{IsPeeled, StayMedia}
 use Rattle.fg_peel.proofs.Lines.{AreLive}
 use Rattle.fg_peel.proofs.Closed.{ClosedBut}
 use Rattle.fg_peel.proofs.recovery.fill_all.Given as goal
@@ -13,4 +13,5 @@ invariant-loop-line g l =
     AreLive l.lines l.line-iterator ×
     IsPeeled l.start (equations_of l.lines) (g.E.EntryRow.slots l.fn.entries) (g.E.EntryRow.slots l.entries) ×
     ClosedBut (words_from l.start (g.E.EntryRow.slots l.entries)) l.lines l.line-iterator ×
+    (IsTrue l.media → StayMedia (words_from l.start (g.E.EntryRow.slots l.fn.entries)) (words_from l.start (g.E.EntryRow.slots l.entries))) ×
     (g.E.EntryRow.rest l.entries ≡ g.E.EntryRow.rest l.fn.entries)

@@ -1,3 +1,4 @@
+use Rattle.fg_buffer.proofs.BufferBounds.{bounded_moved}
 use Rattle.std.proofs.Common.{◌≡◌, ◌+◌, ℕ, get_or, List, ap, ◌∙◌, arith}
 use Rattle.fg_peel.specs.declared.Slot.{Slot}
 use Rattle.fg_peel.specs.declared.Slot.TheVariants.{Empty}
@@ -8,7 +9,7 @@ pub returns-then-end-le-SLACK-clause-moved : goal.returns-then-end-le-SLACK-clau
 returns-then-end-le-SLACK-clause-moved c k =
     let front = c.self.inside.front in
     let count = c.args.count in
-    live_moved front count c.self.inside.slots c.self.invariant (front + count) c.pass_all.new.slots c.pass_all.ensures.count
+    live_moved front count c.self.inside.slots c.self.invariant.0 (front + count) c.pass_all.new.slots c.pass_all.ensures.count
     c.if-end-le-SLACK.true (λ j. c.pass_all.ensures.above (front + count + j) (omega arith)) k
     ∙ ap (λ (s : List Slot). get_or s (k + count) Empty) c.self.view_is
 
@@ -16,7 +17,7 @@ pub returns-else-end-le-SLACK-clause-moved : goal.returns-else-end-le-SLACK-clau
 returns-else-end-le-SLACK-clause-moved c k =
     let front = c.self.inside.front in
     let count = c.args.count in
-    live_moved front count c.self.inside.slots c.self.invariant 0 c.shift_down.new.slots c.shift_down.ensures.count (omega arith)
+    live_moved front count c.self.inside.slots c.self.invariant.0 0 c.shift_down.new.slots c.shift_down.ensures.count (omega arith)
     (λ j.
     let from_zero : 0 + j ≡ j = omega arith in
     let order : j + (front + count) ≡ front + count + j = omega arith in
@@ -24,3 +25,23 @@ returns-else-end-le-SLACK-clause-moved c k =
     ∙ ap (λ (n : ℕ). get_or c.self.inside.slots n Empty) order)
     k
     ∙ ap (λ (s : List Slot). get_or s (k + count) Empty) c.self.view_is
+
+pub invariant_of-self : goal.invariant_of-self
+invariant_of-self c =
+    let front = c.self.inside.front in
+    let count = c.args.count in
+    bounded_moved front count c.self.inside.slots c.self.inside.end c.saturating_sub-self-inside.result c.self.invariant (front + count)
+    c.pass_all.new.slots c.pass_all.ensures.count c.if-end-le-SLACK.true
+    (λ j. c.pass_all.ensures.above (front + count + j) (omega arith)) (omega arith)
+
+pub invariant_of-self-else-end-le-SLACK : goal.invariant_of-self-else-end-le-SLACK
+invariant_of-self-else-end-le-SLACK c =
+    let front = c.self.inside.front in
+    let count = c.args.count in
+    bounded_moved front count c.self.inside.slots c.self.inside.end c.saturating_sub-self-inside.result c.self.invariant 0
+    c.shift_down.new.slots c.shift_down.ensures.count (omega arith)
+    (λ j.
+    let from_zero : 0 + j ≡ j = omega arith in
+    let order : j + (front + count) ≡ front + count + j = omega arith in
+    ap (λ (n : ℕ). get_or c.shift_down.new.slots n Empty) from_zero ∙ c.shift_down.ensures.moved j
+    ∙ ap (λ (n : ℕ). get_or c.self.inside.slots n Empty) order) (omega arith)
