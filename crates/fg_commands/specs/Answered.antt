@@ -24,7 +24,7 @@ pub record RequestAnswered {S O K : Type 0}
   -- And its last sentence. Where the answer is no fault, what comes back of a thinned encoding: of a trace that is one, on a
   -- repaired flow's port, of a drill's stream and of a sample's. No play of its flow is inconsistent, and the flow's lane gains
   -- the stream without the slots that no play shows: all of it, where what is sent peels. A capture that is written comes back as
-  -- the trace of its records.
+  -- the trace of its records. And a survey of what is left of an encoding tells its losses and its layout.
   pub comes_back : request.comes_back answer (left input) (lanes_of lanes) (lanes_of lanes') (written out) (written out')
   -- The answer that a request has over the bytes is told, and no other.
   pub exactly : IfSome (left input) (λ bytes. (due : Why) → request.is_answer bytes due → IsFault answer ⊎ (answer ≡ due))

@@ -1,0 +1,8 @@
+mod Counting
+mod Encoded
+mod Leaving
+mod Rising
+mod Shapes
+mod Sides
+pub mod Telling
+mod Walking
