@@ -40,11 +40,12 @@ pub bounded_put :
 bounded_put front old cleared new view end end' are i entry within is clear put more past =
     let inside : i < length (live_entries front old) = omega (arith, within, ap (λ (ss : List Slot). length ss) is) in
     let whole : new ≡ set old (front + i) entry =
-    put ∙ ap (λ (ss : List Slot). set ss (front + i) entry) clear ∙ set-set old (front + i) Empty entry in
-    (subst (AreStored front) (sym whole) (stored_set front old are.0 i entry inside),
-    subst (λ (ss : List Slot). HasNoWordFrom ss end')
-    (sym (ap (live_entries front) whole ∙ live_set front old are.0 i entry inside))
-    (none_after_put (live_entries front old) i entry end end' are.1 more past))
+    put ∙ ap (λ (ss : List Slot). set ss (front + i) entry) clear ∙ set-set old (front + i) Empty entry in (
+      subst (AreStored front) (sym whole) (stored_set front old are.0 i entry inside),
+      subst (λ (ss : List Slot). HasNoWordFrom ss end')
+          (sym (ap (live_entries front) whole ∙ live_set front old are.0 i entry inside))
+          (none_after_put (live_entries front old) i entry end end' are.1 more past),
+    )
 
 -- An entry is set that has no word, or had one before.
 pub bounded_kept :
@@ -53,12 +54,13 @@ pub bounded_kept :
     → (word_in (get_or old (front + i) Empty) ≡ None → word_in entry ≡ None)
     → AreStored front new × HasNoWordFrom (live_entries front new) end
 bounded_kept front old new view end are i entry within is put stays =
-    let inside : i < length (live_entries front old) = omega (arith, within, ap (λ (ss : List Slot). length ss) is) in
-    (subst (AreStored front) (sym put) (stored_set front old are.0 i entry inside),
-    subst (λ (ss : List Slot). HasNoWordFrom ss end)
-    (sym (ap (live_entries front) put ∙ live_set front old are.0 i entry inside))
-    (none_kept (live_entries front old) i entry end inside
-    (λ none. stays (ap word_in (sym (stored_at front old are.0 i)) ∙ none)) are.1))
+    let inside : i < length (live_entries front old) = omega (arith, within, ap (λ (ss : List Slot). length ss) is) in (
+      subst (AreStored front) (sym put) (stored_set front old are.0 i entry inside),
+      subst (λ (ss : List Slot). HasNoWordFrom ss end)
+          (sym (ap (live_entries front) put ∙ live_set front old are.0 i entry inside))
+          (none_kept (live_entries front old) i entry end inside
+          (λ none. stays (ap word_in (sym (stored_at front old are.0 i)) ∙ none)) are.1),
+    )
 
 -- What adding and forgetting leave of an entry without a word.
 pub none_with : (entry : Slot) (added : Option Word) → word_in entry ≡ None → word_in (with_word entry added) ≡ None
@@ -82,8 +84,9 @@ module _
     (moved : (k : ℕ) → get_or new (front' + k) Empty ≡ get_or old (front + count + k) Empty) (less : end ≤ end' + count)
   where
     pub bounded_moved : AreStored front' new × HasNoWordFrom (live_entries front' new) end'
-    bounded_moved =
-        (stored_moved front count old are.0 front' new size low moved,
-        λ k from.
-        ap word_in (live_moved front count old are.0 front' new size low moved k)
-        ∙ are.1 (k + count) (omega (arith, from, less)))
+    bounded_moved = (
+      stored_moved front count old are.0 front' new size low moved,
+      λ k from.
+          ap word_in (live_moved front count old are.0 front' new size low moved k)
+          ∙ are.1 (k + count) (omega (arith, from, less)),
+    )

@@ -182,5 +182,9 @@ pub fn peel_entries<E: EntryRow>(
     ensures rest { E.rest entries.new ≡ E.rest entries.old }
 {
     let found_media = fill_all(start, entries, lines);
-    verdict_on(&Span { start, entries }, lines, both(found_media, all_media))
+    verdict_on(
+        &Span { start, entries },
+        lines,
+        both(found_media, all_media),
+    )
 }
