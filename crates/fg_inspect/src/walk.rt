@@ -1,23 +1,21 @@
 //! Walking a trace, and telling its records.
-ghost use Rattle.std.specs.Prelude.{◌≡◌, ◌⊎◌, ◌+◌, ◌≤◌, ◌<◌, ◌^◌, ℕ, Option, List, [], ◌∷◌, length, None, IfOk, IfSome, IfNone, OnErr};
+ghost use Rattle.std.specs.Prelude.{◌≡◌, ◌⊎◌, ◌≤◌, ◌^◌, ℕ, List, [], ◌∷◌, IfOk, IfSome, OnErr};
 ghost use Rattle.std.specs.Io.KnownBytes.{IsAtEnd};
 ghost use Rattle.fg_io.specs.Faults.{Counts, CountsFaults};
-ghost use Rattle.fg_flows.specs.Flows.{IsTable};
-ghost use Rattle.fg_trace.specs.Reader.{StandsAfter};
 ghost use Rattle.fg_trace.specs.Trace.{Record, Ending, NotTrace as NoMagic, IsTrace};
 ghost use Rattle.fg_trace.specs.Finish.{IsFault, ReadsAll, finish_of};
-ghost use Rattle.fg_trace.specs.Reading.{HasReached, IsReadFor};
-ghost use Rattle.fg_trace.specs.Reached.{IsReadTo, Stands, answer_to};
+ghost use Rattle.fg_trace.specs.Reading.{IsReadFor};
+ghost use Rattle.fg_trace.specs.Reached.{IsReadTo};
 ghost use Rattle.fg_inspect.specs.Inspect.{Tells, TellsPart};
-ghost use Rattle.fg_inspect.specs.Steps.{HasToldAll, IsNew, IsUnderway};
 
 use crate::laws::one_text;
 use crate::lines::Lines;
 use crate::reading::read_record;
 use fg_flows::Table;
 use fg_io::{Fault, Sink, Source};
-use fg_trace::laws::{one_trace, read_as_far_as_needed, walks_on, walks_the_front};
-use fg_trace::{Finish, Reader, Step, TraceFault};
+use fg_trace::Finish;
+use fg_trace::laws::{one_trace, read_as_far_as_needed};
+use fg_walk::{Telling, walk};
 use std::alloc::Global;
 
 /// Tells the records of a trace, a line for each.
@@ -90,134 +88,62 @@ fn tell_trace<S: Source, K: Sink>(
         ((K.faults out.old, K.faults out.new) ∷ []) }
 {
     read_as_far_as_needed();
-    let mut reader = Reader::new(alloc, max)?;
-    let mut lines = Lines::new(alloc)?;
-    match reader.start(input) {
-        Ok(()) => tell_records(&mut lines, table, &mut reader, input, out),
-        Err(TraceFault::NotTrace(place)) => Ok(Finish::NotTrace(place)),
-        Err(TraceFault::ReadFault) => Err(Fault::Read),
-        Err(TraceFault::Cut(_)) => unreachable!(),
-        Err(TraceFault::TooLong(_)) => unreachable!(),
-    }
-}
-
-/// Tells all records of a trace, whose magic the reader has found, and answers how it ends.
-fn tell_records<S: Source, K: Sink>(
-    lines: &mut Lines,
-    table: &Table,
-    reader: &mut Reader,
-    input: &mut S,
-    out: &mut K,
-) -> Result<Finish, Fault>
-    requires new { IsNew lines.old }
-    requires begun { (first : Option (List ℕ)) × StandsAfter reader.old first (S.left input.old) [] }
-    requires open { reader.old.kept ≡ None }
-    requires limit { reader.old.max ≤ 2 ^ 40 }
-    ensures whole { IfOk result (λ finish. (first : Option (List ℕ))
-        → StandsAfter reader.old first (S.left input.old) []
-        → Tells table.now reader.old.max finish first (K.written out.old) (K.written out.new)) }
-    ensures part { OnErr result ((first : Option (List ℕ))
-        → StandsAfter reader.old first (S.left input.old) []
-        → TellsPart table.now reader.old.max first (K.written out.old) (K.written out.new)) }
-    ensures all_read { IfOk result (λ finish. ReadsAll finish → IsAtEnd (S.left input.new)) }
-    ensures reached { (first : Option (List ℕ)) → StandsAfter reader.old first (S.left input.old) []
-        → IsReadTo reader.old.max result first (S.left input.new) }
-    ensures faults { Counts result ((S.faults input.old, S.faults input.new) ∷ [])
-        ((K.faults out.old, K.faults out.new) ∷ []) }
-{
-    one_trace();
-    one_text();
-    read_as_far_as_needed();
     // A table has no port twice.
     let _flows = table.count();
-    let finish = tell_all(lines, table, reader, input, out)?;
-    lines.held.flush(out)?;
-    Ok(finish)
+    let lines = Lines::new(alloc)?;
+    let mut work = Inspection { table, lines };
+    walk(alloc, max, &mut work, input, out)
 }
 
-/// Tells the records that are left, of which the last lines may be held, and answers how the trace ends.
-fn tell_all<S: Source, K: Sink>(
-    lines: &mut Lines,
-    table: &Table,
-    reader: &mut Reader,
-    input: &mut S,
-    out: &mut K,
-) -> Result<Finish, Fault>
-    requires table { IsTable table.now }
-    requires underway { (first : Option (List ℕ)) × (before : Option (List ℕ))
-        × IsUnderway table.now first (S.left input.old) reader.old lines.old before (K.written out.old) }
-    requires open { reader.old.kept ≡ None }
-    requires limit { reader.old.max ≤ 2 ^ 40 }
-    ensures whole { IfOk result (λ finish. (first : Option (List ℕ)) (before : Option (List ℕ))
-        → IsUnderway table.now first (S.left input.old) reader.old lines.old before (K.written out.old)
-        → HasToldAll table.now reader.old.max first finish lines.new before (K.written out.new)) }
-    ensures part { OnErr result ((first : Option (List ℕ)) (before : Option (List ℕ))
-        → IsUnderway table.now first (S.left input.old) reader.old lines.old before (K.written out.old)
-        → TellsPart table.now reader.old.max first before (K.written out.new)) }
-    ensures all_read { IfOk result (λ finish. ReadsAll finish → IsAtEnd (S.left input.new)) }
-    ensures stands { (first : Option (List ℕ))
-        → Stands reader.old first (S.left input.old) → Stands reader.new first (S.left input.new) }
-    ensures max { reader.new.max ≡ reader.old.max }
-    ensures bounded { reader.new.place + length reader.new.held ≤ reader.new.max + 1 }
-    ensures reached { HasReached (answer_to result) reader.new (S.left input.new) }
-    ensures faults { Counts result ((S.faults input.old, S.faults input.new) ∷ [])
-        ((K.faults out.old, K.faults out.new) ∷ []) }
-{
-    loop {
-        if let Some(finish) = tell_next(lines, table, reader, input, out)? {
-            return Ok(finish);
-        }
+/// An inspection under way: the flows, and the lines that are made.
+#[derive(Drop)]
+struct Inspection<'a> {
+    table: &'a Table,
+    lines: Lines,
+}
+
+impl<'a> Telling for Inspection<'a> {
+    ghost use Rattle.std.specs.Prelude.{List, ℕ};
+    ghost use Rattle.fg_inspect.specs.Steps.{HasGained, HasPart, HasTold, IsNew};
+
+    ghost Given = { List ℕ };
+
+    ghost given = { λ work. work.table.now };
+
+    ghost is_new = { λ work. IsNew work.table.now work.lines };
+
+    ghost has_told = { λ work records before after.
+        HasTold work.table.now records work.lines before after };
+
+    ghost whole = { HasGained };
+
+    ghost part = { HasPart };
+
+    fn begin<K: Sink>(&mut self, _out: &mut K) -> Result<(), Fault> {
+        Ok(())
     }
-}
 
-/// Tells the next record, where there is one; else it answers how the trace ends.
-fn tell_next<S: Source, K: Sink>(
-    lines: &mut Lines,
-    table: &Table,
-    reader: &mut Reader,
-    input: &mut S,
-    out: &mut K,
-) -> Result<Option<Finish>, Fault>
-    requires table { IsTable table.now }
-    requires underway { (first : Option (List ℕ)) × (before : Option (List ℕ))
-        × IsUnderway table.now first (S.left input.old) reader.old lines.old before (K.written out.old) }
-    requires open { reader.old.kept ≡ None }
-    requires limit { reader.old.max ≤ 2 ^ 40 }
-    ensures more { IfOk result (λ end. IfNone end ((first : Option (List ℕ)) (before : Option (List ℕ))
-        → IsUnderway table.now first (S.left input.old) reader.old lines.old before (K.written out.old)
-        → IsUnderway table.now first (S.left input.new) reader.new lines.new before (K.written out.new))) }
-    ensures ends { IfOk result (λ end. IfSome end (λ finish. (first : Option (List ℕ)) (before : Option (List ℕ))
-        → IsUnderway table.now first (S.left input.old) reader.old lines.old before (K.written out.old)
-        → HasToldAll table.now reader.old.max first finish lines.new before (K.written out.new))) }
-    ensures part { OnErr result ((first : Option (List ℕ)) (before : Option (List ℕ))
-        → IsUnderway table.now first (S.left input.old) reader.old lines.old before (K.written out.old)
-        → TellsPart table.now reader.old.max first before (K.written out.new)) }
-    ensures all_read { IfOk result (λ end. IfSome end (λ finish. ReadsAll finish → IsAtEnd (S.left input.new))) }
-    ensures stands { (first : Option (List ℕ))
-        → Stands reader.old first (S.left input.old) → Stands reader.new first (S.left input.new) }
-    ensures bounded { reader.new.place + length reader.new.held ≤ reader.new.max + 1 }
-    ensures reached { IfOk result (λ end. IfSome end (λ finish.
-        HasReached finish reader.new (S.left input.new))) }
-    ensures open { IfOk result (λ end. IfNone end (reader.new.kept ≡ None)) }
-    ensures max { reader.new.max ≡ reader.old.max }
-    ensures place { IfOk result (λ end. IfNone end (reader.old.place < reader.new.place)) }
-    ensures within { reader.new.place ≤ reader.new.max }
-    ensures faults { Counts result ((S.faults input.old, S.faults input.new) ∷ [])
-        ((K.faults out.old, K.faults out.new) ∷ []) }
-{
-    walks_the_front();
-    walks_on();
-    one_text();
-    match reader.next(input) {
-        Ok(Step::Datagram { time, port, size }) => {
-            let reading = read_record(table, port, reader.payload());
-            lines.add(time, port, size, reading, out)?;
-            Ok(None)
-        }
-        Ok(Step::End) => Ok(Some(Finish::Done)),
-        Err(TraceFault::Cut(place)) => Ok(Some(Finish::Cut(place))),
-        Err(TraceFault::TooLong(place)) => Ok(Some(Finish::TooLong(place))),
-        Err(TraceFault::ReadFault) => Err(Fault::Read),
-        Err(TraceFault::NotTrace(_)) => unreachable!(),
+    fn tell<K: Sink>(
+        &mut self,
+        time: u64,
+        port: u16,
+        datagram: &[u8],
+        out: &mut K,
+    ) -> Result<(), Fault> {
+        one_text();
+        let reading = read_record(self.table, port, datagram);
+        self.lines
+            .add(time, port, datagram.len() as u16, reading, out)?;
+        Ok(())
+    }
+
+    fn end<K: Sink>(&mut self, _finish: Finish, out: &mut K) -> Result<(), Fault> {
+        one_text();
+        self.lines.held.flush(out)?;
+        Ok(())
+    }
+
+    fn stops(&self) {
+        one_text();
     }
 }

@@ -1,46 +1,53 @@
--- How the records of a trace are picked, from where the reader stands.
-use Rattle.std.proofs.Common.{◌≡◌, ℕ, ◌≤◌, Option, Some, None, IfSome, Ok, Err, List, [], ◌∷◌, ◌++◌, length, take, drop, refl, sym, ap, ◌∙◌, subst, arith, append-nil}
+-- How the records of a trace are picked, one after another, and what a pick comes to.
+use Rattle.std.proofs.Common.{◌≡◌, ℕ, ◌≤◌, Option, Some, None, IfSome, Result, Ok, Err, IfOk, OnErr, List, [], ◌∷◌, ◌++◌, length, refl, sym, ap, ◌∙◌, subst, arith, append-nil}
 use Rattle.std.specs.List.{flat_map, AllByRecursion}
-use Rattle.std.proofs.lemmas.List.{take-append-drop}
-use Rattle.fg_io.proofs.SentLemmas.{part_sent}
+use Rattle.fg_io.specs.declared.fault.Fault.{Fault}
 use Rattle.fg_io.specs.Sink.{Gains, GainsPart}
 use Rattle.fg_io.specs.Sent.{Sent}
-use Rattle.fg_io.proofs.SentLemmas.{Sent-cut, Sent-part, Sent-stop, Sent-then, Sent-whole}
-use Rattle.fg_io.proofs.SinkLemmas.{GainsPart-front}
+use Rattle.fg_io.proofs.SentLemmas.{Sent-cut, Sent-part, Sent-then, Sent-whole, part_sent}
+use Rattle.fg_io.proofs.SinkLemmas.{Gains-nil, GainsPart-front, GainsPart-nil}
 use Rattle.fg_flows.specs.declared.selection.Selection.{Selection}
 use Rattle.fg_trace.specs.declared.step.Finish.{Finish}
-use Rattle.fg_trace.specs.declared.step.Step.TheVariants.{Datagram}
-use Rattle.fg_trace.specs.declared.step.TraceFault.{TraceFault}
 use Rattle.fg_trace.specs.Finish.{finish_of}
-use Rattle.fg_trace.specs.Laws.{OneTrace, SpelledIsRead, WalksTheFront}
-use Rattle.fg_trace.specs.Reader.{Answer, ReaderState, StandsAfter, Walks}
+use Rattle.fg_trace.specs.Laws.{OneTrace, SpelledIsRead}
 use Rattle.fg_trace.specs.Trace.{Record, Ending, Ended, NotTrace, Cut, TooLong, Fits as FitsTrace, IsTrace, magic, spelling, trace_of}
-use Rattle.fg_trace.proofs.Reached.{stands_more}
-use Rattle.fg_trace.proofs.Opening.{stands_still}
+use Rattle.fg_trace.proofs.Traces.{trace_more}
+use Rattle.fg_walk.specs.Walk.{IsBegun, Walked, WalkedPart}
 use Rattle.fg_pick.specs.Laws.{OnePicked, PickedExist, PickedJoin}
 use Rattle.fg_pick.specs.Pick.{ComesBack, Picks, PicksPart, WritesTrace, written_of}
 use Rattle.fg_pick.specs.Picked.{IsPicked}
-use Rattle.fg_pick.specs.Steps.{HasSent, HasSentAll, IsUnderway, SendsPart, SendsPicked}
-use Rattle.fg_pick.proofs.Opening.{is_written}
-use Rattle.fg_trace.proofs.Traces.{trace_more}
+use Rattle.fg_pick.specs.Steps.{HasGained, HasPart, HasSent, SendsPart, SendsPicked}
 use Rattle.fg_pick.proofs.Picking.{no_longer, picked_fit, picked_front, picked_none}
 
 -- Parts
 
--- a prefix of the trace of what is picked so far is one of what is written
-leaves_part : WalksTheFront → OnePicked → PickedJoin → PickedExist → (selection : Selection) (first now : Option (List ℕ)) (reader : ReaderState) (records picked : List Record) (before after : Option (List ℕ))
-    → StandsAfter reader first now records → IsPicked selection records picked → GainsPart before (trace_of picked) after → PicksPart selection reader.max first before after
-leaves_part law one join exist selection None now reader records picked before after stands is part = tt
-leaves_part law one join exist selection (Some bytes) now reader records picked before after stands is part = λ all chosen end trace are.
-    let walked : records ≡ take (length records) all = law reader bytes now records all end stands trace in
-    let split : all ≡ records ++ drop (length records) all = sym (take-append-drop (length records) all) ∙ ap (λ t. t ++ drop (length records) all) (sym walked) in
-    let front = picked_front one join exist selection records (drop (length records) all) picked chosen is (subst (λ (rs : List Record). IsPicked selection rs chosen) split are) in
-    subst (λ bytes. GainsPart before bytes after) (is_written reader bytes now records all chosen end stands trace)
-    (GainsPart-front before after (trace_of picked) (trace_of chosen) front part)
+-- a prefix of the trace of what is picked so far is one of what is picked of all
+pub front_part : OnePicked → PickedJoin → PickedExist → (selection : Selection) (records picked : List Record) (before after : Option (List ℕ)) → IsPicked selection records picked → GainsPart before (trace_of picked) after → (later : List Record) → HasPart selection (records ++ later) before after
+front_part one join exist selection records picked before after is part later chosen are =
+    GainsPart-front before after (trace_of picked) (trace_of chosen) (picked_front one join exist selection records later picked chosen is are) part
+
+pub none_is_part : (selection : Selection) (records : List Record) (written : Option (List ℕ)) → HasPart selection records written written
+none_is_part selection records written picked is = GainsPart-nil written (trace_of picked)
+
+-- The magic
+
+-- it is written or held
+pub sent_first : PickedExist → (selection : Selection) (held next : List ℕ) (before after : Option (List ℕ)) → held ≡ [] → Sent before (held ++ magic) next after → HasSent selection [] next before after
+sent_first exist selection held next before after none sent = record {
+  picked = [];
+  is_picked = picked_none exist selection;
+  sent = subst (λ t. Sent before t next after) (ap (λ t. t ++ magic) none ∙ sym (append-nil magic)) sent;
+}
+
+-- it isn't all written
+pub part_first : OnePicked → PickedJoin → PickedExist → (selection : Selection) (held : List ℕ) (before after : Option (List ℕ)) → held ≡ [] → GainsPart before (held ++ magic) after → (records : List Record) → HasPart selection records before after
+part_first one join exist selection held before after none part records =
+    front_part one join exist selection [] [] before after (picked_none exist selection)
+    (subst (λ t. GainsPart before t after) (ap (λ t. t ++ magic) none ∙ sym (append-nil magic)) part) records
 
 -- A record
 
-sent_more : PickedJoin → (selection : Selection) (records : List Record) (r : Record) (held next : List ℕ) (before at after : Option (List ℕ)) → HasSent selection records held before at → SendsPicked selection r held next at after
+pub sent_more : PickedJoin → (selection : Selection) (records : List Record) (r : Record) (held next : List ℕ) (before at after : Option (List ℕ)) → HasSent selection records held before at → SendsPicked selection r held next at after
     → HasSent selection (records ++ r ∷ []) next before after
 sent_more join selection records r held next before at after h k = record {
   picked = h.picked ++ k.picked;
@@ -48,101 +55,82 @@ sent_more join selection records r held next before at after h k = record {
   sent = subst (λ t. Sent before t next after) (sym (trace_more h.picked k.picked)) (Sent-then before at after (trace_of h.picked) held (flat_map spelling k.picked) next h.sent k.sent);
 }
 
-pub underway_more :
-    PickedJoin → (selection : Selection) (first left now : Option (List ℕ)) (reader next : ReaderState) (held sent : List ℕ) (before at after : Option (List ℕ)) (answer : Answer) (time port size : ℕ)
-    → answer ≡ Ok (Datagram time port size) → ((records : List Record) → StandsAfter reader first left records → Walks answer next first now records)
-    → SendsPicked selection (record { time = time; port = port; datagram = next.payload }) held sent at after
-    → IsUnderway selection first left reader held before at → IsUnderway selection first now next sent before after
-underway_more join selection first left now reader next held sent before at after answer time port size is walks sends h =
-    let r : Record = record { time = time; port = port; datagram = next.payload } in
-    record {
-      records = h.records ++ r ∷ [];
-      stands = stands_more reader next first left now h.records answer time port size is walks h.stands;
-      has_sent = sent_more join selection h.records r held sent before at after h.has_sent sends;
-    }
+pub part_more : OnePicked → PickedJoin → PickedExist → (selection : Selection) (records : List Record) (r : Record) (held : List ℕ) (before at after : Option (List ℕ)) → HasSent selection records held before at → SendsPart selection r held at after
+    → (later : List Record) → HasPart selection ((records ++ r ∷ []) ++ later) before after
+part_more one join exist selection records r held before at after h k later =
+    let p = h.picked in
+    front_part one join exist selection (records ++ r ∷ []) (p ++ k.picked) before after (join selection records (r ∷ []) p k.picked h.is_picked k.is_picked)
+    (subst (λ t. GainsPart before t after) (sym (trace_more p k.picked)) (Sent-part before at after (trace_of p) held (flat_map spelling k.picked) h.sent k.part)) later
 
-pub part_at_record :
-    WalksTheFront → OnePicked → PickedJoin → PickedExist → (selection : Selection) (first left now : Option (List ℕ)) (reader next : ReaderState) (held : List ℕ) (before at after : Option (List ℕ)) (answer : Answer) (time port size : ℕ)
-    → next.max ≡ reader.max → answer ≡ Ok (Datagram time port size) → ((records : List Record) → StandsAfter reader first left records → Walks answer next first now records)
-    → SendsPart selection (record { time = time; port = port; datagram = next.payload }) held at after
-    → IsUnderway selection first left reader held before at → PicksPart selection reader.max first before after
-part_at_record law one join exist selection first left now reader next held before at after answer time port size max is walks sends h =
-    let r : Record = record { time = time; port = port; datagram = next.payload } in
-    let p = h.has_sent.picked in
-    let part : GainsPart before (trace_of (p ++ sends.picked)) after = subst (λ t. GainsPart before t after) (sym (trace_more p sends.picked))
-    (Sent-part before at after (trace_of p) held (flat_map spelling sends.picked) h.has_sent.sent sends.part) in
-    subst (λ n. PicksPart selection n first before after) max
-    (leaves_part law one join exist selection first now next (h.records ++ r ∷ []) (p ++ sends.picked) before after (stands_more reader next first left now h.records answer time port size is walks h.stands)
-    (join selection h.records (r ∷ []) p sends.picked h.has_sent.is_picked sends.is_picked) part)
+-- What is sent so far
 
--- A read fault
-
-pub part_at_fault :
-    WalksTheFront → OnePicked → PickedJoin → PickedExist → (selection : Selection) (first left now : Option (List ℕ)) (reader next : ReaderState) (held : List ℕ) (before at : Option (List ℕ)) (why : TraceFault)
-    → next.max ≡ reader.max → ((records : List Record) → StandsAfter reader first left records → Walks (Err why) next first now records)
-    → IsUnderway selection first left reader held before at → PicksPart selection reader.max first before at
-part_at_fault law one join exist selection first left now reader next held before at why max walks h =
-    let p = h.has_sent.picked in
-    subst (λ n. PicksPart selection n first before at) max
-    (leaves_part law one join exist selection first now next h.records p before at (stands_still next first now h.records why (walks h.records h.stands)) h.has_sent.is_picked (part_sent before at (trace_of p) held h.has_sent.sent))
+pub so_far : OnePicked → PickedJoin → PickedExist → (selection : Selection) (records : List Record) (held : List ℕ) (before after : Option (List ℕ)) → HasSent selection records held before after → (later : List Record) → HasPart selection (records ++ later) before after
+so_far one join exist selection records held before after h later =
+    front_part one join exist selection records h.picked before after h.is_picked (part_sent before after (trace_of h.picked) held h.sent) later
 
 -- The end
 
-pub sent_all :
-    (selection : Selection) (first left now : Option (List ℕ)) (reader next : ReaderState) (held : List ℕ) (before at : Option (List ℕ)) (end : Ending) (answer : Finish)
-    → next.max ≡ reader.max → answer ≡ finish_of end → ((picked : List Record) → written_of end picked ≡ trace_of picked)
-    → ((records : List Record) → StandsAfter reader first left records → StandsAfter next first now records × IfSome first (λ bytes. IsTrace bytes next.max records end))
-    → IsUnderway selection first left reader held before at → HasSentAll selection reader.max first answer held before at
-sent_all selection first left now reader next held before at end answer max is text walks h = record {
+written_begun : (end : Ending) (picked : List Record) → IsBegun (finish_of end) → written_of end picked ≡ trace_of picked
+written_begun Ended picked b = refl
+written_begun (Cut n) picked b = refl
+written_begun (TooLong n) picked b = refl
+written_begun (NotTrace n) picked b = absurd b
+
+pub sent_whole : (selection : Selection) (records : List Record) (end : Ending) (finish : Finish) (held : List ℕ) (before at after : Option (List ℕ)) → IsBegun finish → finish ≡ finish_of end → HasSent selection records held before at → Gains at held after → HasGained selection records end before after
+sent_whole selection records end finish held before at after begun is h gained = record {
+  picked = h.picked;
+  is_picked = h.is_picked;
+  gained = subst (λ t. Gains before t after) (sym (written_begun end h.picked (subst IsBegun is begun))) (Sent-whole before at after (trace_of h.picked) held h.sent gained);
+}
+
+pub sent_part : OnePicked → (selection : Selection) (records : List Record) (held : List ℕ) (before at after : Option (List ℕ)) → HasSent selection records held before at → GainsPart at held after → HasPart selection records before after
+sent_part one selection records held before at after h part picked is =
+    subst (λ t. GainsPart before t after) (ap trace_of (one selection records h.picked picked h.is_picked is)) (Sent-cut before at after (trace_of h.picked) held h.sent part)
+
+pub gained_none : PickedExist → (selection : Selection) (place : ℕ) (written : Option (List ℕ)) → HasGained selection [] (NotTrace place) written written
+gained_none exist selection place written = record { picked = []; is_picked = picked_none exist selection; gained = Gains-nil written }
+
+-- What a call comes to
+
+pub picks : (selection : Selection) (max : ℕ) (input before after : Option (List ℕ)) (came : Result Finish Fault) → IfOk came (λ finish. Walked HasGained selection max finish input before after) → IfOk came (λ finish. Picks selection max finish input before after)
+picks selection max input before after (Ok finish) h = record {
   records = h.records;
-  end = end;
-  answer_is = is;
-  of_input = subst (λ n. IfSome first (λ bytes. IsTrace bytes n h.records end)) max (walks h.records h.stands).1;
-  has_sent = h.has_sent;
-  is_written = text h.has_sent.picked;
+  picked = h.told.picked;
+  end = h.end;
+  answer_is = h.answer_is;
+  of_input = h.of_input;
+  is_picked = h.told.is_picked;
+  gained = h.told.gained;
 }
+picks selection max input before after (Err fault) h = tt
 
--- From the first record
+-- of what is no trace nothing is written
+abbrev IsRefused : ℕ → Option (List ℕ) → Type 0 → Type 0
+IsRefused max input P = IfSome input (λ bytes. (place : ℕ) → IsTrace bytes max [] (NotTrace place) → P)
 
--- the magic is written or held
-pub underway : PickedExist → (selection : Selection) (first now : Option (List ℕ)) (reader : ReaderState) (held next : List ℕ) (before after : Option (List ℕ)) → held ≡ [] → Sent before (held ++ magic) next after → StandsAfter reader first now []
-    → IsUnderway selection first now reader next before after
-underway exist selection first now reader held next before after none sent stands = record {
-  records = [];
-  stands = stands;
-  has_sent = record { picked = []; is_picked = picked_none exist selection; sent = subst (λ t. Sent before t next after) (ap (λ t. t ++ magic) none ∙ sym (append-nil magic)) sent };
-}
+pub refused : {A : Type 0} (written : A → Option (List ℕ)) (new old : A) (max : ℕ) (input : Option (List ℕ)) → IsRefused max input (new ≡ old) → IsRefused max input (written new ≡ written old)
+refused written new old max None h = tt
+refused written new old max (Some bytes) h = λ place trace. ap written (h place trace)
 
--- it isn't all written
-pub part_first : WalksTheFront → OnePicked → PickedJoin → PickedExist → (selection : Selection) (first now : Option (List ℕ)) (reader : ReaderState) (held : List ℕ) (before after : Option (List ℕ)) → held ≡ [] → GainsPart before (held ++ magic) after → StandsAfter reader first now []
-    → PicksPart selection reader.max first before after
-part_first law one join exist selection first now reader held before after none part stands =
-    leaves_part law one join exist selection first now reader [] [] before after stands (picked_none exist selection)
-    (subst (λ t. GainsPart before t after) (ap (λ t. t ++ magic) none ∙ sym (append-nil magic)) part)
+part_at : (selection : Selection) (bytes : List ℕ) (max : ℕ) (records picked : List Record) (end : Ending) (before after : Option (List ℕ)) → HasPart selection records before after → ((place : ℕ) → IsTrace bytes max [] (NotTrace place) → after ≡ before)
+    → IsTrace bytes max records end → IsPicked selection records picked → GainsPart before (written_of end picked) after
+part_at selection bytes max records picked Ended before after h none trace is = h picked is
+part_at selection bytes max records picked (Cut n) before after h none trace is = h picked is
+part_at selection bytes max records picked (TooLong n) before after h none trace is = h picked is
+part_at selection bytes max records picked (NotTrace n) before after h none trace is =
+    subst (λ w. GainsPart before [] w) (sym (none n (subst (λ (rs : List Record). IsTrace bytes max rs (NotTrace n)) trace.0 trace))) (GainsPart-nil before [])
 
--- what was held at the end is written
-pub picks : (selection : Selection) (max : ℕ) (first : Option (List ℕ)) (answer : Finish) (held : List ℕ) (before at after : Option (List ℕ)) → HasSentAll selection max first answer held before at → Gains at held after → Picks selection max answer first before after
-picks selection max first answer held before at after h gained =
-    let p = h.has_sent.picked in
-    record {
-      records = h.records;
-      picked = p;
-      end = h.end;
-      answer_is = h.answer_is;
-      of_input = h.of_input;
-      is_picked = h.has_sent.is_picked;
-      gained = subst (λ t. Gains before t after) (sym h.is_written) (Sent-whole before at after (trace_of p) held h.has_sent.sent gained);
-    }
+part_of : (selection : Selection) (max : ℕ) (input before after : Option (List ℕ)) → IsRefused max input (after ≡ before) → WalkedPart HasPart selection max input before after → PicksPart selection max input before after
+part_of selection max None before after none h = tt
+part_of selection max (Some bytes) before after none h = λ records picked end trace is. part_at selection bytes max records picked end before after (h records end trace) none trace is
 
--- or a front of it
-pub picks_part : OneTrace → OnePicked → (selection : Selection) (max : ℕ) (first : Option (List ℕ)) (answer : Finish) (held : List ℕ) (before at after : Option (List ℕ)) → HasSentAll selection max first answer held before at → GainsPart at held after → PicksPart selection max first before after
-picks_part trace one selection max None answer held before at after h part = tt
-picks_part trace one selection max (Some bytes) answer held before at after h part = λ records picked end is_trace is.
-    let p = h.has_sent.picked in
-    let same = trace bytes max records h.records end h.end is_trace h.of_input in
-    let chosen : p ≡ picked = one selection h.records p picked h.has_sent.is_picked (subst (λ (rs : List Record). IsPicked selection rs picked) same.0 is) in
-    let text : trace_of p ≡ written_of end picked = sym h.is_written ∙ ap (λ (e : Ending). written_of e p) (sym same.1) ∙ ap (λ t. written_of end t) chosen in
-    subst (λ t. GainsPart before t after) text (Sent-cut before at after (trace_of p) held h.has_sent.sent part)
+pub picks_part : (selection : Selection) (max : ℕ) (input before after : Option (List ℕ)) (came : Result Finish Fault) → IsRefused max input (after ≡ before) → OnErr came (WalkedPart HasPart selection max input before after) → OnErr came (PicksPart selection max input before after)
+picks_part selection max input before after (Ok finish) none h = tt
+picks_part selection max input before after (Err fault) none h = part_of selection max input before after none h
+
+pub picks_none : (selection : Selection) (max : ℕ) (input written : Option (List ℕ)) → PicksPart selection max input written written
+picks_none selection max None written = tt
+picks_none selection max (Some bytes) written = λ records picked end trace is. GainsPart-nil written (written_of end picked)
 
 -- What is written is read back
 

@@ -1,19 +1,13 @@
 -- How far a pick has come. No public contract cites what stands here.
-use Rattle.std.specs.Prelude.{◌≡◌, ℕ, Option, IfSome, Result, Ok, Err, List, [], ◌∷◌, ◌++◌}
+use Rattle.std.specs.Prelude.{◌≡◌, ℕ, Bool, Option, List, [], ◌∷◌, ◌++◌}
 use Rattle.std.specs.List.{flat_map}
 use Rattle.fg_io.specs.Sent.{Sent}
-use Rattle.fg_io.specs.Sink.{GainsPart}
-use Rattle.fg_io.specs.declared.fault.Fault.{Fault}
-use Rattle.fg_io.specs.declared.fault.Fault.TheVariants.{Read, Write, Memory}
+use Rattle.fg_io.specs.Sink.{Gains, GainsPart}
 use Rattle.fg_flows.specs.declared.selection.Selection.{Selection}
-use Rattle.fg_trace.specs.declared.step.Finish.{Finish}
-use Rattle.fg_trace.specs.declared.step.Finish.TheVariants as finish
-use Rattle.fg_trace.specs.Reader.{ReaderState, StandsAfter}
-use Rattle.fg_trace.specs.Trace.{Record, Ending, IsTrace, spelling, trace_of}
-use Rattle.fg_trace.specs.Finish.{finish_of}
-use Rattle.fg_trace.specs.Reading.{IsReadFor}
+use Rattle.fg_trace.specs.Trace.{Record, Ending, spelling, trace_of}
 use Rattle.fg_pick.specs.Pick.{written_of}
 use Rattle.fg_pick.specs.Picked.{IsPicked}
+use Rattle.fg_pick.specs.Ports.{IsPortTable}
 
 -- What is picked of the record is sent behind what is held: the sink has gained the front of both, and the rest is held.
 pub record SendsPicked (selection : Selection) (r : Record) (held next : List ℕ) (before after : Option (List ℕ)) : Type 0 where
@@ -34,19 +28,24 @@ pub record HasSent
   pub is_picked : IsPicked selection records picked
   pub sent : Sent before (trace_of picked) held after
 
--- The reader stands after the records of which that is sent.
-pub record IsUnderway
-    (selection : Selection) (first now : Option (List ℕ)) (reader : ReaderState) (held : List ℕ) (before after : Option (List ℕ)) : Type 0 where
-  pub records : List Record
-  pub stands : StandsAfter reader first now records
+-- Nothing is sent, and the table has the ports that are picked.
+pub record IsNew (selection : Selection) (entries : List Bool) (held : List ℕ) : Type 0 where
+  pub table : IsPortTable selection entries
+  pub empty : held ≡ []
+
+-- What is picked of these records by that table is sent.
+pub record HasPicked
+    (selection : Selection) (entries : List Bool) (records : List Record) (held : List ℕ) (before after : Option (List ℕ)) : Type 0 where
+  pub table : IsPortTable selection entries
   pub has_sent : HasSent selection records held before after
 
--- What is picked of all records of the trace is sent, and this is the answer to its ending.
-pub record HasSentAll
-    (selection : Selection) (max : ℕ) (first : Option (List ℕ)) (answer : Finish) (held : List ℕ) (before after : Option (List ℕ)) : Type 0 where
-  pub records : List Record
-  pub end : Ending
-  pub answer_is : answer ≡ finish_of end
-  pub of_input : IfSome first (λ bytes. IsTrace bytes max records end)
-  pub has_sent : HasSent selection records held before after
-  pub is_written : written_of end has_sent.picked ≡ trace_of has_sent.picked
+-- The sink has gained what is written of these records, where their trace ends so.
+pub record HasGained (selection : Selection) (records : List Record) (end : Ending) (before after : Option (List ℕ)) : Type 0 where
+  pub picked : List Record
+  pub is_picked : IsPicked selection records picked
+  pub gained : Gains before (written_of end picked) after
+
+-- It has gained a prefix of the trace of what is picked of them.
+abbrev pub HasPart : Selection → List Record → Option (List ℕ) → Option (List ℕ) → Type 0
+HasPart selection records before after =
+    (picked : List Record) → IsPicked selection records picked → GainsPart before (trace_of picked) after

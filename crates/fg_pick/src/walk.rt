@@ -1,27 +1,25 @@
 //! Walking a trace, and sending the records on that are picked.
-ghost use Rattle.std.specs.Prelude.{◌≡◌, ◌⊎◌, ◌+◌, ◌≤◌, ◌<◌, ◌^◌, ℕ, Option, List, [], ◌∷◌, length, None, true, IfOk, IfSome, IfNone, OnErr, OnOk};
+ghost use Rattle.std.specs.Prelude.{◌≡◌, ◌⊎◌, ◌≤◌, ◌<◌, ◌^◌, ℕ, List, [], ◌∷◌, length, IfOk, IfSome, OnErr, OnOk};
 ghost use Rattle.std.specs.List.{All};
 ghost use Rattle.std.specs.Io.KnownBytes.{IsAtEnd};
 ghost use Rattle.fg_io.specs.Faults.{Counts, CountsFaults};
 ghost use Rattle.fg_shape.specs.Kind.{IsFlowPort};
-ghost use Rattle.fg_trace.specs.Reader.{StandsAfter};
 ghost use Rattle.fg_trace.specs.Trace.{Record, Ending, NotTrace as NoMagic, IsTrace};
 ghost use Rattle.fg_trace.specs.Finish.{IsFault, ReadsAll, finish_of};
-ghost use Rattle.fg_trace.specs.Reading.{HasReached, IsReadFor};
-ghost use Rattle.fg_trace.specs.Reached.{IsReadTo, Stands, answer_to};
+ghost use Rattle.fg_trace.specs.Reading.{IsReadFor};
+ghost use Rattle.fg_trace.specs.Reached.{IsReadTo};
 ghost use Rattle.fg_pick.specs.Pick.{ComesBack, Picks, PicksPart, WritesTrace};
 ghost use Rattle.fg_pick.specs.Ports.{IsPortTable};
-ghost use Rattle.fg_pick.specs.Steps.{HasSentAll, IsUnderway, SendsPart, SendsPicked};
+ghost use Rattle.fg_pick.specs.Steps.{SendsPart, SendsPicked};
 
 use crate::fitting::fits;
 use crate::laws::{one_picked, picked_exist};
 use crate::ports::PortTable;
 use fg_flows::Selection;
 use fg_io::{Fault, OutputBuffer, Sink, Source};
-use fg_trace::laws::{
-    one_trace, read_as_far_as_needed, spelled_is_read, walks_on, walks_the_front,
-};
-use fg_trace::{Finish, MAGIC, Reader, Step, TraceFault, record_header};
+use fg_trace::laws::{one_trace, read_as_far_as_needed, spelled_is_read};
+use fg_trace::{Finish, MAGIC, record_header};
+use fg_walk::{Telling, walk};
 use std::alloc::Global;
 
 /// How many bytes of the trace are gathered before they are written.
@@ -106,139 +104,78 @@ fn pick_trace<S: Source, K: Sink>(
         ((K.faults out.old, K.faults out.new) ∷ []) }
 {
     read_as_far_as_needed();
-    picked_exist();
-    let mut reader = Reader::new(alloc, max)?;
     let table = PortTable::new(alloc, selection)?;
-    let mut held = OutputBuffer::new(alloc, ROOM)?;
-    match reader.start(input) {
-        Ok(()) => pick_records(selection, &table, &mut held, &mut reader, input, out),
-        Err(TraceFault::NotTrace(place)) => Ok(Finish::NotTrace(place)),
-        Err(TraceFault::ReadFault) => Err(Fault::Read),
-        Err(TraceFault::Cut(_)) => unreachable!(),
-        Err(TraceFault::TooLong(_)) => unreachable!(),
+    let held = OutputBuffer::new(alloc, ROOM)?;
+    let mut work = Picking {
+        selection,
+        table,
+        held,
+    };
+    walk(alloc, max, &mut work, input, out)
+}
+
+/// A pick under way: what is picked, and the bytes that aren't written yet.
+#[derive(Drop)]
+struct Picking<'a> {
+    selection: &'a Selection,
+    table: PortTable,
+    held: OutputBuffer,
+}
+
+impl<'a> Telling for Picking<'a> {
+    ghost use Rattle.fg_flows.specs.declared.selection.Selection.{Selection};
+    ghost use Rattle.fg_pick.specs.Steps.{HasGained, HasPart, HasPicked, IsNew};
+
+    ghost Given = { Selection };
+
+    ghost given = { λ work. work.selection.now };
+
+    ghost is_new = { λ work. IsNew work.selection.now work.table.entries.items work.held };
+
+    ghost has_told = { λ work records before after.
+        HasPicked work.selection.now work.table.entries.items records work.held before after };
+
+    ghost whole = { HasGained };
+
+    ghost part = { HasPart };
+
+    fn begin<K: Sink>(&mut self, out: &mut K) -> Result<(), Fault> {
+        one_picked();
+        picked_exist();
+        self.held.add(&MAGIC, out)?;
+        Ok(())
     }
-}
 
-/// Picks all records of a trace, whose magic the reader has found, and answers how it ends.
-fn pick_records<S: Source, K: Sink>(
-    selection: &Selection,
-    table: &PortTable,
-    held: &mut OutputBuffer,
-    reader: &mut Reader,
-    input: &mut S,
-    out: &mut K,
-) -> Result<Finish, Fault>
-    requires table { IsPortTable selection.now table.now.entries.items }
-    requires empty { held.old ≡ [] }
-    requires begun { (first : Option (List ℕ)) × StandsAfter reader.old first (S.left input.old) [] }
-    requires open { reader.old.kept ≡ None }
-    requires bounded { reader.old.place + length reader.old.held ≤ reader.old.max + 1 }
-    ensures whole { IfOk result (λ finish. (first : Option (List ℕ))
-        → StandsAfter reader.old first (S.left input.old) []
-        → Picks selection.now reader.old.max finish first (K.written out.old) (K.written out.new)) }
-    ensures part { OnErr result ((first : Option (List ℕ))
-        → StandsAfter reader.old first (S.left input.old) []
-        → PicksPart selection.now reader.old.max first (K.written out.old) (K.written out.new)) }
-    ensures all_read { IfOk result (λ finish. ReadsAll finish → IsAtEnd (S.left input.new)) }
-    ensures reached { (first : Option (List ℕ)) → StandsAfter reader.old first (S.left input.old) []
-        → IsReadTo reader.old.max result first (S.left input.new) }
-    ensures faults { Counts result ((S.faults input.old, S.faults input.new) ∷ [])
-        ((K.faults out.old, K.faults out.new) ∷ []) }
-{
-    one_trace();
-    walks_the_front();
-    one_picked();
-    picked_exist();
-    read_as_far_as_needed();
-    held.add(&MAGIC, out)?;
-    let finish = pick_all(selection, table, held, reader, input, out)?;
-    held.flush(out)?;
-    Ok(finish)
-}
-
-/// Picks the records that are left, of whose bytes the last may be held, and answers how the trace ends.
-fn pick_all<S: Source, K: Sink>(
-    selection: &Selection,
-    table: &PortTable,
-    held: &mut OutputBuffer,
-    reader: &mut Reader,
-    input: &mut S,
-    out: &mut K,
-) -> Result<Finish, Fault>
-    requires table { IsPortTable selection.now table.now.entries.items }
-    requires begun { reader.old.started ≡ true }
-    requires open { reader.old.kept ≡ None }
-    ensures whole { IfOk result (λ finish. (first : Option (List ℕ)) (before : Option (List ℕ))
-        → IsUnderway selection.now first (S.left input.old) reader.old held.old before (K.written out.old)
-        → HasSentAll selection.now reader.old.max first finish held.new before (K.written out.new)) }
-    ensures part { OnErr result ((first : Option (List ℕ)) (before : Option (List ℕ))
-        → IsUnderway selection.now first (S.left input.old) reader.old held.old before (K.written out.old)
-        → PicksPart selection.now reader.old.max first before (K.written out.new)) }
-    ensures all_read { IfOk result (λ finish. ReadsAll finish → IsAtEnd (S.left input.new)) }
-    ensures stands { (first : Option (List ℕ))
-        → Stands reader.old first (S.left input.old) → Stands reader.new first (S.left input.new) }
-    ensures max { reader.new.max ≡ reader.old.max }
-    ensures bounded { reader.new.place + length reader.new.held ≤ reader.new.max + 1 }
-    ensures reached { HasReached (answer_to result) reader.new (S.left input.new) }
-    ensures faults { Counts result ((S.faults input.old, S.faults input.new) ∷ [])
-        ((K.faults out.old, K.faults out.new) ∷ []) }
-{
-    loop {
-        if let Some(finish) = pick_next(selection, table, held, reader, input, out)? {
-            return Ok(finish);
-        }
+    fn tell<K: Sink>(
+        &mut self,
+        time: u64,
+        port: u16,
+        datagram: &[u8],
+        out: &mut K,
+    ) -> Result<(), Fault> {
+        one_picked();
+        picked_exist();
+        pick_record(
+            self.selection,
+            &self.table,
+            time,
+            port,
+            datagram,
+            &mut self.held,
+            out,
+        )?;
+        Ok(())
     }
-}
 
-/// Picks the next record, where there is one; else it answers how the trace ends.
-fn pick_next<S: Source, K: Sink>(
-    selection: &Selection,
-    table: &PortTable,
-    held: &mut OutputBuffer,
-    reader: &mut Reader,
-    input: &mut S,
-    out: &mut K,
-) -> Result<Option<Finish>, Fault>
-    requires table { IsPortTable selection.now table.now.entries.items }
-    requires begun { reader.old.started ≡ true }
-    requires open { reader.old.kept ≡ None }
-    ensures more { IfOk result (λ end. IfNone end ((first : Option (List ℕ)) (before : Option (List ℕ))
-        → IsUnderway selection.now first (S.left input.old) reader.old held.old before (K.written out.old)
-        → IsUnderway selection.now first (S.left input.new) reader.new held.new before (K.written out.new))) }
-    ensures ends { IfOk result (λ end. IfSome end (λ finish. (first : Option (List ℕ)) (before : Option (List ℕ))
-        → IsUnderway selection.now first (S.left input.old) reader.old held.old before (K.written out.old)
-        → HasSentAll selection.now reader.old.max first finish held.new before (K.written out.new))) }
-    ensures part { OnErr result ((first : Option (List ℕ)) (before : Option (List ℕ))
-        → IsUnderway selection.now first (S.left input.old) reader.old held.old before (K.written out.old)
-        → PicksPart selection.now reader.old.max first before (K.written out.new)) }
-    ensures all_read { IfOk result (λ end. IfSome end (λ finish. ReadsAll finish → IsAtEnd (S.left input.new))) }
-    ensures stands { (first : Option (List ℕ))
-        → Stands reader.old first (S.left input.old) → Stands reader.new first (S.left input.new) }
-    ensures begun { reader.new.started ≡ true }
-    ensures bounded { reader.new.place + length reader.new.held ≤ reader.new.max + 1 }
-    ensures reached { IfOk result (λ end. IfSome end (λ finish.
-        HasReached finish reader.new (S.left input.new))) }
-    ensures open { IfOk result (λ end. IfNone end (reader.new.kept ≡ None)) }
-    ensures max { reader.new.max ≡ reader.old.max }
-    ensures place { IfOk result (λ end. IfNone end (reader.old.place < reader.new.place)) }
-    ensures within { reader.new.place ≤ reader.new.max }
-    ensures faults { Counts result ((S.faults input.old, S.faults input.new) ∷ [])
-        ((K.faults out.old, K.faults out.new) ∷ []) }
-{
-    walks_the_front();
-    walks_on();
-    one_picked();
-    picked_exist();
-    match reader.next(input) {
-        Ok(Step::Datagram { time, port, .. }) => {
-            pick_record(selection, table, time, port, reader.payload(), held, out)?;
-            Ok(None)
-        }
-        Ok(Step::End) => Ok(Some(Finish::Done)),
-        Err(TraceFault::Cut(place)) => Ok(Some(Finish::Cut(place))),
-        Err(TraceFault::TooLong(place)) => Ok(Some(Finish::TooLong(place))),
-        Err(TraceFault::ReadFault) => Err(Fault::Read),
-        Err(TraceFault::NotTrace(_)) => unreachable!(),
+    fn end<K: Sink>(&mut self, _finish: Finish, out: &mut K) -> Result<(), Fault> {
+        one_picked();
+        self.held.flush(out)?;
+        Ok(())
+    }
+
+    fn stops(&self) {
+        one_picked();
+        picked_exist();
     }
 }
 
