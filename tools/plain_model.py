@@ -828,8 +828,10 @@ def survey(records, ending, json):
         ("records", len(records)), ("bytes", sum(len(datagram) for _, _, datagram in records)),
         ("span", max(times, default=0) - min(times, default=0)),
         ("backward", sum(time < most for time, most in zip(times[1:], itertools.accumulate(times, max))))], json)
-    for port in sorted({port for _, port, _ in records}):
-        own = [at for at, record in enumerate(records) if record[1] == port]
+    of_ports = {}
+    for at, (_, port, _) in enumerate(records):
+        of_ports.setdefault(port, []).append(at)
+    for port, own in sorted(of_ports.items()):
         kinds = sum(media[at] is not None for at in own), sum(parity[at] is not None for at in own)
         text += surveyed_line("port", [
             ("records", len(own)), ("bytes", sum(len(records[at][2]) for at in own)), ("first", max(times[own[0]] - start, 0)),

@@ -1,8 +1,9 @@
 #!/usr/bin/env bash
 # Counts the instructions a record of surveying a trace, and of picking a flow's records from it, as the difference of two
-# lengths: 10 columns and 10 rows with 3 in a hundred records lost, 1,316 bytes a payload. Then it tells the most memory of each,
-# and, where tshark is there, how long its statistics of RTP streams take on the same records as a capture, beside a survey in the
-# same run. Outside the gate; it wants valgrind.
+# lengths: 10 columns and 10 rows with 3 in a hundred records lost, 1,316 bytes a payload. The survey is counted of 1, 16 and 256
+# such flows in turns too, and of 256 senders on one port. Then it tells the most memory of each, and, where tshark is there, how
+# long its statistics of RTP streams take on the same records as a capture, beside a survey in the same run. Outside the gate; it
+# wants valgrind.
 #
 #   run.sh [DATAGRAMS]
 set -euo pipefail
@@ -17,7 +18,40 @@ count() {
     done
     awk '{ printf "%d", ($3 - $1) / ($4 - $2) }' <<< "$found"
 }
+# in_turns COUNT KIND DATAGRAMS: makes the trace of so many flows on ports of their own, or senders on one port, each of so many
+# datagrams, and tells how many records it has.
+in_turns() {
+    "$make_trace" --datagrams "$3" --loss 3 one.trace > made
+    PYTHONPATH=$top/tools python3 -B - "$1" "$2" one.trace > many.trace <<'END'
+import struct, sys
+import plain_model as model
+count, is_flows = int(sys.argv[1]), sys.argv[2] == "flows"
+with open(sys.argv[3], "rb") as file:
+    one = file.read()
+sys.stdout.buffer.write(model.MAGIC)
+for time, port, datagram in model.read_trace(one, len(one))[0]:
+    for number in range(count):
+        own = datagram if is_flows else datagram[:8] + struct.pack(">I", number) + datagram[12:]
+        sys.stdout.buffer.write(model.spelled([(time, port + 10 * number * is_flows, own)]))
+END
+    echo $(($1 * $(sed 's/ .*//' made)))
+}
+# count_many COUNT KIND: the instructions a record of a survey of them, and its memory.
+count_many() {
+    local found= records
+    for each in $((25600 / $1)) $((51200 / $1)); do
+        records=$(in_turns "$1" "$2" "$each")
+        found="$found $(instructions many.trace survey) $records"
+    done
+    awk -v what="$1 $2" '{ printf "survey of %s: %d instructions a record, at most 900; ", what, ($3 - $1) / ($4 - $2) }' <<< "$found"
+    { /usr/bin/time -f '%M kB of memory at most' "$program" survey < many.trace > told; } 2>&1
+    rm many.trace
+}
 echo "survey: $(count survey) instructions a record, at most 900"
+for many in '1 flows' '16 flows' '256 flows' '256 senders'; do
+    # shellcheck disable=SC2086
+    count_many $many
+done
 echo "pick: $(count pick flow=5000 without=9) instructions a record, at most 400 and a copy"
 
 "$make_trace" --datagrams "$datagrams" --loss 3 lossy.trace > made
