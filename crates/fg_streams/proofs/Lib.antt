@@ -2,7 +2,7 @@ mod BurstLemmas
 mod Closing
 mod Marking
 mod Positioned
-mod Positions
+pub mod Positions
 mod Ranking
 mod Received
 mod Summing

@@ -1,47 +1,21 @@
 -- Datagrams whose positions rise are received, each ahead of the top.
-use Rattle.std.proofs.Common.{◌≡◌, ◌≢◌, ℕ, ◌-◌, ◌<◌, ◌≤◌, max, Bool, true, false, cond, Option, Some, None, IfSome, List, [], ◌∷◌, length, refl, sym, ap, ◌∙◌, subst, arith}
+use Rattle.std.proofs.Common.{◌≡◌, ℕ, ◌-◌, ◌<◌, max, Bool, true, false, cond, Option, Some, None, List, [], ◌∷◌, length, refl, sym, ap, ◌∙◌, arith}
 use Rattle.std.specs.Bool.{⊤}
-use Rattle.std.specs.Option.{option_or}
 use Rattle.std.specs.List.{count_by}
-use Rattle.std.proofs.lemmas.Bool.{le-ltb, ne_eqb}
+use Rattle.std.proofs.lemmas.Bool.{le-ltb}
 use Rattle.fg_streams.specs.declared.fates.Fate.{Fate}
 use Rattle.fg_streams.specs.declared.fates.Fate.TheVariants.{Behind, Ahead}
 use Rattle.fg_streams.specs.declared.span.Span.{Span}
-use Rattle.fg_streams.specs.Arrival.{Arrival, position_in, raised, span_of, time_at, time_if_at}
+use Rattle.fg_streams.specs.Arrival.{Arrival, position_in, raised, span_of, time_at}
 use Rattle.fg_streams.specs.Fates.{counts_of, deepest_of, fate_after, fate_at, fate_in, fates_of, is_duplicate, is_late, is_received, is_reordered}
+use Rattle.fg_streams.proofs.Positions.{none_above}
 use Rattle.fg_surveyed.proofs.Counting.{count_cons, one_if}
-
--- What is past the top was not received.
-
-elsewhere : (p q time : ℕ) → p ≢ q → time_if_at (Some p) time q ≡ None
-elsewhere p q time other = let none : Option ℕ = None in ap (λ b. cond b (Some time) none) (ne_eqb p q other)
-
-or_none : (t : Option ℕ) → option_or t None ≡ t
-or_none None = refl
-or_none (Some t) = refl
-
-rises : (s : Span) (seq : ℕ) (pos : Option ℕ) → s.top ≤ (raised (Some s) seq pos).top
-rises s seq None = omega arith
-rises s seq (Some p) = omega arith
-
-past : (s : Span) (seq time q : ℕ) (pos t : Option ℕ) → (raised (Some s) seq pos).top < q → t ≡ None → option_or t (time_if_at pos time q) ≡ None
-past s seq time q None t above none = or_none t ∙ none
-past s seq time q (Some p) t above none =
-    ap (λ o. option_or o (time_if_at (Some p) time q)) none ∙ elsewhere p q time (λ same. absurd (omega (arith, above, same)))
-
-none_past : (h : List Arrival) (q : ℕ) → IfSome (span_of h) (λ s. s.top < q) → time_at h q ≡ None
-none_past [] q above = refl
-none_past (a ∷ []) q above = elsewhere a.seq q a.time (λ same. absurd (omega (arith, above, same)))
-none_past (a ∷ b ∷ h) q above =
-    let s = raised (span_of h) b.seq (position_in (span_of h) b.seq) in
-    let more = rises s a.seq (position_in (Some s) a.seq) in
-    past s a.seq a.time q (position_in (Some s) a.seq) (time_at (b ∷ h) q) above (none_past (b ∷ h) q (omega (arith, above, more)))
 
 -- One datagram more
 
 module _ (h : List Arrival) (a : Arrival) (s : Span) (p : ℕ) (known : span_of h ≡ Some s) (place : position_in (Some s) a.seq ≡ Some p) (above : s.top < p) where
   none_there : time_at h p ≡ None
-  none_there = none_past h p (subst (λ (o : Option Span). IfSome o (λ s. s.top < p)) (sym known) above)
+  none_there = none_above h s p (sym known) above
 
   pub fate_is : fate_after h a ≡ Ahead (p - s.top)
   fate_is =
