@@ -8,7 +8,7 @@ ghost use Rattle.fg_survey.specs.Steps.{KeepsStreams, media_heard};
 ghost use Rattle.fg_survey.specs.Tallies.{IsTally};
 
 use crate::reading::Reading;
-use crate::senders::{Sender, find};
+use crate::senders::{Sender, find_near};
 use crate::streams::{Media, Streams};
 use crate::tally::Tally;
 use fg_streams::Span;
@@ -48,7 +48,7 @@ fn ahead_by(streams: &Streams, sender: Sender, base: u16) -> u64
     requires { (heard : List Heard) × KeepsStreams streams.now heard }
     ensures { (heard : List Heard) → KeepsStreams streams.now heard → result ≡ ahead_by heard base sender }
 {
-    match find(&streams.senders, sender) {
+    match find_near(&streams.senders, sender, streams.near) {
         Some(place) => ahead_of(streams.streams[place].span(), base),
         None => 0,
     }
@@ -65,6 +65,17 @@ pub(crate) fn find_lane(lanes: &[Lane], port: u16) -> Option<usize>
         }
     }
     None
+}
+
+/// The same, where it most often stands at this place: with one sender a port lanes are in the order of streams.
+fn find_lane_near(lanes: &[Lane], port: u16, near: usize) -> Option<usize>
+    ensures found { IfSome result (λ place. IsLaneAt lanes.now port place) }
+    ensures none { result ≡ None → has_port (map port_of lanes.now) port ≡ false }
+{
+    if near < lanes.len() && lanes[near].port == port {
+        return Some(near);
+    }
+    find_lane(lanes, port)
 }
 
 impl Lane {
@@ -101,13 +112,15 @@ impl Lane {
             offset,
             number,
         } = parity;
-        let ahead = ahead_by(streams, sender, base);
+        // Most lanes aren't the parity's, so the sender is sought last.
         if u32::from(port) == u32::from(self.port) + 2 {
-            self.tally.take_column(offset, number, ahead);
+            self.tally
+                .take_column(offset, number, ahead_by(streams, sender, base));
             return;
         }
         if u32::from(port) == u32::from(self.port) + 4 {
-            self.tally.take_row(offset, number, ahead);
+            self.tally
+                .take_row(offset, number, ahead_by(streams, sender, base));
             return;
         }
     }
@@ -139,7 +152,7 @@ fn take_media(
         → KeepsStreams streams.now (media_heard media datagram ∷ before)
         → AreLanes lanes.old.items before → AreLanes lanes.new.items (media_heard media datagram ∷ before)) }
 {
-    match find_lane(lanes, media.sender.port) {
+    match find_lane_near(lanes, media.sender.port, streams.near) {
         Some(place) => {
             lanes[place].ssrc = media.sender.ssrc;
             Ok(())
@@ -160,7 +173,7 @@ fn take_first(
         → KeepsStreams streams.now (media_heard media datagram ∷ before)
         → AreLanes lanes.old.items before → AreLanes lanes.new.items (media_heard media datagram ∷ before)) }
 {
-    match find(&streams.senders, media.sender) {
+    match find_near(&streams.senders, media.sender, streams.near) {
         None => Ok(()),
         Some(_) => {
             let lane = Lane::new(alloc, media.sender)?;

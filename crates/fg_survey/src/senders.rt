@@ -1,5 +1,5 @@
 //! The senders of a trace.
-ghost use Rattle.std.specs.Prelude.{◌≡◌, ◌<◌, ℕ, List, IfSome, Option, None, get_or, length, false};
+ghost use Rattle.std.specs.Prelude.{◌≡◌, ◌<◌, ℕ, List, IfSome, IsTrue, Option, None, get_or, length, false};
 ghost use Rattle.fg_survey.specs.Senders.{listed, same_sender};
 ghost use Rattle.fg_survey.specs.Steps.{IsFoundAt};
 
@@ -21,8 +21,30 @@ impl Sender {
     }
 }
 
+/// Whether a sender stands at this place.
+fn is_at(senders: &[Sender], sender: Sender, place: usize) -> bool
+    ensures { IsTrue result → IsFoundAt senders.now sender place }
+{
+    place < senders.len() && sender.same(&senders[place])
+}
+
+/// The place of a sender. Most often it is near, where the one before was found, or the next one: flows come in turns.
+pub(crate) fn find_near(senders: &[Sender], sender: Sender, near: usize) -> Option<usize>
+    ensures found { IfSome result (λ place. IsFoundAt senders.now sender place) }
+    ensures none { result ≡ None → listed senders.now sender ≡ false }
+{
+    if is_at(senders, sender, near) {
+        return Some(near);
+    }
+    let next = near.saturating_add(1);
+    if is_at(senders, sender, next) {
+        return Some(next);
+    }
+    find(senders, sender)
+}
+
 /// The place of a sender.
-pub(crate) fn find(senders: &[Sender], sender: Sender) -> Option<usize>
+fn find(senders: &[Sender], sender: Sender) -> Option<usize>
     ensures found { IfSome result (λ place. IsFoundAt senders.now sender place) }
     ensures none { result ≡ None → listed senders.now sender ≡ false }
 {

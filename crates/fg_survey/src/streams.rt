@@ -6,7 +6,7 @@ ghost use Rattle.fg_survey.specs.Steps.{KeepsStreams, HaveEnded, IsFoundAt, arri
 ghost use Rattle.fg_survey.specs.Senders.{listed};
 
 use crate::reading::Reading;
-use crate::senders::{Sender, find};
+use crate::senders::{Sender, find_near};
 use fg_rtp::payload;
 use fg_streams::Stream;
 use std::alloc::{AllocError, Global};
@@ -22,6 +22,8 @@ pub(crate) struct Streams {
     pub(crate) streams: Vec<Stream>,
     /// How many media datagrams are of other senders.
     pub(crate) more: u64,
+    /// Where the latest sender was found: the next is sought there first.
+    pub(crate) near: usize,
 }
 
 /// A media datagram.
@@ -42,6 +44,7 @@ impl Streams {
             senders: Vec::new(alloc),
             streams: Vec::new(alloc),
             more: 0,
+            near: 0,
         }
     }
 
@@ -79,8 +82,11 @@ impl Streams {
         ensures { OnOk result ((before : List Heard) → KeepsStreams self.old before
             → KeepsStreams self.new (media_heard media datagram.now ∷ before)) }
     {
-        match find(&self.senders, media.sender) {
-            Some(place) => self.take_at(place, media, datagram),
+        match find_near(&self.senders, media.sender, self.near) {
+            Some(place) => {
+                self.near = place;
+                self.take_at(place, media, datagram)
+            }
             None => self.take_new(alloc, media, datagram),
         }
     }

@@ -33,5 +33,5 @@ pub returns-in-None : goal.returns-in-None
 returns-in-None c = λ heard h.
     let sender = c.args.sender in
     let unlisted : listed (senders_of heard) sender ≡ false =
-    ap (λ (l : List Sender). listed l sender) (sym h.senders_are ∙ sym c.deref.ensures.value) ∙ c.find.ensures.none c.in-None.is in
+    ap (λ (l : List Sender). listed l sender) (sym h.senders_are ∙ sym c.deref.ensures.value) ∙ c.find_near.ensures.none c.in-None.is in
     sym (ap (λ b. cond b (ahead_of c.args.base (span_of (arrivals_of sender heard))) 0) unlisted)

@@ -11,7 +11,7 @@ use Rattle.fg_survey.proofs.lanes.take_first.Goals as goal
 pub returns-in-None : goal.returns-in-None
 returns-in-None c = λ before datagram keeps h.
     lanes_untold c.args.lanes.now.items before c.args.media datagram h c.requires
-    (ap (λ (l : List Sender). listed l c.args.media.sender) (sym keeps.senders_are ∙ sym c.deref.ensures.value) ∙ c.find.ensures.none c.in-None.is)
+    (ap (λ (l : List Sender). listed l c.args.media.sender) (sym keeps.senders_are ∙ sym c.deref.ensures.value) ∙ c.find_near.ensures.none c.in-None.is)
 
 pub returns-in_ok-push-in-Some : goal.returns-in_ok-push-in-Some
 returns-in_ok-push-in-Some c = λ before datagram keeps h.
