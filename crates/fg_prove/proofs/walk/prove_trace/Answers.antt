@@ -1,5 +1,7 @@
-use Rattle.std.proofs.Common.{◌≡◌, ◌∙◌, Result, Ok, Err, IsNone, ap, refl, subst, sym}
+use Rattle.std.proofs.Common.{◌≡◌, ◌∙◌, ℕ, List, [], ◌∷◌, Result, Ok, Err, IsNone, ap, arith, refl, subst, sym}
 use Rattle.std.proofs.lemmas.Result.{IfOk-weaker}
+use Rattle.fg_io.specs.declared.fault.Fault.TheVariants as fg
+use Rattle.fg_io.specs.Faults.{Answers, CountsFaults}
 use Rattle.fg_trace.specs.declared.step.Finish.{Finish}
 use Rattle.fg_trace.specs.declared.step.Finish.TheVariants as finish
 use Rattle.fg_trace.specs.declared.step.TraceFault.{TraceFault}
@@ -12,6 +14,22 @@ use Rattle.fg_trace.proofs.Opening.{never_refused}
 use Rattle.fg_prove.proofs.Opening.{none_is_part, proves_none}
 use Rattle.fg_trace.proofs.Reached.{differs_at, failed_at}
 use Rattle.fg_prove.proofs.walk.prove_trace.Goals as goal
+
+no_write : fg.Read ≡ fg.Write → ⊥
+no_write e = cc
+
+-- A read that failed is counted once, and nothing was written.
+read_counted : (result : Result (Unit {0}) TraceFault) (before after written : ℕ) → result ≡ Err fault.ReadFault
+    → CountsFaults (Answers result fault.ReadFault) ⊥ ((before, after) ∷ []) []
+    → CountsFaults (fg.Read ≡ fg.Read) (fg.Read ≡ fg.Write) ((before, after) ∷ []) ((written, written) ∷ [])
+read_counted result before after written is h = record {
+  read = λ same. h.read (subst (λ r. Answers r fault.ReadFault) (sym is) refl);
+  write = λ e. absurd (no_write e);
+  no_read = λ none. absurd (none refl);
+  no_write = λ none. refl;
+  rise = h.rise;
+  sinks_rise = omega arith;
+}
 
 pub prove_records-requires-clause-begun : goal.prove_records-requires-clause-begun
 prove_records-requires-clause-begun g c =
@@ -44,6 +62,10 @@ returns-in-Err-NotTrace-clause-reached g c =
     subst (λ (f : Finish). IsReadTo c.args.plan.now.max (Ok f) left (g.S.Source.left c.start.new.from)) (sym (ap finish.NotTrace c.in-Err-NotTrace.place-is))
     (differs_at c.read_as_far_as_needed.ensures.before c.args.plan.now.max c.start.new.self left _ c.in-Err-NotTrace.place max opens c.start.ensures.bounded c.start.ensures.few
     (c.start.ensures.differs unkept c.in-Err-NotTrace.place (c.in-Err-NotTrace.is ∙ ap Err c.in-Err-NotTrace.field-0-is)))
+
+pub returns-in-Err-ReadFault-clause-faults : goal.returns-in-Err-ReadFault-clause-faults
+returns-in-Err-ReadFault-clause-faults g c =
+    read_counted c.start.result _ _ _ (c.in-Err-ReadFault.is ∙ ap Err c.in-Err-ReadFault.field-0-is) c.start.ensures.faults
 
 pub returns-in-Err-ReadFault-clause-part : goal.returns-in-Err-ReadFault-clause-part
 returns-in-Err-ReadFault-clause-part g c = none_is_part c.args.plan.now _ _
