@@ -238,6 +238,7 @@ STATED = (
 MEASURED = (
     ("first_command_clock", r"took # minutes"),
     ("first_command_processors", r"# processor minutes, on"),
+    ("proofs_processors", r"proofs took some # processor minutes"),
     ("flows_16_lost_3_workers_4_least", r"Several flows took from #"),
     ("flows_64_lost_3_workers_4_most", r"Several flows took from [\d.]+ to #"),
     ("large_pages_processors_least", r"16 and 64 flows took # to"),

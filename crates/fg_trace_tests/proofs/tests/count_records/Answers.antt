@@ -1,6 +1,6 @@
 use Rattle.std.proofs.Common.{ap, ◌∙◌, [], refl, arith}
 use Rattle.fg_trace.specs.Reader.{ReaderState}
-use Rattle.fg_trace.proofs.tests.count_records.Goals as goal
+use Rattle.fg_trace_tests.proofs.tests.count_records.Goals as goal
 
 pub loop-count-init : goal.loop-count-init
 loop-count-init g c =

@@ -1,7 +1,7 @@
 use Rattle.std.proofs.Common.{◌≡◌, ◌-◌, ◌≤◌, List, length}
 use Rattle.fg_trace.specs.Trace.{Record}
 use Rattle.fg_trace.specs.Reader.{StandsAfter}
-use Rattle.fg_trace.proofs.tests.count_records.Given as goal
+use Rattle.fg_trace_tests.proofs.tests.count_records.Given as goal
 
 abbrev pub invariant-loop-count : goal.invariant-loop-count
 invariant-loop-count g l = (l.reader.max ≡ l.max) × (l.count ≤ l.reader.place) × (records : List Record) × (l.count ≡ length records) × StandsAfter l.reader (g.S.Source.left l.fn.from) (g.S.Source.left l.from) records

@@ -1,5 +1,5 @@
 use Rattle.std.proofs.Common.{◌≡◌, true}
-use Rattle.fg_trace.proofs.tests.least_and_largest_records.Given as goal
+use Rattle.fg_trace_tests.proofs.tests.least_and_largest_records.Given as goal
 
 abbrev pub invariant-loop-number : goal.invariant-loop-number
 invariant-loop-number g l = l.reader.started ≡ true

@@ -1,5 +1,5 @@
 use Rattle.std.proofs.Common.{◌≡◌, true}
-use Rattle.fg_trace.proofs.tests.walk.Given as goal
+use Rattle.fg_trace_tests.proofs.tests.walk.Given as goal
 
 abbrev pub invariant-loop-count : goal.invariant-loop-count
 invariant-loop-count g l = l.reader.started ≡ true
