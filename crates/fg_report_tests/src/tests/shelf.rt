@@ -1,4 +1,4 @@
-use fg_io::MemOutlet;
+use fg_io::{Failed, MemOutlet};
 use fg_report::*;
 use std::test::Fail;
 
