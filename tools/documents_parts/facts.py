@@ -46,6 +46,7 @@ def of_folders(code):
                    + code.count("crates/fg_batches/src/gathering.rt", r"Sheaf::new\("),
         "guarded": code.count("crates/fg_turn/src/guarded.rt", r"^    ghost \w+: \{ \("),
         "gap_bytes": 8 * code.count("crates/fg_report/src/gaps.rt", r"(?<=runs: Vec<\()u64|(?<=runs: Vec<\(u64, )u64"),
+        "fleet_period": code.read("tools/fleet", r'"--stats-period", .*default=(\d+)'),
         "late_seconds": code.read("tools/replay_link", r"^LATE = ([\d.]+)"),
     }
 

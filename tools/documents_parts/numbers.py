@@ -128,14 +128,11 @@ def of_figures(text):
 def excused(code, pages):
     """Sees what has a reason, and tells a reason that no number takes any more, a list that doesn't count on, a word that isn't taken."""
     named = free.standards(*map(code.text, code.paths("crates/*/specs/*.antt")))
-    for pattern in free.OTHERWISE:
-        told = re.compile(pattern.replace("#", NUMBER), re.M)
-        found = [(page, one) for page in pages for one in told.finditer(page.text)]
-        for page, one in found:
-            see_all(page, one, not re.search(r"\.\*|\\d|\[\^", pattern))
-        yield "" if found else f"documents_parts/free.py: no document says {pattern!r}\n"
+    for kind, pattern, places in free.places(pages):
+        for page, span in places:
+            page.see(span)
+        yield "" if places else f"documents_parts/free.py: no document has {pattern!r} ({kind})\n"
     for page in pages:
-        page.see(*free.spans(page.text))
         yield from (f"{page.name}: no command takes {word}\n" for word in free.unfit(code, page.whole))
         yield from (f"{page.name}: no definition names {name}\n" for name in sorted(free.standards(page.text) - named))
         yield from (f"{page.name}: {line!r} doesn't follow on the number before\n" for line in free.disordered(page.text))

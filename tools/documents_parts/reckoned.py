@@ -122,6 +122,15 @@ def of_disks(code):
     yield GUIDE, f"{WORDS[int(2 ** 40 / pieces / 1e9)]} such links for a day"
 
 
+def of_gateways(code):
+    """How long a gateway keeps a datagram beyond hold and latency, and how long one of its repairs lasts."""
+    median, hold = (code.read("docs/made/FIGURES.md", pattern) for pattern in (r"^delay_median (\d+)", r"a hold of (\d+) ms:"))
+    latency = code.read("tools/gateway_parts/words.py", r"latency: int = (\d+)")
+    yield GUIDE, f"and some {median - hold - latency:.0f} milliseconds to put"
+    most = 1 << int(code.read("tools/gateway_parts/repair.py", r"^LONGEST_TRACE = 1 << (\d+)"))
+    yield GUIDE, f"After {most / 1e12:.0f} TB (`--max`), {WORDS[int(most * 8 / 12e6 / 86400)]} days at 12 Mb/s"
+
+
 def of_examples(code):
     """What the guide says of its own examples."""
     text = code.text(GUIDE)
@@ -178,7 +187,7 @@ def of_work(code):
 
 def passages(code):
     """Each passage: the document, and the text that has to stand there."""
-    for part in (of_formats, of_layouts, of_statuses, of_times, of_disks, of_examples, of_losses, of_surveys, of_work):
+    for part in (of_formats, of_layouts, of_statuses, of_times, of_disks, of_gateways, of_examples, of_losses, of_surveys, of_work):
         yield from part(code)
 
 

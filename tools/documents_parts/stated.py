@@ -77,6 +77,7 @@ STATED = (
     ("longest_pause", r"else after 1, 2, 4 and so on up to # seconds"),
     ("unavailable", r"statuses are \d+ and #|# where something is missing|143 or #"),
     ("bad_words", r"statuses are #|# for words\b"),
+    ("fleet_period", r"Each # seconds \(`--stats-period`\)"),
     ("fleet_flows", r"of at most # flows"),
     ("late_seconds", r"later than # milliseconds"),
 )
