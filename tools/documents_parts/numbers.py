@@ -12,10 +12,10 @@ SPELLED = "|".join(WORDS)
 NUMBER = rf"(?<![\w.,/-])(\d{{1,3}}(?:,\d{{3}})+|\d+(?:\.\d+)?|(?i:{SPELLED}))(?![\w]|[.,/]\d)"
 MARK = re.compile(r"<!--([a-z]\w*(?:/\w+)?)-->" + NUMBER.removeprefix(r"(?<![\w.,/-])"))
 FIGURE = re.compile(r"^([a-z]\w*) (-?\d+(?:\.\d+)?) \S.*$", re.M)
-# A number of any kind: of a definition, and of a document, where one and two are words of the language.
+# A number of a definition, of a document, and any that has to be looked at: one and two are words of the language.
 OF_CODE = r"(0x[0-9a-f]+|\d+ \^ \d+|\d[\d_]*|" + SPELLED + r")\b"
 OF_PAGE = rf"(0x[0-9a-f]+|\d+\^\d+|\d{{1,3}}(?:,\d{{3}})+|\d+|(?i:{SPELLED}))"
-ANY = re.compile(rf"\d+|\b(?i:{'|'.join(set(WORDS) - {'zero', 'one', 'two'})}|thirty|forty|fifty|hundred|thousand)\b")
+ANY = re.compile(rf"\d+|\b(?i:{'|'.join(set(WORDS) - {'zero', 'one', 'two'})}|thirty|forty|fifty|hundred|thousand|thirds|quarter|fifth)\b")
 READ = {"#": lambda number: number, "@": lambda number: number - 1, "%": lambda number: int(number).bit_length() - 1,
         "&": lambda number: number / 8}
 TABLES = ((reckoned.fields, r"Bytes \| Field \| Read", "fg_rtp/src/lib.rt", "HEADER_LENGTH"),

@@ -6,7 +6,8 @@ import subprocess
 
 from documents_parts.code import WORDS, value
 
-FORMATS, GUIDE, PROOFS = "docs/FORMATS.md", "docs/GUIDE.md", "docs/PROOFS.md"
+FORMATS, GUIDE, PROOFS, DECISIONS = "docs/FORMATS.md", "docs/GUIDE.md", "docs/PROOFS.md", "docs/DECISIONS.md"
+FIGURES = "docs/made/FIGURES.md"
 
 
 def listed(numbers):
@@ -124,11 +125,22 @@ def of_disks(code):
 
 def of_gateways(code):
     """How long a gateway keeps a datagram beyond hold and latency, and how long one of its repairs lasts."""
-    median, hold = (code.read("docs/made/FIGURES.md", pattern) for pattern in (r"^delay_median (\d+)", r"a hold of (\d+) ms:"))
+    median, hold = (code.read(FIGURES, pattern) for pattern in (r"^delay_median (\d+)", r"a hold of (\d+) ms:"))
     latency = code.read("tools/gateway_parts/words.py", r"latency: int = (\d+)")
     yield GUIDE, f"and some {median - hold - latency:.0f} milliseconds to put"
     most = 1 << int(code.read("tools/gateway_parts/repair.py", r"^LONGEST_TRACE = 1 << (\d+)"))
     yield GUIDE, f"After {most / 1e12:.0f} TB (`--max`), {WORDS[int(most * 8 / 12e6 / 86400)]} days at 12 Mb/s"
+
+
+def of_parts(code):
+    """Figures, and a word of an example, that documents tell as a part of one."""
+    parts = {3: "third", 4: "quarter", 5: "fifth"}
+    saved = 1 - code.read(FIGURES, r"^repair_v3 (\d+)") / code.read(FIGURES, r"^repair_v2 (\d+)")
+    yield DECISIONS, f"x86-64-v3 saves a {parts.get(round(1 / saved))} of the instructions"
+    least, most = (code.read(FIGURES, rf"^reader_player_writer_1_flow {pattern}") for pattern in (r"([\d.]+)", r"[\d.]+ to ([\d.]+)"))
+    yield DECISIONS, f"some {WORDS[round(3 * (least + most) / 2)]} thirds of one thread's time"
+    hold = code.read(GUIDE, r"gateway --flow 5000 .* --hold (\d+) --to")
+    yield GUIDE, f"than the hold, a {parts.get(round(10 ** 6 / hold))} of a second here;"
 
 
 def of_examples(code):
@@ -187,7 +199,7 @@ def of_work(code):
 
 def passages(code):
     """Each passage: the document, and the text that has to stand there."""
-    for part in (of_formats, of_layouts, of_statuses, of_times, of_disks, of_gateways, of_examples, of_losses, of_surveys, of_work):
+    for part in (of_formats, of_layouts, of_statuses, of_times, of_disks, of_gateways, of_parts, of_examples, of_losses, of_surveys, of_work):
         yield from part(code)
 
 

@@ -88,6 +88,8 @@ MEASURED = (
     ("first_command_clock", r"took # minutes"),
     ("first_command_processors", r"# processor minutes, on"),
     ("proofs_processors", r"proofs took some # processor minutes"),
+    ("one_flow_lost_3_most", r"one flow beside workers took up to # times as long"),
+    ("several_flows_processors_most", r"and up to # times the processor time"),
     ("flows_16_lost_3_workers_4_least", r"Several flows took from #"),
     ("flows_64_lost_3_workers_4_most", r"Several flows took from [\d.]+ to #"),
     ("large_pages_processors_least", r"16 and 64 flows took # to"),
