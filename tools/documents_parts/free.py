@@ -29,8 +29,8 @@ KINDS = (
      r"about ten a crate, none"),
     ("measured or tried by hand, and kept in no bench",
      r"machine of four processors", r"up to 10 MB where datagrams are large, 12 with 64 flows", r"takes 16 kB more",
-     r"two million gaps take 34 MB", r"rows with 3 percent lost", r"`workers=0` 5, 10, 30 and 110 MB were enough for 1, 4, 16 and 64 flows",
-     r"took up to 360, 450, 480 and 600, and with less", r"stream of a thousand datagrams, here with about one record in a hundred",
+     r"two million gaps take 34 MB", r"rows with 3 percent lost", r"`workers=0` 5, 10, 30 and 110 MB were enough for 1, 4, 16 and 64 flows at `depth=400`\. With `workers=4` a run took up to "
+     r"360, 450, 480 and 600, and with less", r"stream of a thousand datagrams, here with about one record in a hundred",
      r"a depth of 100 loses all columns", r"two matrices lasted 105 here", r"half of the memory of 64 flows", r"in place of ten\.",
      r"With 300 looks calm", r"of nine planted faults eight were told", r"copied about five times a turn"),
     ("what proofs cost, tried crate by crate",

@@ -104,9 +104,10 @@ def lacking(code, pages):
     """Each passage that is reckoned, and stands otherwise."""
     texts = {page.name: page for page in pages}
     for name, text in reckoned.passages(code):
-        place = texts[name].text.find(text)
-        texts[name].see((place, place + len(text)))
-        yield "" if place >= 0 else f"{name}: it has to say {text!r}\n"
+        place = texts[name].text.find(text) if name else -1
+        if place >= 0:
+            texts[name].see((place, place + len(text)))
+        yield "" if place >= 0 else f"{name}: it has to say {text!r}\n" if name else f"documents_parts/reckoned.py: {text}\n"
 
 
 def agrees(number, truth):

@@ -133,12 +133,16 @@ def of_gateways(code):
 
 
 def of_parts(code):
-    """Figures, and a word of an example, that documents tell as a part of one."""
+    """Figures, and a word of an example, that documents tell as a part of one, and the heads of a table of figures."""
     parts = {3: "third", 4: "quarter", 5: "fifth"}
     saved = 1 - code.read(FIGURES, r"^repair_v3 (\d+)") / code.read(FIGURES, r"^repair_v2 (\d+)")
     yield DECISIONS, f"x86-64-v3 saves a {parts.get(round(1 / saved))} of the instructions"
     least, most = (code.read(FIGURES, rf"^reader_player_writer_1_flow {pattern}") for pattern in (r"([\d.]+)", r"[\d.]+ to ([\d.]+)"))
     yield DECISIONS, f"some {WORDS[round(3 * (least + most) / 2)]} thirds of one thread's time"
+    depths = re.findall(r"^memory_1_flow_depth_(\d+) ", code.text(FIGURES), re.M)
+    yield GUIDE, "| Flows | " + " | ".join(f"`depth={depth}`" for depth in depths) + " |"
+    workers = re.search(r"^memory_1_flow_depth_400_workers_(\d+) ", code.text(FIGURES), re.M)
+    yield GUIDE, f"with `workers=0` and with `workers={workers[1]}`:"
     hold = code.read(GUIDE, r"gateway --flow 5000 .* --hold (\d+) --to")
     yield GUIDE, f"than the hold, a {parts.get(round(10 ** 6 / hold))} of a second here;"
 
@@ -197,10 +201,16 @@ def of_work(code):
     yield PROOFS, f"a layout of up to {product + 1} datagrams, as {product + 1} is prime"
 
 
+PARTS = (of_formats, of_layouts, of_statuses, of_times, of_disks, of_gateways, of_parts, of_examples, of_losses, of_surveys, of_work)
+
+
 def passages(code):
-    """Each passage: the document, and the text that has to stand there."""
-    for part in (of_formats, of_layouts, of_statuses, of_times, of_disks, of_gateways, of_parts, of_examples, of_losses, of_surveys, of_work):
-        yield from part(code)
+    """Each passage: the document, and the text that has to stand there. No document where the code has nothing to reckon from."""
+    for part in PARTS:
+        try:
+            yield from list(part(code))
+        except (TypeError, AttributeError, IndexError, KeyError, ValueError) as fault:
+            yield None, f"{part.__name__} has nothing to reckon from: {fault}"
 
 
 def fields(text, head, size):
