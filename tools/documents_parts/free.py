@@ -23,7 +23,8 @@ KINDS = (
     ("as many as are named beside it",
      r"\bthree (?:crates\*\* \(|kinds of tasks|UDP ports|standard streams|ports (?:or|are))", r"\bThree loads are under way: one", r"two and four above it"),
     ("a worked example in words, and a line of counters that only shows their names",
-     r"An example: media 8 to 15 of .*? 12, 14 and 15\.", r"^\d{4}-\d\d-.* flow 5000 in .* silent \d\.\d$"),
+     r"media 8 to 15 of one sender, 10 of another, then the first one's row of 12 to 15, then 11 to 21 of the second without 13\. "
+     r"The second one's 13 comes back as the sum of that row and the second one's 12, 14 and 15\.", r"^\d{4}-\d\d-.* flow 5000 in .* silent \d\.\d$"),
     ("what a machine has to have, and rules of the house",
      r"12 GB of memory, 5 GB of disk", r"has 180 minutes on two processors", r"stack below 128 KB", r"functions under 40 lines",
      r"about ten a crate, none"),
