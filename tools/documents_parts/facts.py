@@ -7,7 +7,6 @@ UNITS = {"batch_bytes": 1 / 2**20, "rest_microseconds": 1 / 1000, "longest_rest_
 def of_words(code):
     """What the table of words says."""
     return {
-        "commands": len(code.help.commands),
         "flows": code.most("repair", "flow"),
         "last_port": code.greatest("repair", "flow"),
         "workers": code.greatest("repair", "workers"),
@@ -26,10 +25,6 @@ def of_words(code):
 def of_folders(code):
     """What can be counted in the repository, and what its tools have."""
     return {
-        "crates": code.count("crates.txt", r"^\w+"),
-        "edits": code.count("crates/*/must-fail/*.edit"),
-        "tests": code.count("crates/*/src/**/*.rt", r"^ *#\[test\]$"),
-        "cases": code.read("tools/program/run", r"^cases=(\d+)"),
         "drawn_losses": code.read("crates/fg_thin/specs/Thinned.antt", r"slot \+ (\d+) < count"),
         "silence": code.read("tools/gateway_parts/words.py", r"silence: int = (\d+)"),
         "latency": code.read("tools/gateway_parts/words.py", r"latency: int = (\d+)"),
@@ -39,7 +34,6 @@ def of_folders(code):
         "longest_pause": code.read("tools/gateway_parts/pipes.py", r"LONG, LONGEST = \d+, (\d+)"),
         "unavailable": code.read("tools/gateway", r"^UNAVAILABLE = (\d+)"),
         "bad_words": code.read("tools/fleet", r"^BAD_WORDS, UNAVAILABLE = (\d+)"),
-        "fleet_flows": code.read("tools/fleet_parts/plan.py", r"^MOST_FLOWS = (\d+)"),
         "questions": code.count("docs/GUIDE.md", r"^\d+\. \[.*\?\]"),
         "checker_lines": code.count("tools/check_cases", r"^") // 10 * 10,
         "sheaves": code.constant("fg_batches/src/load.rt", "MOST_BATCHES") * code.count("crates/fg_batches/src/*.rt", r"Load::new\(")

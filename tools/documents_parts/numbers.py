@@ -62,12 +62,14 @@ def stated(known, pages):
     """Each statement of a fact or figure: the page, the text, the name, the number, and what it should be."""
     patterns = [(name, re.compile(pattern.replace("#", NUMBER), re.M), not re.search(r"\.\*|\\d|\[\^", pattern))
                 for name, pattern in STATED + MEASURED]
+    for name, pattern, is_fixed in patterns:
+        places = [(page, found) for page in pages for found in pattern.finditer(page.text)]
+        if not places:
+            yield pages[0], pattern.pattern, f"{name} in no document, and", "1", None
+        for page, found in places:
+            see_all(page, found, is_fixed)
+            yield page, found[0], name, next(part for part in found.groups() if part), known.get(name)
     for page in pages:
-        for name, pattern, is_fixed in patterns:
-            for found in pattern.finditer(page.text):
-                see_all(page, found, is_fixed)
-                number = next(part for part in found.groups() if part)
-                yield page, found[0], name, number, known.get(name)
         for found in MARK.finditer(page.text):
             page.see(found.span())
             yield page, found[0], found[1], found[2], known.get(found[1])
@@ -82,7 +84,7 @@ def quoted(code, pages):
         pattern = re.compile(re.sub("[#@%&]", lambda _: OF_PAGE, in_page).replace("…", ".*?"), re.M)
         places = [(page, found) for page in pages for found in pattern.finditer(page.text)]
         if not places:
-            yield pages[0], in_page, f"in no document, though {path}", "1", None
+            yield pages[0], in_page, f"what {path} has is in no document, and", "1", None
         for page, found in places:
             see_all(page, found, not re.search(r"…|\(\?s\)", in_page))
             for i, (sign, number) in enumerate(zip(signs, found.groups())):
