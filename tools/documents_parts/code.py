@@ -3,8 +3,8 @@ import re
 
 from pages_parts import sources
 
-WORDS = ("zero one two three four five six seven eight nine ten eleven twelve thirteen fourteen fifteen sixteen seventeen eighteen "
-         "nineteen twenty").split()
+WORDS = ("zero one two three four five six seven eight nine ten eleven twelve thirteen fourteen fifteen sixteen seventeen "
+         "eighteen nineteen twenty").split()
 CONSTANT = r"\bconst {}: \w+ = ([^;]+);"
 
 

@@ -36,8 +36,9 @@ def of_folders(code):
         "bad_words": code.read("tools/fleet", r"^BAD_WORDS, UNAVAILABLE = (\d+)"),
         "questions": code.count("docs/GUIDE.md", r"^\d+\. \[.*\?\]"),
         "checker_lines": code.count("tools/check_cases", r"^") // 10 * 10,
-        "sheaves": code.constant("fg_batches/src/load.rt", "MOST_BATCHES") * code.count("crates/fg_batches/src/*.rt", r"Load::new\(")
-                   + code.count("crates/fg_batches/src/gathering.rt", r"Sheaf::new\("),
+        "sheaves": (code.constant("fg_batches/src/load.rt", "MOST_BATCHES")
+                    * code.count("crates/fg_batches/src/*.rt", r"Load::new\(")
+                    + code.count("crates/fg_batches/src/gathering.rt", r"Sheaf::new\(")),
         "guarded": code.count("crates/fg_turn/src/guarded.rt", r"^    ghost \w+: \{ \("),
         "gap_bytes": 8 * code.count("crates/fg_report/src/gaps.rt", r"(?<=runs: Vec<\()u64|(?<=runs: Vec<\(u64, )u64"),
         "fleet_period": code.read("tools/fleet", r'"--stats-period", .*default=(\d+)'),

@@ -15,13 +15,14 @@ FIGURE = re.compile(r"^([a-z]\w*) (-?\d+(?:\.\d+)?) \S.*$", re.M)
 # A number of a definition, of a document, and any that has to be looked at: one and two are words of the language.
 OF_CODE = r"(0x[0-9a-f]+|\d+ \^ \d+|\d[\d_]*|" + SPELLED + r")\b"
 OF_PAGE = rf"(0x[0-9a-f]+|\d+\^\d+|\d{{1,3}}(?:,\d{{3}})+|\d+|(?i:{SPELLED}))"
-ANY = re.compile(rf"\d+|\b(?i:{'|'.join(set(WORDS) - {'zero', 'one', 'two'})}|thirty|forty|fifty|hundred|thousand|thirds|quarter|fifth)\b")
+ANY = re.compile(rf"\d+|\b(?i:{'|'.join(WORDS[3:])}|thirty|forty|fifty|hundred|thousand|thirds|quarter|fifth)\b")
 READ = {"#": lambda number: number, "@": lambda number: number - 1, "%": lambda number: int(number).bit_length() - 1,
         "&": lambda number: number / 8}
+CAPTURE = "crates/fg_pcap/specs/Capture.antt"
 TABLES = ((reckoned.fields, r"Bytes \| Field \| Read", "fg_rtp/src/lib.rt", "HEADER_LENGTH"),
           (reckoned.fields, r"Bytes of the FEC header", "fg_fechead/src/lib.rt", "FEC_HEADER_LENGTH"),
-          (reckoned.widths, r"Bytes \| Field \| Read \| Written", "crates/fg_pcap/specs/Capture.antt", r"^file_header_length = (\d+)"),
-          (reckoned.widths, r"Bytes of a record", "crates/fg_pcap/specs/Capture.antt", r"^record_header_length = (\d+)"))
+          (reckoned.widths, r"Bytes \| Field \| Read \| Written", CAPTURE, r"^file_header_length = (\d+)"),
+          (reckoned.widths, r"Bytes of a record", CAPTURE, r"^record_header_length = (\d+)"))
 
 
 class Page:
@@ -129,7 +130,7 @@ def of_figures(text):
 
 
 def excused(code, pages):
-    """Sees what has a reason, and tells a reason that no number takes any more, a list that doesn't count on, a word that isn't taken."""
+    """Sees what has a reason, and tells a reason that no number takes any more, and lists and words of commands that are wrong."""
     named = free.standards(*map(code.text, code.paths("crates/*/specs/*.antt")))
     for kind, pattern, places in free.places(pages):
         for page, span in places:

@@ -44,8 +44,8 @@ def of_formats(code):
     fixed = of_list(code, spelling, r"two total \+\+ \((.*?) ∷ \[\]\)")
     ends = of_list(code, spelling, r"^    \+\+ \((.*) ∷ \[\]\)$")
     size, *others = (int(code.read(spelling, rf"{part}_length = (\d+)")) for part in ("ipv4", "ethernet", "udp"))
-    yield FORMATS, (f"| {size} bytes: identification {fixed[0]}, flags {spelled(fixed[2:4])}, time to live {fixed[4]}, the header's "
-                    f"checksum (RFC 1071), {'.'.join(map(str, ends[:4]))} to {'.'.join(map(str, ends[4:]))} |")
+    yield FORMATS, (f"| {size} bytes: identification {fixed[0]}, flags {spelled(fixed[2:4])}, time to live {fixed[4]}, "
+                    f"the header's checksum (RFC 1071), {'.'.join(map(str, ends[:4]))} to {'.'.join(map(str, ends[4:]))} |")
     yield FORMATS, f"| {size + sum(others)} and the datagram's size |"
     control = int(code.read("crates/fg_ts/specs/Fields.antt", r"slice_index packet 3 / (\d+) % 4"))
     yield FORMATS, f"bit 0x{2 * control:x} | there is an adaptation field"
@@ -81,7 +81,8 @@ def of_statuses(code):
     unused = set(range(max(statuses.values()))) - set(statuses.values())
     yield FORMATS, f"| {', '.join(map(str, whole))} | whole: all"
     yield FORMATS, f"| {', '.join(map(str, begun))} | a beginning of that"
-    yield FORMATS, f"Status {listed(sorted(unused))} and those above {max(statuses.values())} are not used. With {statuses['Words']} nothing"
+    yield FORMATS, f"Status {listed(sorted(unused))} and those above {max(statuses.values())} are not used."
+    yield FORMATS, f"With {statuses['Words']} nothing is read"
     yield GUIDE, f"**Status {statuses['Cut']} or {statuses['TooLong']}**: the input ended early"
     yield GUIDE, "**Status {}, {} or {}**: a fault of the outside".format(*begun)
     yield GUIDE, f"it ends with status {statuses['WriteFault']} and `write fault`"
@@ -118,8 +119,9 @@ def of_disks(code):
     parity = code.constant("fg_fechead/src/lib.rt", "PARITY_LIMIT")
     lanes = 1000 * 10e6 / 8 * 86400 / 1e12
     captures, pieces = (lanes / payload * (payload + header + record + (parity + record) / 5) for record in (16 + 42, 12))
-    yield GUIDE, (f"of a thousand links of 10 Mb/s, with parity of ten by ten, is {captures:.0f} TB of captures and {pieces:.0f} TB of "
-                  f"pieces, written and read, and {lanes:.0f} TB of lanes. So {(2 * captures + 2 * pieces + lanes) / 10.8:.0f} Gb/s go")
+    moved = (2 * captures + 2 * pieces + lanes) * 8000 / 86400
+    yield GUIDE, (f"of a thousand links of 10 Mb/s, with parity of ten by ten, is {captures:.0f} TB of captures and {pieces:.0f} "
+                  f"TB of pieces, written and read, and {lanes:.0f} TB of lanes. So {moved:.0f} Gb/s go")
     yield GUIDE, f"{WORDS[int(2 ** 40 / pieces / 1e9)]} such links for a day"
 
 
@@ -137,7 +139,7 @@ def of_parts(code):
     parts = {3: "third", 4: "quarter", 5: "fifth"}
     saved = 1 - code.read(FIGURES, r"^repair_v3 (\d+)") / code.read(FIGURES, r"^repair_v2 (\d+)")
     yield DECISIONS, f"x86-64-v3 saves a {parts.get(round(1 / saved))} of the instructions"
-    least, most = (code.read(FIGURES, rf"^reader_player_writer_1_flow {pattern}") for pattern in (r"([\d.]+)", r"[\d.]+ to ([\d.]+)"))
+    least, most = (code.read(FIGURES, r"^reader_player_writer_1_flow " + ends) for ends in (r"([\d.]+)", r"[\d.]+ to ([\d.]+)"))
     yield DECISIONS, f"some {WORDS[round(3 * (least + most) / 2)]} thirds of one thread's time"
     depths = re.findall(r"^memory_1_flow_depth_(\d+) ", code.text(FIGURES), re.M)
     yield GUIDE, "| Flows | " + " | ".join(f"`depth={depth}`" for depth in depths) + " |"
@@ -153,8 +155,9 @@ def of_examples(code):
     places = {name: [(int(count), int(lost)) for count, lost in re.findall(rf"^{name} +(\d+) (\d+)$", text, re.M)]
               for name in ("block", "staggered")}
     (least, _), (few, _) = places["block"][0], places["staggered"][0]
+    most, worst = (WORDS[places[name][-1][1]] for name in ("block", "staggered"))
     yield GUIDE, (f"In blocks {least} of {sum(count for count, _ in places['block'])} places lose nothing, and the others up to "
-                  f"{WORDS[places['block'][-1][1]]} datagrams. Staggered {few} lose nothing, and the others {WORDS[places['staggered'][-1][1]]}.")
+                  f"{most} datagrams. Staggered {few} lose nothing, and the others {worst}.")
     burst = re.search(r"seq -f drop=%.0f (\d+) (\d+)\)", text)
     size = WORDS[int(burst[2]) - int(burst[1]) + 1]
     yield GUIDE, f"One burst of {size} records first, whose words"
@@ -196,12 +199,14 @@ def of_work(code):
     """How much peeling is at most."""
     live = code.constant("fg_buffer/src/live_equations.rt", "LIVE_LIMIT")
     slots = code.greatest("encode", "columns")
-    yield PROOFS, f"With {live} lines of {WORDS[slots]} slots that is at most {live * (slots + 1):,} visits and {live * live:,} tests on"
+    yield PROOFS, (f"With {live} lines of {WORDS[slots]} slots that is at most {live * (slots + 1):,} visits and {live * live:,} "
+                   "tests on")
     product = code.constant("fg_plan/src/choosing.rt", "MOST_DATAGRAMS")
     yield PROOFS, f"a layout of up to {product + 1} datagrams, as {product + 1} is prime"
 
 
-PARTS = (of_formats, of_layouts, of_statuses, of_times, of_disks, of_gateways, of_parts, of_examples, of_losses, of_surveys, of_work)
+PARTS = (of_formats, of_layouts, of_statuses, of_times, of_disks, of_gateways, of_parts, of_examples, of_losses, of_surveys,
+         of_work)
 
 
 def passages(code):
