@@ -26,7 +26,7 @@ TABLES = ((reckoned.fields, r"Bytes \| Field \| Read", "fg_rtp/src/lib.rt", "HEA
 
 
 class Page:
-    """A document without the examples that are run, and where each number of it was looked at."""
+    """A document, its text without the examples, and where each number of that was looked at."""
 
     def __init__(self, name, text):
         self.name, self.whole, self.text, self.seen = name, text, prose(text), set()
