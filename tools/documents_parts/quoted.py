@@ -194,7 +194,7 @@ QUOTES = (
         (r"The status is # where all is whole, # where anything", r"The status is # where all is whole; # where")]),
     ("tools/fleet_parts/work.py", [(r"megabyte of up to # files", r"of the captures, of # of them")]),
     ("docs/GUIDE.md", [
-        (r"It took # media datagrams", r"605 614\)…repaired #"),
+        (r"It took # media datagrams", r"-f drop=%.0f 605 614\)…repaired #"),
         (r"It took # datagrams and", r"699 708\)…missing #"),
         (r"just their # columns, and # are", r"699 708\)…missing # …gap 6000 590 #"),
         (r"from datagram # on are gone", r"699 708\)…gap 6000 #"),
