@@ -27,15 +27,13 @@ def of_list(code, path, pattern):
     return [int(value(number)) for number in re.findall(r"0x\w+|\d+", found[1])] if found else []
 
 
-def of_formats(code):
-    """What FORMATS.md spells byte by byte, and sums of what the code has."""
-    magic = re.search(r'magic = codes "(\w+)"', code.text("crates/fg_trace/specs/Trace.antt"))[1]
-    yield FORMATS, f"The {WORDS[len(magic)]} bytes `{magic}` ({spelled(magic.encode())})"
+def of_captures(code):
+    """What FORMATS.md spells of captures byte by byte."""
     capture, spelling = "crates/fg_pcap/specs/Capture.antt", "crates/fg_pcap/specs/Spelling.antt"
     micro, nano = (int(code.read(capture, rf"magic {unit} = (\d+)")) for unit in ("Microseconds", "Nanoseconds"))
     yield FORMATS, f"| {micro:x} for fractions in microseconds, {nano:x} in nanoseconds;"
     yield FORMATS, f"| {micro:x}, highest byte first |"
-    kinds = of_list(code, "crates/fg_pcap/specs/Frame.antt", r"(?s)≡ 14\) × Has frame 12 (.*?)\)$.*?×(?= Has)")
+    kinds = of_list(code, "crates/fg_pcap/specs/Frame.antt", r"≡ 14\) × Has frame 12 (.*)\)$")
     tagged = of_list(code, "crates/fg_pcap/specs/Frame.antt", r"≡ 18\) × Has frame 12 (.*? Has frame 16 .*)\)$")
     plain, tag, inner = (spelled(part).replace(" ", "") for part in (kinds, tagged[:2], tagged[3:]))
     yield FORMATS, f"type 0x{plain}; or 0x{tag}, and 0x{inner} behind"
@@ -47,14 +45,20 @@ def of_formats(code):
     yield FORMATS, (f"| {size} bytes: identification {fixed[0]}, flags {spelled(fixed[2:4])}, time to live {fixed[4]}, "
                     f"the header's checksum (RFC 1071), {'.'.join(map(str, ends[:4]))} to {'.'.join(map(str, ends[4:]))} |")
     yield FORMATS, f"| {size + sum(others)} and the datagram's size |"
+
+
+def of_bytes(code):
+    """What FORMATS.md spells of packets and traces byte by byte."""
     control = int(code.read("crates/fg_ts/specs/Fields.antt", r"slice_index packet 3 / (\d+) % 4"))
     yield FORMATS, f"bit 0x{2 * control:x} | there is an adaptation field"
     made = of_list(code, "crates/fg_thin/specs/Made.antt", r"^    (0x47 ∷ .*?) \+ number")
     yield FORMATS, f"packet `i`, from 0: {spelled(made[:3])}, the byte 0x{made[3]:x} + i mod"
     yield FORMATS, f"a sample writes the first {WORDS[len(made)]} bytes"
-    endings = len(re.findall(r"^  \w+ : (?:ℕ → )?Ending$", code.text("crates/fg_trace/specs/Trace.antt"), re.M))
-    yield FORMATS, f"a trace ends in one of {WORDS[endings]} ways"
-    record = sum(of_list(code, "crates/fg_trace/specs/Trace.antt", r"^header_spelling time .* = (.*)")) // 8
+    trace = "crates/fg_trace/specs/Trace.antt"
+    magic = re.search(r'magic = codes "(\w+)"', code.text(trace))[1]
+    yield FORMATS, f"The {WORDS[len(magic)]} bytes `{magic}` ({spelled(magic.encode())})"
+    yield FORMATS, f"a trace ends in one of {WORDS[code.count(trace, r'^  [A-Z][A-Za-z]+ : (?:ℕ → )?Ending$')]} ways"
+    record = sum(of_list(code, trace, r"^header_spelling time .* = (.*)")) // 8
     yield FORMATS, (f"a record of an encoding has at most {record + code.constant('fg_fechead/src/lib.rt', 'PARITY_LIMIT'):,}; "
                     f"one that a trace can spell has at most {record + 2 ** 16 - 1:,}.")
 
@@ -205,8 +209,8 @@ def of_work(code):
     yield PROOFS, f"a layout of up to {product + 1} datagrams, as {product + 1} is prime"
 
 
-PARTS = (of_formats, of_layouts, of_statuses, of_times, of_disks, of_gateways, of_parts, of_examples, of_losses, of_surveys,
-         of_work)
+PARTS = (of_captures, of_bytes, of_layouts, of_statuses, of_times, of_disks, of_gateways, of_parts, of_examples, of_losses,
+         of_surveys, of_work)
 
 
 def passages(code):
