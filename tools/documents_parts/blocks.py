@@ -19,7 +19,7 @@ def blocks(text):
         if inside is not None and fence:
             inside, above = None, []
         elif inside is not None:
-            inside.text += line.removeprefix(inside.indent) + "\n"
+            inside.text += re.sub("^" + inside.indent, "", line) + "\n"
         elif fence:
             inside = Block(number, fence[1], fence[2], above)
             found.append(inside)

@@ -52,7 +52,7 @@ class Code:
         """The value of a public constant of another file."""
         for path in self.paths("crates/*/src/*.rt"):
             if re.search("pub " + CONSTANT.format(name)[2:], self.text(path)):
-                return self.constant(path.removeprefix("crates/"), name)
+                return self.constant(path[len("crates/"):], name)
         return None
 
     def least(self, command, name):

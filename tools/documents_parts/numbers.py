@@ -10,7 +10,7 @@ from documents_parts.stated import MEASURED, STATED
 
 SPELLED = "|".join(WORDS)
 NUMBER = rf"(?<![\w.,/-])(\d{{1,3}}(?:,\d{{3}})+|\d+(?:\.\d+)?|(?i:{SPELLED}))(?![\w]|[.,/]\d)"
-MARK = re.compile(r"<!--([a-z]\w*(?:/\w+)?)-->" + NUMBER.removeprefix(r"(?<![\w.,/-])"))
+MARK = re.compile(r"<!--([a-z]\w*(?:/\w+)?)-->" + NUMBER[NUMBER.index(")") + 1:])
 FIGURE = re.compile(r"^([a-z]\w*) (-?\d+(?:\.\d+)?) \S.*$", re.M)
 # A number of a definition, of a document, and any that has to be looked at: one and two are words of the language.
 OF_CODE = r"(0x[0-9a-f]+|\d+ \^ \d+|\d[\d_]*|" + SPELLED + r")\b"

@@ -132,7 +132,7 @@ def diagnostics(asked, formats):
 
 def main_sheet(asked, guide, formats):
     """The page of the program: how it is called, its commands, and what it tells."""
-    called = ".br\n".join(f".B fgate\n{escaped(line.removeprefix('fgate '))}\n" for line in asked.usage)
+    called = ".br\n".join(f".B fgate\n{escaped(re.sub('^fgate ', '', line))}\n" for line in asked.usage)
     told = "".join(f"  {command.word}  {command.about}\n" for command in asked.commands)
     others = also([f"fgate-{command.word}" for command in asked.commands])
     return Sheet("fgate", asked.about, asked.version, f"{asked.streams}\n\n*Commands*\n{told}",

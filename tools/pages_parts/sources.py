@@ -40,8 +40,8 @@ class Help:
         self.program = str(program)
         self.version = self.asked("--version").strip()
         parts = self.asked("--help").rstrip("\n").split("\n\n")
-        self.about = parts[0].removeprefix("fgate: ")
-        self.usage = [line.removeprefix("usage:").strip() for line in parts[1].split("\n")]
+        self.about = re.sub("^fgate: ", "", parts[0])
+        self.usage = [re.sub("^usage:", "", line).strip() for line in parts[1].split("\n")]
         self.streams = parts[2]
         told = [part for part in parts if COMMAND.match(part)]
         self.faults = next(part for part in parts if part.startswith("standard error"))
