@@ -20,7 +20,7 @@ use Rattle.fg_playout.specs.Held.{at_time, IsHeld, IsGreatest, IsHeldPlay}
 use Rattle.fg_playout.specs.Facts.{Holds}
 use Rattle.fg_playout.specs.Laws.{AreHeldSteps}
 use Rattle.fg_playout.specs.Existence.{PeelingLaws}
-use Rattle.fg_playout.specs.Empty.{empty_play, empty_plays, IsEmptyBefore, Skips, EmptyWindowsAreDue, EmptyWindowsAreFlushed, EmptyWindowsAreHeld}
+use Rattle.fg_playout.specs.Empty.{empty_play, empty_plays, IsEmptyBefore, Skips, EmptyWindowsKeep, EmptyWindowsAreDue, EmptyWindowsAreFlushed, EmptyWindowsAreHeld}
 use Rattle.fg_playout.proofs.Equations.{live_at}
 use Rattle.fg_playout.proofs.MadeMaps.{made_where}
 use Rattle.fg_playout.proofs.Orderly.{known_ahead, orderly_from_holds}
@@ -166,6 +166,18 @@ past_one count old new skips = let mark = skips.mark in omega (arith, mark)
 module _ (count : ℕ) (old new : State) (skips : Skips (suc count) old new) (empty : IsEmptyBefore old new.mark) where
   clear_one : (other : ℕ) → other < old.mark + old.playout.window → get old.media other ≡ None
   clear_one other below = (let far = past_one count old new skips in empty.media other (omega (arith, below, far)))
+
+-- The facts hold then
+
+pub empty_windows_keep : EmptyWindowsKeep
+empty_windows_keep zero old new holds opened empty skips = subst Holds (sym (none_skipped old new holds skips)) holds
+empty_windows_keep (suc count) old new holds opened empty skips =
+    let clear = clear_one count old new skips empty in
+    empty_windows_keep count (one_on old holds empty.equations clear) new
+    (one_holds old holds empty.equations clear opened)
+    opened
+    (record { equations = empty.equations; media = empty.media })
+    (others_follow old holds empty.equations clear count new skips)
 
 -- Windows that are due
 

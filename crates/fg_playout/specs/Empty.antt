@@ -32,6 +32,11 @@ pub record Skips (count : ℕ) (old new : State) : Type 0 where
       ≡ (if nat_le new.mark (position + kept_count) then get old.kept position else None)
   pub rest : new ≡ record old { mark = new.mark; kept = new.kept; calls = old.calls + count }
 
+-- The facts hold of the desk that they leave.
+abbrev pub EmptyWindowsKeep : Type 0
+EmptyWindowsKeep =
+    (count : ℕ) (old new : State) → Holds old → old.top ≢ None → IsEmptyBefore old new.mark → Skips count old new → Holds new
+
 -- They are plays that are due before a media datagram, where the last of them is,
 abbrev pub EmptyWindowsAreDue : Type 0
 EmptyWindowsAreDue =

@@ -16,7 +16,7 @@ ghost use Rattle.fg_playout.specs.PlayedOn.{PlaysAreTheRuns, DesksMakeThePlays, 
 ghost use Rattle.fg_playout.specs.DesksJoin.{DueDesksJoin, FlushDesksJoin, HeldDesksJoin, TakenDesksJoin, OneTakenDesks};
 ghost use Rattle.fg_playout.specs.DesksJoin.{DueDesksEnd, FlushDesksEnd, HeldDesksEnd, NoHeldDesks, FlushDesksEndBefore, DueDesksEndBefore, RunDesksEnd};
 ghost use Rattle.fg_playout.specs.DesksJoin.{TakenDesksComeFirst, DesksBeforeComeNext, DesksBeforeComeNextInRuns, FlushDesksComeNext};
-ghost use Rattle.fg_playout.specs.Empty.{EmptyWindowsAreDue, EmptyWindowsAreFlushed, EmptyWindowsAreHeld};
+ghost use Rattle.fg_playout.specs.Empty.{EmptyWindowsKeep, EmptyWindowsAreDue, EmptyWindowsAreFlushed, EmptyWindowsAreHeld};
 ghost use Rattle.fg_playout.specs.Existence.{PlaysDueExist, FlushExists, PlaysBeforeExist, PlaysHeldExist, TakingsExist, RunsExist};
 
 use fg_peel::laws::{
@@ -158,6 +158,7 @@ pub fn outcomes_exist()
 /// Windows that show nothing come to one step of the desk: they are plays, one after another, that are due before a datagram, held
 /// at a time, or steps of a flush.
 pub fn empty_windows()
+    ensures facts { EmptyWindowsKeep }
     ensures due { EmptyWindowsAreDue }
     ensures flushed { EmptyWindowsAreFlushed }
     ensures held { EmptyWindowsAreHeld }
