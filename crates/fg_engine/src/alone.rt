@@ -7,7 +7,7 @@ ghost use Rattle.fg_results.specs.Contract.{IsRepair};
 ghost use Rattle.fg_results.specs.Stops.{ByRecord};
 
 use crate::records::{give_up, repair_windows};
-use crate::window::WindowState;
+use crate::window::{Skipped, WindowState};
 use fg_desk::{Desk, Played, Reply};
 use fg_flows::Plan;
 use fg_io::{Outlet, Sink, Source};
@@ -72,6 +72,30 @@ impl WindowState for Desk {
     #[inline]
     fn held_step(&mut self, time: u64) -> Option<Played> {
         self.held_step_in_place(time)
+    }
+
+    #[inline]
+    fn skip_due(&mut self, _seq: u16, _ssrc: u32) -> Skipped {
+        Skipped {
+            windows: 0,
+            positions: 0,
+        }
+    }
+
+    #[inline]
+    fn skip_rest(&mut self) -> Skipped {
+        Skipped {
+            windows: 0,
+            positions: 0,
+        }
+    }
+
+    #[inline]
+    fn skip_held(&mut self, _time: u64) -> Skipped {
+        Skipped {
+            windows: 0,
+            positions: 0,
+        }
     }
 
     #[inline]
