@@ -13,6 +13,7 @@ pub mod DeskPlays
 pub mod DeskReceives
 pub mod DeskRecovers
 pub mod DeskShows
+pub mod DeskSkips
 pub mod DeskTimes
 pub mod DeskWays
 pub mod DeskWords
@@ -22,6 +23,7 @@ pub mod Lost
 pub mod SettledEquations
 pub mod SettledWords
 pub mod ShownWords
+pub mod SkippedPlays
 pub mod Survivors
 pub mod TrayPlaces
 pub mod Twins
