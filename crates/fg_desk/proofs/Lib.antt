@@ -23,7 +23,6 @@ pub mod Lost
 pub mod SettledEquations
 pub mod SettledWords
 pub mod ShownWords
-pub mod SkippedPlays
 pub mod Survivors
 pub mod TrayPlaces
 pub mod Twins
