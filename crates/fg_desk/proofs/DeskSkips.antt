@@ -1,38 +1,36 @@
 -- Windows that show nothing are passed at once.
-use Rattle.std.proofs.Common.{◌≡◌, ◌≢◌, ◌+◌, ◌-◌, ◌*◌, ◌<◌, ◌≤◌, ◌^◌, ◌&&◌, ℕ, zero, suc, Bool, true, false, cond, ltb, leb, List, [], ◌∷◌, map, length, true≢false, Option, Some, None, IsSome, is_some, not, option_map, refl, sym, ap, subst, ◌∙◌, ⊎_elim, arith, lt-ltb, le-ltb}
+use Rattle.std.proofs.Common.{◌≡◌, ◌≢◌, ◌+◌, ◌-◌, ◌<◌, ◌≤◌, ◌^◌, ◌&&◌, ℕ, Bool, true, false, cond, leb, List, [], ◌∷◌, map, length, true≢false, Option, Some, None, is_some, not, option_map, refl, sym, ap, subst, ◌∙◌, ⊎_elim, arith, lt-ltb, le-ltb}
 use Rattle.std.proofs.lemmas.Bool.{cases_lt, cases_eq}
 use Rattle.std.proofs.lemmas.Option.{none-some}
 use Rattle.std.specs.List.{Contains}
 use Rattle.std.specs.Option.{option_or}
-use Rattle.std.specs.Ordering.{nat_cmp}
 use Rattle.std.specs.Cmp.{nat_cmp_total}
-use Rattle.std.specs.FinMap.{FinMap, get, len, entries, len-entries, same_map, nat_cmp-IsAntisymmetric}
+use Rattle.std.specs.FinMap.{get, len, entries, len-entries, same_map, nat_cmp-IsAntisymmetric}
 use Rattle.fg_words.specs.declared.Word.{Word}
 use Rattle.fg_peel.specs.Equation.{Equation}
 use Rattle.fg_peel.specs.Peeling.{Step, IsPeeling, end_of}
 use Rattle.fg_peel.proofs.Lists.{Contains-nil}
 use Rattle.fg_peel.proofs.Options.{none_or_some, none_has_no_value, has_value}
 use Rattle.fg_hold.specs.Waiting.{WaitingState}
-use Rattle.fg_playout.specs.declared.reply.Outcome.TheVariants.{Repaired}
-use Rattle.fg_playout.specs.State.{State, Live, Words, known, live_equations}
+use Rattle.fg_playout.specs.State.{State, Live, known, live_equations}
 use Rattle.fg_playout.specs.Admission.{kept_count}
 use Rattle.fg_playout.specs.Facts.{Holds}
 use Rattle.fg_playout.specs.Empty.{IsEmptyBefore, Skips}
 use Rattle.fg_playout.proofs.Equations.{live_at}
 use Rattle.fg_playout.proofs.EmptyWindows.{empty_windows_keep}
-use Rattle.fg_buffer.specs.PlayoutBuffer.{BufferState, buffer_received, buffer_known, buffer_words, IsBuffer}
+use Rattle.fg_buffer.specs.PlayoutBuffer.{BufferState, buffer_received, buffer_known, buffer_words}
 use Rattle.fg_buffer.specs.LiveEquations.{LiveState}
 use Rattle.fg_buffer.proofs.Choices.{if-less, if-not_less}
 use Rattle.fg_desk.specs.declared.desk.Desk.TheInside.{Inside}
 use Rattle.fg_desk.specs.declared.desk.Farthest.{Farthest}
-use Rattle.fg_desk.specs.Contents.{Contents, ChangesInPlay}
+use Rattle.fg_desk.specs.Contents.{Contents}
 use Rattle.fg_desk.specs.Holding.{times_in, IsFrom, AreTimed}
 use Rattle.fg_desk.specs.Inside.{Parts, AreSound, AreLimited, SettledComeOut, state_of, contents_of}
 use Rattle.fg_desk.specs.Parts.{top_of, parts_of, IsDesk}
 use Rattle.fg_desk.specs.Skipping.{PassesWindows, SkipsTo}
 use Rattle.fg_desk.specs.Storage.{equations_in}
 use Rattle.fg_desk.proofs.DeskPlays.{sound_without_found}
-use Rattle.fg_desk.proofs.DeskWords.{or_neither, or_none, received_below, received_ahead}
+use Rattle.fg_desk.proofs.DeskWords.{or_neither, received_ahead}
 
 -- No equation is live where there are none.
 pub no_equations_in : (lines : LiveState) → len lines.live ≡ 0 → equations_in lines ≡ []

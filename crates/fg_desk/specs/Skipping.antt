@@ -1,5 +1,5 @@
 -- Windows that show nothing, passed at once. No public contract cites it.
-use Rattle.std.specs.Prelude.{◌≡◌, ◌+◌, ◌*◌, ◌<◌, ◌≤◌, ℕ, [], Some, None, IsSomeAnd}
+use Rattle.std.specs.Prelude.{◌≡◌, ◌*◌, ◌<◌, ◌≤◌, ℕ, [], Some, None, IsSomeAnd}
 use Rattle.fg_unwrap.specs.Position.{position_of}
 use Rattle.fg_hold.specs.Waiting.{WaitingState}
 use Rattle.fg_playout.specs.declared.reply.Outcome.TheVariants.{Repaired}
