@@ -1,8 +1,8 @@
 //! Windows that show nothing: played at once they leave what they leave when they are played one by one.
 
 use super::script::Step::{
-    Due, Flush, Flushed, Held, HoldsBy, Known, Live, Mark, Media, Parity, Play, Plays, Run, SkipDue,
-    SkipHeld, SkipRest,
+    Due, Flush, Flushed, Held, HoldsBy, Known, Live, Mark, Media, Parity, Play, Plays, Run,
+    SkipDue, SkipHeld, SkipRest,
 };
 use super::script::{follows, follows_within};
 use fg_desk::Outcome::Repaired;
@@ -18,12 +18,38 @@ fn due_windows(rt: HostRuntime) -> Result<(), Fail> {
     let [flushed, all] = [Flush(Repaired, 2, 0b01, 0, 0), Flushed];
     let empty = Flush(Repaired, 3, 0b111, 0, 0);
     let one_by_one = [
-        first, played, Plays(40), due, marked, kept, lost, next, last, empty, flushed, all,
+        first,
+        played,
+        Plays(40),
+        due,
+        marked,
+        kept,
+        lost,
+        next,
+        last,
+        empty,
+        flushed,
+        all,
     ];
     follows(&rt, rt.alloc(), 3, 6, &one_by_one)?;
     let at_once = [
-        SkipDue(0, 0), first, SkipDue(40, 0), played, SkipDue(40, 11), SkipDue(40, 0), due, marked,
-        kept, lost, next, last, SkipRest(1), SkipRest(0), flushed, all, SkipRest(0),
+        SkipDue(0, 0),
+        first,
+        SkipDue(40, 0),
+        played,
+        SkipDue(40, 11),
+        SkipDue(40, 0),
+        due,
+        marked,
+        kept,
+        lost,
+        next,
+        last,
+        SkipRest(1),
+        SkipRest(0),
+        flushed,
+        all,
+        SkipRest(0),
     ];
     follows(&rt, rt.alloc(), 3, 6, &at_once)
 }
@@ -67,8 +93,18 @@ fn held_windows(rt: HostRuntime) -> Result<(), Fail> {
     // The time is told with the windows, and not where there are none.
     let [not_told, told] = [HoldsBy(0, 0), HoldsBy(0, 3)];
     let at_once = [
-        first, SkipHeld(1000, 0), played, next, SkipHeld(999, 0), not_told, SkipHeld(1000, 5), told,
-        SkipHeld(1000, 0), last, kept, marked,
+        first,
+        SkipHeld(1000, 0),
+        played,
+        next,
+        SkipHeld(999, 0),
+        not_told,
+        SkipHeld(1000, 5),
+        told,
+        SkipHeld(1000, 0),
+        last,
+        kept,
+        marked,
     ];
     follows_within(&rt, rt.alloc(), 3, 30, 1000, &at_once)
 }
