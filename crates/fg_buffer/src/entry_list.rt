@@ -177,9 +177,25 @@ impl EntryList {
         limit
     }
 
-    /// Passes the first `count` entries as `advance` does, where those of them that come after the 100 kept ones are empty. So
-    /// only those that are kept are looked at, and those that stay.
+    /// Passes the first `count` entries as `advance` does, where those of them that come after the 100 kept ones are empty. The more
+    /// are passed, the less is looked at.
     pub(crate) fn skip(&mut self, count: usize, spares: &mut Spares)
+        requires some { 1 ≤ count }
+        requires within { count ≤ length self.old }
+        requires empty { IsEmptyTo self.old count }
+        ensures count { length self.new ≡ length self.old }
+        ensures moved { (k : ℕ) → slice_index_or self.new k Slot.Empty
+            ≡ slice_index_or self.old (k + count) Slot.Empty }
+    {
+        if count <= SLACK {
+            self.advance(count, spares);
+        } else {
+            self.slide(count, spares);
+        }
+    }
+
+    /// The same, by moving in the memory the entries that stay. Of those that are passed only the kept ones are looked at.
+    fn slide(&mut self, count: usize, spares: &mut Spares)
         requires some { 1 ≤ count }
         requires within { count ≤ length self.old }
         requires empty { IsEmptyTo self.old count }

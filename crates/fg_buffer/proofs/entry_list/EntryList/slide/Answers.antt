@@ -4,7 +4,7 @@ use Rattle.fg_peel.specs.declared.Slot.TheVariants.{Empty}
 use Rattle.fg_buffer.proofs.BufferBounds.{bounded_moved}
 use Rattle.fg_buffer.proofs.BufferStored.{live_moved}
 use Rattle.fg_buffer.proofs.BufferSkips.{all_emptied, none_past, all_moved}
-use Rattle.fg_buffer.proofs.entry_list.EntryList.skip.Goals as goal
+use Rattle.fg_buffer.proofs.entry_list.EntryList.slide.Goals as goal
 
 pub slide_down-requires-clause-empty : goal.slide_down-requires-clause-empty
 slide_down-requires-clause-empty c =
