@@ -167,6 +167,9 @@ held_moves old new time (play ∷ plays) played =
     moves_next (min old.playout.window (step.greatest + 1 - old.mark)) old (at_time old time) played.0 new play plays refl refl step.plays
     (held_moves played.0 new time plays played.2)
 
+pub skipped_on : (old new : State) (windows : ℕ) → Moves old (empty_plays windows old.playout.window old.mark) new → new.mark ≡ old.mark + windows * old.playout.window
+skipped_on old new windows moves = (let mark = moves.0 in let long = many_empty windows old.playout.window old.mark in omega (arith, mark, long))
+
 -- A loop over plays goes on with windows that are skipped.
 
 -- the position behind a play is the mark

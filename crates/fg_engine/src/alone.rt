@@ -75,26 +75,32 @@ impl WindowState for Desk {
     }
 
     #[inline]
-    fn skip_due(&mut self, _seq: u16, _ssrc: u32) -> Skipped {
+    fn skip_due(&mut self, seq: u16, ssrc: u32) -> Skipped {
+        let mark = self.mark();
+        let windows = self.skip_due(seq, ssrc);
         Skipped {
-            windows: 0,
-            positions: 0,
+            windows,
+            positions: self.mark() - mark,
         }
     }
 
     #[inline]
     fn skip_rest(&mut self) -> Skipped {
+        let mark = self.mark();
+        let windows = self.skip_rest();
         Skipped {
-            windows: 0,
-            positions: 0,
+            windows,
+            positions: self.mark() - mark,
         }
     }
 
     #[inline]
-    fn skip_held(&mut self, _time: u64) -> Skipped {
+    fn skip_held(&mut self, time: u64) -> Skipped {
+        let mark = self.mark();
+        let windows = self.skip_held(time);
         Skipped {
-            windows: 0,
-            positions: 0,
+            windows,
+            positions: self.mark() - mark,
         }
     }
 
