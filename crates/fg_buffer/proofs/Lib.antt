@@ -17,5 +17,6 @@ pub mod BufferLoops
 pub mod BufferMaps
 pub mod BufferPeels
 pub mod BufferPuts
+pub mod BufferSkips
 pub mod BufferStored
 pub mod BufferViews

@@ -182,6 +182,10 @@ forgets solved buffer = record buffer { solved = (if solved then map.empty else 
 abbrev pub HasNoWordFrom : List Slot → ℕ → Type 0
 HasNoWordFrom entries first = (i : ℕ) → first ≤ i → word_in (slice_index_or entries i Empty) ≡ None
 
+-- No entry has a word from the mark on up to this one.
+abbrev pub IsEmptyTo : List Slot → ℕ → Type 0
+IsEmptyTo entries end = (i : ℕ) → kept_count ≤ i → i < end → word_in (slice_index_or entries i Empty) ≡ None
+
 pub record IsLastWord (entries : List Slot) (last : ℕ) : Type 0 where
   pub ahead : kept_count ≤ last
   pub within : last < length entries

@@ -5,7 +5,7 @@ ghost use Rattle.std.specs.Option.{option_copied};
 ghost use Rattle.fg_shape.specs.Shape.{position_limit};
 ghost use Rattle.fg_peel.specs.declared.Slot.{Slot};
 ghost use Rattle.fg_peel.specs.Slots.{word_in, with_word};
-ghost use Rattle.fg_buffer.specs.BufferEntries.{IsLastWord, HasNoWordFrom, Forgets, left_of};
+ghost use Rattle.fg_buffer.specs.BufferEntries.{IsLastWord, IsEmptyTo, HasNoWordFrom, Forgets, left_of};
 ghost use Rattle.fg_buffer.specs.SmallSlots.{slot_of};
 
 use crate::playout_buffer::KEPT;
@@ -162,6 +162,54 @@ impl EntryList {
         None
     }
 
+    /// How far the entries from the mark on have no word: up to the first that has one, and at most up to `limit`.
+    pub(crate) fn empty_to(&self, limit: usize) -> usize
+        requires { KEPT ≤ limit }
+        ensures from { KEPT ≤ result }
+        ensures most { result ≤ limit }
+        ensures empty { IsEmptyTo self.now result }
+    {
+        for i in KEPT..self.end.min(self.count()).min(limit) {
+            if self.at(i).word().is_some() {
+                return i;
+            }
+        }
+        limit
+    }
+
+    /// Passes the first `count` entries as `advance` does, where those of them that come after the 100 kept ones are empty. The more
+    /// are passed, the less is looked at.
+    pub(crate) fn skip(&mut self, count: usize, spares: &mut Spares)
+        requires some { 1 ≤ count }
+        requires within { count ≤ length self.old }
+        requires empty { IsEmptyTo self.old count }
+        ensures count { length self.new ≡ length self.old }
+        ensures moved { (k : ℕ) → slice_index_or self.new k Slot.Empty
+            ≡ slice_index_or self.old (k + count) Slot.Empty }
+    {
+        if count <= SLACK {
+            self.advance(count, spares);
+        } else {
+            self.slide(count, spares);
+        }
+    }
+
+    /// The same, by moving in the memory the entries that stay. Of those that are passed only the kept ones are looked at.
+    fn slide(&mut self, count: usize, spares: &mut Spares)
+        requires some { 1 ≤ count }
+        requires within { count ≤ length self.old }
+        requires empty { IsEmptyTo self.old count }
+        ensures count { length self.new ≡ length self.old }
+        ensures moved { (k : ℕ) → slice_index_or self.new k Slot.Empty
+            ≡ slice_index_or self.old (k + count) Slot.Empty }
+    {
+        let last = self.front + self.end.min(self.count());
+        let kept = self.front + count.min(KEPT);
+        pass_all(&mut self.slots, self.front, kept, spares);
+        slide_down(&mut self.slots, self.front, count, last);
+        self.end = self.end.saturating_sub(count);
+    }
+
     /// Passes the first `count` entries, whose shares become spares: each entry takes the place of the
     /// one so many before it, and the last ones are empty. They are moved in the memory only where no
     /// room is left after them.
@@ -207,6 +255,22 @@ fn take_later(slots: &mut SmallSlots, count: usize, end: usize)
         ≡ slice_index_or slots.old (k + count) Slot.Empty }
 {
     for i in count..end {
+        slots.swap(i - count, i);
+    }
+}
+
+/// Moves what each slot up to `end` has to the slot `count` places before it, from a first slot on, of which so many are empty.
+fn slide_down(slots: &mut SmallSlots, first: usize, count: usize, end: usize)
+    requires some { 1 ≤ count }
+    requires fits { first + count ≤ position_limit }
+    requires within { end ≤ length slots.old }
+    requires empty { (k : ℕ) → first ≤ k → k < first + count → slice_index_or slots.old k Slot.Empty ≡ Slot.Empty }
+    requires past { (k : ℕ) → end ≤ k → slice_index_or slots.old k Slot.Empty ≡ Slot.Empty }
+    ensures count { length slots.new ≡ length slots.old }
+    ensures moved { (k : ℕ) → first ≤ k → slice_index_or slots.new k Slot.Empty
+        ≡ slice_index_or slots.old (k + count) Slot.Empty }
+{
+    for i in first + count..end {
         slots.swap(i - count, i);
     }
 }

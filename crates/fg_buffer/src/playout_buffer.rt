@@ -292,6 +292,30 @@ impl PlayoutBuffer {
         self.mark += u64::from(count);
     }
 
+    /// How many positions from the mark on have no word, before the first that has one, and at most so many.
+    pub fn empty_ahead(&self, most: u64) -> u64
+        requires { most ≤ position_limit }
+        ensures most { result ≤ most }
+        ensures empty { (position : ℕ) → self.now.mark ≤ position → position < self.now.mark + result
+            → buffer_words self.now position ≡ None }
+    {
+        let limit = most as usize + KEPT;
+        (self.entries.empty_to(limit) - KEPT) as u64
+    }
+
+    /// Moves the mark on past positions without words, however many.
+    pub fn skip(&mut self, count: u64)
+        requires some { 1 ≤ count }
+        requires limit { self.old.mark + count + self.old.reach + 100 ≤ position_limit }
+        requires empty { (position : ℕ) → self.old.mark ≤ position → position < self.old.mark + count
+            → buffer_words self.old position ≡ None }
+        ensures { Advances count self.old self.new }
+    {
+        let passed = (count as usize).min(self.entries.count());
+        self.entries.skip(passed, &mut self.spares);
+        self.mark += count;
+    }
+
     /// A share that was let go, where there is one, for the next payload.
     pub fn spare(&mut self) -> Option<Shared>
         ensures { self.new ≡ self.old }

@@ -13,6 +13,7 @@ pub mod DeskPlays
 pub mod DeskReceives
 pub mod DeskRecovers
 pub mod DeskShows
+pub mod DeskSkips
 pub mod DeskTimes
 pub mod DeskWays
 pub mod DeskWords

@@ -5,4 +5,5 @@ pub mod Holding
 pub mod Inside
 pub mod Parts
 pub mod TrayPlaces
+pub mod Skipping
 pub mod Storage

@@ -4,6 +4,7 @@
 mod closing;
 mod desk;
 mod holding;
+mod skipping;
 mod storage;
 mod tray;
 

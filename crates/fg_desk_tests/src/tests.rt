@@ -8,3 +8,4 @@ mod random;
 mod replies;
 mod runs;
 mod script;
+mod skips;

@@ -13,7 +13,6 @@ use Rattle.fg_playout.specs.Admission.{AdmitsMedia}
 use Rattle.fg_playout.specs.Play.{Play}
 use Rattle.fg_playout.specs.Run.{Arrival, carries, protects, refused, time_of, ArePlaysHeld, ArePlaysBefore, TakesThen}
 use Rattle.fg_playout.specs.Laws.{AreHeldSteps, HavePlayedBefore, HavePlayedThen, still_held, then_played, FreshIsDecided}
-use Rattle.fg_desk.specs.Arrivals.{StaysWithin, HeldWithin, ThenStaysWithin}
 use Rattle.fg_report.specs.declared.flow_sum.FlowSum.{FlowSum}
 use Rattle.fg_results.specs.Flow.{IsReadAs, lane_of}
 use Rattle.fg_engine.specs.Steps.{Grows, HaveShown, HaveHeld, BreakOff, AdmitsDatagram, AdmitsThen, BreaksAtDatagram, BreaksThen, with_plays}

@@ -1,5 +1,5 @@
 -- What is played before a media datagram: all that is left, where its SSRC is fresh, and else what is due.
-use Rattle.std.proofs.Common.{◌≡◌, ℕ, [], Option, refl, sym, ap, subst, ◌∙◌, inl, inr, ⊎_elim}
+use Rattle.std.proofs.Common.{◌≡◌, ℕ, Option, sym, ap, subst, ◌∙◌, inl, inr}
 use Rattle.fg_io.specs.Outlet.{Lanes}
 use Rattle.fg_desk.specs.Arrivals.{FlushesWithin, ThenStaysWithin}
 use Rattle.fg_playout.specs.State.{State}
@@ -7,7 +7,7 @@ use Rattle.fg_playout.specs.Admission.{IsDue, IsFresh, counted}
 use Rattle.fg_playout.specs.Play.{HasMore}
 use Rattle.fg_playout.specs.Room.{HasRoom}
 use Rattle.fg_playout.specs.Run.{ArePlaysBefore, by_flush, IsFlush}
-use Rattle.fg_playout.specs.Laws.{HavePlayed, HavePlayedBefore, AreFlushSteps, FlushStepsEnd, ReadyAfterPlays, FreshIsDecided}
+use Rattle.fg_playout.specs.Laws.{HavePlayed, HavePlayedBefore, AreFlushSteps, FlushStepsEnd, ReadyAfterPlays}
 use Rattle.fg_report.specs.declared.flow_sum.FlowSum.{FlowSum}
 use Rattle.fg_engine.specs.Steps.{HaveShown, BreakOff}
 

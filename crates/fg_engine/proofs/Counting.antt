@@ -26,7 +26,7 @@ gaps_end_within gaps position (one ∷ shown) behind =
     let rest = gaps_end_within (cond (shows_word one) gaps (with_gap gaps position 1)) (position + 1) shown
     (end_after gaps position (shows_word one) behind) in omega (arith, rest)
 
-gaps_more :
+pub gaps_more :
     (gaps : List (ℕ × ℕ)) (position : ℕ) (one other : List Shown)
     → gaps_from (gaps_from gaps position one) (position + length one) other ≡ gaps_from gaps position (one ++ other)
 gaps_more gaps position [] other = ap (λ (n : ℕ). gaps_from gaps n other) (omega arith)

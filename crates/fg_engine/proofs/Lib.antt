@@ -16,6 +16,7 @@ pub mod Reading
 pub mod Results
 pub mod Shelving
 pub mod Showing
+pub mod Skipping
 pub mod Standing
 pub mod Stopping
 pub mod Taking

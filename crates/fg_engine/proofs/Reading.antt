@@ -3,13 +3,13 @@ use Rattle.std.proofs.Common.{◌≡◌, ◌≢◌, ℕ, List, [], Option, Some,
 use Rattle.fg_fechead.specs.declared.Parity.{Parity as ParityRead}
 use Rattle.fg_fechead.specs.ParityDatagram.{IsParityDatagram}
 use Rattle.fg_shape.specs.declared.kind.Kind.{Kind}
-use Rattle.fg_shape.specs.declared.kind.Kind.TheVariants.{Media, Column, Row}
+use Rattle.fg_shape.specs.declared.kind.Kind.TheVariants.{Media}
 use Rattle.fg_playout.specs.declared.reply.Reply.{Reply}
 use Rattle.fg_playout.specs.State.{State}
 use Rattle.fg_playout.specs.Admission.{AdmitsParity}
 use Rattle.fg_playout.specs.Run.{Arrival, protects, refused, time_of, TakesThen}
 use Rattle.fg_results.proofs.FlowRecords.{as_parity}
-use Rattle.fg_results.specs.Flow.{IsReadAsParity, IsReadAs, parity_of}
+use Rattle.fg_results.specs.Flow.{IsReadAs, parity_of}
 
 pub parity_is_read :
     (kind : Kind) (time : ℕ) (bytes : List ℕ) (parity : ParityRead) → kind ≢ Media → IsParityDatagram bytes parity

@@ -1,5 +1,5 @@
 -- How the records of a trace are taken, from where the reader stands.
-use Rattle.std.proofs.Common.{◌≡◌, inl, inr, ℕ, ◌<◌, ◌≤◌, ◌^◌, Option, Some, None, IfSome, Ok, Err, List, [], ◌∷◌, ◌++◌, length, refl, sym, subst, arith}
+use Rattle.std.proofs.Common.{◌≡◌, inl, inr, ℕ, Option, Some, None, IfSome, Ok, Err, List, [], ◌∷◌, ◌++◌, refl, sym, subst}
 use Rattle.fg_io.specs.Outlet.{Lanes, WhereTold}
 use Rattle.fg_flows.specs.declared.Plan.{Plan}
 use Rattle.fg_flows.specs.Plan.{PlanFits}
@@ -9,9 +9,9 @@ use Rattle.fg_trace.specs.declared.step.Finish.TheVariants as finish
 use Rattle.fg_trace.specs.declared.step.Step.TheVariants.{Datagram}
 use Rattle.fg_trace.specs.declared.step.TraceFault.{TraceFault}
 use Rattle.fg_trace.specs.Laws.{WalksTheFront}
-use Rattle.fg_trace.proofs.Opening.{few_spelled, stands_still}
+use Rattle.fg_trace.proofs.Opening.{stands_still}
 use Rattle.fg_trace.specs.Reader.{Answer, ReaderState, StandsAfter, Walks}
-use Rattle.fg_trace.specs.Trace.{Record, Ending, IsTrace, trace_of}
+use Rattle.fg_trace.specs.Trace.{Record, Ending, IsTrace}
 use Rattle.fg_results.proofs.FlowRecords.{few_records}
 use Rattle.fg_engine.specs.declared.engine.Engine.{Engine}
 use Rattle.fg_engine.specs.Engine.{LanesGrow, GrowAll, IsRunning, HasCome, BreaksAfter, LanesStop, HasWalked, TookAll, TellsTail}

@@ -14,7 +14,6 @@ use Rattle.fg_playout.specs.State.{State, opening}
 use Rattle.fg_playout.specs.Play.{Play, Shown}
 use Rattle.fg_playout.specs.Run.{Arrival, time_of, Takes, TakesThen, TakesAll}
 use Rattle.fg_playout.specs.Laws.{AreHeldSteps, HavePlayedFor, HavePlayedThen}
-use Rattle.fg_desk.specs.Arrivals.{BeforeWithin}
 use Rattle.fg_report.specs.declared.marks.Marks.{Marks}
 use Rattle.fg_report.specs.declared.flow_sum.FlowSum.{FlowSum}
 use Rattle.fg_report.specs.Gaps.{gaps_end}

@@ -7,7 +7,7 @@ ghost use Rattle.fg_results.specs.Contract.{IsRepair};
 ghost use Rattle.fg_results.specs.Stops.{ByRecord};
 
 use crate::records::{give_up, repair_windows};
-use crate::window::WindowState;
+use crate::window::{Skipped, WindowState};
 use fg_desk::{Desk, Played, Reply};
 use fg_flows::Plan;
 use fg_io::{Outlet, Sink, Source};
@@ -72,6 +72,36 @@ impl WindowState for Desk {
     #[inline]
     fn held_step(&mut self, time: u64) -> Option<Played> {
         self.held_step_in_place(time)
+    }
+
+    #[inline]
+    fn skip_due(&mut self, seq: u16, ssrc: u32) -> Skipped {
+        let mark = self.mark();
+        let windows = self.skip_due(seq, ssrc);
+        Skipped {
+            windows,
+            positions: self.mark() - mark,
+        }
+    }
+
+    #[inline]
+    fn skip_rest(&mut self) -> Skipped {
+        let mark = self.mark();
+        let windows = self.skip_rest();
+        Skipped {
+            windows,
+            positions: self.mark() - mark,
+        }
+    }
+
+    #[inline]
+    fn skip_held(&mut self, time: u64) -> Skipped {
+        let mark = self.mark();
+        let windows = self.skip_held(time);
+        Skipped {
+            windows,
+            positions: self.mark() - mark,
+        }
     }
 
     #[inline]

@@ -1,14 +1,16 @@
 //! What is counted of a flow.
-ghost use Rattle.std.specs.Prelude.{◌≡◌, ◌+◌, ◌<◌, ◌++◌, [], ◌∷◌, OnOk, OnErr};
+ghost use Rattle.std.specs.Prelude.{◌≡◌, ◌+◌, ◌*◌, ◌<◌, ◌≤◌, ◌++◌, ℕ, [], ◌∷◌, OnOk, OnErr};
 ghost use Rattle.std.specs.List.{count_by};
 ghost use Rattle.std.specs.Option.{option_copied};
 ghost use Rattle.fg_shape.specs.Shape.{position_limit};
 ghost use Rattle.fg_playout.specs.Play.{Play};
+ghost use Rattle.fg_playout.specs.Empty.{empty_plays};
 ghost use Rattle.fg_results.specs.Flow.{is_inconsistent, shown_payload};
-ghost use Rattle.fg_engine.specs.Steps.{MarksHaveRoom, RepliesHaveRoom, CountsWithin, with_reply, with_answer, with_shown};
+ghost use Rattle.fg_engine.specs.Steps.{MarksHaveRoom, RepliesHaveRoom, CountsWithin, with_reply, with_answer, with_shown, with_plays};
 
 use crate::play::{TakesPayloads, payload};
-use fg_desk::{Outcome, Reply};
+use crate::window::Skipped;
+use fg_desk::{Outcome, Played, Reply};
 use fg_flows::Kind;
 use fg_report::{FlowSum, Marks};
 use fg_words::Word;
@@ -59,6 +61,29 @@ pub(crate) fn count_play(sum: &mut FlowSum, outcome: Outcome)
         Outcome::Repaired => {}
         Outcome::Inconsistent => sum.inconsistent += 1,
     }
+}
+
+/// Counts windows that were skipped after this play.
+pub(crate) fn count_skipped(
+    sum: &mut FlowSum,
+    played: Played,
+    skipped: Skipped,
+) -> Result<(), AllocError>
+    requires within { CountsWithin sum.old (played.first + played.count) }
+    requires limit { played.first + played.count + skipped.positions ≤ position_limit }
+    requires some { skipped.windows ≤ skipped.positions }
+    ensures counts { OnOk result ((window : ℕ) → skipped.positions ≡ skipped.windows * window
+        → sum.new ≡ with_plays sum.old (played.first + played.count)
+        (empty_plays skipped.windows window (played.first + played.count))) }
+    ensures port { sum.new.port ≡ sum.old.port }
+{
+    if skipped.positions == 0 {
+        return Ok(());
+    }
+    sum.windows += skipped.windows;
+    sum.missing += skipped.positions;
+    sum.gaps
+        .add(played.first + u64::from(played.count), skipped.positions)
 }
 
 /// Counts a position that was played, and adds its word's payload to the flow's bytes.

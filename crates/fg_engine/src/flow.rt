@@ -18,7 +18,7 @@ ghost use Rattle.fg_results.specs.Flow.{IsReadAs, lane_of};
 ghost use Rattle.fg_engine.specs.Steps.{HasTaken, IsUnderway, TakesRecord, BreaksAtRecord, EndsFlow, BreaksAtEnd};
 ghost use Rattle.fg_engine.specs.Steps.{CountsWithin, Grows, GrowsPart, HaveShown, HaveHeld, BreakOff, AdmitsDatagram, AdmitsThen, BreaksAtDatagram, BreaksThen, with_plays, played_as};
 
-use crate::counts::count_answer;
+use crate::counts::{count_answer, count_skipped};
 use crate::player::Player;
 use crate::window::WindowState;
 use fg_desk::{Played, Reply};
@@ -221,6 +221,8 @@ impl<D: WindowState> Flow<D> {
         }
         while let Some(played) = self.window.held_step(time) {
             player.put_play(lanes, &mut self.sum, &self.window, played)?;
+            let skipped = self.window.skip_held(time);
+            count_skipped(&mut self.sum, played, skipped)?;
         }
         Ok(())
     }
@@ -325,6 +327,8 @@ impl<D: WindowState> Flow<D> {
         while self.window.due(seq, ssrc) {
             let played = self.window.play();
             player.put_play(lanes, &mut self.sum, &self.window, played)?;
+            let skipped = self.window.skip_due(seq, ssrc);
+            count_skipped(&mut self.sum, played, skipped)?;
         }
         Ok(())
     }
@@ -348,6 +352,8 @@ impl<D: WindowState> Flow<D> {
         flushes_end();
         while let Some(played) = self.window.flush_step() {
             player.put_play(lanes, &mut self.sum, &self.window, played)?;
+            let skipped = self.window.skip_rest();
+            count_skipped(&mut self.sum, played, skipped)?;
         }
         Ok(())
     }

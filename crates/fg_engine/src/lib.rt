@@ -19,4 +19,4 @@ pub use flow::Flow;
 pub use player::{LaneWriter, Player, ShelfFiller};
 pub use records::{Begun, begin, end, finish_at, give_up, repair_windows, report};
 pub use shelved::Shelved;
-pub use window::WindowState;
+pub use window::{Skipped, WindowState};

@@ -1,5 +1,5 @@
 //! A flow's window state as the engine sees it.
-ghost use Rattle.std.specs.Prelude.{◌≡◌, ◌≢◌, ◌<◌, ◌↔◌, List, length, Option, IsTrue, IsSome, IfSome, option_map};
+ghost use Rattle.std.specs.Prelude.{◌≡◌, ◌≢◌, ◌*◌, ◌<◌, ◌↔◌, List, length, Option, IsTrue, IsSome, IfSome, option_map};
 ghost use Rattle.std.specs.List.{slice_index_or};
 ghost use Rattle.std.specs.Option.{option_copied};
 ghost use Rattle.fg_words.specs.Word.{IsMedia};
@@ -9,12 +9,23 @@ ghost use Rattle.fg_playout.specs.State.{State};
 ghost use Rattle.fg_playout.specs.Admission.{IsDue, IsFresh, AdmitsMedia, AdmitsParity};
 ghost use Rattle.fg_playout.specs.Play.{IsPlay, Flushes, HasMore, Shown, nothing_shown};
 ghost use Rattle.fg_playout.specs.Held.{IsHeldStep};
+ghost use Rattle.fg_playout.specs.Laws.{HavePlayed, AreFlushSteps, AreHeldSteps};
+ghost use Rattle.fg_playout.specs.Empty.{empty_plays};
 ghost use Rattle.fg_playout.specs.Room.{HasRoom, farthest_limit};
 ghost use Rattle.fg_engine.specs.Steps.{played_as};
 
 use fg_desk::{Played, Reply};
 use fg_shape::Shape;
 use fg_words::{Shared, Word};
+
+/// Windows that were played at once, one after another. They show nothing.
+#[derive(Clone, Copy)]
+pub struct Skipped {
+    /// How many they are.
+    pub windows: u64,
+    /// How many positions they have.
+    pub positions: u64,
+}
 
 /// What holds a flow's windows: it admits the flow's datagrams and plays its windows.
 ///
@@ -88,6 +99,26 @@ pub trait WindowState: Drop {
         ensures held { IsHeldStep (state self.old) time
             (option_map (λ played. played_as played (shows self.new played)) result) (state self.new) }
         ensures count { IfSome result (λ played. played.count ≡ length (shows self.new played)) };
+
+    /// Plays at once so many of the next windows as show nothing and are due before a media datagram of this sequence number and
+    /// SSRC. It may leave some of them, or all, to be played one by one.
+    fn skip_due(&mut self, seq: u16, ssrc: u32) -> Skipped
+        ensures plays { HavePlayed (state self.old) seq ssrc
+            (empty_plays result.windows (state self.old).playout.window (state self.old).mark) (state self.new) }
+        ensures positions { result.positions ≡ result.windows * (state self.old).playout.window };
+
+    /// The same for steps of a flush.
+    fn skip_rest(&mut self) -> Skipped
+        ensures flushes { AreFlushSteps (state self.old)
+            (empty_plays result.windows (state self.old).playout.window (state self.old).mark) (state self.new) }
+        ensures positions { result.positions ≡ result.windows * (state self.old).playout.window };
+
+    /// The same for held plays at a time, in microseconds, which it is told where there are any.
+    fn skip_held(&mut self, time: u64) -> Skipped
+        requires limited { (state self.old).playout.hold ≢ 0 }
+        ensures held { AreHeldSteps (state self.old) time
+            (empty_plays result.windows (state self.old).playout.window (state self.old).mark) (state self.new) }
+        ensures positions { result.positions ≡ result.windows * (state self.old).playout.window };
 
     /// The word that the last play shows at its position `i`, counted from 0.
     fn word(&self, played: Played, i: u32) -> Option<&Word>

@@ -7,6 +7,7 @@ pub mod Decided
 pub mod DecidedSolutions
 pub mod DesksComeNext
 pub mod DesksJoin
+pub mod EmptyWindows
 pub mod Equations
 pub mod Flushing
 pub mod Following

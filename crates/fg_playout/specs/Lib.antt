@@ -1,5 +1,6 @@
 pub mod Admission
 pub mod DesksJoin
+pub mod Empty
 pub mod Existence
 pub mod Facts
 pub mod Held

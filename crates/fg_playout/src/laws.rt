@@ -16,6 +16,7 @@ ghost use Rattle.fg_playout.specs.PlayedOn.{PlaysAreTheRuns, DesksMakeThePlays, 
 ghost use Rattle.fg_playout.specs.DesksJoin.{DueDesksJoin, FlushDesksJoin, HeldDesksJoin, TakenDesksJoin, OneTakenDesks};
 ghost use Rattle.fg_playout.specs.DesksJoin.{DueDesksEnd, FlushDesksEnd, HeldDesksEnd, NoHeldDesks, FlushDesksEndBefore, DueDesksEndBefore, RunDesksEnd};
 ghost use Rattle.fg_playout.specs.DesksJoin.{TakenDesksComeFirst, DesksBeforeComeNext, DesksBeforeComeNextInRuns, FlushDesksComeNext};
+ghost use Rattle.fg_playout.specs.Empty.{EmptyWindowsKeep, EmptyWindowsAreDue, EmptyWindowsAreFlushed, EmptyWindowsAreHeld};
 ghost use Rattle.fg_playout.specs.Existence.{PlaysDueExist, FlushExists, PlaysBeforeExist, PlaysHeldExist, TakingsExist, RunsExist};
 
 use fg_peel::laws::{
@@ -150,6 +151,17 @@ pub fn outcomes_exist()
     ensures play { PlayHasOutcome }
     ensures flush { FlushHasOutcome }
     ensures held { HeldStepHasOutcome }
+{
+    peelings_are_told();
+}
+
+/// Windows that show nothing come to one step of the desk: they are plays, one after another, that are due before a datagram, held
+/// at a time, or steps of a flush.
+pub fn empty_windows()
+    ensures facts { EmptyWindowsKeep }
+    ensures due { EmptyWindowsAreDue }
+    ensures flushed { EmptyWindowsAreFlushed }
+    ensures held { EmptyWindowsAreHeld }
 {
     peelings_are_told();
 }

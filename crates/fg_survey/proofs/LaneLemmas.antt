@@ -12,7 +12,7 @@ use Rattle.fg_survey.specs.declared.senders.Sender.{Sender}
 use Rattle.fg_survey.specs.declared.streams.Media.{Media}
 use Rattle.fg_survey.specs.declared.streams.Streams.{Streams}
 use Rattle.fg_survey.specs.Heard.{Heard, on_port}
-use Rattle.fg_survey.specs.Lanes.{AreLanes, IsLane, IsLaneAt, has_port, heard_as, port_of}
+use Rattle.fg_survey.specs.Lanes.{AreApart, AreLanes, AreLanesBelow, ArePlaces, IsLane, IsLaneAt, has_port, heard_as, port_of}
 use Rattle.fg_survey.specs.Matrix.{Protection, ahead_by, columns_on, has_stream, last_sender, protection_by, protections, rows_on}
 use Rattle.fg_survey.specs.Senders.{listed, sender_of, senders_of, unlisted, with_sender}
 use Rattle.fg_survey.specs.Steps.{KeepsStreams, media_heard}
@@ -169,7 +169,7 @@ module _ (lane after : Lane) (before : List Heard) (time port : ℕ) (datagram :
 
 -- A parity datagram and all lanes
 
-pub lanes_parity : (old new : List Lane) (before : List Heard) (time port : ℕ) (datagram : List ℕ) (base offset number : ℕ) → map port_of new ≡ map port_of old
+lanes_parity : (old new : List Lane) (before : List Heard) (time port : ℕ) (datagram : List ℕ) (base offset number : ℕ) → map port_of new ≡ map port_of old
     → ((i : ℕ) (d : Lane) → i < length new → IsLane (get_or new i d) (heard_as time port datagram (Parity base offset number) ∷ before))
     → AreLanes old before → AreLanes new (heard_as time port datagram (Parity base offset number) ∷ before)
 lanes_parity old new before time port datagram base offset number ports each h = record {
@@ -178,6 +178,107 @@ lanes_parity old new before time port datagram base offset number ports each h =
   quiet = λ p none few. last_stays p (heard_as time port datagram (Parity base offset number)) before refl ∙ h.quiet p (ap (λ (t : List ℕ). has_port t p) (sym ports) ∙ none) few;
   distinct = subst (λ (t : List ℕ). (i j : ℕ) → i < j → j < length t → get_or t i 0 ≢ get_or t j 0) (sym ports) h.distinct;
 }
+
+-- One lane for another of its port
+
+pub ports_stay : (lanes : List Lane) (place : ℕ) (old new : Lane) → place < length lanes → old ≡ get_or lanes place old → new.port ≡ old.port → map port_of (set lanes place new) ≡ map port_of lanes
+ports_stay lanes place old new within is port =
+    let at : get_or (map port_of lanes) place 0 ≡ new.port = port_at lanes place old within ∙ ap port_of (sym is) ∙ sym port in
+    map-set port_of lanes place new ∙ ap (λ n. set (map port_of lanes) place n) (sym at) ∙ set-get_or (map port_of lanes) place 0
+
+pub places_stay : (places : List ℕ) (old new : List Lane) → map port_of new ≡ map port_of old → ArePlaces places old → ArePlaces places new
+places_stay places old new ports h = record {
+  all = h.all;
+  none = λ p below empty. ap (λ (t : List ℕ). has_port t p) ports ∙ h.none p below empty;
+}
+
+its_place : (lanes : List Lane) (port place i : ℕ) (d : Lane) → AreApart lanes → IsLaneAt lanes port place → i < length lanes → (get_or lanes i d).port ≡ port → i ≡ place
+its_place lanes port place i d apart found within is =
+    let many = length-map lanes port_of in
+    let own = port_at lanes i d within ∙ is in
+    let at = port_at lanes place d found.within ∙ found.there d in
+    ⊎_elim
+    (λ (same : i ≡ place). same)
+    (λ (other : i ≢ place). ⊎_elim
+    (λ (less : i < place). absurd (apart i place less (omega (arith, many, found.within)) (own ∙ sym at)))
+    (λ (past : place ≤ i). absurd (apart place i (omega (arith, past, other)) (omega (arith, many, within)) (at ∙ sym own)))
+    (cases_lt i place))
+    (cases_eq i place)
+
+-- The lanes so many ports below a parity datagram's
+
+pub below_goes : (lanes : List Lane) (place below port media : ℕ) (old new : Lane) (before now : List Heard) → AreApart lanes → IsLaneAt lanes media place → port ≡ media + below
+    → old ≡ get_or lanes place old → (IsLane old before → IsLane new now) → AreLanesBelow lanes below port before → AreLanesBelow (set lanes place new) below port now
+below_goes lanes place below port media old new before now apart found port_is is goes h = λ i d within there.
+    let long = length-set lanes place new in
+    let inside : i < length lanes = omega (arith, within, long) in
+    ⊎_elim
+    (λ (same : i ≡ place).
+    subst (λ (l : Lane). IsLane l now) (sym (ap (λ k. get_or (set lanes place new) k d) same ∙ get_or-set_same lanes place new d found.within))
+    (goes (subst (λ (l : Lane). IsLane l before) (sym is) (h place old found.within (ap (λ n. n + below) (found.there old) ∙ sym port_is)))))
+    (λ (other : i ≢ place).
+    let stays : (get_or lanes i d).port + below ≡ port = ap (λ (l : Lane). l.port + below) (sym (get_or-set_other lanes place i new d other)) ∙ there in
+    let own : (get_or lanes i d).port ≡ media = omega (arith, stays, port_is) in
+    absurd (other (its_place lanes media place i d apart found inside own)))
+    (cases_eq i place)
+
+pub none_below : (lanes : List Lane) (below port media : ℕ) (now : List Heard) → has_port (map port_of lanes) media ≡ false → port ≡ media + below → AreLanesBelow lanes below port now
+none_below lanes below port media now none port_is = λ i d within there.
+    let many = length-map lanes port_of in
+    let own : (get_or lanes i d).port ≡ media = omega (arith, there, port_is) in
+    absurd (false≢true (sym none ∙ has_at (map port_of lanes) media i (omega (arith, many, within)) (port_at lanes i d within ∙ own)))
+
+as_many_lanes : (one other : List Lane) → map port_of one ≡ map port_of other → length one ≡ length other
+as_many_lanes one other same = sym (length-map one port_of) ∙ ap (λ (t : List ℕ). length t) same ∙ length-map other port_of
+
+same_port_at : (one other : List Lane) (i : ℕ) (d : Lane) → map port_of one ≡ map port_of other → i < length one → i < length other → (get_or one i d).port ≡ (get_or other i d).port
+same_port_at one other i d same within inside = sym (port_at one i d within) ∙ ap (λ (t : List ℕ). get_or t i 0) same ∙ port_at other i d inside
+
+-- a row's lane isn't a column's
+pub rest_below : (old mid : List Lane) (port : ℕ) (before : List Heard) → map port_of mid ≡ map port_of old
+    → ((i : ℕ) (d : Lane) → i < length old → (get_or old i d).port + 2 ≢ port → get_or mid i d ≡ get_or old i d)
+    → ((i : ℕ) (d : Lane) → i < length old → IsLane (get_or old i d) before) → AreLanesBelow mid 4 port before
+rest_below old mid port before ports others each = λ i d within there.
+    let long = as_many_lanes mid old ports in
+    let inside : i < length old = omega (arith, long, within) in
+    let own = same_port_at mid old i d ports within inside in
+    subst (λ (l : Lane). IsLane l before) (sym (others i d inside (λ two. absurd (omega (arith, own, there, two))))) (each i d inside)
+
+module _ (old mid new : List Lane) (before : List Heard) (time port : ℕ) (datagram : List ℕ) (base offset number : ℕ)
+    (ports : map port_of mid ≡ map port_of old) (more_ports : map port_of new ≡ map port_of mid)
+    (others : (i : ℕ) (d : Lane) → i < length old → (get_or old i d).port + 2 ≢ port → get_or mid i d ≡ get_or old i d)
+    (columns : AreLanesBelow old 2 port before → AreLanesBelow mid 2 port (heard_as time port datagram (Parity base offset number) ∷ before))
+    (more_others : (i : ℕ) (d : Lane) → i < length mid → (get_or mid i d).port + 4 ≢ port → get_or new i d ≡ get_or mid i d)
+    (rows : AreLanesBelow mid 4 port before → AreLanesBelow new 4 port (heard_as time port datagram (Parity base offset number) ∷ before))
+    (h : AreLanes old before) where
+  abbrev after : List Heard
+  after = heard_as time port datagram (Parity base offset number) ∷ before
+
+  goes_on_at : (i : ℕ) (d : Lane) → i < length new → IsLane (get_or new i d) after
+  goes_on_at i d within =
+      let long = as_many_lanes mid old ports in
+      let more_long = as_many_lanes new mid more_ports in
+      let between : i < length mid = omega (arith, within, more_long) in
+      let inside : i < length old = omega (arith, between, long) in
+      let own = same_port_at mid old i d ports between inside in
+      let later = same_port_at new mid i d more_ports within between in
+      let lane = get_or old i d in
+      ⊎_elim
+      (λ (column : lane.port + 2 ≡ port).
+      subst (λ (l : Lane). IsLane l after) (sym (more_others i d between (λ four. absurd (omega (arith, own, column, four)))))
+      (columns (λ k e below there. h.each k e below) i d between (omega (arith, own, column))))
+      (λ (none : lane.port + 2 ≢ port). ⊎_elim
+      (λ (row : (get_or mid i d).port + 4 ≡ port). rows (rest_below old mid port before ports others h.each) i d within (omega (arith, later, row)))
+      (λ (neither : (get_or mid i d).port + 4 ≢ port).
+      let k = h.each i d inside in
+      subst (λ (l : Lane). IsLane l after) (sym (more_others i d between neither ∙ others i d inside none))
+      (lane_other lane lane before time port datagram base offset number (ahead_by before base (record { port = lane.port; ssrc = lane.ssrc })) k refl refl refl
+      (λ same. none (sym same)) (λ same. neither (omega (arith, own, same))) k.tally_is))
+      (cases_eq ((get_or mid i d).port + 4) port))
+      (cases_eq (lane.port + 2) port)
+
+  pub lanes_parity_both : AreLanes new after
+  lanes_parity_both = lanes_parity old new before time port datagram base offset number (more_ports ∙ ports) goes_on_at h
 
 -- Something other
 
@@ -359,6 +460,9 @@ no_lanes = record {
   quiet = λ p none few. refl;
   distinct = λ i j less within. absurd (omega (arith, within));
 }
+
+pub no_places : (places : List ℕ) → length places ≡ 65536 → ArePlaces places []
+no_places places all = record { all = all; none = λ p below empty. refl }
 
 pub lane_there : (lanes : List Lane) (port place : ℕ) → IsLaneAt lanes port place → has_port (map port_of lanes) port ≡ true
 lane_there [] port place found = let within = found.within in absurd (omega (arith, within))

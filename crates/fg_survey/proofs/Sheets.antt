@@ -7,7 +7,7 @@ use Rattle.fg_survey.specs.declared.reading.Reading.{Reading}
 use Rattle.fg_survey.specs.declared.sheet.Sheet.{Sheet}
 use Rattle.fg_survey.specs.Heard.{Heard, AreHeard, IsHeard}
 use Rattle.fg_survey.specs.declared.reading.Reading.TheVariants.{Media, Parity, Other}
-use Rattle.fg_survey.specs.Lanes.{AreLanes, FitsCounts}
+use Rattle.fg_survey.specs.Lanes.{FitsCounts, KeepsLanes}
 use Rattle.fg_survey.specs.Reading.{IsReading}
 use Rattle.fg_survey.specs.Steps.{ArePorts, IsSheet, KeepsStreams}
 use Rattle.fg_survey.specs.Totals.{totals_of}
@@ -20,7 +20,7 @@ pub sheet_more : (before after : Sheet) (records : List Record) (time port : ℕ
     → after.totals ≡ totals_of ((record { time = time; port = port; datagram = datagram; reading = r }) ∷ h.heard)
     → ArePorts after.rows.items ((record { time = time; port = port; datagram = datagram; reading = r }) ∷ h.heard)
     → KeepsStreams after.streams ((record { time = time; port = port; datagram = datagram; reading = r }) ∷ h.heard)
-    → AreLanes after.lanes.items ((record { time = time; port = port; datagram = datagram; reading = r }) ∷ h.heard)
+    → KeepsLanes after.lanes ((record { time = time; port = port; datagram = datagram; reading = r }) ∷ h.heard)
     → IsSheet after (records ++ (record { time = time; port = port; datagram = datagram }) ∷ [])
 sheet_more before after records time port datagram r read small h totals rows streams lanes = record {
   heard = (record { time = time; port = port; datagram = datagram; reading = r }) ∷ h.heard;

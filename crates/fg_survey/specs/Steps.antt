@@ -1,8 +1,6 @@
 -- What is kept of a trace, and how far a survey has come. No public contract cites what stands here.
-use Rattle.std.specs.Prelude.{◌≡◌, ◌≢◌, ℕ, ◌<◌, ◌^◌, ⊤, Option, IfSome, Result, Ok, Err, List, drop, get_or, length}
+use Rattle.std.specs.Prelude.{◌≡◌, ◌≢◌, ℕ, ◌<◌, ◌^◌, ⊤, Option, IfSome, List, drop, get_or, length}
 use Rattle.std.specs.List.{AllByRecursion}
-use Rattle.fg_io.specs.declared.fault.Fault.{Fault}
-use Rattle.fg_io.specs.declared.fault.Fault.TheVariants.{Read, Write, Memory}
 use Rattle.fg_report.specs.declared.tail.Tail.{Tail}
 use Rattle.fg_report.specs.declared.tail.Tail.TheVariants as tail
 use Rattle.fg_rtp.specs.Header.{header_length}
@@ -13,7 +11,6 @@ use Rattle.fg_trace.specs.declared.step.Finish.{Finish}
 use Rattle.fg_trace.specs.declared.step.Finish.TheVariants as finish
 use Rattle.fg_trace.specs.Finish.{finish_of}
 use Rattle.fg_trace.specs.Reader.{ReaderState, StandsAfter}
-use Rattle.fg_trace.specs.Reading.{IsReadFor}
 use Rattle.fg_trace.specs.Trace.{Record, Ending, Ended, Cut, TooLong, IsTrace}
 use Rattle.fg_survey.specs.declared.sheet.Sheet.{Sheet}
 use Rattle.fg_survey.specs.declared.reading.Reading.{Reading}
@@ -24,7 +21,7 @@ use Rattle.fg_survey.specs.declared.streams.Media.{Media}
 use Rattle.fg_survey.specs.declared.streams.Streams.{Streams}
 use Rattle.fg_survey.specs.declared.totals.Totals.{Totals}
 use Rattle.fg_survey.specs.Heard.{Heard, AreHeard}
-use Rattle.fg_survey.specs.Lanes.{AreLanes}
+use Rattle.fg_survey.specs.Lanes.{KeepsLanes}
 use Rattle.fg_survey.specs.Rows.{ports, row_of}
 use Rattle.fg_survey.specs.Senders.{arrivals_of, senders_of, unlisted}
 use Rattle.fg_survey.specs.Totals.{size, totals_of}
@@ -98,7 +95,7 @@ pub record IsSheet (sheet : Sheet) (records : List Record) : Type 0 where
   pub totals : sheet.totals ≡ totals_of heard
   pub rows : ArePorts sheet.rows.items heard
   pub streams : KeepsStreams sheet.streams heard
-  pub lanes : AreLanes sheet.lanes.items heard
+  pub lanes : KeepsLanes sheet.lanes heard
 
 -- The reader stands after the records that are kept.
 pub record IsUnderway (first now : Option (List ℕ)) (reader : ReaderState) (sheet : Sheet) : Type 0 where

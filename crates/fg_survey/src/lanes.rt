@@ -1,12 +1,13 @@
 //! The parity that goes with media ports.
-ghost use Rattle.std.specs.Prelude.{◌≡◌, ◌+◌, ◌<◌, ◌≤◌, ◌^◌, ◌∷◌, [], ℕ, IfOk, IfSome, List, Option, None, OnOk, false, length, map};
+ghost use Rattle.std.specs.Prelude.{◌≡◌, ◌≢◌, ◌+◌, ◌<◌, ◌≤◌, ◌^◌, ◌∷◌, ◌++◌, [], ℕ, IfOk, IfSome, List, Option, None, OnOk, false, get_or, length, map};
 ghost use Rattle.fg_survey.specs.Heard.{Heard};
 ghost use Rattle.fg_survey.specs.declared.reading.Reading.TheVariants.{Parity};
-ghost use Rattle.fg_survey.specs.Lanes.{AreLanes, FitsCounts, IsLane, IsLaneAt, has_port, heard_as, port_of};
+ghost use Rattle.fg_survey.specs.Lanes.{AreApart, AreLanesBelow, ArePlaces, FitsCounts, IsLane, IsLaneAt, KeepsLanes, has_port, heard_as, port_of};
 ghost use Rattle.fg_survey.specs.Matrix.{ahead_by, ahead_of};
 ghost use Rattle.fg_survey.specs.Steps.{KeepsStreams, media_heard};
 ghost use Rattle.fg_survey.specs.Tallies.{IsTally};
 
+use crate::ports::PORTS;
 use crate::reading::Reading;
 use crate::senders::{Sender, find_near};
 use crate::streams::{Media, Streams};
@@ -21,7 +22,17 @@ pub(crate) struct Lane {
     pub(crate) port: u16,
     /// The sender of the last of them.
     pub(crate) ssrc: u32,
+    /// Where this sender's stream stood of late: it is sought there first.
+    pub(crate) near: usize,
     pub(crate) tally: Tally,
+}
+
+/// The lanes, and where to look for that of a port.
+#[derive(Drop)]
+pub(crate) struct Lanes {
+    pub(crate) lanes: Vec<Lane>,
+    /// For each port 0 where it has no lane, else one more than the place where it most likely stands.
+    pub(crate) places: Vec<u16>,
 }
 
 /// What a parity datagram says.
@@ -44,11 +55,11 @@ fn ahead_of(span: Option<Span>, base: u16) -> u64
 }
 
 /// How far the top of a sender's stream is ahead of a base, where the stream is told.
-fn ahead_by(streams: &Streams, sender: Sender, base: u16) -> u64
+fn ahead_by(streams: &Streams, near: usize, sender: Sender, base: u16) -> u64
     requires { (heard : List Heard) × KeepsStreams streams.now heard }
     ensures { (heard : List Heard) → KeepsStreams streams.now heard → result ≡ ahead_by heard base sender }
 {
-    match find_near(&streams.senders, sender, streams.near) {
+    match find_near(&streams.senders, sender, near) {
         Some(place) => ahead_of(streams.streams[place].span(), base),
         None => 0,
     }
@@ -67,7 +78,7 @@ pub(crate) fn find_lane(lanes: &[Lane], port: u16) -> Option<usize>
     None
 }
 
-/// The same, where it most often stands at this place: with one sender a port lanes are in the order of streams.
+/// The same, where it most likely stands at this place.
 fn find_lane_near(lanes: &[Lane], port: u16, near: usize) -> Option<usize>
     ensures found { IfSome result (λ place. IsLaneAt lanes.now port place) }
     ensures none { result ≡ None → has_port (map port_of lanes.now) port ≡ false }
@@ -80,7 +91,7 @@ fn find_lane_near(lanes: &[Lane], port: u16, near: usize) -> Option<usize>
 
 impl Lane {
     /// The lane of a port whose first media datagram is of this sender.
-    fn new(alloc: Global, sender: Sender) -> Result<Lane, AllocError>
+    fn new(alloc: Global, sender: Sender, near: usize) -> Result<Lane, AllocError>
         ensures port { IfOk result (λ lane. lane.port ≡ sender.port) }
         ensures ssrc { IfOk result (λ lane. lane.ssrc ≡ sender.ssrc) }
         ensures tally { IfOk result (λ lane. IsTally lane.tally [] []) }
@@ -88,6 +99,7 @@ impl Lane {
         Ok(Lane {
             port: sender.port,
             ssrc: sender.ssrc,
+            near,
             tally: Tally::new(alloc)?,
         })
     }
@@ -112,116 +124,180 @@ impl Lane {
             offset,
             number,
         } = parity;
-        // Most lanes aren't the parity's, so the sender is sought last.
         if u32::from(port) == u32::from(self.port) + 2 {
             self.tally
-                .take_column(offset, number, ahead_by(streams, sender, base));
+                .take_column(offset, number, ahead_by(streams, self.near, sender, base));
             return;
         }
         if u32::from(port) == u32::from(self.port) + 4 {
             self.tally
-                .take_row(offset, number, ahead_by(streams, sender, base));
+                .take_row(offset, number, ahead_by(streams, self.near, sender, base));
             return;
         }
     }
 }
 
-/// Takes a parity datagram on this port.
-fn take_parity(lanes: &mut Vec<Lane>, streams: &Streams, port: u16, parity: Protects)
-    requires offset { (1 ≤ parity.offset) × (parity.offset ≤ 20) }
-    requires number { (1 ≤ parity.number) × (parity.number ≤ 20) }
-    requires few { (before : List Heard) × AreLanes lanes.old.items before × (length before < 2 ^ 40) }
-    requires known { (heard : List Heard) × KeepsStreams streams.now heard }
-    ensures { (before : List Heard) (time : ℕ) (datagram : List ℕ) → KeepsStreams streams.now before
-        → AreLanes lanes.old.items before
-        → AreLanes lanes.new.items (heard_as time port datagram (Parity parity.base parity.offset parity.number) ∷ before) }
-{
-    for i in 0..lanes.len() {
-        lanes[i].take(streams, port, parity);
+impl Lanes {
+    /// No lane.
+    pub(crate) fn new(alloc: Global) -> Result<Lanes, AllocError>
+        ensures { IfOk result (λ lanes. KeepsLanes lanes []) }
+    {
+        Ok(Lanes {
+            lanes: Vec::new(alloc),
+            places: vec![in alloc; 0; PORTS]?,
+        })
     }
-}
 
-/// Takes a media datagram, which its stream has taken.
-fn take_media(
-    lanes: &mut Vec<Lane>,
-    alloc: Global,
-    streams: &Streams,
-    media: Media,
-) -> Result<(), AllocError>
-    ensures { OnOk result ((before : List Heard) (datagram : List ℕ)
-        → KeepsStreams streams.now (media_heard media datagram ∷ before)
-        → AreLanes lanes.old.items before → AreLanes lanes.new.items (media_heard media datagram ∷ before)) }
-{
-    match find_lane_near(lanes, media.sender.port, streams.near) {
-        Some(place) => {
-            lanes[place].ssrc = media.sender.ssrc;
-            Ok(())
+    /// The place of the lane of this port.
+    fn find(&self, port: u16) -> Option<usize>
+        requires { ArePlaces self.now.places.items self.now.lanes.items }
+        ensures found { IfSome result (λ place. IsLaneAt self.now.lanes.items port place) }
+        ensures none { result ≡ None → has_port (map port_of self.now.lanes.items) port ≡ false }
+    {
+        let place = usize::from(self.places[usize::from(port)]);
+        if place == 0 {
+            return None;
         }
-        None => take_first(lanes, alloc, streams, media),
+        find_lane_near(&self.lanes, port, place - 1)
     }
-}
 
-/// The same of one whose port has no lane.
-fn take_first(
-    lanes: &mut Vec<Lane>,
-    alloc: Global,
-    streams: &Streams,
-    media: Media,
-) -> Result<(), AllocError>
-    requires { has_port (map port_of lanes.old.items) media.sender.port ≡ false }
-    ensures { OnOk result ((before : List Heard) (datagram : List ℕ)
-        → KeepsStreams streams.now (media_heard media datagram ∷ before)
-        → AreLanes lanes.old.items before → AreLanes lanes.new.items (media_heard media datagram ∷ before)) }
-{
-    match find_near(&streams.senders, media.sender, streams.near) {
-        None => Ok(()),
-        Some(_) => {
-            let lane = Lane::new(alloc, media.sender)?;
-            lanes.push(lane)?;
-            Ok(())
+    /// Adds the lane of a port that has none.
+    fn add(&mut self, lane: Lane) -> Result<(), AllocError>
+        requires { ArePlaces self.old.places.items self.old.lanes.items }
+        ensures lanes { OnOk result (self.new.lanes.items ≡ self.old.lanes.items ++ lane ∷ []) }
+        ensures places { OnOk result (ArePlaces self.new.places.items self.new.lanes.items) }
+    {
+        let place = u16::try_from(self.lanes.len()).unwrap_or(0).max(1);
+        self.places[usize::from(lane.port)] = place;
+        self.lanes.push(lane)?;
+        Ok(())
+    }
+
+    /// Takes a parity datagram on this port for the lane so many ports below, where there is one.
+    fn take_below(&mut self, streams: &Streams, below: u16, port: u16, parity: Protects)
+        requires offset { (1 ≤ parity.offset) × (parity.offset ≤ 20) }
+        requires number { (1 ≤ parity.number) × (parity.number ≤ 20) }
+        requires places { ArePlaces self.old.places.items self.old.lanes.items }
+        requires apart { AreApart self.old.lanes.items }
+        requires few { (before : List Heard) × AreLanesBelow self.old.lanes.items below port before × (length before < 2 ^ 40) }
+        requires known { (heard : List Heard) × KeepsStreams streams.now heard }
+        ensures ports { map port_of self.new.lanes.items ≡ map port_of self.old.lanes.items }
+        ensures places { self.new.places.items ≡ self.old.places.items }
+        ensures others { (i : ℕ) (d : Lane) → i < length self.old.lanes.items
+            → (get_or self.old.lanes.items i d).port + below ≢ port
+            → get_or self.new.lanes.items i d ≡ get_or self.old.lanes.items i d }
+        ensures own { (before : List Heard) (time : ℕ) (datagram : List ℕ) → KeepsStreams streams.now before
+            → AreLanesBelow self.old.lanes.items below port before
+            → AreLanesBelow self.new.lanes.items below port (heard_as time port datagram (Parity parity.base parity.offset parity.number) ∷ before) }
+    {
+        let Some(media) = port.checked_sub(below) else {
+            return;
+        };
+        if let Some(place) = self.find(media) {
+            self.lanes[place].take(streams, port, parity);
         }
     }
-}
 
-/// Takes a record, which its stream has taken if it is a media datagram.
-pub(crate) fn take_record(
-    lanes: &mut Vec<Lane>,
-    alloc: Global,
-    streams: &Streams,
-    time: u64,
-    port: u16,
-    reading: Reading,
-) -> Result<(), AllocError>
-    requires fits { FitsCounts reading }
-    requires few { (before : List Heard) × AreLanes lanes.old.items before × (length before < 2 ^ 40) }
-    requires known { (heard : List Heard) × KeepsStreams streams.now heard }
-    ensures { OnOk result ((before : List Heard) (datagram : List ℕ)
-        → KeepsStreams streams.now (heard_as time port datagram reading ∷ before)
-        → AreLanes lanes.old.items before → AreLanes lanes.new.items (heard_as time port datagram reading ∷ before)) }
-{
-    match reading {
-        Reading::Media { seq, ts, ssrc } => {
-            let media = Media {
-                time,
-                sender: Sender { port, ssrc },
-                seq,
-                ts,
-            };
-            take_media(lanes, alloc, streams, media)
+    /// Takes a parity datagram on this port: a column's goes with the media two ports below, a row's with that four below.
+    fn take_parity(&mut self, streams: &Streams, port: u16, parity: Protects)
+        requires offset { (1 ≤ parity.offset) × (parity.offset ≤ 20) }
+        requires number { (1 ≤ parity.number) × (parity.number ≤ 20) }
+        requires few { (before : List Heard) × KeepsLanes self.old before × (length before < 2 ^ 40) }
+        requires known { (heard : List Heard) × KeepsStreams streams.now heard }
+        ensures { (before : List Heard) (time : ℕ) (datagram : List ℕ) → KeepsStreams streams.now before
+            → KeepsLanes self.old before
+            → KeepsLanes self.new (heard_as time port datagram (Parity parity.base parity.offset parity.number) ∷ before) }
+    {
+        self.take_below(streams, 2, port, parity);
+        self.take_below(streams, 4, port, parity);
+    }
+
+    /// Takes a media datagram, which its stream has taken.
+    fn take_media(
+        &mut self,
+        alloc: Global,
+        streams: &Streams,
+        media: Media,
+    ) -> Result<(), AllocError>
+        requires { (before : List Heard) × KeepsLanes self.old before }
+        ensures { OnOk result ((before : List Heard) (datagram : List ℕ)
+            → KeepsStreams streams.now (media_heard media datagram ∷ before)
+            → KeepsLanes self.old before → KeepsLanes self.new (media_heard media datagram ∷ before)) }
+    {
+        match self.find(media.sender.port) {
+            Some(place) => {
+                let lane = &mut self.lanes[place];
+                lane.ssrc = media.sender.ssrc;
+                lane.near = streams.near;
+                Ok(())
+            }
+            None => self.take_first(alloc, streams, media),
         }
-        Reading::Parity {
-            base,
-            offset,
-            number,
-        } => {
-            let parity = Protects {
+    }
+
+    /// The same of one whose port has no lane.
+    fn take_first(
+        &mut self,
+        alloc: Global,
+        streams: &Streams,
+        media: Media,
+    ) -> Result<(), AllocError>
+        requires none { has_port (map port_of self.old.lanes.items) media.sender.port ≡ false }
+        requires places { ArePlaces self.old.places.items self.old.lanes.items }
+        ensures { OnOk result ((before : List Heard) (datagram : List ℕ)
+            → KeepsStreams streams.now (media_heard media datagram ∷ before)
+            → KeepsLanes self.old before → KeepsLanes self.new (media_heard media datagram ∷ before)) }
+    {
+        match find_near(&streams.senders, media.sender, streams.near) {
+            None => Ok(()),
+            Some(near) => {
+                let lane = Lane::new(alloc, media.sender, near)?;
+                self.add(lane)?;
+                Ok(())
+            }
+        }
+    }
+
+    /// Takes a record, which its stream has taken if it is a media datagram.
+    pub(crate) fn take(
+        &mut self,
+        alloc: Global,
+        streams: &Streams,
+        time: u64,
+        port: u16,
+        reading: Reading,
+    ) -> Result<(), AllocError>
+        requires fits { FitsCounts reading }
+        requires few { (before : List Heard) × KeepsLanes self.old before × (length before < 2 ^ 40) }
+        requires known { (heard : List Heard) × KeepsStreams streams.now heard }
+        ensures { OnOk result ((before : List Heard) (datagram : List ℕ)
+            → KeepsStreams streams.now (heard_as time port datagram reading ∷ before)
+            → KeepsLanes self.old before → KeepsLanes self.new (heard_as time port datagram reading ∷ before)) }
+    {
+        match reading {
+            Reading::Media { seq, ts, ssrc } => {
+                let media = Media {
+                    time,
+                    sender: Sender { port, ssrc },
+                    seq,
+                    ts,
+                };
+                self.take_media(alloc, streams, media)
+            }
+            Reading::Parity {
                 base,
                 offset,
                 number,
-            };
-            take_parity(lanes, streams, port, parity);
-            Ok(())
+            } => {
+                let parity = Protects {
+                    base,
+                    offset,
+                    number,
+                };
+                self.take_parity(streams, port, parity);
+                Ok(())
+            }
+            Reading::Other => Ok(()),
         }
-        Reading::Other => Ok(()),
     }
 }

@@ -5,7 +5,7 @@ ghost use Rattle.fg_trace.specs.Trace.{Record};
 ghost use Rattle.fg_survey.specs.Steps.{IsSheet};
 ghost use Rattle.fg_survey.specs.Text.{survey_text};
 
-use crate::lanes::{Lane, take_record};
+use crate::lanes::Lanes;
 use crate::lines::{push_more_line, push_tail_line, push_trace_line};
 use crate::parts::{push_matrices, push_rows, push_streams};
 use crate::ports::{no_rows, take_row};
@@ -23,7 +23,7 @@ pub(crate) struct Sheet {
     /// A row for each port.
     pub(crate) rows: Vec<Row>,
     pub(crate) streams: Streams,
-    pub(crate) lanes: Vec<Lane>,
+    pub(crate) lanes: Lanes,
 }
 
 impl Sheet {
@@ -35,7 +35,7 @@ impl Sheet {
             totals: Totals::new(),
             rows: no_rows(alloc)?,
             streams: Streams::new(alloc),
-            lanes: Vec::new(alloc),
+            lanes: Lanes::new(alloc)?,
         })
     }
 
@@ -57,7 +57,7 @@ impl Sheet {
         self.totals.take(time, size);
         take_row(&mut self.rows, port, time, size, reading);
         self.streams.take(alloc, time, port, reading, datagram)?;
-        take_record(&mut self.lanes, alloc, &self.streams, time, port, reading)?;
+        self.lanes.take(alloc, &self.streams, time, port, reading)?;
         Ok(())
     }
 
@@ -86,7 +86,7 @@ impl Sheet {
             &self.streams.senders,
             &self.streams.streams,
         )?;
-        push_matrices(&mut text, json, &self.lanes, &self.streams)?;
+        push_matrices(&mut text, json, &self.lanes.lanes, &self.streams)?;
         push_more_line(&mut text, json, self.streams.more)?;
         push_tail_line(&mut text, json, tail)?;
         Ok(text)

@@ -50,6 +50,12 @@ pub(super) enum Step {
     /// A held step at a time that copies nothing: its outcome, and how many positions it has. With none it
     /// plays nothing.
     HeldInPlace(u64, Outcome, u32),
+    /// How many windows that show nothing are played at once: of those due for a sequence number,
+    SkipDue(u16, u64),
+    /// of the steps of a flush,
+    SkipRest(u64),
+    /// and of the held plays at a time.
+    SkipHeld(u64, u64),
     /// How many positions a held step at a time would play.
     HoldsBy(u64, u32),
     /// The window and the depth.
@@ -385,7 +391,18 @@ fn answers(desk: &mut Desk, alloc: Global, step: Step) -> Result<bool, AllocErro
         }
         Step::PlayInPlace(outcome, count) => Ok(plays_in_place(desk, outcome, count)),
         Step::FlushInPlace(outcome, count) => Ok(flushes_in_place(desk, outcome, count)),
+        Step::SkipDue(..) | Step::SkipRest(..) | Step::SkipHeld(..) => Ok(skips(desk, step)),
         _ => Ok(tells(desk, step)),
+    }
+}
+
+/// Whether so many windows that show nothing are played at once.
+fn skips(desk: &mut Desk, step: Step) -> bool {
+    match step {
+        Step::SkipDue(seq, count) => desk.skip_due(seq, 0) == count,
+        Step::SkipRest(count) => desk.skip_rest() == count,
+        Step::SkipHeld(time, count) => desk.hold() > 0 && desk.skip_held(time) == count,
+        _ => false,
     }
 }
 

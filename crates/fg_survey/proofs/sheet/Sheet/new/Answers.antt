@@ -1,7 +1,4 @@
-use Rattle.std.proofs.Common.{List, [], sym, subst}
-use Rattle.fg_survey.specs.declared.lanes.Lane.{Lane}
-use Rattle.fg_survey.specs.Lanes.{AreLanes}
-use Rattle.fg_survey.proofs.LaneLemmas.{no_lanes}
+use Rattle.std.proofs.Common.{[]}
 use Rattle.fg_survey.proofs.sheet.Sheet.new.Goals as goal
 
 pub returns : goal.returns
@@ -12,5 +9,5 @@ returns c = record {
   totals = c.new.ensures;
   rows = c.in_ok-no_rows.ensures;
   streams = c.new-2.ensures;
-  lanes = subst (λ (l : List Lane). AreLanes l []) (sym c.new-3.ensures.items) no_lanes;
+  lanes = c.in_ok-new.ensures;
 }

@@ -26,17 +26,17 @@ take-requires-2 c =
     let many = as_many h.heard c.requires.few.0 h.read in
     (h.heard, h.streams, omega (arith, many, c.requires.few.2))
 
-pub take_record-requires-clause-fits : goal.take_record-requires-clause-fits
-take_record-requires-clause-fits c = fits_counts c.args.datagram.now c.read-reading.result c.read-reading.ensures
+pub take-requires-3-clause-fits : goal.take-requires-3-clause-fits
+take-requires-3-clause-fits c = fits_counts c.args.datagram.now c.read-reading.result c.read-reading.ensures
 
-pub take_record-requires-clause-few : goal.take_record-requires-clause-few
-take_record-requires-clause-few c =
+pub take-requires-3-clause-few : goal.take-requires-3-clause-few
+take-requires-3-clause-few c =
     let h = c.requires.few.1 in
     let many = as_many h.heard c.requires.few.0 h.read in
     (h.heard, h.lanes, omega (arith, many, c.requires.few.2))
 
-pub take_record-requires-clause-known : goal.take_record-requires-clause-known
-take_record-requires-clause-known c =
+pub take-requires-3-clause-known : goal.take-requires-3-clause-known
+take-requires-3-clause-known c =
     let h = c.requires.few.1 in
     let x : Heard = record { time = c.args.time; port = c.args.port; datagram = c.args.datagram.now; reading = c.read-reading.result } in
     (x ∷ h.heard, c.in_ok-take.ensures h.heard h.streams)
@@ -52,4 +52,4 @@ returns c = λ records h.
     let streams = c.in_ok-take.ensures h.heard h.streams in
     sheet_more c.args.self.now _ records c.args.time c.args.port c.args.datagram.now reading c.read-reading.ensures (omega (arith, c.requires.size, c.ranges.size.fits)) h
     (c.take.ensures h.heard x refl c.requires.size h.totals) (subst (λ (t : List Row). ArePorts t (x ∷ h.heard)) (sym same) after) streams
-    (c.in_ok-take_record.ensures h.heard c.args.datagram.now streams h.lanes)
+    (c.in_ok-take-2.ensures h.heard c.args.datagram.now streams h.lanes)

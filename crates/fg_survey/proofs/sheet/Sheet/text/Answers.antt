@@ -24,7 +24,7 @@ pub push_matrices-requires : goal.push_matrices-requires
 push_matrices-requires c =
     let h = c.requires.1 in
     let many = as_many h.heard c.requires.0 h.read in
-    (h.heard, subst (λ (l : List Lane). AreLanes l h.heard) (sym c.deref-4.ensures.value) h.lanes, c.in_ok-finish.ensures.ended h.heard h.streams, omega (arith, many, c.requires.2))
+    (h.heard, subst (λ (l : List Lane). AreLanes l h.heard) (sym c.deref-4.ensures.value) h.lanes.are, c.in_ok-finish.ensures.ended h.heard h.streams, omega (arith, many, c.requires.2))
 
 pub returns : goal.returns
 returns c = λ records sheet.
@@ -41,5 +41,5 @@ returns c = λ records sheet.
     (c.in_ok-push_rows.ensures ∙ ap (λ (t : List Row). t1 ++ rows_text c.args.json start 0 t) c.deref.ensures.value)
     (c.in_ok-push_streams.ensures ∙ ap (λ (t : List Sender). t2 ++ streams_text c.args.json start t (map told c.deref-3.result.now)) c.deref-2.ensures.value
     ∙ ap (λ (t : List StreamState). t2 ++ streams_text c.args.json start now.senders.items (map told t)) c.deref-3.ensures.value)
-    (c.in_ok-push_matrices.ensures sheet.heard (subst (λ (l : List Lane). AreLanes l sheet.heard) (sym c.deref-4.ensures.value) sheet.lanes) ended)
+    (c.in_ok-push_matrices.ensures sheet.heard (subst (λ (l : List Lane). AreLanes l sheet.heard) (sym c.deref-4.ensures.value) sheet.lanes.are) ended)
     c.in_ok-push_more_line.ensures c.in_ok-push_tail_line.ensures
