@@ -1,6 +1,6 @@
 //! The entries of a buffer.
 
-ghost use Rattle.std.specs.Prelude.{◌≡◌, ◌+◌, ◌-◌, ◌<◌, ◌≤◌, ◌^◌, ℕ, length, drop, slice_index_or, slice_set, IfOk, IfSome, IfNone};
+ghost use Rattle.std.specs.Prelude.{◌≡◌, ◌+◌, ◌-◌, ◌<◌, ◌≤◌, ◌^◌, ℕ, length, drop, slice_index_or, slice_set, IfOk, IfSome, IfNone, IsTrue};
 ghost use Rattle.std.specs.Option.{option_copied};
 ghost use Rattle.fg_shape.specs.Shape.{position_limit};
 ghost use Rattle.fg_peel.specs.declared.Slot.{Slot};
@@ -87,6 +87,15 @@ impl EntryList {
         self.slots.at(self.front + index)
     }
 
+    /// Whether an entry is known to be empty.
+    #[inline]
+    fn is_empty(&self, index: usize) -> bool
+        requires { index ≤ length self.now }
+        ensures { IsTrue result → slice_index_or self.now index Slot.Empty ≡ Slot.Empty }
+    {
+        self.slots.is_empty(self.front + index)
+    }
+
     /// Puts the share of a received word into an entry.
     #[inline]
     pub(crate) fn put_media(&mut self, index: usize, share: Shared)
@@ -170,7 +179,7 @@ impl EntryList {
         ensures empty { IsEmptyTo self.now result }
     {
         for i in KEPT..self.end.min(self.count()).min(limit) {
-            if self.at(i).word().is_some() {
+            if !self.is_empty(i) {
                 return i;
             }
         }
@@ -205,7 +214,7 @@ impl EntryList {
     {
         let last = self.front + self.end.min(self.count());
         let kept = self.front + count.min(KEPT);
-        pass_all(&mut self.slots, self.front, kept, spares);
+        pass_few(&mut self.slots, self.front, kept, spares);
         slide_down(&mut self.slots, self.front, count, last);
         self.end = self.end.saturating_sub(count);
     }
@@ -271,7 +280,9 @@ fn slide_down(slots: &mut SmallSlots, first: usize, count: usize, end: usize)
         ≡ slice_index_or slots.old (k + count) Slot.Empty }
 {
     for i in first + count..end {
-        slots.swap(i - count, i);
+        if !slots.is_empty(i) {
+            slots.swap(i - count, i);
+        }
     }
 }
 
@@ -289,6 +300,23 @@ fn pass_all(slots: &mut SmallSlots, first: usize, end: usize, spares: &mut Spare
 {
     for i in first..end {
         slots.pass(i, spares);
+    }
+}
+
+/// The same where most of the slots may be empty: then they are only looked at.
+fn pass_few(slots: &mut SmallSlots, first: usize, end: usize, spares: &mut Spares)
+    requires order { first ≤ end }
+    requires within { end ≤ length slots.old }
+    ensures count { length slots.new ≡ length slots.old }
+    ensures passed { (k : ℕ) → first ≤ k → k < end
+        → slice_index_or slots.new k Slot.Empty ≡ Slot.Empty }
+    ensures above { (k : ℕ) → end ≤ k
+        → slice_index_or slots.new k Slot.Empty ≡ slice_index_or slots.old k Slot.Empty }
+{
+    for i in first..end {
+        if !slots.is_empty(i) {
+            slots.pass(i, spares);
+        }
     }
 }
 
