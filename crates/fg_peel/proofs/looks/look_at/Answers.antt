@@ -1,7 +1,7 @@
-use Rattle.std.proofs.Common.{◌≡◌, ◌+◌, ℕ, length, get_or, Option, Some, None, refl, sym, subst, ◌∙◌}
+use Rattle.std.proofs.Common.{ℕ, length, get_or, refl, sym, subst}
 use Rattle.fg_peel.specs.declared.span.Missing.TheVariants.{One}
 use Rattle.fg_peel.specs.Equation.{slots}
-use Rattle.fg_peel.specs.Look.{LacksTwo, IsNextGap}
+use Rattle.fg_peel.specs.Look.{LacksTwo}
 use Rattle.fg_peel.specs.Slots.{IsMissing, equation_of, words_from}
 use Rattle.fg_peel.proofs.Entries.{fits_base}
 use Rattle.fg_peel.proofs.Gaps.{none_lacks, two_lack, one_lacks, look_words, look_fills}
