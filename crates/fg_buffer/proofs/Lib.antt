@@ -10,7 +10,6 @@ pub mod LiveMoves
 pub mod LiveSearch
 pub mod LiveViews
 pub mod Lost
-pub mod Watched
 pub mod BufferBounds
 pub mod BufferChanges
 pub mod BufferLoops
@@ -19,3 +18,6 @@ pub mod BufferPeels
 pub mod BufferPuts
 pub mod BufferStored
 pub mod BufferViews
+pub mod LiveWatched
+pub mod Watching
+pub mod BufferLooks

@@ -1,5 +1,5 @@
 -- Which lines have to be looked at, and which two slots each of the others watches.
-use Rattle.std.specs.Prelude.{◌≡◌, ◌⊎◌, ◌+◌, ◌-◌, ◌^◌, ◌<◌, ◌≤◌, ℕ, Bool, true, false, List, length, slice_index, slice_index_or, refl}
+use Rattle.std.specs.Prelude.{◌≡◌, ◌≢◌, ◌⊎◌, ◌+◌, ◌-◌, ◌^◌, ◌<◌, ◌≤◌, ℕ, Bool, true, false, List, length, slice_index, slice_index_or, slice_set, refl}
 use Rattle.std.specs.Coded.{Coded, code_by, coded×, coded_ℕ, coded_bool, coded_list}
 
 -- The two watched positions by place, and whether the line there has to be looked at.
@@ -22,6 +22,31 @@ second_of watches place = slice_index watches.second place
 -- It watches this position.
 abbrev pub IsWatching : WatchState → ℕ → ℕ → Type 0
 IsWatching watches position place = (first_of watches place ≡ position) ⊎ (second_of watches place ≡ position)
+
+-- The line at this place has to be looked at from then on.
+pub record Adds (place : ℕ) (old new : WatchState) : Type 0 where
+  pub first : new.first ≡ old.first
+  pub second : new.second ≡ old.second
+  pub count : length new.queued ≡ 512
+  pub still : (other : ℕ) → IsQueued old other → IsQueued new other
+  pub added : IsQueued new place
+
+-- It has been taken for that.
+pub record TakesOut (place : ℕ) (old new : WatchState) : Type 0 where
+  pub within : place < 512
+  pub was : IsQueued old place
+  pub first : new.first ≡ old.first
+  pub second : new.second ≡ old.second
+  pub count : length old.queued ≡ 512
+  pub taken : new.queued ≡ slice_set old.queued place false
+
+-- It watches these two positions.
+pub record WatchesAt (place first second : ℕ) (old new : WatchState) : Type 0 where
+  pub queued : new.queued ≡ old.queued
+  pub first_is : first_of new place ≡ first
+  pub second_is : second_of new place ≡ second
+  pub other_first : (other : ℕ) → other ≢ place → first_of new other ≡ first_of old other
+  pub other_second : (other : ℕ) → other ≢ place → second_of new other ≡ second_of old other
 
 -- Each line that watches the position has to be looked at from then on.
 pub record Wakes (position : ℕ) (old new : WatchState) : Type 0 where

@@ -203,6 +203,7 @@ impl LiveEquations {
         ensures some { IfSome result (λ line. IsLiveLine self.now line.now × (line.now.place ≡ place)
             × (set.contains self.now.settled line.now.serial ≡ false)) }
         ensures none { IfNone result (NoneIsOpenAt place self.now) }
+        ensures facts { AreLive self.now }
     {
         find_place(&self.open, &self.keys, place)
     }
@@ -214,6 +215,7 @@ impl LiveEquations {
         requires base { base ≤ position_limit }
         requires fresh { get self.old.live serial ≡ None }
         ensures facts { AreLive self.old }
+        ensures within { result < 512 }
         ensures added { IsLeastFree self.old.live result
             × (self.new ≡ record self.old {
               live = insert self.old.live serial (record {

@@ -296,7 +296,7 @@ impl PlayoutBuffer {
     pub fn are_media(&self) -> bool
         ensures { IsTrue result ↔ AreMedia (get self.now.solved) }
     {
-        if self.solved_media {
+        if self.solved_are_media() {
             return true;
         }
         for ahead in 0..self.reach() {

@@ -1,8 +1,8 @@
 //! Which lines have to be looked at: a line is, where one of the two slots that it watches got a word.
 
-ghost use Rattle.std.specs.Prelude.{◌≡◌, ◌≢◌, ◌+◌, ◌<◌, ◌≤◌, ℕ, true, false, length, slice_index, slice_index_or, slice_set, IfSome, IfNone};
+ghost use Rattle.std.specs.Prelude.{◌≡◌, ◌≢◌, ◌+◌, ◌<◌, ◌≤◌, ℕ, true, false, length, slice_index, slice_index_or, IfSome, IfNone};
 ghost use Rattle.fg_shape.specs.Shape.{position_limit};
-ghost use Rattle.fg_buffer.specs.Watches.{IsQueued, IsWatching, Wakes, Closes, first_of, nowhere};
+ghost use Rattle.fg_buffer.specs.Watches.{IsQueued, IsWatching, Adds, TakesOut, WatchesAt, Wakes, first_of, nowhere};
 
 use crate::LIVE_LIMIT;
 use std::alloc::{AllocError, Global};
@@ -58,7 +58,7 @@ impl Watches {
     /// The line at this place has to be looked at.
     pub fn add(&mut self, place: u32)
         requires { place < 512 }
-        ensures { self.new ≡ record self.old { queued = slice_set self.old.queued place true } }
+        ensures { Adds place self.old self.new }
     {
         let place = place as usize;
         self.queued[place] = true;
@@ -70,9 +70,18 @@ impl Watches {
     pub fn add_all(&mut self)
         ensures { (place : ℕ) → place < 512 → IsQueued self.new place }
     {
-        set_all(&mut self.queued);
+        set_all(&mut self.queued, true);
         self.low = 0;
         self.high = LIVE_LIMIT;
+    }
+
+    /// No line has to be looked at.
+    pub fn clear(&mut self)
+        ensures { (place : ℕ) → ¬ IsQueued self.new place }
+    {
+        set_all(&mut self.queued, false);
+        self.low = LIVE_LIMIT;
+        self.high = 0;
     }
 
     /// Each line that watches this position has to be looked at.
@@ -103,8 +112,7 @@ impl Watches {
 
     /// Takes the place of a line that has to be looked at.
     pub fn next(&mut self) -> Option<u32>
-        ensures some { IfSome result (λ place. (place < 512) × IsQueued self.old place
-            × (self.new ≡ record self.old { queued = slice_set self.old.queued place false })) }
+        ensures some { IfSome result (λ place. TakesOut place self.old self.new) }
         ensures none { IfNone result ((self.new ≡ self.old) × ((place : ℕ) → ¬ IsQueued self.old place)) }
     {
         match next_queued(&self.queued, self.low, self.high) {
@@ -124,10 +132,7 @@ impl Watches {
     /// The line at this place watches these two positions.
     pub fn watch(&mut self, place: u32, first: u64, second: u64)
         requires { place < 512 }
-        ensures { self.new ≡ record self.old {
-          first = slice_set self.old.first place first;
-          second = slice_set self.old.second place second;
-        } }
+        ensures { WatchesAt place first second self.old self.new }
     {
         let place = place as usize;
         self.first[place] = first;
@@ -140,10 +145,7 @@ impl Watches {
     /// The line at this place watches nothing.
     pub fn leave(&mut self, place: u32)
         requires { place < 512 }
-        ensures { self.new ≡ record self.old {
-          first = slice_set self.old.first place nowhere;
-          second = slice_set self.old.second place nowhere;
-        } }
+        ensures { WatchesAt place nowhere nowhere self.old self.new }
     {
         let place = place as usize;
         self.first[place] = NOWHERE;
@@ -175,12 +177,12 @@ impl Watches {
 }
 
 /// Sets all.
-fn set_all(queued: &mut [bool])
+fn set_all(queued: &mut [bool], value: bool)
     ensures count { length queued.new ≡ length queued.old }
-    ensures set { (place : ℕ) → place < length queued.old → slice_index_or queued.new place false ≡ true }
+    ensures set { (place : ℕ) → place < length queued.old → slice_index_or queued.new place false ≡ value }
 {
     for i in 0..queued.len() {
-        queued[i] = true;
+        queued[i] = value;
     }
 }
 
@@ -240,7 +242,7 @@ fn next_queued(queued: &[bool], from: usize, end: usize) -> Option<usize>
 /// The least of the positions before an end.
 fn least_of(first: &[u64], end: usize) -> u64
     requires { end ≤ length first.now }
-    ensures { (place : ℕ) → place < end → result ≤ slice_index first.now place }
+    ensures least { (place : ℕ) → place < end → result ≤ slice_index first.now place }
     ensures most { result ≤ nowhere }
 {
     let mut least = NOWHERE;

@@ -2,7 +2,7 @@
 use Rattle.std.specs.Prelude.{◌≡◌, ◌↔◌, ◌<◌, ◌≤◌, ℕ, slice_index, Option, Some, None, IsSome, IsTrue}
 use Rattle.std.specs.List.{Contains}
 use Rattle.fg_words.specs.declared.Word.{Word}
-use Rattle.fg_words.specs.Word.{IsMedia}
+use Rattle.fg_words.specs.Word.{HasRoom, IsMedia}
 use Rattle.fg_peel.specs.declared.looks.Look.{Look}
 use Rattle.fg_peel.specs.declared.looks.Look.TheVariants.{Several, Found, Complete}
 use Rattle.fg_peel.specs.declared.span.Missing.TheVariants.{One}
@@ -26,6 +26,7 @@ IsLook old new equation (Found position media) =
     IsMissing old equation (One position)
     × (new ≡ after_step old (record { equation = equation; position = position }))
     × (IsTrue media ↔ IsMedia (given_word old (record { equation = equation; position = position })))
+    × HasRoom (given_word old (record { equation = equation; position = position }))
 IsLook old new equation (Complete sound) =
     IsComplete old equation × (IsTrue sound ↔ ComesOut old equation) × (new ≡ old)
 

@@ -1,7 +1,7 @@
 //! Filling empty entries from the equations that miss one word.
 
-ghost use Rattle.std.specs.Prelude.{false, ◌≡◌, ◌↔◌, ◌≢◌, ◌+◌, ◌^◌, ◌<◌, ◌≤◌, length, slice_index_or, Contains, IsTrue, IsSomeAnd};
-ghost use Rattle.fg_words.specs.Word.{IsMedia};
+ghost use Rattle.std.specs.Prelude.{false, ◌≡◌, ◌↔◌, ◌≢◌, ◌+◌, ◌^◌, ◌<◌, ◌≤◌, length, slice_index_or, Contains, IsTrue, IfSome, IsSomeAnd};
+ghost use Rattle.fg_words.specs.Word.{HasRoom, IsMedia};
 ghost use Rattle.fg_peel.specs.declared.Slot.{Slot};
 ghost use Rattle.fg_shape.specs.Shape.{position_limit};
 ghost use Rattle.fg_peel.specs.Slots.{word_in, words_from, equation_of, equations_of, lines_of};
@@ -31,6 +31,8 @@ pub(crate) fn fill<E: EntryRow>(start: u64, entries: &mut E, line: &Line, positi
     ensures media { IsTrue result → StayMedia (words_from start (E.slots entries.old)) (words_from start (E.slots entries.new)) }
     ensures told { IsTrue result ↔ IsMedia (given_word (words_from start (E.slots entries.old))
         (record { equation = equation_of line.now; position = position })) }
+    ensures room { HasRoom (given_word (words_from start (E.slots entries.old))
+        (record { equation = equation_of line.now; position = position })) }
     ensures rest { E.rest entries.new ≡ E.rest entries.old }
 {
     let target = (position - start) as usize;
@@ -47,12 +49,22 @@ pub(crate) fn fill<E: EntryRow>(start: u64, entries: &mut E, line: &Line, positi
 /// Whether an entry has a media word.
 fn is_media_at<E: EntryRow>(entries: &E, index: usize) -> bool
     requires { index < length (E.slots entries.now) }
-    ensures { IsTrue result ↔ IsSomeAnd (word_in (slice_index_or (E.slots entries.now) index Slot.Empty)) IsMedia }
+    ensures media { IsTrue result ↔ IsSomeAnd (word_in (slice_index_or (E.slots entries.now) index Slot.Empty)) IsMedia }
+    ensures room { IfSome (word_in (slice_index_or (E.slots entries.now) index Slot.Empty)) HasRoom }
 {
     match entries.word(index) {
-        Some(word) => word.is_media(),
+        Some(word) => is_media_word(word),
         None => false,
     }
+}
+
+/// Whether a word is a media word. Every word has room for seven transport packets.
+fn is_media_word(word: &Word) -> bool
+    ensures media { IsTrue result ↔ IsMedia word.now }
+    ensures room { HasRoom word.now }
+{
+    let _bytes = word.bytes;
+    word.is_media()
 }
 
 /// Whether both hold.

@@ -55,6 +55,7 @@ returns-in-None-clause-look g c =
       look_words c.args.start c.args.line.now c.slot-position.result (g.E.EntryRow.slots c.args.entries.now)
           (g.E.EntryRow.slots c.fill.new.entries) c.requires.line is c.fill.ensures.fills,
       c.fill.ensures.told,
+      c.fill.ensures.room,
     )
 
 pub returns-in-None-clause-fills : goal.returns-in-None-clause-fills
