@@ -1,9 +1,10 @@
 //! The buffer of entries around the mark.
 
-ghost use Rattle.std.specs.Prelude.{◌≡◌, ◌+◌, ◌-◌, ◌<◌, ◌≤◌, ◌^◌, ◌↔◌, ◌++◌, ◌∷◌, [], ℕ, pos, ◌-ℤ◌, false, if◌then◌else◌, length, take, drop, slice_index_or, Option, None, IsSome, IsTrue, IfOk, IfSome, IfNone};
+ghost use Rattle.std.specs.Prelude.{◌≡◌, ◌+◌, ◌-◌, ◌<◌, ◌≤◌, ◌^◌, ◌↔◌, ◌++◌, ◌∷◌, [], ℕ, pos, ◌-ℤ◌, false, if◌then◌else◌, length, take, drop, slice_index_or, Option, Some, None, IsSome, IsTrue, IfOk, IfSome, IfNone};
 ghost use Rattle.std.specs.Option.{option_copied};
 ghost use Rattle.std.specs.FinMap.{empty, get};
 ghost use Rattle.std.specs.FinSet as set;
+ghost use Rattle.fg_words.specs.declared.Word.{Word as WordValue};
 ghost use Rattle.fg_words.specs.Word.{IsMedia};
 ghost use Rattle.fg_shape.specs.Shape.{IsShape, position_limit};
 ghost use Rattle.fg_peel.specs.declared.Slot.{Slot};
@@ -299,14 +300,24 @@ impl PlayoutBuffer {
         if self.solved_are_media() {
             return true;
         }
+        let mark = self.mark();
         for ahead in 0..self.reach() {
-            if let Some(share) = self.solved(self.mark + ahead as u64) {
-                if !share.word().is_media() {
-                    return false;
-                }
+            if !self.is_media_at(mark + ahead as u64) {
+                return false;
             }
         }
         true
+    }
+
+    /// Whether a word that was solved at a position is a media word.
+    fn is_media_at(&self, position: u64) -> bool
+        ensures media { IsTrue result → (word : WordValue) → get self.now.solved position ≡ Some word → IsMedia word }
+        ensures other { result ≡ false → ¬ AreMedia (get self.now.solved) }
+    {
+        match self.solved(position) {
+            Some(share) => share.word().is_media(),
+            None => true,
+        }
     }
 
     /// How many positions from the mark on have entries.

@@ -1,7 +1,6 @@
 //! Which lines have to be looked at: a line is, where one of the two slots that it watches got a word.
 
 ghost use Rattle.std.specs.Prelude.{◌≡◌, ◌≢◌, ◌+◌, ◌<◌, ◌≤◌, ℕ, true, false, length, slice_index, slice_index_or, IfSome, IfNone};
-ghost use Rattle.fg_shape.specs.Shape.{position_limit};
 ghost use Rattle.fg_buffer.specs.Watches.{IsQueued, IsWatching, Adds, TakesOut, WatchesAt, Wakes, first_of, nowhere};
 
 use crate::LIVE_LIMIT;
@@ -86,7 +85,7 @@ impl Watches {
 
     /// Each line that watches this position has to be looked at.
     pub fn wake(&mut self, position: u64)
-        requires { position ≤ position_limit }
+        requires { position < nowhere }
         ensures { Wakes position self.old self.new }
     {
         let mut from = 0;
@@ -98,7 +97,7 @@ impl Watches {
 
     /// The next place from one on whose line watches this position.
     fn watching(&self, position: u64, from: u32) -> Option<u32>
-        requires { position ≤ position_limit }
+        requires { position < nowhere }
         ensures some { IfSome result (λ place. (from ≤ place) × (place < 512)
             × ((other : ℕ) → from ≤ other → other < place → ¬ IsWatching self.now position other)) }
         ensures none { IfNone result ((other : ℕ) → from ≤ other → other < 512

@@ -6,3 +6,4 @@ pub mod Inside
 pub mod Parts
 pub mod TrayPlaces
 pub mod Storage
+pub mod Watched
