@@ -52,6 +52,7 @@ pub record WatchesAt (place first second : ℕ) (old new : WatchState) : Type 0 
 pub record Wakes (position : ℕ) (old new : WatchState) : Type 0 where
   pub first : new.first ≡ old.first
   pub second : new.second ≡ old.second
+  pub count : length old.queued ≡ 512 → length new.queued ≡ 512
   pub still : (place : ℕ) → IsQueued old place → IsQueued new place
   pub woken : (place : ℕ) → place < 512 → IsWatching old position place → IsQueued new place
 

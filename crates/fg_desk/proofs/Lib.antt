@@ -26,3 +26,7 @@ pub mod Survivors
 pub mod TrayPlaces
 pub mod Twins
 pub mod Within
+pub mod WatchedLines
+pub mod Findings
+pub mod FoundAll
+pub mod LookCounts

@@ -1,11 +1,12 @@
 //! What every play does: it finds what follows, and closes the first positions by that.
 
-ghost use Rattle.std.specs.Prelude.{◌+◌, ◌≤◌, ◌<◌, ◌-◌, ◌≡◌, ◌^◌, min, IsTrue};
+ghost use Rattle.std.specs.Prelude.{◌+◌, ◌≤◌, ◌<◌, ◌-◌, ◌≡◌, ◌^◌, ◌⊎◌, ℕ, false, min, IsTrue};
 ghost use Rattle.std.specs.FinMap.{get};
 ghost use Rattle.fg_shape.specs.Shape.{position_limit};
 ghost use Rattle.fg_peel.specs.Equation.{AreMedia, IsComplete, IsSettled};
 ghost use Rattle.fg_playout.specs.Room.{call_limit};
-ghost use Rattle.fg_buffer.specs.PlayoutBuffer.{buffer_received, buffer_words};
+ghost use Rattle.fg_buffer.specs.PlayoutBuffer.{IsBuffer, buffer_received, buffer_words};
+ghost use Rattle.fg_buffer.specs.Watches.{IsQueued};
 ghost use Rattle.fg_desk.specs.Closing.{PlayLaws, ClosesFirst};
 ghost use Rattle.fg_desk.specs.Contents.{epoch_after};
 ghost use Rattle.fg_desk.specs.Storage.{equations_in, AreInBuffer, EachSettled, IsRecovered};
@@ -51,11 +52,29 @@ pub(crate) fn find(
     maximal_peelings_are_tested();
     confluence();
     let sound = look_at_all(buffer, lines, watches);
-    if sound && buffer.are_media() {
-        return true;
+    let solved = is_solution(buffer, sound);
+    queue_unless(watches, solved);
+    solved
+}
+
+/// Whether the found words are a solution: all solved ones are media words, too.
+fn is_solution(buffer: &PlayoutBuffer, sound: bool) -> bool
+    ensures yes { IsTrue result → IsTrue sound × AreMedia (get buffer.now.solved) }
+    ensures no { result ≡ false → (sound ≡ false) ⊎ ¬ AreMedia (get buffer.now.solved) }
+    ensures facts { IsBuffer buffer.now }
+{
+    let _mark = buffer.mark();
+    sound && buffer.are_media()
+}
+
+/// All lines have to be looked at again where there is no solution.
+fn queue_unless(watches: &mut Watches, solved: bool)
+    ensures same { IsTrue solved → watches.new ≡ watches.old }
+    ensures all { solved ≡ false → (place : ℕ) → place < 512 → IsQueued watches.new place }
+{
+    if !solved {
+        watches.add_all();
     }
-    watches.add_all();
-    false
 }
 
 /// Plays the first `count` positions by what was found. Their words wait no longer, and an inconsistent play
