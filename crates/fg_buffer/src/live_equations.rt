@@ -268,7 +268,8 @@ impl LiveEquations {
 
     /// Opens each settled one that is no more complete in the buffer.
     pub fn reopen(&mut self, buffer: &PlayoutBuffer)
-        ensures { Reopens (buffer_words buffer.now) self.old self.new }
+        ensures reopens { Reopens (buffer_words buffer.now) self.old self.new }
+        ensures facts { AreLive self.new }
     {
         move_lines(
             &mut self.settled,

@@ -60,8 +60,8 @@ finds_first buffer lines watches settled watched = record {
   peeled = ([], tt, refl);
   settled = settled;
   watched = λ serial live is open_still. (let w = watched serial live is open_still in (w.0, inl w.1));
-  media = λ yes media. media;
-  broken = λ no. (let e : true ≡ false = no in absurd (cc));
+  media = λ holds media. media;
+  broken = λ fails. (let e : true ≡ false = fails in absurd (cc));
 }
 
 module _
@@ -126,7 +126,7 @@ module _
           ArePeeled (equations_in lines) (buffer_words old) w × EachSettled left (IsSettled w) × EachWatchedBut sound' then w left
           × (IsTrue sound' → AreMedia (buffer_words old) → AreMedia w)
           × (sound' ≡ false → Breaks (buffer_words old) w (equations_in lines)) in
-          let all = subst P (sym same) (finds.peeled, settled, watched, λ yes. finds.media (stays yes), broken) in
+          let all = subst P (sym same) (finds.peeled, settled, watched, λ holds. finds.media (stays holds), broken) in
           record {
             rest = rest;
             live = live ∙ finds.live;
@@ -189,7 +189,7 @@ module _
             ⊎_elim (λ a. inl (apart_watched place first second taken then at (buffer_words buffer) live differs a)) (λ b. inr b) w.1,
           ))
           (cases_eq live.place place)))
-          (λ yes. yes) finds.broken)
+          (λ holds. holds) finds.broken)
 
       finds_sound :
           IsLook (buffer_words buffer) (buffer_words new) visit.live.equation (Complete true)
@@ -204,7 +204,7 @@ module _
             w.1,
             ⊎_elim (λ a. inl (apart_watched place nowhere nowhere taken then follows.1 (buffer_words buffer) live w.0 a)) (λ b. inr b) w.2,
           ))
-          (λ yes. yes) finds.broken)
+          (λ holds. holds) finds.broken)
 
       finds_broken :
           IsLook (buffer_words buffer) (buffer_words new) visit.live.equation (Complete false)
@@ -228,8 +228,8 @@ module _
                 (λ b. inr (refl, b.1)) w.1,
           ))
           (cases_eq live.place place)))
-          (λ yes. let e : false ≡ true = yes in absurd (cc))
-          (λ no. inr (visit.live.equation, listed, look.0, λ comes. let e : false ≡ true = look.1.1 comes in absurd (cc))))
+          (λ holds. let e : false ≡ true = holds in absurd (cc))
+          (λ fails. inr (visit.live.equation, listed, look.0, λ comes. let e : false ≡ true = look.1.1 comes in absurd (cc))))
 
       module _
           (position : ℕ) (media : Bool)
@@ -302,24 +302,24 @@ module _
                         ))
                         w.2,
                   ));
-              media = λ yes all q word is.
-                  (let both = both_true media sound yes in
+              media = λ holds all q word is.
+                  (let both = both_true media sound holds in
                   ⊎_elim
                   (λ (here : q ≡ position).
                   let same : given ≡ word = same_Some given word (sym (with_given.here q here) ∙ is) in
                   subst IsMedia same (look.2.0 both.0))
                   (λ beside. finds.media both.1 all q word (sym (with_given.beside q beside) ∙ is))
                   (cases_eq q position));
-              broken = λ no. breaks media refl no;
+              broken = λ fails. breaks media refl fails;
             })
           where
             breaks :
                 (m : Bool) → media ≡ m → (media && sound) ≡ false
                 → Breaks (buffer_words old) (buffer_words new) (equations_in lines)
-            breaks true is no =
-                let lacks : sound ≡ false = subst (λ (m : Bool). (m && sound) ≡ false) is no in
+            breaks true is fails =
+                let lacks : sound ≡ false = subst (λ (m : Bool). (m && sound) ≡ false) is fails in
                 breaks_keeps (buffer_words old) (buffer_words buffer) (buffer_words new) (equations_in lines) keeps (finds.broken lacks)
-            breaks false is no = inl (
+            breaks false is fails = inl (
               position,
               given,
               unknown_before,

@@ -85,11 +85,11 @@ module _
       )
 
   come_out : IsTrue sound → AllComeOut (buffer_words new) (equations_in lines)
-  come_out yes equation c complete = ⊎_elim
+  come_out holds equation c complete = ⊎_elim
       (λ settled. settled.1)
       (λ rest. ⊎_elim
       (λ two. absurd (none_has_no_value (buffer_words new two.0) two.2.first_lacks (complete two.0 two.2.first_slot)))
-      (λ broken. let e : false ≡ true = sym broken.0 ∙ yes in absurd (cc))
+      (λ broken. let e : false ≡ true = sym broken.0 ∙ holds in absurd (cc))
       rest)
       (is_done equation c)
 
@@ -101,16 +101,16 @@ module _
       (within : AreInBuffer old lines) (received : AreMedia (buffer_received old)) (cached : AreMedia (get old.cached))
       (facts : IsBuffer new) (tested : MaximalPeelingsAreTested) (solvable : SoundWhereSolvable) where
     media_then : IsTrue sound → AreMedia (get new.solved) → AreMedia (buffer_words new)
-    media_then yes solved =
-        finds.media yes
+    media_then holds solved =
+        finds.media holds
         (words_media old received (λ q word is. solved q word (same_solved q ∙ is)) cached)
 
     pub recovered_yes : IsTrue sound → AreMedia (get new.solved) → IsRecovered (equations_in lines) old new true
-    recovered_yes yes solved =
-        let media = media_then yes solved in
+    recovered_yes holds solved =
+        let media = media_then holds solved in
         let p = ends in
         let P : (ℕ → Option Word) → Type 0 = λ w. AreMedia w × AllComeOut w (equations_in lines) in
-        let end = subst P p.2 (media, come_out yes) in
+        let end = subst P p.2 (media, come_out holds) in
         record {
           rest = finds.rest;
           peeling = p;
@@ -144,20 +144,20 @@ module _
         record {
           rest = finds.rest;
           peeling = p;
-          solved = λ no. (let e : false ≡ true = no in absurd (cc));
+          solved = λ fails. (let e : false ≡ true = fails in absurd (cc));
           solvable = λ media solution is.
               (let max = p.1 in
               let all =
               (tested (buffer_words old) (equations_in lines) p.0 max).0
               ((solvable (buffer_words old) (equations_in lines) (admissible media) p.0 max).1 (solution, is)) in
               ⊎_elim
-              (λ no. ⊎_elim
+              (λ fails. ⊎_elim
               (λ found.
               absurd (found.4 (all.0 found.0 found.1 found.2 (sym (ap (λ (f : ℕ → Option Word). f found.0) p.2) ∙ found.3))))
               (λ broken.
               let P : (ℕ → Option Word) → Type 0 = λ w. AllComeOut w (equations_in lines) in
               absurd (broken.3 (subst P (sym p.2) all.1 broken.0 broken.1 broken.2)))
-              (finds.broken no))
+              (finds.broken fails))
               (λ not_media. absurd (not_media (λ q word at. media q word (solved_word q word at))))
               why);
         }
@@ -166,20 +166,20 @@ module _
         (answer : Bool) → (IsTrue answer → IsTrue sound × AreMedia (get new.solved))
         → (answer ≡ false → (sound ≡ false) ⊎ (AreMedia (get new.solved) → ⊥))
         → IsRecovered (equations_in lines) old new answer
-    recovered true yes no = let all = yes refl in recovered_yes all.0 all.1
-    recovered false yes no = recovered_no (no refl)
+    recovered true holds fails = let all = holds refl in recovered_yes all.0 all.1
+    recovered false holds fails = recovered_no (fails refl)
 
   -- The lines are watched in either case: where there is no solution, all are queued.
   pub watched_after :
       (answer : Bool) (then : WatchState) → (IsTrue answer → IsTrue sound) → (IsTrue answer → then ≡ watches)
       → (answer ≡ false → (place : ℕ) → place < 512 → IsQueued then place) → EachWatched then (buffer_words new) left
-  watched_after true then yes same all serial live is open_still =
+  watched_after true then holds same all serial live is open_still =
       let w = finds.watched serial live is open_still in (
         w.0,
         ⊎_elim
             (λ a. subst (λ (t : WatchState). IsWatched t (buffer_words new) live) (sym (same refl)) a)
-            (λ broken. let e : false ≡ true = sym broken.0 ∙ yes refl in absurd (cc))
+            (λ broken. let e : false ≡ true = sym broken.0 ∙ holds refl in absurd (cc))
             w.1,
       )
-  watched_after false then yes same all serial live is open_still =
+  watched_after false then holds same all serial live is open_still =
       let w = finds.watched serial live is open_still in (w.0, inl (all refl live.place w.0))

@@ -50,19 +50,19 @@ module _ {X : Type 0} (P Q : X → Bool) (fewer : (x : X) → Q x ≡ true → P
       omega (arith, one, two, here, rest)
 
   count_fewer : (xs : List X) (x : X) → Contains xs x → P x ≡ true → Q x ≡ false → count_by Q xs + 1 ≤ count_by P xs
-  count_fewer [] x c yes no = absurd (Contains-nil x c)
-  count_fewer (y ∷ xs) x c yes no =
+  count_fewer [] x c holds fails = absurd (Contains-nil x c)
+  count_fewer (y ∷ xs) x c holds fails =
       let one = sum_by-cons (λ z. cond (Q z) 1 0) y xs in
       let two = sum_by-cons (λ z. cond (P z) 1 0) y xs in
       ⊎_elim
       (λ (same : x ≡ y).
-      let p : cond (P y) 1 0 ≡ 1 = ap (λ (b : Bool). cond b 1 0) (ap P (sym same) ∙ yes) in
-      let q : cond (Q y) 1 0 ≡ 0 = ap (λ (b : Bool). cond b 1 0) (ap Q (sym same) ∙ no) in
+      let p : ◌≡◌ {A = ℕ} (cond (P y) 1 0) 1 = ap (λ (b : Bool). cond b 1 0) (ap P (sym same) ∙ holds) in
+      let q : ◌≡◌ {A = ℕ} (cond (Q y) 1 0) 0 = ap (λ (b : Bool). cond b 1 0) (ap Q (sym same) ∙ fails) in
       let rest = count_less xs in
       omega (arith, one, two, p, q, rest))
       (λ later.
       let here = ones (Q y) (P y) (fewer y) in
-      let rest = count_fewer xs x later yes no in
+      let rest = count_fewer xs x later holds fails in
       omega (arith, one, two, here, rest))
       (Contains-cases y xs x c)
 
@@ -77,7 +77,7 @@ open_fewer :
 open_fewer place old new settles serial live is open_still same =
     subst (λ (m : FinMap nat_cmp Live). count_by (is_open new.settled) (entries m) + 1 ≤ open_count old) (sym settles.live)
     (count_fewer (is_open old.settled) (is_open new.settled)
-    (λ entry yes. ap not (open_before place old new settles entry.0 (not_true (fset.contains new.settled entry.0) yes)))
+    (λ entry holds. ap not (open_before place old new settles entry.0 (not_true (fset.contains new.settled entry.0) holds)))
     (entries old.live) (serial, live) (entry_of_get old.live serial live is) (ap not open_still)
     (ap not ((settles.settled serial).1 (inr (live, is, same)))))
 

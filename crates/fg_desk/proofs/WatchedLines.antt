@@ -1,17 +1,23 @@
 -- Watched lines where places are queued, words come and lines are settled.
-use Rattle.std.proofs.Common.{◌≡◌, ◌≢◌, ◌⊎◌, ◌<◌, ℕ, Bool, true, false, List, get_or, set, Option, Some, None, IsSome, IsTrue, inl, inr, refl, sym, ap, subst, ◌∙◌, ⊎_elim}
+use Rattle.std.proofs.Common.{◌≡◌, ◌≢◌, ◌⊎◌, ◌+◌, ◌^◌, ◌<◌, ◌≤◌, ℕ, Bool, true, false, List, get_or, set, Option, Some, None, IsSome, IsTrue, inl, inr, refl, sym, ap, subst, ◌∙◌, ⊎_elim, arith}
 use Rattle.std.proofs.lemmas.Bool.{cases_eq}
 use Rattle.std.proofs.lemmas.List.{get_or-set_other}
-use Rattle.std.proofs.lemmas.Option.{same_Some}
-use Rattle.std.specs.FinMap.{get}
+use Rattle.std.proofs.lemmas.Option.{none-some, same_Some}
+use Rattle.std.specs.FinMap.{FinMap, get, insert, get-empty}
+use Rattle.std.specs.Ordering.{nat_cmp}
 use Rattle.std.specs.FinSet as fset
 use Rattle.fg_words.specs.declared.Word.{Word}
 use Rattle.fg_peel.specs.Equation.{Equation}
-use Rattle.fg_peel.specs.Look.{LacksTwo}
+use Rattle.fg_peel.specs.Look.{LacksTwo, IsLook}
+use Rattle.fg_peel.specs.declared.looks.Look.{Look}
+use Rattle.fg_peel.specs.declared.looks.Look.TheVariants.{Several, Found, Complete}
+use Rattle.fg_shape.specs.Shape.{IsShape}
+use Rattle.fg_peel.proofs.Maps.{inserted, beside_inserted}
+use Rattle.fg_peel.proofs.SlotRange.{slot_is_near}
 use Rattle.fg_playout.specs.State.{Live}
-use Rattle.fg_buffer.specs.LiveEquations.{LiveState, AreLive, SettlesAt}
+use Rattle.fg_buffer.specs.LiveEquations.{LiveState, AreLive, SettlesAt, no_equations}
 use Rattle.fg_buffer.specs.Watches.{WatchState, IsQueued, TakesOut, Adds, WatchesAt, Wakes, first_of, second_of}
-use Rattle.fg_desk.specs.Watched.{IsWatched, EachWatched}
+use Rattle.fg_desk.specs.Watched.{IsWatched, EachWatched, IsNear}
 
 lacks_as :
     (words : ℕ → Option Word) (equation : Equation) (first second first' second' : ℕ) → first' ≡ first → second' ≡ second
@@ -127,3 +133,47 @@ pub one_at :
 one_at lines facts serial serial' one other is is' same =
     let here = facts.apart serial serial' one other is is' same in
     same_Some one other (sym is ∙ ap (get lines.live) here ∙ is')
+
+-- No line is live.
+pub none_watched :
+    (watches : WatchState) (words : ℕ → Option Word) (lines : LiveState) → lines ≡ no_equations → EachWatched watches words lines
+none_watched watches words lines none serial live is open_still =
+    absurd (none-some live (sym (ap (λ (l : LiveState). get l.live serial) none ∙ get-empty {X = Live} nat_cmp serial) ∙ is))
+
+-- All places are queued.
+pub all_watched :
+    (watches : WatchState) (words : ℕ → Option Word) (lines : LiveState) → AreLive lines
+    → ((place : ℕ) → place < 512 → IsQueued watches place) → EachWatched watches words lines
+all_watched watches words lines facts all serial live is open_still =
+    let within = facts.place serial live is in (within, inl (all live.place within))
+
+-- A line is added, and its place is queued.
+pub more_watched :
+    (one other : WatchState) (words : ℕ → Option Word) (old new : LiveState) (serial place : ℕ) (equation : Equation) → place < 512
+    → Adds place one other
+    → new ≡ record old { live = insert old.live serial (record { place = place; equation = equation }) }
+    → EachWatched one words old → EachWatched other words new
+more_watched one other words old new serial place equation within adds added each =
+    subst (λ (l : LiveState). EachWatched other words l) (sym added)
+    (λ serial' live is open_still. ⊎_elim
+    (λ here.
+    let line : Live = record { place = place; equation = equation } in
+    let same : line ≡ live = same_Some line live (sym (inserted old.live serial line serial' here) ∙ is) in
+    subst (λ (l : Live). (l.place < 512) × IsWatched other words l) same (within, inl adds.added))
+    (λ beside.
+    let line : Live = record { place = place; equation = equation } in
+    let w = each serial' live (sym (beside_inserted old.live serial line serial' beside) ∙ is) open_still in
+    (w.0, added_watched place one other adds words live w.1))
+    (cases_eq serial' serial))
+
+-- A found position can be watched.
+pub found_near :
+    (old new : ℕ → Option Word) (equation : Equation) (look : Look) → IsShape equation.offset equation.count
+    → equation.base ≤ 2 ^ 62 → IsLook old new equation look → IsNear look
+found_near old new equation (Several first second) shape base is = tt
+found_near old new equation (Complete sound) shape base is = tt
+found_near old new equation (Found position media) shape base is =
+    let near = slot_is_near equation position shape is.0.0 in
+    let last = near.last in
+    let span = near.span in
+    omega (arith, last, span, base)
