@@ -30,3 +30,5 @@ pub mod WatchedLines
 pub mod Findings
 pub mod FoundAll
 pub mod LookCounts
+pub mod ClosedLines
+pub mod PutWords
