@@ -32,3 +32,4 @@ pub mod FoundAll
 pub mod LookCounts
 pub mod ClosedLines
 pub mod PutWords
+pub mod Relined
