@@ -20,7 +20,7 @@ use Rattle.fg_peel.specs.Laws.{MaximalPeelingsAreTested, SoundWhereSolvable, Max
 use Rattle.fg_peel.specs.Peeling.{EndsPeeling}
 use Rattle.fg_peel.specs.Closure.{InClosure, given, derived}
 use Rattle.fg_peel.specs.Solution.{IsSolution}
-use Rattle.fg_peel.specs.Slots.{word_in, recovered_in, told_from, first_position, from_first, before_first, words_at, recovered_at, equation_of, equations_of, lines_of, AllFit}
+use Rattle.fg_peel.specs.Slots.{word_in, recovered_in, told_from, first_position, from_first, before_first, words_at, recovered_at, equation_of, equations_of, lines_of, AllFit, FitsFrom}
 use Rattle.fg_peel.specs.Verdict.{IsVerdict}
 use Rattle.fg_peel.specs.Peels.{Peels}
 use Rattle.fg_peel.proofs.Lists.{Contains-map, Contains-from_map}
@@ -88,6 +88,17 @@ from_lies mark entries line lies p in_line =
     (λ before. (kept_lies mark entries p (some_along _ _ (get-kept mark entries p) (lies.based p in_line before))).1)
     (λ from. omega (arith, from))
     (cases_lt p mark)
+
+pub fits_line :
+    (mark : ℕ) (low : ℤ) (entries : List Slot) (line : Line) → IsLow mark low → AreEntries mark entries
+    → LiesIn (buffer_of mark entries) line → FitsFrom (first_position low) (length (from_first low entries)) line
+fits_line mark low entries line is are lies = record {
+  shape = lies.shape;
+  within = λ p in_line. (
+    starts mark low p is (from_lies mark entries line lies p in_line),
+    ends mark low entries p is are.some (lies.near p in_line),
+  );
+}
 
 pub fits_low :
     (mark : ℕ) (low : ℤ) (entries : List Slot) (lines : Slab Line) → IsLow mark low → AreEntries mark entries

@@ -10,7 +10,6 @@ pub mod LiveMoves
 pub mod LiveSearch
 pub mod LiveViews
 pub mod Lost
-pub mod Watched
 pub mod BufferBounds
 pub mod BufferChanges
 pub mod BufferLoops
@@ -20,3 +19,6 @@ pub mod BufferPuts
 pub mod BufferSkips
 pub mod BufferStored
 pub mod BufferViews
+pub mod LiveWatched
+pub mod Watching
+pub mod BufferLooks

@@ -1,5 +1,5 @@
 -- Peeling a buffer's entries from the first position on.
-use Rattle.std.proofs.Common.{◌≡◌, ◌+◌, ◌-◌, ◌<◌, ◌≤◌, ◌↔◌, ℕ, ℤ, pos, negsuc, Bool, List, ◌++◌, length, take, drop, IsTrue, sym, ap, ◌∙◌, ⊎_elim, subst, arith}
+use Rattle.std.proofs.Common.{◌≡◌, ◌+◌, ◌-◌, ◌<◌, ◌≤◌, ◌↔◌, ℕ, ℤ, pos, negsuc, Bool, Option, List, ◌++◌, length, take, drop, IsTrue, sym, ap, ◌∙◌, ⊎_elim, subst, arith}
 use Rattle.std.proofs.lemmas.Bool.{cases_lt}
 use Rattle.std.proofs.lemmas.List.{take-append-drop, take_all, length-take}
 use Rattle.std.proofs.Math.Seq.{drop-append_seam}
@@ -11,11 +11,15 @@ use Rattle.fg_peel.specs.declared.Verdict.{Verdict}
 use Rattle.fg_peel.specs.declared.Verdict.TheVariants.{Sound}
 use Rattle.fg_peel.specs.Equation.{AreMedia}
 use Rattle.fg_peel.specs.Peels.{IsPeel}
-use Rattle.fg_peel.specs.Slots.{first_position, from_first, before_first, words_from, AllFitFrom, OnlyFills}
+use Rattle.fg_peel.specs.Slots.{first_position, from_first, before_first, words_from, equation_of, AllFitFrom, FitsFrom, OnlyFills}
+use Rattle.fg_words.specs.declared.Word.{Word}
+use Rattle.fg_peel.specs.declared.looks.Look.{Look}
+use Rattle.fg_peel.specs.Look.{IsLook}
+use Rattle.fg_buffer.proofs.BufferLooks.{fills_past}
 use Rattle.fg_peel.proofs.Low.{peels_whole, fills_after}
-use Rattle.fg_buffer.specs.PlayoutBuffer.{AllLieIn}
-use Rattle.fg_buffer.specs.BufferEntries.{buffer_of, words_of, AreEntries, Recovers}
-use Rattle.fg_buffer.proofs.BufferPeels.{IsLow, words_low, fits_low, recovers}
+use Rattle.fg_buffer.specs.PlayoutBuffer.{LiesIn, AllLieIn}
+use Rattle.fg_buffer.specs.BufferEntries.{buffer_of, words_of, AreEntries, Recovers, LooksAt}
+use Rattle.fg_buffer.proofs.BufferPeels.{IsLow, words_low, fits_line, fits_low, below_low, recovers}
 
 -- Entries that were peeled behind a reference, past the first ones, stand where they stood.
 module _
@@ -73,6 +77,31 @@ module _ (mark start below : ℕ) (is : start ≡ mark - 100) (few : below ≡ 1
         },
       ))
       (cases_lt mark 100)
+
+  module _ (old : List Slot) (line : Line) (are : AreEntries mark old) (lies : LiesIn (buffer_of mark old) line) where
+    pub line_placed : FitsFrom start (length (drop below old)) line
+    line_placed =
+        let low = starts.0 in
+        subst (λ (p : ℕ). FitsFrom p (length (drop below old)) line) starts.1.first
+        (subst (λ (xs : List Slot). FitsFrom (first_position low) (length xs) line) (starts.1.from old)
+        (fits_line mark low old line starts.1.is are lies))
+
+    -- What a look at the entries past the first ones is to all of them.
+    pub placed_looks :
+        (new : List Slot) (answer : Look) → take below new ≡ take below old → OnlyFills (drop below old) (drop below new)
+        → IsLook (words_from start (drop below old)) (words_from start (drop below new)) (equation_of line) answer
+        → LooksAt mark line old new answer
+    placed_looks new answer same fills look =
+        let low = starts.0 in
+        let words : (xs : List Slot) → words_from start (drop below xs) ≡ words_of mark xs =
+        λ xs. sym (ap (λ (p : ℕ). words_from p (drop below xs)) starts.1.first)
+        ∙ sym (ap (λ (ys : List Slot). words_from (first_position low) ys) (starts.1.from xs)) ∙ words_low mark low xs starts.1.is in
+        record {
+          look = subst (λ (f : ℕ → Option Word). IsLook f (words_of mark new) (equation_of line) answer) (words old)
+              (subst (λ (f : ℕ → Option Word). IsLook (words_from start (drop below old)) f (equation_of line) answer) (words new) look);
+          fills = fills_past below old new (omega (arith, few, are.some)) same fills;
+          below = below_low mark low old new starts.1.is (starts.1.before new ∙ same ∙ sym (starts.1.before old));
+        }
 
   module _ (old : List Slot) (lines : Slab Line) (are : AreEntries mark old) (lie : AllLieIn (buffer_of mark old) lines) where
     pub lines_placed : AllFitFrom start (drop below old) lines

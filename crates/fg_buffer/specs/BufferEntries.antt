@@ -14,7 +14,9 @@ use Rattle.fg_shape.specs.Shape.{position_limit}
 use Rattle.fg_peel.specs.Closure.{InClosure}
 use Rattle.fg_peel.specs.Equation.{AllComeOut, AreMedia}
 use Rattle.fg_peel.specs.Peeling.{EndsPeeling}
-use Rattle.fg_peel.specs.Slots.{word_in, recovered_in, equations_of, OnlyFills}
+use Rattle.fg_peel.specs.Slots.{word_in, recovered_in, equation_of, equations_of, OnlyFills}
+use Rattle.fg_peel.specs.declared.looks.Look.{Look}
+use Rattle.fg_peel.specs.Look.{IsLook}
 use Rattle.fg_peel.specs.Words.{Words, kept_count}
 use Rattle.fg_buffer.specs.PlayoutBuffer.{BufferState}
 
@@ -156,6 +158,12 @@ pub record Recovers (mark : ℕ) (lines : Slab Line) (old new : List Slot) (answ
       → InClosure (words_of mark old) (equations_of lines) position
   pub sound :
       IsTrue answer ↔ (AreMedia (recovered_of mark new) × AllComeOut (words_of mark new) (equations_of lines))
+
+-- What a look at one line leaves of the buffer's entries.
+pub record LooksAt (mark : ℕ) (line : Line) (old new : List Slot) (answer : Look) : Type 0 where
+  pub look : IsLook (words_of mark old) (words_of mark new) (equation_of line) answer
+  pub fills : OnlyFills old new
+  pub below : (i : ℕ) → mark + i < kept_count → slice_index_or new i Empty ≡ slice_index_or old i Empty
 
 -- An entry without a word that stands alone and, where `solved` says so, without one that was solved.
 abbrev pub left_of : Bool → Slot → Slot

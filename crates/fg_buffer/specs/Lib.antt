@@ -3,3 +3,4 @@ pub mod LiveInside
 pub mod PlayoutBuffer
 pub mod BufferEntries
 pub mod SmallSlots
+pub mod Watches

@@ -13,6 +13,7 @@ use Rattle.fg_peel.specs.Equation.{Equation, slots, IsComplete}
 use Rattle.fg_peel.specs.Slots.{equation_of, lines_of, IsMissing}
 use Rattle.fg_peel.specs.Live.{Live, last_slot, live_limit, Survives}
 use Rattle.fg_peel.specs.Words.{Words}
+use Rattle.fg_buffer.specs.Watches.{WatchState, first_of}
 
 -- The live equations by serial number, and the serial numbers of those that are settled: complete, and known to come
 -- out.
@@ -57,6 +58,18 @@ abbrev pub AreStuck : (ℕ → Option Word) → LiveState → Type 0
 AreStuck words lines =
     (serial : ℕ) (live : Live) → get lines.live serial ≡ Some live → set.contains lines.settled serial ≡ false
     → IsStuck words live.equation
+
+-- No live equation that is open has this place.
+abbrev pub NoneIsOpenAt : ℕ → LiveState → Type 0
+NoneIsOpenAt place lines =
+    (serial : ℕ) (live : Live) → get lines.live serial ≡ Some live → live.place ≡ place
+    → IsTrue (set.contains lines.settled serial)
+
+-- An open equation survives a play up to this mark exactly where its first watched position isn't before the mark.
+abbrev pub SurviveAsWatched : ℕ → Words → WatchState → LiveState → Type 0
+SurviveAsWatched mark kept watches lines =
+    (serial : ℕ) (live : Live) → get lines.live serial ≡ Some live → set.contains lines.settled serial ≡ false
+    → Survives mark kept live.equation ↔ (mark ≤ first_of watches live.place)
 
 -- The same equations are live, and those are settled that were, or that are complete in these words.
 pub record Settles (words : ℕ → Option Word) (old new : LiveState) : Type 0 where

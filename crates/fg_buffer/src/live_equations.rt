@@ -1,6 +1,6 @@
 //! The live equations.
 
-ghost use Rattle.std.specs.Prelude.{◌≡◌, ◌+◌, ◌↔◌, ◌<◌, ◌≤◌, ◌^◌, ℕ, true, false, not, length, slice_index_or, slice_set, Some, None, IsTrue, IsSome, IfOk, IfSome, IfNone};
+ghost use Rattle.std.specs.Prelude.{◌≡◌, ◌≢◌, ◌+◌, ◌↔◌, ◌<◌, ◌≤◌, ◌^◌, ℕ, true, false, not, length, slice_index_or, slice_set, Some, None, IsTrue, IsSome, IfOk, IfSome, IfNone};
 ghost use Rattle.std.specs.FinMap.{get, insert, len};
 ghost use Rattle.std.specs.FinSet as set;
 ghost use Rattle.slab.specs.Slab as slabs;
@@ -11,7 +11,8 @@ ghost use Rattle.fg_peel.specs.declared.Line.{Line as LiveLine};
 ghost use Rattle.fg_peel.specs.Slots.{equation_of};
 ghost use Rattle.fg_peel.specs.Live.{last_slot, Survives, HasSlots, IsFree, IsLeastFree};
 ghost use Rattle.fg_buffer.specs.PlayoutBuffer.{buffer_words};
-ghost use Rattle.fg_buffer.specs.LiveEquations.{no_equations, AreLive, AreOpen, AreSettled, AreStuck, IsLiveLine, Settles, SettlesAt, Reopens, SettledAreBased, Retires, IsLost};
+ghost use Rattle.fg_buffer.specs.Watches.{first_of, Closes};
+ghost use Rattle.fg_buffer.specs.LiveEquations.{no_equations, AreLive, AreOpen, AreSettled, IsLiveLine, NoneIsOpenAt, SurviveAsWatched, Settles, SettlesAt, Reopens, SettledAreBased, Retires, IsLost};
 ghost use Rattle.fg_buffer.specs.LiveInside.{Holds, Stands, IsOneEach, IsTaken, IsKeyed, AreKeyed, AreWithin, Moves, IsCompleteAs, IsBased, Drops};
 
 use crate::playout_buffer::PlayoutBuffer;
@@ -153,17 +154,6 @@ impl LiveEquations {
         self.open.is_empty()
     }
 
-    /// Whether each open one is known to miss at least two of the buffer's words, so that nothing follows
-    /// from it and it isn't complete.
-    pub fn are_stuck(&self, watches: &mut Watches, buffer: &PlayoutBuffer) -> bool
-        ensures { IsTrue result → AreStuck (buffer_words buffer.now) self.now }
-    {
-        if self.none_open() {
-            return true;
-        }
-        watches.all_stuck(&self.open, buffer)
-    }
-
     /// The open ones.
     pub fn open(&self) -> &Slab<Line>
         ensures { AreOpen self.now result.now }
@@ -208,6 +198,16 @@ impl LiveEquations {
         }
     }
 
+    /// The open one at this place.
+    pub fn open_at(&self, place: u32) -> Option<&Line>
+        ensures some { IfSome result (λ line. IsLiveLine self.now line.now × (line.now.place ≡ place)
+            × (set.contains self.now.settled line.now.serial ≡ false)) }
+        ensures none { IfNone result (NoneIsOpenAt place self.now) }
+        ensures facts { AreLive self.now }
+    {
+        find_place(&self.open, &self.keys, place)
+    }
+
     /// Adds an open one, at the least free place, and tells the place. It takes no memory.
     pub fn insert(&mut self, base: u64, shape: Shape, parity: Shared, serial: u64) -> u32
         requires room { len self.old.live < 512 }
@@ -215,6 +215,7 @@ impl LiveEquations {
         requires base { base ≤ position_limit }
         requires fresh { get self.old.live serial ≡ None }
         ensures facts { AreLive self.old }
+        ensures within { result < 512 }
         ensures added { IsLeastFree self.old.live result
             × (self.new ≡ record self.old {
               live = insert self.old.live serial (record {
@@ -267,7 +268,8 @@ impl LiveEquations {
 
     /// Opens each settled one that is no more complete in the buffer.
     pub fn reopen(&mut self, buffer: &PlayoutBuffer)
-        ensures { Reopens (buffer_words buffer.now) self.old self.new }
+        ensures reopens { Reopens (buffer_words buffer.now) self.old self.new }
+        ensures facts { AreLive self.new }
     {
         move_lines(
             &mut self.settled,
@@ -278,17 +280,21 @@ impl LiveEquations {
         );
     }
 
-    /// Drops those that do not survive a play up to the buffer's mark. The words below the mark are kept
-    /// at the slots of the settled ones that reach to it, so of these it looks at the last slot alone.
-    pub fn retire(&mut self, buffer: &PlayoutBuffer)
-        requires { SettledAreBased buffer.now.mark buffer.now.kept self.old }
-        ensures { Retires buffer.now.mark buffer.now.kept self.old self.new }
+    /// Drops those that do not survive a play up to the buffer's mark. An open one survives where its first
+    /// watched position isn't before the mark. The words below the mark are kept at the slots of the settled
+    /// ones that reach to it, so of these it looks at the last slot alone.
+    pub fn retire(&mut self, watches: &mut Watches, buffer: &PlayoutBuffer)
+        requires based { SettledAreBased buffer.now.mark buffer.now.kept self.old }
+        requires watched { SurviveAsWatched buffer.now.mark buffer.now.kept watches.old self.old }
+        ensures retires { Retires buffer.now.mark buffer.now.kept self.old self.new }
+        ensures watches { Closes buffer.now.mark watches.old watches.new }
     {
+        let mark = buffer.mark();
         let places = &mut self.places;
         let spares = &mut self.spares;
-        drop_lines(&mut self.open, places, spares, buffer, false);
+        drop_closed(&mut self.open, &self.keys, places, spares, watches, mark);
         drop_settled(&mut self.settled, places, spares, buffer, self.earliest);
-        self.earliest = earliest_after(&self.open, &self.settled, self.earliest, buffer.mark());
+        self.earliest = earliest_after(&self.open, &self.settled, self.earliest, mark);
     }
 
     /// The share of a retired line's parity, where there is one, for the next payload.
@@ -477,6 +483,50 @@ fn drop_lines(
             spares.keep(lines.remove(key).parity);
             places.release(place as usize);
         }
+    }
+}
+
+/// Drops those lines whose first watched position lies before the mark, and frees their places.
+fn drop_closed(
+    lines: &mut Slab<Line>,
+    keys: &[usize],
+    places: &mut Places,
+    spares: &mut Spares,
+    watches: &mut Watches,
+    mark: u64,
+)
+    requires within { AreWithin lines.old }
+    requires keyed { IsKeyed keys.now lines.old }
+    requires places { length places.old ≡ 512 }
+    ensures drops { Drops (λ line. mark ≤ first_of watches.old line.place)
+        lines.old lines.new places.old places.new }
+    ensures closes { Closes mark watches.old watches.new }
+{
+    let mut from = 0;
+    while let Some(place) = watches.closed(mark, from) {
+        drop_at(lines, keys, places, spares, place);
+        watches.leave(place);
+        from = place + 1;
+    }
+    watches.renew(mark);
+}
+
+/// Drops the line at this place, where there is one, and frees the place. Its parity becomes a spare.
+fn drop_at(
+    lines: &mut Slab<Line>,
+    keys: &[usize],
+    places: &mut Places,
+    spares: &mut Spares,
+    place: u32,
+)
+    requires within { AreWithin lines.old }
+    requires keyed { IsKeyed keys.now lines.old }
+    requires places { length places.old ≡ 512 }
+    ensures { Drops (λ line. line.place ≢ place) lines.old lines.new places.old places.new }
+{
+    if let Some(key) = key_at(lines, keys, place) {
+        spares.keep(lines.remove(key).parity);
+        places.release(place as usize);
     }
 }
 

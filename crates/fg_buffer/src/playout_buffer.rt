@@ -1,26 +1,28 @@
 //! The buffer of entries around the mark.
 
-ghost use Rattle.std.specs.Prelude.{◌≡◌, ◌+◌, ◌-◌, ◌<◌, ◌≤◌, ◌^◌, ◌↔◌, ◌++◌, ◌∷◌, [], ℕ, pos, ◌-ℤ◌, false, if◌then◌else◌, length, take, drop, slice_index_or, Option, None, IsSome, IsTrue, IfOk, IfSome, IfNone};
+ghost use Rattle.std.specs.Prelude.{◌≡◌, ◌+◌, ◌-◌, ◌<◌, ◌≤◌, ◌^◌, ◌↔◌, ◌++◌, ◌∷◌, [], ℕ, pos, ◌-ℤ◌, false, if◌then◌else◌, length, take, drop, slice_index_or, Option, Some, None, IsSome, IsTrue, IfOk, IfSome, IfNone};
 ghost use Rattle.std.specs.Option.{option_copied};
 ghost use Rattle.std.specs.FinMap.{empty, get};
 ghost use Rattle.std.specs.FinSet as set;
+ghost use Rattle.fg_words.specs.declared.Word.{Word as WordValue};
 ghost use Rattle.fg_words.specs.Word.{IsMedia};
 ghost use Rattle.fg_shape.specs.Shape.{IsShape, position_limit};
 ghost use Rattle.fg_peel.specs.declared.Slot.{Slot};
 ghost use Rattle.fg_peel.specs.Solution.{IsSolution};
 ghost use Rattle.fg_peel.specs.Equation.{AreMedia, IsComplete};
 ghost use Rattle.fg_peel.specs.Peeling.{EndsPeeling};
-ghost use Rattle.fg_peel.specs.Slots.{word_in, words_from, equation_of, equations_of, AllFitFrom};
+ghost use Rattle.fg_peel.specs.Slots.{word_in, words_from, equation_of, equations_of, AllFitFrom, Fits, OnlyFills};
+ghost use Rattle.fg_peel.specs.Look.{IsLook};
 ghost use Rattle.fg_peel.specs.Peels.{IsPeel};
-ghost use Rattle.fg_buffer.specs.PlayoutBuffer.{opened_buffer, buffer_received, buffer_words, buffer_known, buffer_shared, IsBuffer, receives, publishes, AllLieIn, IsHighestWord, Advances};
-ghost use Rattle.fg_buffer.specs.BufferEntries.{entry_at, words_of, buffer_of, received_in, solved_in, shared_in, is_found, AreEntries, Recovers, forgets};
+ghost use Rattle.fg_buffer.specs.PlayoutBuffer.{opened_buffer, buffer_received, buffer_words, buffer_known, buffer_shared, IsBuffer, receives, publishes, LiesIn, AllLieIn, IsHighestWord, Advances};
+ghost use Rattle.fg_buffer.specs.BufferEntries.{entry_at, words_of, buffer_of, received_in, solved_in, shared_in, is_found, AreEntries, Recovers, LooksAt, forgets};
 ghost use Rattle.fg_buffer.specs.SmallSlots.{slot_of};
 
 use crate::entry_list::{EntryList, Placed};
 use crate::small_slots::Content;
 use crate::spares::Spares;
 use fg_peel::laws::{confluence, maximal_peelings_are_tested};
-use fg_peel::{Line, Verdict, peel_entries};
+use fg_peel::{Line, Look, Verdict, look_at, peel_entries};
 use fg_shape::slot;
 use fg_words::{Shared, Word};
 use slab::Slab;
@@ -281,6 +283,50 @@ impl PlayoutBuffer {
         recover_words(self.mark, &mut self.entries, lines, self.solved_media)
     }
 
+    /// Looks at one line: where it misses just one of the buffer's words, that is found, and where it misses
+    /// none, they are summed.
+    pub fn look(&mut self, line: &Line) -> Look
+        requires within { LiesIn self.old line.now }
+        ensures rest { self.new ≡ record self.old { cached = self.new.cached } }
+        ensures look { IsLook (buffer_words self.old) (buffer_words self.new) (equation_of line.now) result }
+    {
+        look_entries(self.mark, &mut self.entries, line)
+    }
+
+    /// Whether all solved words are media words.
+    pub fn are_media(&self) -> bool
+        ensures { IsTrue result ↔ AreMedia (get self.now.solved) }
+    {
+        if self.solved_are_media() {
+            return true;
+        }
+        let mark = self.mark();
+        for ahead in 0..self.reach() {
+            if !self.is_media_at(mark + ahead as u64) {
+                return false;
+            }
+        }
+        true
+    }
+
+    /// Whether a word that was solved at a position is a media word.
+    fn is_media_at(&self, position: u64) -> bool
+        ensures media { IsTrue result → (word : WordValue) → get self.now.solved position ≡ Some word → IsMedia word }
+        ensures other { result ≡ false → ¬ AreMedia (get self.now.solved) }
+    {
+        match self.solved(position) {
+            Some(share) => share.word().is_media(),
+            None => true,
+        }
+    }
+
+    /// How many positions from the mark on have entries.
+    fn reach(&self) -> usize
+        ensures { result ≡ self.now.reach }
+    {
+        self.entries.count() - KEPT
+    }
+
     /// Moves the mark on. What is played stays as long as it is kept.
     pub fn advance(&mut self, count: u32)
         requires some { 1 ≤ count }
@@ -421,4 +467,29 @@ fn peel_placed(
     ensures before { take below entries.new ≡ take below entries.old }
 {
     peel_entries(start, &mut Placed { below, entries }, lines, all_media)
+}
+
+/// Looks at one line among the buffer's entries.
+fn look_entries(mark: u64, entries: &mut EntryList, line: &Line) -> Look
+    requires entries { AreEntries mark entries.old }
+    requires within { LiesIn (buffer_of mark entries.old) line.now }
+    ensures { LooksAt mark line.now entries.old entries.new result }
+{
+    let start = mark.saturating_sub(KEPT as u64);
+    let below = (KEPT as u64).saturating_sub(mark) as usize;
+    look_placed(start, below, entries, line)
+}
+
+/// Looks at one line among all but the first `below` entries, the first of which stands for the position
+/// `start`.
+fn look_placed(start: u64, below: usize, entries: &mut EntryList, line: &Line) -> Look
+    requires within { below ≤ length entries.old }
+    requires line { Fits start (drop below entries.old) line.now }
+    requires limit { start + length (drop below entries.old) ≤ position_limit }
+    ensures look { IsLook (words_from start (drop below entries.old)) (words_from start (drop below entries.new))
+        (equation_of line.now) result }
+    ensures fills { OnlyFills (drop below entries.old) (drop below entries.new) }
+    ensures before { take below entries.new ≡ take below entries.old }
+{
+    look_at(start, &mut Placed { below, entries }, line)
 }

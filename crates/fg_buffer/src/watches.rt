@@ -1,129 +1,252 @@
-//! Slots that tell quickly of a line that nothing follows from it.
+//! Which lines have to be looked at: a line is, where one of the two slots that it watches got a word.
 
-ghost use Rattle.std.specs.Prelude.{◌≡◌, ◌<◌, ◌≤◌, length, slice_index_or, Option, None, IsTrue, IfSome};
-ghost use Rattle.fg_shape.specs.Shape.{IsShape, slots_of, position_limit};
-ghost use Rattle.fg_peel.specs.declared.Line.{Line as LiveLine};
-ghost use Rattle.fg_peel.specs.Slots.{equation_of};
-ghost use Rattle.fg_buffer.specs.PlayoutBuffer.{buffer_words};
-ghost use Rattle.fg_buffer.specs.LiveEquations.{IsStuck};
-ghost use Rattle.fg_buffer.specs.LiveInside.{Holds, AreWithin, IsWithin};
+ghost use Rattle.std.specs.Prelude.{◌≡◌, ◌≢◌, ◌+◌, ◌<◌, ◌≤◌, ℕ, true, false, length, slice_index, slice_index_or, IfSome, IfNone};
+ghost use Rattle.fg_buffer.specs.Watches.{IsQueued, IsWatching, Adds, TakesOut, WatchesAt, Wakes, first_of, nowhere};
 
 use crate::LIVE_LIMIT;
-use crate::playout_buffer::PlayoutBuffer;
-use fg_peel::Line;
-use fg_shape::slot;
-use slab::Slab;
 use std::alloc::{AllocError, Global};
+use std::marker::Model;
 
-/// Two slots of a line, by number.
-#[derive(Clone, Copy)]
-struct Pair {
-    first: u8,
-    second: u8,
-}
+/// What a line watches that watches no position.
+const NOWHERE: u64 = u64::MAX;
 
-/// For the line at each place two slots that had no word when it was last looked at. While they have none
-/// nothing follows from the line. Nothing else rests on them, since both are looked at again each time.
+/// For the line at each place whether it has to be looked at, and two positions that it watches.
 #[derive(Drop)]
 pub struct Watches {
-    pairs: Vec<Pair>,
-    ghost full: { length pairs.items ≡ 512 },
+    first: Vec<u64>,
+    second: Vec<u64>,
+    queued: Vec<bool>,
+    /// All places that are queued lie from the one on and below the other.
+    low: usize,
+    high: usize,
+    /// No place from this one on ever watched a position: passes end here.
+    end: usize,
+    /// No first watched position lies before this one, and no watched one past the other: most passes are
+    /// spared by that.
+    least: u64,
+    latest: u64,
+}
+
+impl Model for Watches {
+    ghost use Rattle.fg_buffer.specs.Watches.{WatchState, watches_code, AreWatches};
+
+    ghost Value = { WatchState };
+
+    ghost coded = { watches_code };
+
+    ghost view = { λ a. record { first = a.first.items; second = a.second.items; queued = a.queued.items } };
+
+    ghost invariant = { λ a. AreWatches a.first.items a.second.items a.queued.items a.low a.high a.end a.least a.latest };
 }
 
 impl Watches {
-    /// Nothing is known of any line. All memory is taken here.
+    /// Nothing is queued or watched. All memory is taken here.
     pub fn new(alloc: Global) -> Result<Watches, AllocError> {
-        let pair = Pair {
-            first: 0,
-            second: 0,
-        };
         Ok(Watches {
-            pairs: vec![in alloc; pair; LIVE_LIMIT]?,
+            first: vec![in alloc; NOWHERE; LIVE_LIMIT]?,
+            second: vec![in alloc; NOWHERE; LIVE_LIMIT]?,
+            queued: vec![in alloc; false; LIVE_LIMIT]?,
+            low: LIVE_LIMIT,
+            high: 0,
+            end: 0,
+            least: NOWHERE,
+            latest: 0,
         })
     }
 
-    /// Whether each line is known to miss at least two of the buffer's words. Where the two slots of a line
-    /// have words by now it looks for others.
-    pub(crate) fn all_stuck(&mut self, lines: &Slab<Line>, buffer: &PlayoutBuffer) -> bool
-        requires { AreWithin lines.now }
-        ensures { IsTrue result → (line : LiveLine) → Holds lines.now line
-            → IsStuck (buffer_words buffer.now) (equation_of line) }
+    /// The line at this place has to be looked at.
+    pub fn add(&mut self, place: u32)
+        requires { place < 512 }
+        ensures { Adds place self.old self.new }
     {
-        for (_, line) in lines.iter() {
-            if !self.is_stuck(line, buffer) {
-                return false;
+        let place = place as usize;
+        self.queued[place] = true;
+        self.low = self.low.min(place);
+        self.high = self.high.max(place + 1);
+    }
+
+    /// Every line has to be looked at.
+    pub fn add_all(&mut self)
+        ensures { (place : ℕ) → place < 512 → IsQueued self.new place }
+    {
+        set_all(&mut self.queued, true);
+        self.low = 0;
+        self.high = LIVE_LIMIT;
+    }
+
+    /// No line has to be looked at.
+    pub fn clear(&mut self)
+        ensures { (place : ℕ) → ¬ IsQueued self.new place }
+    {
+        set_all(&mut self.queued, false);
+        self.low = LIVE_LIMIT;
+        self.high = 0;
+    }
+
+    /// Each line that watches this position has to be looked at.
+    pub fn wake(&mut self, position: u64)
+        requires { position < nowhere }
+        ensures { Wakes position self.old self.new }
+    {
+        let mut from = 0;
+        while let Some(place) = self.watching(position, from) {
+            self.add(place);
+            from = place + 1;
+        }
+    }
+
+    /// The next place from one on whose line watches this position.
+    fn watching(&self, position: u64, from: u32) -> Option<u32>
+        requires { position < nowhere }
+        ensures some { IfSome result (λ place. (from ≤ place) × (place < 512)
+            × ((other : ℕ) → from ≤ other → other < place → ¬ IsWatching self.now position other)) }
+        ensures none { IfNone result ((other : ℕ) → from ≤ other → other < 512
+            → ¬ IsWatching self.now position other) }
+    {
+        if position > self.latest {
+            return None;
+        }
+        next_watching(&self.first, &self.second, from as usize, self.end, position)
+    }
+
+    /// Takes the place of a line that has to be looked at.
+    pub fn next(&mut self) -> Option<u32>
+        ensures some { IfSome result (λ place. TakesOut place self.old self.new) }
+        ensures none { IfNone result ((self.new ≡ self.old) × ((place : ℕ) → ¬ IsQueued self.old place)) }
+    {
+        match next_queued(&self.queued, self.low, self.high) {
+            Some(place) => {
+                self.queued[place] = false;
+                self.low = place + 1;
+                Some(place as u32)
+            }
+            None => {
+                self.low = LIVE_LIMIT;
+                self.high = 0;
+                None
             }
         }
-        true
     }
 
-    /// Whether a line is known to miss at least two of the buffer's words.
-    fn is_stuck(&mut self, line: &Line, buffer: &PlayoutBuffer) -> bool
-        requires { IsWithin line.now }
-        ensures { IsTrue result → IsStuck (buffer_words buffer.now) (equation_of line.now) }
+    /// The line at this place watches these two positions.
+    pub fn watch(&mut self, place: u32, first: u64, second: u64)
+        requires { place < 512 }
+        ensures { WatchesAt place first second self.old self.new }
     {
-        let place = line.place as usize;
-        if lacks_both(line, self.pairs[place], buffer) {
-            return true;
+        let place = place as usize;
+        self.first[place] = first;
+        self.second[place] = second;
+        self.end = self.end.max(place + 1);
+        self.least = self.least.min(first);
+        self.latest = self.latest.max(first).max(second);
+    }
+
+    /// The line at this place watches nothing.
+    pub fn leave(&mut self, place: u32)
+        requires { place < 512 }
+        ensures { WatchesAt place nowhere nowhere self.old self.new }
+    {
+        let place = place as usize;
+        self.first[place] = NOWHERE;
+        self.second[place] = NOWHERE;
+    }
+
+    /// The next place from one on whose first watched position lies before the mark.
+    pub(crate) fn closed(&self, mark: u64, from: u32) -> Option<u32>
+        ensures some { IfSome result (λ place. (from ≤ place) × (place < 512)
+            × (first_of self.now place < mark)
+            × ((other : ℕ) → from ≤ other → other < place → mark ≤ first_of self.now other)) }
+        ensures none { IfNone result ((other : ℕ) → from ≤ other → other < 512
+            → mark ≤ first_of self.now other) }
+    {
+        if mark <= self.least {
+            return None;
         }
-        match two_gaps(line, buffer) {
-            Some(pair) => {
-                self.pairs[place] = pair;
-                true
-            }
-            None => false,
+        next_below(&self.first, from as usize, self.end, mark)
+    }
+
+    /// Seeks the least first watched position anew, where the mark has passed the one before.
+    pub(crate) fn renew(&mut self, mark: u64)
+        ensures { self.new ≡ self.old }
+    {
+        if mark > self.least {
+            self.least = least_of(&self.first, self.end);
         }
     }
 }
 
-/// Whether these are two slots of a line, and neither has a word.
-fn lacks_both(line: &Line, pair: Pair, buffer: &PlayoutBuffer) -> bool
-    requires { IsWithin line.now }
-    ensures { IsTrue result → IsStuck (buffer_words buffer.now) (equation_of line.now) }
+/// Sets all.
+fn set_all(queued: &mut [bool], value: bool)
+    ensures count { length queued.new ≡ length queued.old }
+    ensures set { (place : ℕ) → place < length queued.old → slice_index_or queued.new place false ≡ value }
 {
-    if pair.first >= pair.second || pair.second >= line.shape.na {
-        return false;
+    for i in 0..queued.len() {
+        queued[i] = value;
     }
-    if !lacks(line, pair.first, buffer) {
-        return false;
-    }
-    lacks(line, pair.second, buffer)
 }
 
-/// Whether a slot of a line has no word.
-fn lacks(line: &Line, number: u8, buffer: &PlayoutBuffer) -> bool
-    requires within { IsWithin line.now }
-    requires number { number < line.now.shape.na }
-    ensures { IsTrue result → buffer_words buffer.now (slice_index_or
-        (slots_of line.now.base line.now.shape.offset line.now.shape.na) number 0) ≡ None }
+/// The next place from one on and below an end that watches a position.
+fn next_watching(first: &[u64], second: &[u64], from: usize, end: usize, position: u64) -> Option<u32>
+    requires first { end ≤ length first.now }
+    requires second { end ≤ length second.now }
+    requires few { end ≤ 512 }
+    ensures some { IfSome result (λ place. (from ≤ place) × (place < end)
+        × ((other : ℕ) → from ≤ other → other < place
+        → (slice_index first.now other ≢ position) × (slice_index second.now other ≢ position))) }
+    ensures none { IfNone result ((other : ℕ) → from ≤ other → other < end
+        → (slice_index first.now other ≢ position) × (slice_index second.now other ≢ position)) }
 {
-    buffer
-        .any_word(slot(line.base, line.shape, number))
-        .is_none()
-}
-
-/// The first two slots of a line that have no word.
-fn two_gaps(line: &Line, buffer: &PlayoutBuffer) -> Option<Pair>
-    requires { IsWithin line.now }
-    ensures { IfSome result (λ pair. IsStuck (buffer_words buffer.now) (equation_of line.now)) }
-{
-    let first = next_gap(line, 0, buffer)?;
-    let second = next_gap(line, first + 1, buffer)?;
-    Some(Pair { first, second })
-}
-
-/// The first slot from this number on that has no word.
-fn next_gap(line: &Line, from: u8, buffer: &PlayoutBuffer) -> Option<u8>
-    requires { IsWithin line.now }
-    ensures after { IfSome result (λ number. from ≤ number) }
-    ensures within { IfSome result (λ number. number < line.now.shape.na) }
-    ensures lacks { IfSome result (λ number. buffer_words buffer.now (slice_index_or
-        (slots_of line.now.base line.now.shape.offset line.now.shape.na) number 0) ≡ None) }
-{
-    for number in from..line.shape.na {
-        if lacks(line, number, buffer) {
-            return Some(number);
+    for place in from..end {
+        if first[place] == position || second[place] == position {
+            return Some(place as u32);
         }
     }
     None
+}
+
+/// The next place from one on and below an end that has a position before the mark.
+fn next_below(first: &[u64], from: usize, end: usize, mark: u64) -> Option<u32>
+    requires within { end ≤ length first.now }
+    requires few { end ≤ 512 }
+    ensures some { IfSome result (λ place. (from ≤ place) × (place < end) × (slice_index first.now place < mark)
+        × ((other : ℕ) → from ≤ other → other < place → mark ≤ slice_index first.now other)) }
+    ensures none { IfNone result ((other : ℕ) → from ≤ other → other < end
+        → mark ≤ slice_index first.now other) }
+{
+    for place in from..end {
+        if first[place] < mark {
+            return Some(place as u32);
+        }
+    }
+    None
+}
+
+/// The next place from one on and below an end that is queued.
+fn next_queued(queued: &[bool], from: usize, end: usize) -> Option<usize>
+    requires { end ≤ length queued.now }
+    ensures some { IfSome result (λ place. (from ≤ place) × (place < end)
+        × (slice_index_or queued.now place false ≡ true)
+        × ((other : ℕ) → from ≤ other → other < place → slice_index_or queued.now other false ≡ false)) }
+    ensures none { IfNone result ((other : ℕ) → from ≤ other → other < end
+        → slice_index_or queued.now other false ≡ false) }
+{
+    for place in from..end {
+        if queued[place] {
+            return Some(place);
+        }
+    }
+    None
+}
+
+/// The least of the positions before an end.
+fn least_of(first: &[u64], end: usize) -> u64
+    requires { end ≤ length first.now }
+    ensures least { (place : ℕ) → place < end → result ≤ slice_index first.now place }
+    ensures most { result ≤ nowhere }
+{
+    let mut least = NOWHERE;
+    for place in 0..end {
+        least = least.min(first[place]);
+    }
+    least
 }

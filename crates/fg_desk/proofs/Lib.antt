@@ -27,3 +27,10 @@ pub mod Survivors
 pub mod TrayPlaces
 pub mod Twins
 pub mod Within
+pub mod WatchedLines
+pub mod Findings
+pub mod FoundAll
+pub mod LookCounts
+pub mod ClosedLines
+pub mod PutWords
+pub mod Relined

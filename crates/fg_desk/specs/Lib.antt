@@ -7,3 +7,4 @@ pub mod Parts
 pub mod TrayPlaces
 pub mod Skipping
 pub mod Storage
+pub mod Watched

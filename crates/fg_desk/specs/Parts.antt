@@ -5,6 +5,8 @@ use Rattle.fg_desk.specs.declared.desk.Desk.TheInside.{Inside}
 use Rattle.fg_playout.specs.State.{Top}
 use Rattle.fg_desk.specs.Inside.{Parts, AreSound}
 use Rattle.fg_desk.specs.Holding.{AreTimed, times_in}
+use Rattle.fg_desk.specs.Watched.{EachWatched}
+use Rattle.fg_buffer.specs.PlayoutBuffer.{buffer_words}
 
 -- The farthest datagram as a state has it.
 abbrev pub top_of : Farthest → Top
@@ -30,3 +32,4 @@ parts_of a = record {
 pub record IsDesk (a : Inside) : Type 0 where
   pub sound : AreSound (parts_of a)
   pub timed : AreTimed a.waiting a.buffer.mark a.buffer.media
+  pub watched : EachWatched a.watches (buffer_words a.buffer) a.lines

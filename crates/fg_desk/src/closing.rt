@@ -1,55 +1,80 @@
 //! What every play does: it finds what follows, and closes the first positions by that.
 
-ghost use Rattle.std.specs.Prelude.{◌+◌, ◌≤◌, ◌<◌, ◌-◌, ◌≡◌, ◌^◌, min};
+ghost use Rattle.std.specs.Prelude.{◌+◌, ◌≤◌, ◌<◌, ◌-◌, ◌≡◌, ◌^◌, ◌⊎◌, ℕ, false, min, IsTrue};
 ghost use Rattle.std.specs.FinMap.{get};
 ghost use Rattle.fg_shape.specs.Shape.{position_limit};
 ghost use Rattle.fg_peel.specs.Equation.{AreMedia, IsComplete, IsSettled};
 ghost use Rattle.fg_playout.specs.Room.{call_limit};
-ghost use Rattle.fg_buffer.specs.PlayoutBuffer.{buffer_received, buffer_words};
+ghost use Rattle.fg_buffer.specs.PlayoutBuffer.{IsBuffer, buffer_received, buffer_words};
+ghost use Rattle.fg_buffer.specs.Watches.{IsQueued};
 ghost use Rattle.fg_desk.specs.Closing.{PlayLaws, ClosesFirst};
 ghost use Rattle.fg_desk.specs.Contents.{epoch_after};
 ghost use Rattle.fg_desk.specs.Storage.{equations_in, AreInBuffer, EachSettled, IsRecovered};
+ghost use Rattle.fg_desk.specs.Watched.{EachWatched, NoneIsQueued, HaveRooms};
 
 use crate::desk::Played;
+use crate::finding::look_at_all;
 use crate::holding::move_on;
-use crate::storage::{close, recover};
+use crate::storage::close;
 use fg_buffer::{LiveEquations, PlayoutBuffer, Watches};
 use fg_hold::Waiting;
-use fg_peel::laws::{confluence, found_words_may_be_known, peelings_fill_the_closure};
+use fg_peel::laws::{
+    confluence, found_words_may_be_known, maximal_peelings_are_tested, peelings_fill_the_closure,
+};
 use fg_playout::Outcome;
 use fg_playout::laws::solved_stays_peeled;
 
-/// What is known once all that follows was found.
-#[derive(Clone, Copy)]
-pub(crate) struct Found {
-    /// Whether the buffer's words are a solution.
-    pub solved: bool,
-    /// Whether each open equation misses at least two words, so that nothing followed.
-    stuck: bool,
-}
-
-/// Finds each word that follows. What was found is the end of a peeling, so it is the closure and, where there
-/// is one, the solution; and it stays one past the play.
+/// Finds each word that follows, and tells whether the buffer's words are then a solution. What was found is
+/// the end of a peeling, so it is the closure and, where there is one, the solution; and it stays one past the
+/// play. Lines that come out are settled.
 #[inline]
 pub(crate) fn find(
     buffer: &mut PlayoutBuffer,
-    lines: &LiveEquations,
+    lines: &mut LiveEquations,
     watches: &mut Watches,
-) -> Found
-    requires within { AreInBuffer buffer.old lines.now }
+) -> bool
+    requires within { AreInBuffer buffer.old lines.old }
     requires received { AreMedia (buffer_received buffer.old) }
     requires cached { AreMedia (get buffer.old.cached) }
-    requires settled { EachSettled lines.now (IsSettled (buffer_words buffer.old)) }
-    ensures found { IsRecovered (equations_in lines.now) buffer.old buffer.new result.solved }
+    requires rooms { HaveRooms lines.old }
+    requires settled { EachSettled lines.old (IsSettled (buffer_words buffer.old)) }
+    requires watched { EachWatched watches.old (buffer_words buffer.old) lines.old }
+    ensures found { IsRecovered (equations_in lines.old) buffer.old buffer.new result }
+    ensures live { lines.new.live ≡ lines.old.live }
+    ensures settled { EachSettled lines.new (IsSettled (buffer_words buffer.new)) }
+    ensures watched { EachWatched watches.new (buffer_words buffer.new) lines.new }
+    ensures idle { IsTrue result → NoneIsQueued watches.new }
     ensures laws { PlayLaws }
 {
     found_words_may_be_known();
     peelings_fill_the_closure();
     solved_stays_peeled();
+    maximal_peelings_are_tested();
     confluence();
-    let stuck = lines.are_stuck(watches, buffer);
-    let solved = recover(buffer, lines, stuck);
-    Found { solved, stuck }
+    let sound = look_at_all(buffer, lines, watches);
+    let solved = is_solution(buffer, sound);
+    queue_unless(watches, solved);
+    solved
+}
+
+/// Whether the found words are a solution: all solved ones are media words, too.
+fn is_solution(buffer: &PlayoutBuffer, sound: bool) -> bool
+    ensures yes { IsTrue result → IsTrue sound × AreMedia (get buffer.now.solved) }
+    ensures no { result ≡ false → (sound ≡ false) ⊎ ¬ AreMedia (get buffer.now.solved) }
+    ensures facts { IsBuffer buffer.now }
+{
+    let _mark = buffer.mark();
+    sound && buffer.are_media()
+}
+
+/// All lines have to be looked at again where there is no solution.
+fn queue_unless(watches: &mut Watches, solved: bool)
+    ensures same { IsTrue solved → watches.new ≡ watches.old }
+    ensures all { solved ≡ false → (place : ℕ) → place < 512 → IsQueued watches.new place }
+{
+    if !solved {
+        watches.add_all();
+    }
 }
 
 /// Plays the first `count` positions by what was found. Their words wait no longer, and an inconsistent play
@@ -58,9 +83,10 @@ pub(crate) fn find(
 pub(crate) fn close_first(
     buffer: &mut PlayoutBuffer,
     lines: &mut LiveEquations,
+    watches: &mut Watches,
     waiting: &mut Waiting,
     epoch: &mut u64,
-    found: Found,
+    solved: bool,
     count: u32,
 ) -> Played
     requires some { 1 ≤ count }
@@ -68,12 +94,15 @@ pub(crate) fn close_first(
     requires limit { buffer.old.mark + count + buffer.old.reach + 100 ≤ position_limit }
     requires within { AreInBuffer buffer.old lines.old }
     requires settled { EachSettled lines.old (IsComplete (buffer_words buffer.old)) }
+    requires watched { EachWatched watches.old (buffer_words buffer.old) lines.old }
+    requires idle { IsTrue solved → NoneIsQueued watches.old }
     requires epoch { epoch.old ≤ call_limit }
-    ensures { ClosesFirst found.solved count buffer.old lines.old waiting.old epoch.old result
+    ensures closes { ClosesFirst solved count buffer.old lines.old waiting.old epoch.old result
         buffer.new lines.new waiting.new epoch.new }
+    ensures watched { EachWatched watches.new (buffer_words buffer.new) lines.new }
 {
     let first = buffer.mark();
-    let verdict = close(buffer, lines, found.solved, found.stuck, count);
+    let verdict = close(buffer, lines, watches, solved, count);
     move_on(waiting, buffer.mark());
     *epoch = next_epoch(*epoch, verdict);
     Played {

@@ -66,7 +66,7 @@ pub struct Desk {
     runs: u64,
     buffer: PlayoutBuffer,
     lines: LiveEquations,
-    /// By them a play tells quickly that nothing follows from an equation.
+    /// Which equations a play has to look at.
     watches: Watches,
     admitted: u64,
     calls: u64,
@@ -528,7 +528,7 @@ impl Desk {
             × ChangesInPlay played.verdict self.old self.new) }
         ensures none { IfNone result (self.new ≡ record self.old { state = self.new.state }) }
     {
-        let found = find(&mut self.buffer, &self.lines, &mut self.watches);
+        let found = find(&mut self.buffer, &mut self.lines, &mut self.watches);
         let first = self.buffer.mark();
         self.calls += 1;
         let Some(highest) = self.buffer.highest() else {
@@ -538,6 +538,7 @@ impl Desk {
         Some(close_first(
             &mut self.buffer,
             &mut self.lines,
+            &mut self.watches,
             &mut self.waiting,
             &mut self.epoch,
             found,
@@ -652,7 +653,13 @@ impl Desk {
     {
         peelings_fill_the_closure();
         xor_is_a_group();
-        publish(&mut self.buffer, &mut self.lines, slot, share);
+        publish(
+            &mut self.buffer,
+            &mut self.lines,
+            &mut self.watches,
+            slot,
+            share,
+        );
         self.lines.settle_at(place);
     }
 
@@ -769,11 +776,12 @@ impl Desk {
         ensures count { result.count ≡ count }
         ensures changes { ChangesInPlay result.verdict self.old self.new }
     {
-        let found = find(&mut self.buffer, &self.lines, &mut self.watches);
+        let found = find(&mut self.buffer, &mut self.lines, &mut self.watches);
         self.calls += 1;
         close_first(
             &mut self.buffer,
             &mut self.lines,
+            &mut self.watches,
             &mut self.waiting,
             &mut self.epoch,
             found,
@@ -829,7 +837,13 @@ impl Desk {
         ensures rest { GivesWay self.old position share self.new }
     {
         peelings_stay();
-        let withdrawn = receive(&mut self.buffer, &mut self.lines, position, share);
+        let withdrawn = receive(
+            &mut self.buffer,
+            &mut self.lines,
+            &mut self.watches,
+            position,
+            share,
+        );
         note(&mut self.waiting, position);
         let datagram = Farthest {
             position,
@@ -899,6 +913,7 @@ impl Desk {
     {
         peelings_stay();
         let place = self.lines.insert(base, shape, share, self.admitted);
+        self.watches.add(place);
         self.admitted += 1;
         self.calls += 1;
         place

@@ -3,6 +3,7 @@
 
 mod closing;
 mod desk;
+mod finding;
 mod holding;
 mod skipping;
 mod storage;

@@ -10,6 +10,7 @@ pub mod Filling
 pub mod Found
 pub mod Lines
 pub mod Lists
+pub mod Gaps
 pub mod Low
 pub mod Maps
 pub mod Maximal

@@ -10,4 +10,5 @@ pub mod Slots
 pub mod Solution
 pub mod Verdict
 pub mod Live
+pub mod Look
 pub mod Words

@@ -21,11 +21,13 @@ use span::Span;
 mod checks;
 mod entry_row;
 pub mod laws;
+mod looks;
 mod recovery;
 mod slot_row;
 mod span;
 
 pub use entry_row::EntryRow;
+pub use looks::{Look, look_at};
 pub use span::Missing;
 
 /// What is known of the datagram at one position.

@@ -1,12 +1,13 @@
 //! Filling empty entries from the equations that miss one word.
 
-ghost use Rattle.std.specs.Prelude.{false, ◌≡◌, ◌≢◌, ◌+◌, ◌^◌, ◌<◌, ◌≤◌, length, slice_index_or, Contains, IsTrue, IsSomeAnd};
-ghost use Rattle.fg_words.specs.Word.{IsMedia};
+ghost use Rattle.std.specs.Prelude.{false, ◌≡◌, ◌↔◌, ◌≢◌, ◌+◌, ◌^◌, ◌<◌, ◌≤◌, length, slice_index_or, Contains, IsTrue, IfSome, IsSomeAnd};
+ghost use Rattle.fg_words.specs.Word.{HasRoom, IsMedia};
 ghost use Rattle.fg_peel.specs.declared.Slot.{Slot};
 ghost use Rattle.fg_shape.specs.Shape.{position_limit};
 ghost use Rattle.fg_peel.specs.Slots.{word_in, words_from, equation_of, equations_of, lines_of};
 ghost use Rattle.fg_peel.specs.Slots.{Fits, AllFitFrom, IsMissing};
 ghost use Rattle.fg_peel.specs.Span.{words_in, HasAllSlots};
+ghost use Rattle.fg_peel.specs.Peeling.{given_word};
 ghost use Rattle.fg_peel.specs.Recovery.{IsPeeled, Fills};
 ghost use Rattle.fg_peel.specs.Recovery.{NothingFollows, AllClosed, AllClosedAt, StayClosed, StayMedia};
 
@@ -21,13 +22,17 @@ use slab::Slab;
 /// word: so each found word is asked once, whatever else is found.
 // A copy of a word on the way must not stand in the frames of `visit`, of which a chain has many.
 #[inline(never)]
-fn fill<E: EntryRow>(start: u64, entries: &mut E, line: &Line, position: u64) -> bool
+pub(crate) fn fill<E: EntryRow>(start: u64, entries: &mut E, line: &Line, position: u64) -> bool
     requires line { Fits start (E.slots entries.old) line.now }
     requires limit { start + length (E.slots entries.old) ≤ position_limit }
     requires missing { IsMissing (words_from start (E.slots entries.old)) (equation_of line.now)
         (Missing.One position) }
     ensures fills { Fills start (equation_of line.now) position (E.slots entries.old) (E.slots entries.new) }
     ensures media { IsTrue result → StayMedia (words_from start (E.slots entries.old)) (words_from start (E.slots entries.new)) }
+    ensures told { IsTrue result ↔ IsMedia (given_word (words_from start (E.slots entries.old))
+        (record { equation = equation_of line.now; position = position })) }
+    ensures room { HasRoom (given_word (words_from start (E.slots entries.old))
+        (record { equation = equation_of line.now; position = position })) }
     ensures rest { E.rest entries.new ≡ E.rest entries.old }
 {
     let target = (position - start) as usize;
@@ -44,12 +49,22 @@ fn fill<E: EntryRow>(start: u64, entries: &mut E, line: &Line, position: u64) ->
 /// Whether an entry has a media word.
 fn is_media_at<E: EntryRow>(entries: &E, index: usize) -> bool
     requires { index < length (E.slots entries.now) }
-    ensures { IsTrue result → IsSomeAnd (word_in (slice_index_or (E.slots entries.now) index Slot.Empty)) IsMedia }
+    ensures media { IsTrue result ↔ IsSomeAnd (word_in (slice_index_or (E.slots entries.now) index Slot.Empty)) IsMedia }
+    ensures room { IfSome (word_in (slice_index_or (E.slots entries.now) index Slot.Empty)) HasRoom }
 {
     match entries.word(index) {
-        Some(word) => word.is_media(),
+        Some(word) => is_media_word(word),
         None => false,
     }
+}
+
+/// Whether a word is a media word. Every word has room for seven transport packets.
+fn is_media_word(word: &Word) -> bool
+    ensures media { IsTrue result ↔ IsMedia word.now }
+    ensures room { HasRoom word.now }
+{
+    let _bytes = word.bytes;
+    word.is_media()
 }
 
 /// Whether both hold.

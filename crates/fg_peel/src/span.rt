@@ -33,6 +33,7 @@ impl<'a, E: EntryRow> Span<'a, E> {
     ghost use Rattle.fg_peel.specs.Slots.{equation_of, IsMissing};
     ghost use Rattle.fg_peel.specs.Span.{words_in, HasSlots};
     ghost use Rattle.fg_peel.specs.Equation.{slots, ComesOut};
+    ghost use Rattle.fg_peel.specs.Look.{IsNextGap};
     ghost use Rattle.fg_peel.specs.Recovery.{AddsWords};
 
     /// The word at a position.
@@ -64,6 +65,20 @@ impl<'a, E: EntryRow> Span<'a, E> {
             Some(position) => Missing::One(position),
             None => Missing::Nothing,
         }
+    }
+
+    /// The number of a line's next slot, from this number on, that has no word. It reads no payload.
+    pub(crate) fn next_gap(&self, line: &Line, from: u8) -> Option<u8>
+        requires { HasSlots E.slots self.now line.now }
+        ensures { IsNextGap (words_in E.slots self.now) (equation_of line.now) from result }
+    {
+        for number in from..line.shape.na {
+            let position = slot(line.base, line.shape, number);
+            if self.word(position).is_none() {
+                return Some(number);
+            }
+        }
+        None
     }
 
     /// Whether the words at a line's slots sum to its parity word. A slot without a word adds

@@ -1,7 +1,4 @@
-use Rattle.std.proofs.Common.{List, subst, sym, arith}
-use Rattle.fg_peel.specs.declared.Slot.{Slot}
-use Rattle.fg_peel.specs.Equation.{AreMedia}
-use Rattle.fg_peel.specs.Slots.{words_from}
+use Rattle.std.proofs.Common.{arith}
 use Rattle.fg_peel.proofs.Ends.{ends_peeling, peeled_fills}
 use Rattle.fg_peel.proofs.Says.{fit_others}
 use Rattle.fg_peel.proofs.Whole.{recovered_told}

@@ -1,4 +1,4 @@
-use Rattle.fg_peel.proofs.FoundMedia.{filled_media}
+use Rattle.fg_peel.proofs.FoundMedia.{filled_media, told_media, filled_room}
 use Rattle.std.proofs.Common.{◌≡◌, ◌≢◌, ◌<◌, length, get_or, sym, ap, ◌∙◌, arith}
 use Rattle.std.proofs.lemmas.List.{length-set}
 use Rattle.std.proofs.lemmas.List.Elements.{Contains-get_or}
@@ -97,10 +97,31 @@ returns-clause-media g c = λ media.
     (g.E.EntryRow.slots c.loop-j.entries) from.0 (omega (arith, from))
     (filling_done c.args.start (g.E.EntryRow.slots c.args.entries.now) c.args.position xs c.args.line.now.parity c.loop-j.j (g.E.EntryRow.slots c.loop-j.entries)
     (omega (arith, length-slots_of c.args.line.now.base c.args.line.now.shape.offset c.args.line.now.shape.na)) c.loop-j.invariant.0)
-    (c.is_media_at.ensures media)
+    (c.is_media_at.ensures.media.0 media)
 
 pub is_media_at-requires : goal.is_media_at-requires
 is_media_at-requires g c =
     let same : length (g.E.EntryRow.slots c.loop-j.entries) ≡ length (g.E.EntryRow.slots c.args.entries.now) =
     ap length c.loop-j.invariant.0.entry ∙ length-set (g.E.EntryRow.slots c.args.entries.now) _ _ in
     omega (arith, same, c.requires.line.within c.args.position c.requires.missing.0)
+
+pub returns-clause-told : goal.returns-clause-told
+returns-clause-told g c =
+    let xs = slots (equation_of c.args.line.now) in
+    let from = c.requires.line.within c.args.position c.requires.missing.0 in
+    let told =
+    told_media c.args.start (equation_of c.args.line.now) c.args.position (g.E.EntryRow.slots c.args.entries.now)
+    (g.E.EntryRow.slots c.loop-j.entries) (omega (arith, from))
+    (filling_done c.args.start (g.E.EntryRow.slots c.args.entries.now) c.args.position xs c.args.line.now.parity c.loop-j.j (g.E.EntryRow.slots c.loop-j.entries)
+    (omega (arith, length-slots_of c.args.line.now.base c.args.line.now.shape.offset c.args.line.now.shape.na)) c.loop-j.invariant.0) in
+    (λ yes. told.0 (c.is_media_at.ensures.media.0 yes), λ media. c.is_media_at.ensures.media.1 (told.1 media))
+
+pub returns-clause-room : goal.returns-clause-room
+returns-clause-room g c =
+    let xs = slots (equation_of c.args.line.now) in
+    let from = c.requires.line.within c.args.position c.requires.missing.0 in
+    filled_room c.args.start (equation_of c.args.line.now) c.args.position (g.E.EntryRow.slots c.args.entries.now)
+    (g.E.EntryRow.slots c.loop-j.entries) (omega (arith, from))
+    (filling_done c.args.start (g.E.EntryRow.slots c.args.entries.now) c.args.position xs c.args.line.now.parity c.loop-j.j (g.E.EntryRow.slots c.loop-j.entries)
+    (omega (arith, length-slots_of c.args.line.now.base c.args.line.now.shape.offset c.args.line.now.shape.na)) c.loop-j.invariant.0)
+    c.is_media_at.ensures.room

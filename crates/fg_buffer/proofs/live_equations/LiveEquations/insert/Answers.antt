@@ -115,3 +115,9 @@ returns-clause-added c =
           })
           c.self.view_is,
     )
+
+pub returns-clause-within : goal.returns-clause-within
+returns-clause-within c =
+    let within = c.take-place.ensures.within in
+    let count = c.self.invariant.sound.count in
+    omega (arith, within, count)

@@ -3,7 +3,7 @@ use Rattle.std.proofs.lemmas.List.{with_items_is}
 use Rattle.fg_buffer.specs.PlayoutBuffer.{buffer_words}
 use Rattle.fg_buffer.specs.LiveEquations.{LiveState, Reopens}
 use Rattle.fg_buffer.specs.LiveInside.{AreKeyed, state_of}
-use Rattle.fg_buffer.proofs.LiveCalls.{reopens_sound, reopens, to_reopened}
+use Rattle.fg_buffer.proofs.LiveCalls.{are_live, reopens_sound, reopens, to_reopened}
 use Rattle.fg_buffer.proofs.LiveKeys.{keyed_swapped}
 use Rattle.fg_buffer.proofs.LiveViews.{swapped, place_of}
 use Rattle.fg_buffer.proofs.live_equations.LiveEquations.reopen.Goals as goal
@@ -29,8 +29,14 @@ invariant_of-self c =
           c.move_lines.new.target c.move_lines.new.source c.move_lines.ensures.moves line stands);
     }
 
-pub returns : goal.returns
-returns c =
+pub returns-clause-reopens : goal.returns-clause-reopens
+returns-clause-reopens c =
     let words = buffer_words c.args.buffer.now in
     subst (λ (s : LiveState). Reopens words s (state_of c.move_lines.new.target c.move_lines.new.source)) c.self.view_is
     (reopens c.self.inside.open c.self.inside.settled c.self.inside.places c.self.invariant.sound words c.move_lines.new.target c.move_lines.new.source c.move_lines.ensures.moves)
+
+pub returns-clause-facts : goal.returns-clause-facts
+returns-clause-facts c =
+    are_live c.move_lines.new.target c.move_lines.new.source c.self.inside.places
+    (reopens_sound c.self.inside.open c.self.inside.settled c.self.inside.places c.self.invariant.sound (buffer_words c.args.buffer.now)
+    c.move_lines.new.target c.move_lines.new.source c.move_lines.ensures.moves)

@@ -8,6 +8,8 @@ use Rattle.fg_desk.specs.Inside.{AreSound, state_of}
 use Rattle.fg_buffer.specs.LiveEquations.{LiveState}
 use Rattle.fg_desk.specs.Parts.{parts_of}
 use Rattle.fg_desk.proofs.DeskAdds.{next_is_fresh, with_line, sound_with_line}
+use Rattle.fg_buffer.specs.PlayoutBuffer.{buffer_words}
+use Rattle.fg_desk.proofs.WatchedLines.{more_watched}
 use Rattle.fg_desk.proofs.desk.Desk.add.Goals as goal
 
 pub insert-place-requires-clause-fresh : goal.insert-place-requires-clause-fresh
@@ -32,4 +34,7 @@ invariant_of-self c =
           (sound_with_line parts c.self.invariant.sound c.insert-place.ensures.facts c.insert-place.result equation c.requires.shape c.requires.base
           replies added.0 opened from calls c.peelings_stay.ensures.equations c.requires.room);
       timed = c.self.invariant.timed;
+      watched = more_watched c.self.inside.watches c.add.new.self (buffer_words c.self.inside.buffer) c.self.inside.lines
+          c.insert-place.new.self c.self.inside.admitted c.insert-place.result equation c.insert-place.ensures.within c.add.ensures
+          added.1 c.self.invariant.watched;
     }

@@ -9,6 +9,8 @@ use Rattle.fg_desk.specs.Inside.{Parts, AreSound, state_of, contents_of}
 use Rattle.fg_desk.specs.Parts.{parts_of, top_of}
 use Rattle.fg_desk.proofs.DeskTimes.{SameReceived, received_times, received_timed}
 use Rattle.fg_desk.proofs.DeskBegins.{run_parts, received_at_mark, nothing_more, holds_in_run, sound_in_run, gives_way_in_run}
+use Rattle.fg_desk.proofs.WatchedLines.{none_watched}
+use Rattle.fg_buffer.specs.PlayoutBuffer.{buffer_words}
 use Rattle.fg_desk.proofs.desk.Desk.begin_run.Goals as goal
 use Rattle.fg_desk.proofs.desk.Desk.begin_run.Goals.{After-note}
 
@@ -89,7 +91,11 @@ module _ (c : After-note) where
 pub invariant_of-self : goal.invariant_of-self
 invariant_of-self c =
     let d = (goal.at.invariant_of-self c).After-note in
-    record { sound = subst AreSound (sym (after_is d)) (sound d); timed = timed d }
+    record {
+      sound = subst AreSound (sym (after_is d)) (sound d);
+      timed = timed d;
+      watched = none_watched c.self.inside.watches (buffer_words c.begin.new.buffer) c.begin.new.equations c.begin.ensures.equations;
+    }
 
 pub returns-clause-rest : goal.returns-clause-rest
 returns-clause-rest c =

@@ -9,4 +9,5 @@ invariant_of-self c = record {
   sound = counted_sound (parts_of c.self.inside) c.self.invariant.sound
       (subst (λ (s : Contents). s.state.calls < 2 ^ 62) (sym c.self.view_is) c.requires);
   timed = c.self.invariant.timed;
+  watched = c.self.invariant.watched;
 }

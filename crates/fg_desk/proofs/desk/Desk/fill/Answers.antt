@@ -1,14 +1,15 @@
-use Rattle.std.proofs.Common.{◌≡◌, ℕ, false, sym, ap, subst, ◌∙◌}
+use Rattle.std.proofs.Common.{◌≡◌, ℕ, false, sym, ap, subst, ◌∙◌, arith}
 use Rattle.fg_desk.specs.Contents.{Contents, CanFill, IsLiveAt, filled}
 use Rattle.fg_playout.specs.State.{Words}
 use Rattle.fg_desk.specs.Holding.{times_in, AreTimed}
 use Rattle.fg_desk.specs.Inside.{AreSound, state_of, contents_of}
 use Rattle.fg_buffer.specs.LiveEquations.{SettlesAt}
 use Rattle.fg_desk.specs.Parts.{parts_of}
-use Rattle.fg_buffer.specs.PlayoutBuffer.{BufferState, publishes}
+use Rattle.fg_buffer.specs.PlayoutBuffer.{BufferState, buffer_words, publishes}
 use Rattle.fg_desk.proofs.DeskTimes.{SameReceived, way_keeps}
 use Rattle.fg_desk.proofs.DeskFills.{fills_here, can_put, filled_sound, filled_contents}
 use Rattle.fg_desk.proofs.DeskWays.{with_buffer}
+use Rattle.fg_desk.proofs.WatchedLines.{settled_watched}
 use Rattle.fg_desk.proofs.desk.Desk.fill.Goals as goal
 use Rattle.fg_desk.proofs.desk.Desk.fill.Goals.{After-settle_at}
 
@@ -91,7 +92,20 @@ module _ (c : After-settle_at) where
       λ i. record (parts_of c.self.inside) { buffer = c.publish.new.buffer; times = times i; lines = c.settle_at.new.self }
 
 pub invariant_of-self : goal.invariant_of-self
-invariant_of-self c = record { sound = subst AreSound (sym (parts_are c)) (sound c); timed = timed c }
+invariant_of-self c = record {
+  sound = subst AreSound (sym (parts_are c)) (sound c);
+  timed = timed c;
+  watched = settled_watched c.args.place c.publish.new.lines c.settle_at.new.self c.settle_at.ensures c.publish.new.watches
+      (buffer_words c.publish.new.buffer) c.publish.ensures.watched;
+}
+
+pub publish-requires-clause-limit : goal.publish-requires-clause-limit
+publish-requires-clause-limit c =
+    let near = (can_put (parts_of c.self.inside) c.self.invariant.sound c.args.self.now c.args.place c.args.slot c.args.share c.self.view_is c.requires).near in
+    let reach = c.self.invariant.sound.limits.reach_is in
+    let depth = c.self.invariant.sound.limits.depth_limit in
+    let mark = c.self.invariant.sound.limits.mark_limit in
+    omega (arith, near, reach, depth, mark)
 
 pub returns : goal.returns
 returns c = ap contents_of (parts_are c) ∙ contents c

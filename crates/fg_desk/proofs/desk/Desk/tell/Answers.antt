@@ -16,6 +16,7 @@ invariant_of-self c = record {
       c.tell.ensures c.mark-mark.ensures.value;
   timed = after_told_timed c.self.inside c.self.invariant c.args.time c.mark-mark.result c.tell.result c.tell.new.waiting (limited c)
       c.tell.ensures c.mark-mark.ensures.value;
+  watched = c.self.invariant.watched;
 }
 
 pub returns-clause-state : goal.returns-clause-state

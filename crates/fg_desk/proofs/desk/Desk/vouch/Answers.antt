@@ -8,6 +8,8 @@ use Rattle.fg_desk.specs.Inside.{state_of, contents_of}
 use Rattle.fg_buffer.specs.LiveEquations.{SettlesAt}
 use Rattle.fg_desk.specs.Parts.{parts_of}
 use Rattle.fg_desk.proofs.DeskFills.{vouched_sound}
+use Rattle.fg_buffer.specs.PlayoutBuffer.{buffer_words}
+use Rattle.fg_desk.proofs.WatchedLines.{settled_watched}
 use Rattle.fg_desk.proofs.desk.Desk.vouch.Goals as goal
 
 pub invariant_of-self : goal.invariant_of-self
@@ -19,6 +21,8 @@ invariant_of-self c =
       sound = vouched_sound parts c.self.invariant.sound at.0 at.1 at.2 at.4 c.settle_at.new.self
           (subst (λ (place : ℕ). SettlesAt place c.self.inside.lines c.settle_at.new.self) (sym at.3) c.settle_at.ensures);
       timed = c.self.invariant.timed;
+      watched = settled_watched c.args.place c.self.inside.lines c.settle_at.new.self c.settle_at.ensures c.self.inside.watches
+          (buffer_words c.self.inside.buffer) c.self.invariant.watched;
     }
 
 pub returns : goal.returns

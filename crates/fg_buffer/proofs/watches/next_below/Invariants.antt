@@ -1,0 +1,5 @@
+use Rattle.std.proofs.Common.{◌<◌, ◌≤◌, ℕ, get_or}
+use Rattle.fg_buffer.proofs.watches.next_below.Given as goal
+
+abbrev pub invariant-loop-place : goal.invariant-loop-place
+invariant-loop-place l = (other : ℕ) → l.from ≤ other → other < l.place → l.mark ≤ get_or l.first other 0
