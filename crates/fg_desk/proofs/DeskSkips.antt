@@ -29,6 +29,7 @@ use Rattle.fg_desk.specs.Inside.{Parts, AreSound, AreLimited, SettledComeOut, st
 use Rattle.fg_desk.specs.Parts.{top_of, parts_of, IsDesk}
 use Rattle.fg_desk.specs.Skipping.{PassesWindows, SkipsTo}
 use Rattle.fg_desk.specs.Storage.{equations_in}
+use Rattle.fg_desk.specs.Watched.{EachWatched}
 use Rattle.fg_desk.proofs.DeskPlays.{sound_without_found}
 use Rattle.fg_desk.proofs.DeskWords.{or_neither, received_ahead}
 
@@ -248,6 +249,11 @@ module _
   some_timed : AreTimed rest new.mark new.media
   some_timed = passes.moves.timed a.buffer.mark a.buffer.media new.media desk.timed rises from
 
+  some_watched : EachWatched a.watches (buffer_words new) a.lines
+  some_watched serial live is open_still =
+      absurd (Contains-nil live.equation (subst (λ (l : List Equation). Contains l live.equation) passes.equations
+      (live_at (state_of parts) serial live is)))
+
   some_skipped : SkipsTo until count (contents_of parts) (contents_of (after_skip a new rest count))
   some_skipped = subst (λ (p : Parts). SkipsTo until count (contents_of parts) (contents_of p)) (sym skipped_is) (record {
     facts = desk.sound.facts;
@@ -279,6 +285,12 @@ module _
       subst (λ (w : WaitingState). AreTimed w new.mark new.media) (sym (none is).1)
       (subst (λ (b : BufferState). AreTimed a.waiting b.mark b.media) (sym (none is).0) desk.timed))
       (λ more. some_timed a desk until count new rest (some more) opened)
+      (cases_eq count 0)
+
+  pub watched_after_skip : EachWatched a.watches (buffer_words new) a.lines
+  watched_after_skip = ⊎_elim
+      (λ is. subst (λ (b : BufferState). EachWatched a.watches (buffer_words b) a.lines) (sym (none is).0) desk.watched)
+      (λ more. some_watched a desk until count new rest (some more) opened)
       (cases_eq count 0)
 
   pub none_after_skip : count ≡ 0 → contents_of (after_skip a new rest count) ≡ old

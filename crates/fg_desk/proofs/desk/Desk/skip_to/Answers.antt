@@ -1,4 +1,4 @@
-use Rattle.fg_desk.proofs.DeskSkips.{opened_by, sound_after_skip, timed_after_skip, some_after_skip}
+use Rattle.fg_desk.proofs.DeskSkips.{opened_by, sound_after_skip, timed_after_skip, watched_after_skip, some_after_skip}
 use Rattle.fg_desk.proofs.desk.Desk.skip_to.Goals as goal
 
 pub invariant_of-self : goal.invariant_of-self
@@ -7,6 +7,9 @@ invariant_of-self c = record {
       c.skip_windows-count.new.buffer c.skip_windows-count.new.waiting c.skip_windows-count.ensures.none c.skip_windows-count.ensures.some
       (opened_by c.self.inside.top c.is_none.result c.is_none.ensures c.if-is_none.false);
   timed = timed_after_skip c.self.inside c.self.invariant c.args.self.now c.self.view_is c.args.until c.skip_windows-count.result
+      c.skip_windows-count.new.buffer c.skip_windows-count.new.waiting c.skip_windows-count.ensures.none c.skip_windows-count.ensures.some
+      (opened_by c.self.inside.top c.is_none.result c.is_none.ensures c.if-is_none.false);
+  watched = watched_after_skip c.self.inside c.self.invariant c.args.self.now c.self.view_is c.args.until c.skip_windows-count.result
       c.skip_windows-count.new.buffer c.skip_windows-count.new.waiting c.skip_windows-count.ensures.none c.skip_windows-count.ensures.some
       (opened_by c.self.inside.top c.is_none.result c.is_none.ensures c.if-is_none.false);
 }
