@@ -87,15 +87,6 @@ impl EntryList {
         self.slots.at(self.front + index)
     }
 
-    /// Whether an entry is known to be empty.
-    #[inline]
-    fn is_empty(&self, index: usize) -> bool
-        requires { index ≤ length self.now }
-        ensures { IsTrue result → slice_index_or self.now index Slot.Empty ≡ Slot.Empty }
-    {
-        self.slots.is_empty(self.front + index)
-    }
-
     /// Puts the share of a received word into an entry.
     #[inline]
     pub(crate) fn put_media(&mut self, index: usize, share: Shared)
@@ -178,10 +169,13 @@ impl EntryList {
         ensures most { result ≤ limit }
         ensures empty { IsEmptyTo self.now result }
     {
-        for i in KEPT..self.end.min(self.count()).min(limit) {
-            if !self.is_empty(i) {
-                return i;
-            }
+        let end = self.end.min(self.count()).min(limit);
+        if end <= KEPT {
+            return limit;
+        }
+        let ahead = self.slots.empty_run(self.front + KEPT, self.front + end);
+        if KEPT + ahead < end {
+            return KEPT + ahead;
         }
         limit
     }
