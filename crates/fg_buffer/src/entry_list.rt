@@ -87,15 +87,6 @@ impl EntryList {
         self.slots.at(self.front + index)
     }
 
-    /// Whether an entry is known to be empty.
-    #[inline]
-    fn is_empty(&self, index: usize) -> bool
-        requires { index ≤ length self.now }
-        ensures { IsTrue result → slice_index_or self.now index Slot.Empty ≡ Slot.Empty }
-    {
-        self.slots.is_empty(self.front + index)
-    }
-
     /// Puts the share of a received word into an entry.
     #[inline]
     pub(crate) fn put_media(&mut self, index: usize, share: Shared)
@@ -178,10 +169,13 @@ impl EntryList {
         ensures most { result ≤ limit }
         ensures empty { IsEmptyTo self.now result }
     {
-        for i in KEPT..self.end.min(self.count()).min(limit) {
-            if !self.is_empty(i) {
-                return i;
-            }
+        let end = self.end.min(self.count()).min(limit);
+        if end <= KEPT {
+            return limit;
+        }
+        let ahead = self.slots.empty_run(self.front + KEPT, self.front + end);
+        if KEPT + ahead < end {
+            return KEPT + ahead;
         }
         limit
     }
@@ -229,30 +223,32 @@ impl EntryList {
         ensures moved { (k : ℕ) → slice_index_or self.new k Slot.Empty
             ≡ slice_index_or self.old (k + count) Slot.Empty }
     {
+        let last = self.front + self.end.min(self.count());
         self.end = self.end.saturating_sub(count);
         let end = self.front + count;
         if end <= SLACK {
             pass_all(&mut self.slots, self.front, end, spares);
             self.front = end;
         } else {
-            shift_down(&mut self.slots, end, spares);
+            shift_down(&mut self.slots, end, last, spares);
             self.front = 0;
         }
     }
 }
 
-/// Moves each slot to the place `count` before it. The first `count` slots are passed, and the last
-/// ones are then empty.
-fn shift_down(slots: &mut SmallSlots, count: usize, spares: &mut Spares)
+/// Moves each slot to the place `count` before it, where those from `last` on are empty. The first `count` slots are passed, and
+/// the last ones are then empty.
+fn shift_down(slots: &mut SmallSlots, count: usize, last: usize, spares: &mut Spares)
     requires some { 1 ≤ count }
     requires within { count ≤ length slots.old }
+    requires last { last ≤ length slots.old }
+    requires past { (k : ℕ) → last ≤ k → slice_index_or slots.old k Slot.Empty ≡ Slot.Empty }
     ensures count { length slots.new ≡ length slots.old }
     ensures moved { (k : ℕ) → slice_index_or slots.new k Slot.Empty
         ≡ slice_index_or slots.old (k + count) Slot.Empty }
 {
-    let all = slots.count();
-    take_later(slots, count, all);
-    pass_all(slots, all - count, all, spares);
+    take_later(slots, count, last);
+    pass_all(slots, last.saturating_sub(count), last.max(count), spares);
 }
 
 /// Moves what each slot from `count` on up to `end` has to the slot `count` places before it.
@@ -262,6 +258,8 @@ fn take_later(slots: &mut SmallSlots, count: usize, end: usize)
     ensures count { length slots.new ≡ length slots.old }
     ensures taken { (k : ℕ) → k + count < end → slice_index_or slots.new k Slot.Empty
         ≡ slice_index_or slots.old (k + count) Slot.Empty }
+    ensures past { (k : ℕ) → end ≤ k → count ≤ k → slice_index_or slots.new k Slot.Empty
+        ≡ slice_index_or slots.old k Slot.Empty }
 {
     for i in count..end {
         slots.swap(i - count, i);
