@@ -1,5 +1,5 @@
 use Rattle.fg_buffer.proofs.BufferBounds.{bounded_put}
-use Rattle.std.proofs.Common.{◌<◌, ◌≤◌, ◌+◌, arith}
+use Rattle.std.proofs.Common.{arith}
 use Rattle.fg_peel.specs.declared.Slot.TheVariants.{Media}
 use Rattle.fg_buffer.proofs.BufferStored.{put_live}
 use Rattle.fg_buffer.proofs.entry_list.EntryList.put_media.Goals as goal
