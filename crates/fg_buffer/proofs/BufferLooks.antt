@@ -1,11 +1,9 @@
 -- What a look at one line leaves of a buffer of entries.
-use Rattle.std.proofs.Common.{◌≡◌, ◌≢◌, ◌⊎◌, ◌+◌, ◌-◌, ◌<◌, ◌≤◌, ℕ, ℤ, IsSome, List, length, take, drop, get_or, Option, Some, None, nat_lt, if◌then◌else◌, cond, inl, inr, refl, sym, ap, ◌∙◌, ⊎_elim, subst, arith}
+use Rattle.std.proofs.Common.{◌≡◌, ◌≢◌, ◌⊎◌, ◌+◌, ◌-◌, ◌<◌, ◌≤◌, ℕ, IsSome, List, length, take, drop, get_or, Option, None, nat_lt, if◌then◌else◌, cond, inl, inr, refl, sym, ap, ◌∙◌, ⊎_elim, subst, arith}
 use Rattle.std.proofs.lemmas.Bool.{cases_lt, cases_eq}
 use Rattle.std.proofs.lemmas.List.{length-drop, length-take, get_or-drop, get_or-take}
-use Rattle.std.specs.FinMap.{get}
 use Rattle.std.specs.List.{Contains}
 use Rattle.fg_words.specs.declared.Word.{Word}
-use Rattle.fg_words.specs.Word.{IsMedia}
 use Rattle.fg_peel.specs.declared.Slot.{Slot}
 use Rattle.fg_peel.specs.declared.Slot.TheVariants.{Empty, Media, Solved, Filled}
 use Rattle.fg_peel.specs.declared.Line.{Line}
@@ -13,11 +11,11 @@ use Rattle.fg_peel.specs.declared.looks.Look.{Look}
 use Rattle.fg_peel.specs.declared.looks.Look.TheVariants.{Several, Found, Complete}
 use Rattle.fg_peel.specs.Equation.{slots}
 use Rattle.fg_peel.specs.Look.{IsLook}
-use Rattle.fg_peel.specs.Peeling.{Step, after_step}
+use Rattle.fg_peel.specs.Peeling.{Step}
 use Rattle.fg_peel.specs.Slots.{word_in, equation_of, OnlyFills}
 use Rattle.fg_peel.proofs.Options.{none_has_no_value}
 use Rattle.fg_peel.proofs.Peelings.{after_step-other}
-use Rattle.fg_buffer.specs.PlayoutBuffer.{BufferState, buffer_words, LiesIn}
+use Rattle.fg_buffer.specs.PlayoutBuffer.{buffer_words, LiesIn}
 use Rattle.fg_buffer.specs.BufferEntries.{entry_at, words_of, received_in, solved_in, buffer_of, AreEntries, SolvedAreMedia, LooksAt}
 use Rattle.fg_buffer.proofs.BufferChanges.{same_kept, same_bare, same_repaired}
 use Rattle.fg_buffer.proofs.BufferPeels.{buffer_words-of}

@@ -1,21 +1,18 @@
 -- What the calls tell of the live equations, and what they leave.
-use Rattle.std.proofs.Common.{◌≡◌, ◌⊎◌, ◌↔◌, ℕ, Bool, true, false, not, List, [], ◌∷◌, map as map_list, length, Option, Some, IsSome, IsTrue, MatchBool, inl, inr, refl, sym, ap, subst, ◌∙◌, ⊎_elim, arith, Bor, IfSome, IfNone, None}
+use Rattle.std.proofs.Common.{◌≡◌, ◌⊎◌, ◌↔◌, ℕ, Bool, true, false, not, List, Option, Some, IsTrue, MatchBool, inl, inr, refl, sym, ap, subst, ◌∙◌, ⊎_elim, arith, Bor, IfSome, IfNone, None}
 use Rattle.std.proofs.lemmas.Bool.{false≢true}
 use Rattle.std.proofs.Math.Bool.{beq}
-use Rattle.std.specs.List.{Contains}
 use Rattle.std.specs.FinMap as map
 use Rattle.std.specs.FinSet as set
-use Rattle.slab.specs.Slab.{Slab, slab_len, entries}
-use Rattle.slab.proofs.SlabLemmas.{length-entries}
+use Rattle.slab.specs.Slab.{Slab}
 use Rattle.fg_peel.specs.declared.Line.{Line}
-use Rattle.fg_peel.specs.Slots.{lines_of, equation_of}
+use Rattle.fg_peel.specs.Slots.{equation_of}
 use Rattle.fg_peel.specs.Equation.{IsComplete}
 use Rattle.fg_words.specs.declared.Word.{Word}
-use Rattle.fg_peel.proofs.Lists.{Contains-here, Contains-nil}
 use Rattle.fg_peel.proofs.Options.{has_value, value_of}
 use Rattle.fg_peel.specs.Live.{Live, Survives, IsFree}
 use Rattle.fg_peel.specs.Words.{Words}
-use Rattle.fg_buffer.specs.LiveEquations.{LiveState, AreLive, AreOpen, AreSettled, IsLiveLine, Settles, SettlesAt, Reopens, Retires, SettledAreBased, live_of}
+use Rattle.fg_buffer.specs.LiveEquations.{LiveState, AreLive, AreOpen, AreSettled, IsLiveLine, SettlesAt, Reopens, Retires, SettledAreBased, live_of}
 use Rattle.fg_buffer.specs.LiveInside.{state_of, Holds, Stands, IsOneEach, IsWithin, AreSound, Moves, IsCompleteAs, IsBased, Drops}
 use Rattle.fg_buffer.proofs.LiveViews.{serial_of, place_of, held, listed, same_held, live_standing, count_live, standing_of, settled_of, settled_here, live_under, settled_under, not_settled, live_is, same_live, swapped, fewer_each}
 
@@ -163,14 +160,6 @@ module _ (first second : Slab Line) (places : List Bool) (sound : AreSound first
           (moves.over.every r.0 r.1))
           was,
     )
-
-  pub settles :
-      (words : ℕ → Option Word) (first' second' : Slab Line)
-      → Moves (IsCompleteAs false words) (IsCompleteAs true words) first second first' second'
-      → Settles words (state_of first second) (state_of first' second')
-  settles words first' second' moves =
-      let IsGone : Live → Type 0 = λ live. IsComplete words live.equation in
-      record { live = moved_live IsGone first' second' moves; settled = moved_settled IsGone first' second' moves }
 
   pub settles_at :
       (place : ℕ) (first' second' : Slab Line)
@@ -352,51 +341,6 @@ module _ (first second : Slab Line) (places : List Bool) (sound : AreSound first
       → (line : Line) → IsLiveLine (state_of first second) line → IsSought line → ⊥
   found_none none none' line is =
       ⊎_elim (λ a. none line a) (λ b. none' line b) (stands_live first second places sound line is)
-
--- all are settled exactly where the first slab has none
-module _ (first second : Slab Line) (places : List Bool) (sound : AreSound first second places) where
-  pub all_settled :
-      entries first ≡ [] → (serial : ℕ) → IsSome (map.get (state_of first second).live serial)
-      → set.contains (state_of first second).settled serial ≡ true
-  all_settled none serial some =
-      let v = value_of (map.get (state_of first second).live serial) some in
-      let r = standing_of first second serial v.0 v.1 in
-      ⊎_elim
-      (λ a.
-      let c : Contains (lines_of first) r.0 = listed first r.0 a in
-      let nothing : Contains [] r.0 =
-      subst (λ (es : List (ℕ × Line)). Contains (map_list (λ (x : ℕ × Line). x.1) es) r.0) none c in
-      absurd (Contains-nil r.0 nothing))
-      (λ b. settled_under first second r.0 b serial r.2)
-      r.1
-
-  pub none_is_open :
-      ((serial : ℕ) → IsSome (map.get (state_of first second).live serial)
-      → set.contains (state_of first second).settled serial ≡ true)
-      → (line : Line) → Holds first line → ⊥
-  none_is_open all line h =
-      let live = live_standing first second sound.serials line (inl h) in
-      let t = all line.serial (has_value (map.get (state_of first second).live line.serial) (live_of line) live) in
-      let e : false ≡ true = sym (not_settled first second sound.serials line h) ∙ t in absurd (cc)
-
-  -- the slab has no line exactly where it counts none
-  pub open_counts :
-      ((line : Line) → Holds first line → ⊥) → slab_len first ≡ 0
-  open_counts none =
-      go (entries first) refl
-    where
-      go : (es : List (ℕ × Line)) → es ≡ entries first → slab_len first ≡ 0
-      go [] e = sym (length-entries first) ∙ sym (ap length e)
-      go (entry ∷ rest) e =
-          let c : Contains (lines_of first) entry.1 = rw (← e) (Contains-here entry.1 (map_list (λ (x : ℕ × Line). x.1) rest)) in
-          absurd (none entry.1 (held first entry.1 c))
-
-  pub counts_none : slab_len first ≡ 0 → entries first ≡ []
-  counts_none zero = go (entries first) (length-entries first ∙ zero)
-    where
-      go : (es : List (ℕ × Line)) → length es ≡ 0 → es ≡ []
-      go [] e = refl
-      go (entry ∷ rest) e = absurd (omega (arith, e))
 
 -- What was found among some lines is told of them all.
 pub told_some :

@@ -1,5 +1,5 @@
 -- Lines that are dropped by place, and what the first watched position tells of a line.
-use Rattle.std.proofs.Common.{◌≡◌, ◌≢◌, ◌↔◌, ◌+◌, ◌<◌, ◌≤◌, ℕ, Bool, true, false, List, length, get_or, set, Option, Some, None, Bor, IfSome, IfNone, IsTrue, inl, refl, sym, ap, subst, ◌∙◌, ⊎_elim, arith}
+use Rattle.std.proofs.Common.{◌≡◌, ◌≢◌, ◌↔◌, ◌+◌, ◌<◌, ◌≤◌, ℕ, Bool, true, false, List, length, get_or, set, Option, Some, None, Bor, IfSome, IfNone, inl, refl, sym, ap, subst, ◌∙◌, ⊎_elim, arith}
 use Rattle.std.proofs.lemmas.Bool.{cases_eq, cases_lt}
 use Rattle.std.proofs.lemmas.List.{get_or-set_same, get_or-set_other, length-set}
 use Rattle.std.specs.FinSet as fset
@@ -9,8 +9,8 @@ use Rattle.fg_peel.specs.Slots.{equation_of}
 use Rattle.fg_peel.specs.Live.{Live, Survives}
 use Rattle.fg_peel.specs.Words.{Words}
 use Rattle.fg_buffer.specs.LiveEquations.{LiveState, IsLiveLine, NoneIsOpenAt, SurviveAsWatched, live_of}
-use Rattle.fg_buffer.specs.LiveInside.{Holds, Stands, IsKeyed, IsTaken, AreSound, AreWithin, Drops, state_of}
-use Rattle.fg_buffer.specs.Watches.{WatchState, Closes, WatchesAt, first_of, second_of}
+use Rattle.fg_buffer.specs.LiveInside.{Holds, IsKeyed, AreSound, AreWithin, Drops, state_of}
+use Rattle.fg_buffer.specs.Watches.{WatchState, Closes, WatchesAt, first_of}
 use Rattle.fg_buffer.proofs.LiveMoves.{held_still, was_held}
 use Rattle.fg_buffer.proofs.LiveViews.{one_value, live_standing, not_settled, standing_of, settled_under}
 

@@ -1,25 +1,19 @@
--- Peeling a buffer's entries from the first position on.
-use Rattle.std.proofs.Common.{◌≡◌, ◌+◌, ◌-◌, ◌<◌, ◌≤◌, ◌↔◌, ℕ, ℤ, pos, negsuc, Bool, Option, List, ◌++◌, length, take, drop, IsTrue, sym, ap, ◌∙◌, ⊎_elim, subst, arith}
+-- A look at a buffer's entries from the first position on.
+use Rattle.std.proofs.Common.{◌≡◌, ◌+◌, ◌-◌, ◌<◌, ◌≤◌, ℕ, ℤ, pos, negsuc, Option, List, ◌++◌, length, take, drop, sym, ap, ◌∙◌, ⊎_elim, subst, arith}
 use Rattle.std.proofs.lemmas.Bool.{cases_lt}
 use Rattle.std.proofs.lemmas.List.{take-append-drop, take_all, length-take}
 use Rattle.std.proofs.Math.Seq.{drop-append_seam}
 use Rattle.std.proofs.lemmas.List.{take-append-le}
-use Rattle.slab.specs.Slab.{Slab}
 use Rattle.fg_peel.specs.declared.Line.{Line}
 use Rattle.fg_peel.specs.declared.Slot.{Slot}
-use Rattle.fg_peel.specs.declared.Verdict.{Verdict}
-use Rattle.fg_peel.specs.declared.Verdict.TheVariants.{Sound}
-use Rattle.fg_peel.specs.Equation.{AreMedia}
-use Rattle.fg_peel.specs.Peels.{IsPeel}
-use Rattle.fg_peel.specs.Slots.{first_position, from_first, before_first, words_from, equation_of, AllFitFrom, FitsFrom, OnlyFills}
+use Rattle.fg_peel.specs.Slots.{first_position, from_first, before_first, words_from, equation_of, FitsFrom, OnlyFills}
 use Rattle.fg_words.specs.declared.Word.{Word}
 use Rattle.fg_peel.specs.declared.looks.Look.{Look}
 use Rattle.fg_peel.specs.Look.{IsLook}
 use Rattle.fg_buffer.proofs.BufferLooks.{fills_past}
-use Rattle.fg_peel.proofs.Low.{peels_whole, fills_after}
-use Rattle.fg_buffer.specs.PlayoutBuffer.{LiesIn, AllLieIn}
-use Rattle.fg_buffer.specs.BufferEntries.{buffer_of, words_of, AreEntries, Recovers, LooksAt}
-use Rattle.fg_buffer.proofs.BufferPeels.{IsLow, words_low, fits_line, fits_low, below_low, recovers}
+use Rattle.fg_buffer.specs.PlayoutBuffer.{LiesIn}
+use Rattle.fg_buffer.specs.BufferEntries.{buffer_of, words_of, AreEntries, LooksAt}
+use Rattle.fg_buffer.proofs.BufferPeels.{IsLow, words_low, fits_line, below_low}
 
 -- Entries that were peeled behind a reference, past the first ones, stand where they stood.
 module _
@@ -102,47 +96,3 @@ module _ (mark start below : ℕ) (is : start ≡ mark - 100) (few : below ≡ 1
           fills = fills_past below old new (omega (arith, few, are.some)) same fills;
           below = below_low mark low old new starts.1.is (starts.1.before new ∙ same ∙ sym (starts.1.before old));
         }
-
-  module _ (old : List Slot) (lines : Slab Line) (are : AreEntries mark old) (lie : AllLieIn (buffer_of mark old) lines) where
-    pub lines_placed : AllFitFrom start (drop below old) lines
-    lines_placed =
-        let low = starts.0 in
-        subst (λ (p : ℕ). AllFitFrom p (drop below old) lines) starts.1.first
-        (subst (λ (xs : List Slot). AllFitFrom (first_position low) xs lines) (starts.1.from old)
-        (fits_low mark low old lines starts.1.is are lie))
-
-    pub media_placed : AreMedia (words_of mark old) → AreMedia (words_from start (drop below old))
-    media_placed media =
-        let low = starts.0 in
-        subst (λ (p : ℕ). AreMedia (words_from p (drop below old))) starts.1.first
-        (subst (λ (xs : List Slot). AreMedia (words_from (first_position low) xs)) (starts.1.from old)
-        (subst AreMedia (sym (words_low mark low old starts.1.is)) media))
-
-    module _
-        (new : List Slot) (verdict : Verdict) (same : take below new ≡ take below old)
-        (peel : IsPeel start lines (drop below old) (drop below new) verdict) where
-      whole : new ≡ take below old ++ drop below new
-      whole = sym (take-append-drop below new) ∙ ap (λ (s : List Slot). s ++ drop below new) same
-
-      fills : OnlyFills old new
-      fills = ⊎_elim
-          (λ (less : mark < 100).
-          let zero_start : start ≡ 0 = omega (arith, is, less) in
-          fills_after below lines old new verdict (omega (arith, few, are.some))
-          (drop below new, whole, subst (λ (p : ℕ). IsPeel p lines (drop below old) (drop below new) verdict) zero_start peel))
-          (λ (more : 100 ≤ mark).
-          let none : below ≡ 0 = omega (arith, few, more) in
-          subst (λ (k : ℕ). OnlyFills (drop k old) (drop k new)) none peel.fills)
-          (cases_lt mark 100)
-
-      pub placed_recovers : (answer : Bool) → (IsTrue answer ↔ (verdict ≡ Sound)) → Recovers mark lines old new answer
-      placed_recovers answer tells =
-          let low = starts.0 in
-          let at : IsPeel (first_position low) lines (from_first low old) (from_first low new) verdict =
-          subst (λ (p : ℕ). IsPeel p lines (from_first low old) (from_first low new) verdict) (sym starts.1.first)
-          (subst (λ (xs : List Slot). IsPeel start lines xs (from_first low new) verdict) (sym (starts.1.from old))
-          (subst (λ (xs : List Slot). IsPeel start lines (drop below old) xs verdict) (sym (starts.1.from new)) peel)) in
-          recovers mark low lines old new verdict answer starts.1.is
-          (peels_whole low lines old new verdict (fits_low mark low old lines starts.1.is are lie) fills
-          (starts.1.before new ∙ same ∙ sym (starts.1.before old)) at)
-          tells

@@ -1,5 +1,5 @@
 -- A buffer of entries, the first of which stands for 100 positions before the mark, and what it is seen as.
-use Rattle.std.specs.Prelude.{◌≡◌, ◌↔◌, ◌+◌, ◌-◌, ◌<◌, ◌≤◌, ℕ, zero, suc, Bool, true, false, List, take, drop, length, nat_lt, slice_index_or, Option, Some, None, IsSome, IsTrue, refl, if◌then◌else◌}
+use Rattle.std.specs.Prelude.{◌≡◌, ◌+◌, ◌-◌, ◌<◌, ◌≤◌, ℕ, zero, suc, Bool, true, false, List, take, drop, length, nat_lt, slice_index_or, Option, Some, None, IsSome, refl, if◌then◌else◌}
 use Rattle.std.specs.Ordering.{nat_cmp}
 use Rattle.std.specs.Coded.{Coded, code_by, coded×, coded_ℕ, coded_list}
 use Rattle.std.specs.FinMap as map
@@ -7,14 +7,10 @@ use Rattle.std.specs.FinSet as set
 use Rattle.fg_words.specs.declared.Word.{Word}
 use Rattle.fg_peel.specs.declared.Slot.{Slot}
 use Rattle.fg_peel.specs.declared.Slot.TheVariants.{Empty, Media, Solved, Filled}
-use Rattle.slab.specs.Slab.{Slab}
 use Rattle.fg_peel.specs.declared.Line.{Line}
 use Rattle.fg_words.specs.Word.{IsMedia}
 use Rattle.fg_shape.specs.Shape.{position_limit}
-use Rattle.fg_peel.specs.Closure.{InClosure}
-use Rattle.fg_peel.specs.Equation.{AllComeOut, AreMedia}
-use Rattle.fg_peel.specs.Peeling.{EndsPeeling}
-use Rattle.fg_peel.specs.Slots.{word_in, recovered_in, equation_of, equations_of, OnlyFills}
+use Rattle.fg_peel.specs.Slots.{word_in, equation_of, OnlyFills}
 use Rattle.fg_peel.specs.declared.looks.Look.{Look}
 use Rattle.fg_peel.specs.Look.{IsLook}
 use Rattle.fg_peel.specs.Words.{Words, kept_count}
@@ -142,22 +138,6 @@ pub record AreStored (front : ℕ) (slots : List Slot) : Type 0 where
 -- The words of the entries by position.
 abbrev pub words_of : ℕ → List Slot → ℕ → Option Word
 words_of mark entries position = word_in (entry_at mark entries position)
-
--- Those of them that were not received.
-abbrev pub recovered_of : ℕ → List Slot → ℕ → Option Word
-recovered_of mark entries position = recovered_in (entry_at mark entries position)
-
--- What peeling leaves of the buffer's entries, and whether the words that were not received are media words and each complete
--- equation comes out.
-pub record Recovers (mark : ℕ) (lines : Slab Line) (old new : List Slot) (answer : Bool) : Type 0 where
-  pub fills : OnlyFills old new
-  pub below : (i : ℕ) → mark + i < kept_count → slice_index_or new i Empty ≡ slice_index_or old i Empty
-  pub peeling : EndsPeeling (equations_of lines) (words_of mark old) (words_of mark new)
-  pub inside :
-      (position : ℕ) → IsSome (words_of mark new position)
-      → InClosure (words_of mark old) (equations_of lines) position
-  pub sound :
-      IsTrue answer ↔ (AreMedia (recovered_of mark new) × AllComeOut (words_of mark new) (equations_of lines))
 
 -- What a look at one line leaves of the buffer's entries.
 pub record LooksAt (mark : ℕ) (line : Line) (old new : List Slot) (answer : Look) : Type 0 where

@@ -8,9 +8,8 @@ use Rattle.slab.specs.Slab.{Slab}
 use Rattle.fg_words.specs.declared.Word.{Word}
 use Rattle.fg_shape.specs.Shape.{IsShape, slots_of, position_limit}
 use Rattle.fg_peel.specs.declared.Line.{Line}
-use Rattle.fg_peel.specs.declared.span.Missing.TheVariants.{Several}
-use Rattle.fg_peel.specs.Equation.{Equation, slots, IsComplete}
-use Rattle.fg_peel.specs.Slots.{equation_of, lines_of, IsMissing}
+use Rattle.fg_peel.specs.Equation.{slots, IsComplete}
+use Rattle.fg_peel.specs.Slots.{equation_of, lines_of}
 use Rattle.fg_peel.specs.Live.{Live, last_slot, live_limit, Survives}
 use Rattle.fg_peel.specs.Words.{Words}
 use Rattle.fg_buffer.specs.Watches.{WatchState, first_of}
@@ -49,16 +48,6 @@ AreSettled lines settled_lines =
 abbrev pub IsAmong : Slab Line → Slab Line → Line → Type 0
 IsAmong first second line = Contains (lines_of first) line ⊎ Contains (lines_of second) line
 
--- The equation misses at least two of these words: nothing follows from it alone, and it isn't complete.
-abbrev pub IsStuck : (ℕ → Option Word) → Equation → Type 0
-IsStuck words equation = IsMissing words equation Several
-
--- That is so of each live equation that is open.
-abbrev pub AreStuck : (ℕ → Option Word) → LiveState → Type 0
-AreStuck words lines =
-    (serial : ℕ) (live : Live) → get lines.live serial ≡ Some live → set.contains lines.settled serial ≡ false
-    → IsStuck words live.equation
-
 -- No live equation that is open has this place.
 abbrev pub NoneIsOpenAt : ℕ → LiveState → Type 0
 NoneIsOpenAt place lines =
@@ -70,14 +59,6 @@ abbrev pub SurviveAsWatched : ℕ → Words → WatchState → LiveState → Typ
 SurviveAsWatched mark kept watches lines =
     (serial : ℕ) (live : Live) → get lines.live serial ≡ Some live → set.contains lines.settled serial ≡ false
     → Survives mark kept live.equation ↔ (mark ≤ first_of watches live.place)
-
--- The same equations are live, and those are settled that were, or that are complete in these words.
-pub record Settles (words : ℕ → Option Word) (old new : LiveState) : Type 0 where
-  pub live : new.live ≡ old.live
-  pub settled :
-      (serial : ℕ) → IsTrue (set.contains new.settled serial)
-      ↔ (IsTrue (set.contains old.settled serial)
-      ⊎ ((live : Live) × (get old.live serial ≡ Some live) × IsComplete words live.equation))
 
 -- The same equations are live, and those are settled that were, or that have this place.
 pub record SettlesAt (place : ℕ) (old new : LiveState) : Type 0 where

@@ -5,12 +5,11 @@ use Rattle.std.specs.Option.{option_or}
 use Rattle.std.specs.Ordering.{nat_cmp}
 use Rattle.std.specs.FinMap.{get, empty, insert, remove}
 use Rattle.std.specs.FinSet as set
-use Rattle.slab.specs.Slab.{Slab}
 use Rattle.fg_words.specs.declared.Word.{Word}
 use Rattle.fg_shape.specs.Shape.{IsShape, position_limit}
 use Rattle.fg_peel.specs.declared.Line.{Line}
 use Rattle.fg_peel.specs.Equation.{slots}
-use Rattle.fg_peel.specs.Slots.{equation_of, lines_of}
+use Rattle.fg_peel.specs.Slots.{equation_of}
 use Rattle.fg_peel.specs.Words.{Words, words_around, kept_count, IsGreatest}
 
 pub record BufferState : Type 0 where
@@ -94,10 +93,6 @@ pub record LiesIn (buffer : BufferState) (line : Line) : Type 0 where
   pub based :
       (position : ℕ) → Contains (slots (equation_of line)) position → position < buffer.mark
       → IsSome (get buffer.kept position)
-
--- That is so of each line.
-abbrev pub AllLieIn : BufferState → Slab Line → Type 0
-AllLieIn buffer lines = (line : Line) → Contains (lines_of lines) line → LiesIn buffer line
 
 -- The greatest position with a word, at the mark or past it.
 abbrev pub IsHighestWord : BufferState → ℕ → Type 0

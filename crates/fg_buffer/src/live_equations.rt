@@ -12,7 +12,7 @@ ghost use Rattle.fg_peel.specs.Slots.{equation_of};
 ghost use Rattle.fg_peel.specs.Live.{last_slot, Survives, HasSlots, IsFree, IsLeastFree};
 ghost use Rattle.fg_buffer.specs.PlayoutBuffer.{buffer_words};
 ghost use Rattle.fg_buffer.specs.Watches.{first_of, Closes};
-ghost use Rattle.fg_buffer.specs.LiveEquations.{no_equations, AreLive, AreOpen, AreSettled, IsLiveLine, NoneIsOpenAt, SurviveAsWatched, Settles, SettlesAt, Reopens, SettledAreBased, Retires, IsLost};
+ghost use Rattle.fg_buffer.specs.LiveEquations.{no_equations, AreLive, AreOpen, AreSettled, IsLiveLine, NoneIsOpenAt, SurviveAsWatched, SettlesAt, Reopens, SettledAreBased, Retires, IsLost};
 ghost use Rattle.fg_buffer.specs.LiveInside.{Holds, Stands, IsOneEach, IsTaken, IsKeyed, AreKeyed, AreWithin, Moves, IsCompleteAs, IsBased, Drops};
 
 use crate::playout_buffer::PlayoutBuffer;
@@ -146,14 +146,6 @@ impl LiveEquations {
         self.open.len() + self.settled.len()
     }
 
-    /// Whether every live equation is settled.
-    pub fn none_open(&self) -> bool
-        ensures { IsTrue result ↔ ((serial : ℕ) → IsSome (get self.now.live serial)
-            → IsTrue (set.contains self.now.settled serial)) }
-    {
-        self.open.is_empty()
-    }
-
     /// The open ones.
     pub fn open(&self) -> &Slab<Line>
         ensures { AreOpen self.now result.now }
@@ -241,19 +233,6 @@ impl LiveEquations {
             place: place as u32,
         });
         place as u32
-    }
-
-    /// Settles each open one that is complete in the buffer.
-    pub fn settle(&mut self, buffer: &PlayoutBuffer)
-        ensures { Settles (buffer_words buffer.now) self.old self.new }
-    {
-        move_lines(
-            &mut self.open,
-            &mut self.settled,
-            &mut self.keys,
-            buffer,
-            true,
-        );
     }
 
     /// Settles the one at this place.
@@ -555,7 +534,7 @@ fn drop_settled(
 }
 
 /// A position before which no line's last slot lies. It is sought anew where the mark has passed the
-/// one before.
+/// one before, and there are settled lines, for which alone it is asked.
 fn earliest_after(unsettled: &Slab<Line>, settled: &Slab<Line>, earliest: u64, mark: u64) -> u64
     requires unsettled { AreWithin unsettled.now }
     requires settled { AreWithin settled.now }
@@ -564,7 +543,7 @@ fn earliest_after(unsettled: &Slab<Line>, settled: &Slab<Line>, earliest: u64, m
     ensures { (line : LiveLine) → Stands unsettled.now settled.now line
         → result ≤ last_slot (equation_of line) }
 {
-    if mark <= earliest {
+    if mark <= earliest || settled.is_empty() {
         return earliest;
     }
     let least = least_last(unsettled, u64::MAX);

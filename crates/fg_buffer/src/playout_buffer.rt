@@ -14,18 +14,16 @@ ghost use Rattle.fg_peel.specs.Peeling.{EndsPeeling};
 ghost use Rattle.fg_peel.specs.Slots.{word_in, words_from, equation_of, equations_of, AllFitFrom, Fits, OnlyFills};
 ghost use Rattle.fg_peel.specs.Look.{IsLook};
 ghost use Rattle.fg_peel.specs.Peels.{IsPeel};
-ghost use Rattle.fg_buffer.specs.PlayoutBuffer.{opened_buffer, buffer_received, buffer_words, buffer_known, buffer_shared, IsBuffer, receives, publishes, LiesIn, AllLieIn, IsHighestWord, Advances};
-ghost use Rattle.fg_buffer.specs.BufferEntries.{entry_at, words_of, buffer_of, received_in, solved_in, shared_in, is_found, AreEntries, Recovers, LooksAt, forgets};
+ghost use Rattle.fg_buffer.specs.PlayoutBuffer.{opened_buffer, buffer_received, buffer_words, buffer_known, buffer_shared, IsBuffer, receives, publishes, LiesIn, IsHighestWord, Advances};
+ghost use Rattle.fg_buffer.specs.BufferEntries.{entry_at, words_of, buffer_of, received_in, solved_in, shared_in, is_found, AreEntries, LooksAt, forgets};
 ghost use Rattle.fg_buffer.specs.SmallSlots.{slot_of};
 
 use crate::entry_list::{EntryList, Placed};
 use crate::small_slots::Content;
 use crate::spares::Spares;
-use fg_peel::laws::{confluence, maximal_peelings_are_tested};
-use fg_peel::{Line, Look, Verdict, look_at, peel_entries};
+use fg_peel::{Line, Look, look_at};
 use fg_shape::slot;
 use fg_words::{Shared, Word};
-use slab::Slab;
 use std::alloc::{AllocError, Global};
 use std::marker::Model;
 
@@ -263,26 +261,6 @@ impl PlayoutBuffer {
         self.solved_media |= solved;
     }
 
-    /// Finds each word that follows from the buffer's words and the lines, and tells whether they have
-    /// a solution of media words. The words are then that solution.
-    pub fn recover(&mut self, lines: &Slab<Line>) -> bool
-        requires within { AllLieIn self.old lines.now }
-        requires received { AreMedia (buffer_received self.old) }
-        requires cached { AreMedia (get self.old.cached) }
-        ensures rest { self.new ≡ record self.old { cached = self.new.cached } }
-        ensures peeling { EndsPeeling (equations_of lines.now)
-            (buffer_words self.old) (buffer_words self.new) }
-        ensures solved { IsTrue result → AreMedia (buffer_words self.new)
-            × IsSolution (buffer_words self.old) (equations_of lines.now) (buffer_words self.new) }
-        ensures solvable { AreMedia (buffer_words self.old) → (solution : ℕ → Option Word)
-            → IsSolution (buffer_words self.old) (equations_of lines.now) solution
-            → IsTrue result × (buffer_words self.new ≡ solution) }
-    {
-        maximal_peelings_are_tested();
-        confluence();
-        recover_words(self.mark, &mut self.entries, lines, self.solved_media)
-    }
-
     /// Looks at one line: where it misses just one of the buffer's words, that is found, and where it misses
     /// none, they are summed.
     pub fn look(&mut self, line: &Line) -> Look
@@ -433,40 +411,6 @@ fn stay_media(so_far: bool, share: &Shared) -> bool
     ensures { IsTrue result → IsTrue so_far × IsMedia share.now }
 {
     so_far && share.word().is_media()
-}
-
-/// Peels the buffer's entries, and tells whether the words that were not received are media words and
-/// each complete equation comes out.
-fn recover_words(mark: u64, entries: &mut EntryList, lines: &Slab<Line>, all_media: bool) -> bool
-    requires entries { AreEntries mark entries.old }
-    requires within { AllLieIn (buffer_of mark entries.old) lines.now }
-    requires media { IsTrue all_media → AreMedia (words_of mark entries.old) }
-    ensures { Recovers mark lines.now entries.old entries.new result }
-{
-    let start = mark.saturating_sub(KEPT as u64);
-    let below = (KEPT as u64).saturating_sub(mark) as usize;
-    match peel_placed(start, below, entries, lines, all_media) {
-        Verdict::Sound => true,
-        _ => false,
-    }
-}
-
-/// Peels all but the first `below` entries, the first of which stands for the position `start`.
-fn peel_placed(
-    start: u64,
-    below: usize,
-    entries: &mut EntryList,
-    lines: &Slab<Line>,
-    all_media: bool,
-) -> Verdict
-    requires within { below ≤ length entries.old }
-    requires lines { AllFitFrom start (drop below entries.old) lines.now }
-    requires limit { start + length (drop below entries.old) ≤ position_limit }
-    requires media { IsTrue all_media → AreMedia (words_from start (drop below entries.old)) }
-    ensures peel { IsPeel start lines.now (drop below entries.old) (drop below entries.new) result }
-    ensures before { take below entries.new ≡ take below entries.old }
-{
-    peel_entries(start, &mut Placed { below, entries }, lines, all_media)
 }
 
 /// Looks at one line among the buffer's entries.

@@ -186,7 +186,13 @@ fn set_all(queued: &mut [bool], value: bool)
 }
 
 /// The next place from one on and below an end that watches a position.
-fn next_watching(first: &[u64], second: &[u64], from: usize, end: usize, position: u64) -> Option<u32>
+fn next_watching(
+    first: &[u64],
+    second: &[u64],
+    from: usize,
+    end: usize,
+    position: u64,
+) -> Option<u32>
     requires first { end ≤ length first.now }
     requires second { end ≤ length second.now }
     requires few { end ≤ 512 }

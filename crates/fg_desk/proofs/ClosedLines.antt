@@ -1,11 +1,9 @@
 -- Which open lines survive a play, and what they watch after it.
-use Rattle.std.proofs.Common.{◌≡◌, ◌⊎◌, ◌+◌, ◌<◌, ◌≤◌, ◌↔◌, ◌&&◌, ℕ, Bool, true, false, List, get_or, cond, ltb, leb, Option, Some, None, IsSome, inr, refl, sym, ap, subst, ◌∙◌, ⊎_elim, arith}
+use Rattle.std.proofs.Common.{◌≡◌, ◌+◌, ◌<◌, ◌&&◌, ℕ, Bool, true, false, cond, ltb, leb, Option, Some, None, IsSome, inr, refl, sym, subst, ◌∙◌, ⊎_elim, arith}
 use Rattle.std.proofs.lemmas.Bool.{cases_lt}
 use Rattle.std.specs.FinMap.{get}
 use Rattle.std.specs.FinSet as fset
 use Rattle.fg_words.specs.declared.Word.{Word}
-use Rattle.fg_peel.specs.Equation.{IsComplete}
-use Rattle.fg_peel.specs.Live.{Survives}
 use Rattle.fg_peel.specs.Look.{LacksTwo}
 use Rattle.fg_peel.proofs.Options.{none_has_no_value, has_value}
 use Rattle.fg_peel.proofs.SlotRange.{slot_is_near}
@@ -16,7 +14,7 @@ use Rattle.fg_buffer.specs.PlayoutBuffer.{BufferState, buffer_words, Advances}
 use Rattle.fg_buffer.specs.LiveEquations.{LiveState, Retires, SurviveAsWatched}
 use Rattle.fg_buffer.specs.Watches.{WatchState, Closes, first_of, second_of}
 use Rattle.fg_desk.specs.Storage.{AreInBuffer}
-use Rattle.fg_desk.specs.Watched.{IsWatched, EachWatched, NoneIsQueued}
+use Rattle.fg_desk.specs.Watched.{EachWatched, NoneIsQueued}
 use Rattle.fg_desk.proofs.Advancing.{words_below, words_ahead}
 use Rattle.std.proofs.Common.{lt-ltb, le-leb}
 
@@ -59,7 +57,7 @@ module _
                   advances.kept slot
                   ∙ cond-true (ltb slot new.mark && leb new.mark (slot + kept_count)) (buffer_words old slot) None
                   (and_from (ltb slot new.mark) (leb new.mark (slot + kept_count)) (lt-ltb slot new.mark below)
-                  (le-leb new.mark (slot + kept_count) (omega (arith, begin, last, span, from, below, two.filled slot c))))  in
+                  (le-leb new.mark (slot + kept_count) (omega (arith, begin, last, span, from, below, two.filled slot c)))) in
                   subst (λ (o : Option Word). IsSome o) (sym kept) (two.filled slot c (omega (arith, below, from))));
             },
       )

@@ -1,7 +1,7 @@
 -- What a desk's buffer has once the words that follow are found.
 use Rattle.std.proofs.Common.{◌↔◌, ◌++◌, ℕ, Bool, Option, IsSome, IsTrue, sym, ap, subst, ◌∙◌, arith}
 use Rattle.fg_words.specs.declared.Word.{Word}
-use Rattle.fg_peel.specs.Equation.{AreMedia, Keeps, IsComplete}
+use Rattle.fg_peel.specs.Equation.{AreMedia, Keeps}
 use Rattle.fg_peel.specs.Closure.{InClosure as Follows}
 use Rattle.fg_peel.specs.Solution.{IsSolution as Solves}
 use Rattle.fg_peel.specs.Peeling.{IsPeeling, ArePeeled, end_of}
@@ -11,11 +11,10 @@ use Rattle.fg_playout.specs.State.{known, live_equations}
 use Rattle.fg_playout.specs.Solution.{InClosure, IsSolution}
 use Rattle.fg_desk.specs.Inside.{Parts, AreSound, state_of}
 use Rattle.fg_buffer.specs.PlayoutBuffer.{BufferState, buffer_words}
-use Rattle.fg_desk.specs.Storage.{AreInBuffer, EachSettled, IsRecovered}
+use Rattle.fg_desk.specs.Storage.{AreInBuffer, IsRecovered}
 use Rattle.fg_playout.proofs.Orderly.{IsOrderly, orderly_from_holds, admissible}
 use Rattle.fg_playout.proofs.Peeled.{closure_to_peel, closure_from_peel, solution_to_peel, solution_from_peel}
 use Rattle.fg_playout.proofs.Plays.{words_are_media}
-use Rattle.fg_desk.proofs.SettledWords.{complete_keeps}
 use Rattle.fg_peel.proofs.SlotRange.{slot_is_near}
 
 -- The live equations can be asked of the buffer.
@@ -114,7 +113,3 @@ module _
       subst (λ (r : BufferState). AreInBuffer r parts.lines) (sym recovered.rest)
       (λ serial live is.
       let i = are_in_buffer parts sound serial live is in record { shape = i.shape; near = i.near; based = i.based })
-
-  pub settled_are_complete : PeelingsKeepWords → EachSettled parts.lines (IsComplete (buffer_words buffer))
-  settled_are_complete keep serial live is settled =
-      complete_keeps (buffer_words parts.buffer) (buffer_words buffer) live.equation (words_kept keep) (sound.settled serial live is settled).0

@@ -1,5 +1,5 @@
 -- What a look at one more line adds to what was found.
-use Rattle.std.proofs.Common.{◌≡◌, ◌≢◌, ◌⊎◌, ◌<◌, ◌≤◌, ◌&&◌, ◌↔◌, ℕ, Bool, true, false, List, [], Option, Some, None, IsSome, IsTrue, inl, inr, refl, sym, ap, subst, ◌∙◌, ⊎_elim}
+use Rattle.std.proofs.Common.{◌≡◌, ◌≢◌, ◌⊎◌, ◌<◌, ◌&&◌, ℕ, Bool, true, false, List, [], Option, Some, None, IsTrue, inl, inr, refl, sym, ap, subst, ◌∙◌, ⊎_elim}
 use Rattle.std.proofs.lemmas.Bool.{cases_eq}
 use Rattle.std.proofs.lemmas.Option.{none-some, same_Some}
 use Rattle.std.specs.FinMap.{FinMap, get}
@@ -10,23 +10,23 @@ use Rattle.fg_words.specs.declared.Word.{Word}
 use Rattle.fg_words.specs.Word.{IsMedia}
 use Rattle.fg_peel.specs.declared.looks.Look.{Look}
 use Rattle.fg_peel.specs.declared.looks.Look.TheVariants.{Several, Found, Complete}
-use Rattle.fg_peel.specs.Equation.{Equation, Keeps, AreMedia, IsComplete, IsSettled, ComesOut}
+use Rattle.fg_peel.specs.Equation.{Equation, Keeps, AreMedia, IsComplete, IsSettled}
 use Rattle.fg_peel.specs.Look.{LacksTwo, IsLook}
 use Rattle.fg_peel.specs.Laws.{PeelingsAppend, PeelingsKeepWords}
-use Rattle.fg_peel.specs.Peeling.{Step, ArePeeled, after_step, given_word, end_of}
+use Rattle.fg_peel.specs.Peeling.{Step, ArePeeled, after_step, given_word}
 use Rattle.fg_peel.proofs.Options.{none_or_some, has_value}
 use Rattle.fg_peel.proofs.Peelings.{after_step-at, after_step-other}
 use Rattle.fg_playout.specs.State.{Live}
 use Rattle.fg_buffer.specs.PlayoutBuffer.{BufferState, buffer_words}
 use Rattle.fg_buffer.specs.LiveEquations.{LiveState, SettlesAt}
-use Rattle.fg_buffer.specs.Watches.{WatchState, TakesOut, WatchesAt, Wakes, first_of, second_of, nowhere}
+use Rattle.fg_buffer.specs.Watches.{WatchState, TakesOut, first_of, second_of, nowhere}
 use Rattle.fg_desk.specs.Storage.{equations_in, EachSettled}
 use Rattle.fg_desk.specs.Watched.{IsWatched, EachWatched, EachWatchedBut, HaveRooms, Breaks, Finds, Follows, IsVisit, IsPassed}
 use Rattle.fg_desk.proofs.DeskFills.{XorIsGroup}
 use Rattle.fg_desk.proofs.DeskOneWord.{IsWith, peeled_with_step, settled_by_word}
 use Rattle.fg_desk.proofs.SettledEquations.{live_in_at}
 use Rattle.fg_desk.proofs.SettledWords.{complete_keeps, settled_keeps, settled_back}
-use Rattle.fg_desk.proofs.WatchedLines.{still_watched, taken_watched, apart_watched, put_watched, open_before, open_elsewhere, one_at}
+use Rattle.fg_desk.proofs.WatchedLines.{taken_watched, apart_watched, put_watched, open_before, open_elsewhere, one_at}
 
 -- What is broken stays so where more words come.
 breaks_keeps :

@@ -1,25 +1,23 @@
 -- Once no line has to be looked at, all that follows was found.
 use Rattle.std.proofs.Common.{◌≡◌, ◌≢◌, ◌⊎◌, ◌<◌, ◌≤◌, ℕ, Bool, true, false, Option, Some, None, IsSome, IsTrue, inl, inr, refl, sym, ap, subst, ◌∙◌, ⊎_elim, arith}
 use Rattle.std.proofs.lemmas.Bool.{cases_eq}
-use Rattle.std.proofs.lemmas.Option.{none-some, same_Some}
 use Rattle.std.specs.FinMap.{FinMap, get}
 use Rattle.std.specs.FinSet as fset
 use Rattle.std.specs.List.{Contains}
-use Rattle.std.specs.Option.{option_or}
 use Rattle.std.specs.Ordering.{nat_cmp}
 use Rattle.fg_words.specs.declared.Word.{Word}
 use Rattle.fg_peel.specs.Equation.{Equation, AreMedia, AreAdmissible, AllComeOut, IsComplete, IsSettled, slots}
 use Rattle.fg_peel.specs.Laws.{MaximalPeelingsAreTested, SoundWhereSolvable}
 use Rattle.fg_peel.specs.Look.{LacksTwo}
-use Rattle.fg_peel.specs.Peeling.{Step, CanFollow, EndsPeeling, IsMaximal, end_of}
+use Rattle.fg_peel.specs.Peeling.{Step, CanFollow, EndsPeeling}
 use Rattle.fg_peel.specs.Solution.{IsSolution}
 use Rattle.fg_peel.proofs.Options.{none_has_no_value, has_value, or_first, or_second}
 use Rattle.fg_playout.specs.State.{Live}
 use Rattle.fg_buffer.specs.PlayoutBuffer.{BufferState, IsBuffer, buffer_received, buffer_known, buffer_words}
 use Rattle.fg_buffer.specs.LiveEquations.{LiveState}
 use Rattle.fg_buffer.specs.Watches.{WatchState, IsQueued, first_of, second_of}
-use Rattle.fg_desk.specs.Storage.{equations_in, AreInBuffer, EachSettled, IsRecovered}
-use Rattle.fg_desk.specs.Watched.{IsWatched, EachWatched, EachWatchedBut, NoneIsQueued, Finds}
+use Rattle.fg_desk.specs.Storage.{equations_in, AreInBuffer, IsRecovered}
+use Rattle.fg_desk.specs.Watched.{IsWatched, EachWatched, NoneIsQueued, Finds}
 use Rattle.fg_desk.proofs.DeskWords.{solved_beside, words_media}
 use Rattle.fg_desk.proofs.SettledEquations.{serial_in}
 

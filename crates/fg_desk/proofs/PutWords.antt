@@ -1,5 +1,5 @@
 -- The words of a buffer in which one more stands.
-use Rattle.std.proofs.Common.{◌≡◌, ◌≢◌, ◌≤◌, ℕ, cond, nat_lt, Option, Some, None, IsSome, refl, ap, ◌∙◌}
+use Rattle.std.proofs.Common.{◌≡◌, ◌≢◌, ◌≤◌, ℕ, cond, nat_lt, Option, Some, None, IsSome, refl, ◌∙◌}
 use Rattle.std.specs.FinMap.{get, insert}
 use Rattle.std.specs.Option.{option_or}
 use Rattle.fg_words.specs.declared.Word.{Word}

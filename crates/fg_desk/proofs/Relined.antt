@@ -1,5 +1,5 @@
 -- What was said of a desk's lines before some of them were settled holds of them after.
-use Rattle.std.proofs.Common.{◌≡◌, ◌↔◌, ℕ, Bool, Some, sym, ap, subst, ◌∙◌}
+use Rattle.std.proofs.Common.{◌≡◌, ℕ, Bool, sym, ap, subst, ◌∙◌}
 use Rattle.std.specs.FinMap.{FinMap, get}
 use Rattle.std.specs.Ordering.{nat_cmp}
 use Rattle.fg_peel.specs.Equation.{IsSettled}

@@ -1,7 +1,6 @@
 -- Which equations stay live and settled over a play.
-use Rattle.std.proofs.Common.{◌≡◌, ◌+◌, ◌<◌, ◌≤◌, ◌&&◌, ℕ, ltb, leb, Option, Some, None, IsSome, sym, ap, subst, ◌∙◌, ⊎_elim, arith, lt-ltb, le-leb}
+use Rattle.std.proofs.Common.{◌≡◌, ◌+◌, ◌<◌, ◌≤◌, ◌&&◌, ℕ, ltb, leb, Option, None, IsSome, sym, ap, subst, ◌∙◌, arith, lt-ltb, le-leb}
 use Rattle.std.proofs.lemmas.Bool.{and_from, cond-true}
-use Rattle.std.proofs.lemmas.Option.{same_Some}
 use Rattle.std.specs.List.{Contains}
 use Rattle.std.specs.FinMap.{FinMap, get}
 use Rattle.std.specs.Ordering.{nat_cmp}
@@ -11,20 +10,9 @@ use Rattle.fg_peel.specs.Equation.{Equation, IsComplete, slots}
 use Rattle.fg_playout.specs.State.{Live, last_slot}
 use Rattle.fg_playout.specs.Admission.{kept_count}
 use Rattle.fg_buffer.specs.PlayoutBuffer.{BufferState, buffer_words, Advances}
-use Rattle.fg_buffer.specs.LiveEquations.{LiveState, Settles, Retires, SettledAreBased}
+use Rattle.fg_buffer.specs.LiveEquations.{LiveState, Retires, SettledAreBased}
 use Rattle.fg_desk.specs.Storage.{AreInBuffer, EachSettled, Keeps}
 use Rattle.fg_peel.proofs.SlotRange.{slot_is_near}
-
--- After a pass that settles, those that are settled are complete.
-pub settles_complete :
-    (words : ℕ → Option Word) (old new : LiveState) → Settles words old new → EachSettled old (IsComplete words)
-    → EachSettled new (IsComplete words)
-settles_complete words old new settles complete serial live is settled =
-    let was : get old.live serial ≡ Some live = sym (ap (λ (m : FinMap nat_cmp Live). get m serial) settles.live) ∙ is in
-    ⊎_elim
-    (λ before. complete serial live was before)
-    (λ now. subst (λ (l : Live). IsComplete words l.equation) (same_Some now.0 live (sym now.1 ∙ was)) now.2)
-    ((settles.settled serial).0 settled)
 
 -- The words of a complete equation that reaches to the new mark are kept before it.
 pub complete_is_based :

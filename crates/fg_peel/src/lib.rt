@@ -171,7 +171,7 @@ fn peel_row(start: u64, slots: &mut [Slot], lines: &Slab<Line>, all_media: bool)
 
 /// `peel` over entries of any kind, the first of which stands for the position `start`. `all_media`
 /// tells that all words that are there are media words.
-pub fn peel_entries<E: EntryRow>(
+fn peel_entries<E: EntryRow>(
     start: u64,
     entries: &mut E,
     lines: &Slab<Line>,

@@ -1,4 +1,4 @@
-use Rattle.std.proofs.Common.{◌≡◌, ◌≢◌, List, Bool, set, sym, subst, ◌∙◌, arith}
+use Rattle.std.proofs.Common.{◌≢◌, List, Bool, sym, subst, arith}
 use Rattle.fg_peel.specs.declared.Line.{Line}
 use Rattle.fg_buffer.specs.LiveInside.{Drops}
 use Rattle.fg_buffer.proofs.LiveBounds.{nothing_drops}

@@ -1,4 +1,4 @@
-use Rattle.std.proofs.Common.{◌<◌, ◌≤◌, ◌+◌, arith}
+use Rattle.std.proofs.Common.{◌<◌, ◌≤◌, arith}
 use Rattle.fg_peel.specs.declared.Line.{Line}
 use Rattle.fg_buffer.specs.Watches.{first_of, nowhere}
 use Rattle.fg_buffer.proofs.LiveBounds.{nothing_drops}

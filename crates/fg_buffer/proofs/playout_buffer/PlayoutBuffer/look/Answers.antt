@@ -1,4 +1,4 @@
-use Rattle.std.proofs.Common.{◌≡◌, sym, ap, subst, ◌∙◌}
+use Rattle.std.proofs.Common.{sym, ap, subst, ◌∙◌}
 use Rattle.fg_peel.specs.Look.{IsLook}
 use Rattle.fg_peel.specs.Slots.{equation_of}
 use Rattle.fg_buffer.specs.PlayoutBuffer.{BufferState, buffer_words, LiesIn}
