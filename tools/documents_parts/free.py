@@ -24,10 +24,10 @@ KINDS = (
      r"\b(?:239|192|127|10)\.\d+\.\d+\.\d+(?::\d+)?", r"`[^`\n]*\bttl=1\"?`", r"\bport 5000\b",
      r"`?(?:cat |mkfifo |`)5000\.ts\b", r"`[a-z_.]+=\d+`", r"-s 0`", r"hugetlb=1`", r"`repair \$'[^`]*` word 1\b",
      r"`fgate repair workers=0`"),
-    ("a hundred, of which parts are told", r"\b100 (?:of media|/ [DL]\b)"),
+    ("a hundred, of which parts are told", r"\b100 of media\b"),
     ("as many as are named beside it",
      r"\bthree (?:crates\*\* \(|kinds of tasks|UDP ports|standard streams|ports (?:or|are))", r"\bThree loads are under way: one",
-     r"two and four above it"),
+     r"two and four (?:ports below|above) it"),
     ("a worked example in words, and a line of counters that only shows their names",
      r"media 8 to 15 of one sender, 10 of another, then the first one's row of 12 to 15, then 11 to 21 of the second without 13\. "
      r"The second one's 13 comes back as the sum of that row and the second one's 12, 14 and 15\.",
@@ -40,7 +40,7 @@ KINDS = (
      r"two million gaps take 34 MB", r"rows with 3 percent lost", r"`workers=0` 5, 10, 30 and 110 MB were enough for 1, 4, 16 and "
      r"64 flows at `depth=400`\. With `workers=4` a run took up to 360, 450, 480 and 600, and with less",
      r"stream of a thousand datagrams, here with about one record in a hundred", r"a depth of 100 loses all columns",
-     r"two matrices lasted 105 here", r"half of the memory of 64 flows", r"in place of ten\.", r"With 300 looks calm",
+     r"two matrices lasted 105 here", r"half of the memory of 64 flows", r"position took 128 kB a flow", r"With 300 looks calm",
      r"of nine planted faults eight were told", r"copied about five times a turn"),
     ("what proofs cost, tried crate by crate",
      r"above 3 a function is worth", r"made four, in 143 seconds and 9\.9 MB; four functions with one each have 1 to 2\.4 MB",

@@ -145,6 +145,7 @@ QUOTES = (
         (r"of P's streams, and #$", r"deepest \+ #\)"),
         (r"runs N # N # N # N # N # N # N more",
          r'codes "#", lengths…codes "#", lengths…codes "#", lengths…codes "#", lengths…codes "#", lengths…codes "#", lengths')]),
+    ("bench/survey/run.sh", [(r"allows # instructions a record", r"instructions a record, at most #")]),
     ("crates/fg_survey/specs/Senders.antt", [(r"where there are more than # streams: the", r"senders_limit = #")]),
     ("crates/fg_proof/specs/Text.antt", [
         (r"P is at most @, C at most @, O", r"case.port < #…case.count < #"),

@@ -111,7 +111,7 @@ def of_times(code):
         yield GUIDE, (f"| `{words}` | {100 // rows + both * 100 // columns} | {columns} | {late} ({late * milliseconds:.0f} ms) |"
                       f" {f'{columns - 1} ' * both}|")
     yield GUIDE, f"with `window=10` here {10 + 6 * 6}, or {46 * milliseconds:.0f} milliseconds at 10,000,000 bits a second"
-    yield GUIDE, f"with the parity of rows: {100 / 7:.1f} for six by seven"
+    yield GUIDE, f"with six by seven {100 / 7:.1f} datagrams for each 100 of media"
     yield GUIDE, f"Matrix 3 begins at record {3 * (6 * 7 + 6)}, and its second row at {3 * (6 * 7 + 6) + 6}:"
     yield GUIDE, f"Here column 1 has lost its slot 5, and its parity comes {WORDS[1 + 4 * 3 - 6]} datagrams after slot 6"
     yield GUIDE, f"Records {5 * 120} to {6 * 120 - 1} are one matrix, with {120 // 10} records for each ten datagrams"
@@ -151,6 +151,18 @@ def of_parts(code):
     yield GUIDE, f"with `workers=0` and with `workers={workers[1]}`:"
     hold = code.read(GUIDE, r"gateway --flow 5000 .* --hold (\d+) --to")
     yield GUIDE, f"than the hold, a {parts.get(round(10 ** 6 / hold))} of a second here;"
+
+
+def of_costs(code):
+    """What a record costs by losses and window, and in each hostile trace that the guide has a row of."""
+    costs = re.findall(r"^lost_(\d+)_(window_\d+_depth_\d+) (\d+) ", code.text(FIGURES), re.M)
+    yield GUIDE, "| Percent lost | " + " | ".join(dict.fromkeys(lost for lost, _, _ in costs)) + " |"
+    for settings in dict.fromkeys(settings for _, settings, _ in costs):
+        words = re.sub(r"_(\d+)_?", r"=\1 ", settings).strip()
+        yield GUIDE, f"| `{words}` | " + " | ".join(f"{int(cost):,}" for _, others, cost in costs if others == settings) + " |"
+    for name in re.findall(r"^\| `([a-z]\w*)` \| [\d,]+ \|$", code.text(GUIDE), re.M):
+        cost = code.read(FIGURES, rf"^{name} (\d+) ")
+        yield GUIDE, f"| `{name}` | {cost:,.0f} |"
 
 
 def of_examples(code):
@@ -203,14 +215,14 @@ def of_work(code):
     """How much peeling is at most."""
     live = code.constant("fg_buffer/src/live_equations.rt", "LIVE_LIMIT")
     slots = code.greatest("encode", "columns")
-    yield PROOFS, (f"With {live} lines of {WORDS[slots]} slots that is at most {live * (slots + 1):,} visits and {live * live:,} "
-                   "tests on")
+    yield PROOFS, (f"With {live} lines of {WORDS[slots]} slots that is at most {live * (slots + 1):,} looks and {live * live:,} "
+                   "tests on watched slots")
     product = code.constant("fg_plan/src/choosing.rt", "MOST_DATAGRAMS")
     yield PROOFS, f"a layout of up to {product + 1} datagrams, as {product + 1} is prime"
 
 
-PARTS = (of_captures, of_bytes, of_layouts, of_statuses, of_times, of_disks, of_gateways, of_parts, of_examples, of_losses,
-         of_surveys, of_work)
+PARTS = (of_captures, of_bytes, of_layouts, of_statuses, of_times, of_disks, of_gateways, of_parts, of_costs, of_examples,
+         of_losses, of_surveys, of_work)
 
 
 def passages(code):

@@ -36,7 +36,7 @@ STATED = (
     ("parity", r"largest parity datagram (?:has |is )?#"),
     ("parity_type", r"payload type \| \d+ \| # \(own\)"),
     ("vector", r"vectors of # bytes"),
-    ("live", r"# equations (?:of the flow )?(?:were|are) live|With # lines of twenty|Calls go # deep"),
+    ("live", r"# equations (?:of the flow )?(?:were|are) live|With # lines of twenty|for a watched slot\*\*, # at most"),
     ("kept", r"shown at the # positions before|of the last # below M|last slot is # positions past"),
     ("spares", r"used again\*\*, # at most"),
     ("batch", r"up to # records of all flows|batches of up to # records"),
