@@ -18,6 +18,23 @@ empty_entry (Media word) none = absurd (none-some word (sym none))
 empty_entry (Solved word) none = absurd (none-some word (sym none))
 empty_entry (Filled word) none = absurd (none-some word (sym none))
 
+-- Past the last entry with a word all slots are empty.
+module _ (front end : ℕ) (old view : List Slot) (are : AreStored front old × HasNoWordFrom (live_entries front old) end)
+    (is : live_entries front old ≡ view) where
+  pub old_at : (k : ℕ) → front ≤ k → get_or old k Empty ≡ get_or (live_entries front old) (k - front) Empty
+  old_at k from =
+      let at : k ≡ front + (k - front) = omega (arith, from) in
+      ap (λ (j : ℕ). get_or old j Empty) at ∙ sym (stored_at front old are.0 (k - front))
+
+  pub none_from : (last : ℕ) → last ≡ min end (length view) → (k : ℕ) → front + last ≤ k → get_or old k Empty ≡ Empty
+  none_from last at k from =
+      old_at k (omega (arith, from)) ∙ ⊎_elim
+      (λ within.
+      get_or_past (live_entries front old) (k - front) Empty
+      (omega (arith, within, from, at, ap (λ (ss : List Slot). length ss) is)))
+      (λ past. empty_entry (get_or (live_entries front old) (k - front) Empty) (are.1 (k - front) past))
+      (cases_lt (k - front) end)
+
 -- The kept ones of them are emptied first.
 module _
     (front count end kept : ℕ) (old view passed : List Slot) (few : kept ≡ min count 100) (are : AreStored front old × HasNoWordFrom (live_entries front old) end)
@@ -25,16 +42,11 @@ module _
     (emptied : (k : ℕ) → front ≤ k → k < front + kept → get_or passed k Empty ≡ Empty)
     (above : (k : ℕ) → front + kept ≤ k → get_or passed k Empty ≡ get_or old k Empty)
   where
-    old_at : (k : ℕ) → front ≤ k → get_or old k Empty ≡ get_or (live_entries front old) (k - front) Empty
-    old_at k from =
-        let at : k ≡ front + (k - front) = omega (arith, from) in
-        ap (λ (j : ℕ). get_or old j Empty) at ∙ sym (stored_at front old are.0 (k - front))
-
     pub all_emptied : (k : ℕ) → front ≤ k → k < front + count → get_or passed k Empty ≡ Empty
     all_emptied k from below = ⊎_elim
         (λ before. emptied k from before)
         (λ rest.
-        above k rest ∙ old_at k from ∙ ap (λ (ss : List Slot). get_or ss (k - front) Empty) is
+        above k rest ∙ old_at front end old view are is k from ∙ ap (λ (ss : List Slot). get_or ss (k - front) Empty) is
         ∙ empty_entry (get_or view (k - front) Empty) (empty (k - front) (omega (arith, rest, below, few)) (omega (arith, from, below))))
         (cases_lt k (front + kept))
 
@@ -42,12 +54,7 @@ module _
     none_past last at k from = ⊎_elim
         (λ before. emptied k (omega (arith, from)) before)
         (λ rest.
-        above k rest ∙ old_at k (omega (arith, from)) ∙ ⊎_elim
-        (λ within.
-        get_or_past (live_entries front old) (k - front) Empty
-        (omega (arith, within, from, at, ap (λ (ss : List Slot). length ss) is)))
-        (λ past. empty_entry (get_or (live_entries front old) (k - front) Empty) (are.1 (k - front) past))
-        (cases_lt (k - front) end))
+        above k rest ∙ none_from front end old view are is last at k from)
         (cases_lt k (front + kept))
 
     pub all_moved :

@@ -1,9 +1,9 @@
 -- Small slots, and the places of their found words.
-use Rattle.std.proofs.Common.{◌≡◌, ◌≢◌, ◌⊎◌, inl, inr, ◌+◌, ◌<◌, ◌≤◌, ℕ, suc, Bool, false, cond, List, [], ◌∷◌, length, get_or, set, Option, Some, None, IsSome, is_some, refl, sym, ap, ◌∙◌, ⊎_elim, subst, zero-add, arith}
+use Rattle.std.proofs.Common.{◌≡◌, ◌≢◌, ◌⊎◌, inl, inr, ◌+◌, ◌-◌, ◌<◌, ◌≤◌, ℕ, suc, Bool, false, cond, List, [], ◌∷◌, length, get_or, set, take, drop, length-drop, Option, Some, None, IsSome, is_some, refl, sym, ap, ◌∙◌, ⊎_elim, subst, zero-add, arith}
 use Rattle.std.specs.List.{count_by, swap}
 use Rattle.std.proofs.Math.ListN.{get_or-map}
 use Rattle.std.proofs.lemmas.Bool.{cases_eq}
-use Rattle.std.proofs.lemmas.List.{ext_get_or, get_or-set_same, get_or-set_other, length-set, length-map, map-set, get_or_default}
+use Rattle.std.proofs.lemmas.List.{ext_get_or, get_or-take, get_or-drop, length-take, get_or-set_same, get_or-set_other, length-set, length-map, map-set, get_or_default}
 use Rattle.std.proofs.lemmas.List.Edits.{swap_is}
 use Rattle.std.proofs.lemmas.List.Sums.{count_by-le-length, sum_by-cons, sum_by-set}
 use Rattle.slab.specs.Slab.{Slab, get, slab_len}
@@ -395,3 +395,21 @@ pub nothing_said :
     (slots : List SmallSlot) (words : Slab Word) → ((k : ℕ) → get_or slots k Nothing ≡ Nothing) → (k : ℕ)
     → get_or (said_by words slots) k Empty ≡ Empty
 nothing_said slots words none k = get_said words slots k ∙ ap (said words) (none k)
+
+-- A small slot with nothing says that it is empty.
+pub said_nothing :
+    (words : Slab Word) (slots : List SmallSlot) (view : List Slot) → said_by words slots ≡ view → (k : ℕ) → get_or slots k Nothing ≡ Nothing
+    → get_or view k Empty ≡ Empty
+said_nothing words slots view is k nothing =
+    ap (λ (v : List Slot). get_or v k Empty) (sym is) ∙ get_said words slots k ∙ ap (said words) nothing
+
+-- An item of a part of the slots is one of theirs.
+pub part_item :
+    (slots : List SmallSlot) (first end count : ℕ) (d : SmallSlot) → count < length (take (end - first) (drop first slots))
+    → get_or (take (end - first) (drop first slots)) count d ≡ get_or slots (first + count) Nothing
+part_item slots first end count d within =
+    let few = length-take (end - first) (drop first slots) in
+    let rest = length-drop first slots in
+    get_or-take (end - first) (drop first slots) count d (omega (arith, within, few))
+    ∙ get_or-drop first slots count d
+    ∙ get_or_default slots (first + count) d Nothing (omega (arith, within, few, rest))

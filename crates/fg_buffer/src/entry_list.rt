@@ -169,10 +169,13 @@ impl EntryList {
         ensures most { result ≤ limit }
         ensures empty { IsEmptyTo self.now result }
     {
-        for i in KEPT..self.end.min(self.count()).min(limit) {
-            if self.at(i).word().is_some() {
-                return i;
-            }
+        let end = self.end.min(self.count()).min(limit);
+        if end <= KEPT {
+            return limit;
+        }
+        let ahead = self.slots.empty_run(self.front + KEPT, self.front + end);
+        if KEPT + ahead < end {
+            return KEPT + ahead;
         }
         limit
     }
@@ -205,7 +208,7 @@ impl EntryList {
     {
         let last = self.front + self.end.min(self.count());
         let kept = self.front + count.min(KEPT);
-        pass_all(&mut self.slots, self.front, kept, spares);
+        pass_few(&mut self.slots, self.front, kept, spares);
         slide_down(&mut self.slots, self.front, count, last);
         self.end = self.end.saturating_sub(count);
     }
@@ -220,30 +223,32 @@ impl EntryList {
         ensures moved { (k : ℕ) → slice_index_or self.new k Slot.Empty
             ≡ slice_index_or self.old (k + count) Slot.Empty }
     {
+        let last = self.front + self.end.min(self.count());
         self.end = self.end.saturating_sub(count);
         let end = self.front + count;
         if end <= SLACK {
             pass_all(&mut self.slots, self.front, end, spares);
             self.front = end;
         } else {
-            shift_down(&mut self.slots, end, spares);
+            shift_down(&mut self.slots, end, last, spares);
             self.front = 0;
         }
     }
 }
 
-/// Moves each slot to the place `count` before it. The first `count` slots are passed, and the last
-/// ones are then empty.
-fn shift_down(slots: &mut SmallSlots, count: usize, spares: &mut Spares)
+/// Moves each slot to the place `count` before it, where those from `last` on are empty. The first `count` slots are passed, and
+/// the last ones are then empty.
+fn shift_down(slots: &mut SmallSlots, count: usize, last: usize, spares: &mut Spares)
     requires some { 1 ≤ count }
     requires within { count ≤ length slots.old }
+    requires last { last ≤ length slots.old }
+    requires past { (k : ℕ) → last ≤ k → slice_index_or slots.old k Slot.Empty ≡ Slot.Empty }
     ensures count { length slots.new ≡ length slots.old }
     ensures moved { (k : ℕ) → slice_index_or slots.new k Slot.Empty
         ≡ slice_index_or slots.old (k + count) Slot.Empty }
 {
-    let all = slots.count();
-    take_later(slots, count, all);
-    pass_all(slots, all - count, all, spares);
+    take_later(slots, count, last);
+    pass_all(slots, last.saturating_sub(count), last.max(count), spares);
 }
 
 /// Moves what each slot from `count` on up to `end` has to the slot `count` places before it.
@@ -253,6 +258,8 @@ fn take_later(slots: &mut SmallSlots, count: usize, end: usize)
     ensures count { length slots.new ≡ length slots.old }
     ensures taken { (k : ℕ) → k + count < end → slice_index_or slots.new k Slot.Empty
         ≡ slice_index_or slots.old (k + count) Slot.Empty }
+    ensures past { (k : ℕ) → end ≤ k → count ≤ k → slice_index_or slots.new k Slot.Empty
+        ≡ slice_index_or slots.old k Slot.Empty }
 {
     for i in count..end {
         slots.swap(i - count, i);
@@ -270,8 +277,13 @@ fn slide_down(slots: &mut SmallSlots, first: usize, count: usize, end: usize)
     ensures moved { (k : ℕ) → first ≤ k → slice_index_or slots.new k Slot.Empty
         ≡ slice_index_or slots.old (k + count) Slot.Empty }
 {
-    for i in first + count..end {
-        slots.swap(i - count, i);
+    let mut i = first + count;
+    while i < end {
+        i += slots.empty_run(i, end);
+        if i < end {
+            slots.swap(i - count, i);
+            i += 1;
+        }
     }
 }
 
@@ -289,6 +301,26 @@ fn pass_all(slots: &mut SmallSlots, first: usize, end: usize, spares: &mut Spare
 {
     for i in first..end {
         slots.pass(i, spares);
+    }
+}
+
+/// The same where most of the slots may be empty: then they are only looked at.
+fn pass_few(slots: &mut SmallSlots, first: usize, end: usize, spares: &mut Spares)
+    requires order { first ≤ end }
+    requires within { end ≤ length slots.old }
+    ensures count { length slots.new ≡ length slots.old }
+    ensures passed { (k : ℕ) → first ≤ k → k < end
+        → slice_index_or slots.new k Slot.Empty ≡ Slot.Empty }
+    ensures above { (k : ℕ) → end ≤ k
+        → slice_index_or slots.new k Slot.Empty ≡ slice_index_or slots.old k Slot.Empty }
+{
+    let mut i = first;
+    while i < end {
+        i += slots.empty_run(i, end);
+        if i < end {
+            slots.pass(i, spares);
+            i += 1;
+        }
     }
 }
 

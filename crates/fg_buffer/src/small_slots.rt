@@ -1,6 +1,6 @@
 //! Slots of a few bytes.
 
-ghost use Rattle.std.specs.Prelude.{◌≡◌, ◌≢◌, ◌<◌, ℕ, Some, length, slice_index_or, slice_set, IfOk};
+ghost use Rattle.std.specs.Prelude.{◌≡◌, ◌≢◌, ◌+◌, ◌<◌, ◌≤◌, ℕ, Some, length, slice_index_or, slice_set, IfOk};
 ghost use Rattle.std.specs.Option.{option_copied};
 ghost use Rattle.fg_peel.specs.declared.Slot.{Slot};
 ghost use Rattle.fg_peel.specs.Slots.{word_in, recovered_in, with_word};
@@ -168,6 +168,23 @@ impl SmallSlots {
             Some(SmallSlot::Found(place)) => found_at(&self.words, *place),
             Some(SmallSlot::Nothing) | None => Content::Nothing,
         }
+    }
+
+    /// How many slots from one on up to another are empty, before the first that has something.
+    pub(crate) fn empty_run(&self, first: usize, end: usize) -> usize
+        requires order { first ≤ end }
+        requires within { end ≤ length self.now }
+        ensures most { first + result ≤ end }
+        ensures empty { (k : ℕ) → first ≤ k → k < first + result
+            → slice_index_or self.now k Slot.Empty ≡ Slot.Empty }
+    {
+        for (count, slot) in self.slots[first..end].iter().enumerate() {
+            match slot {
+                SmallSlot::Nothing => {}
+                _ => return count,
+            }
+        }
+        end - first
     }
 
     /// Empties a slot, and answers the share that it had. A found word gives its place back.

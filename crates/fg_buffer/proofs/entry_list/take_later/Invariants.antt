@@ -1,4 +1,4 @@
-use Rattle.std.proofs.Common.{◌≡◌, ◌+◌, ◌<◌, ◌≤◌, ℕ, length, get_or}
+use Rattle.std.proofs.Common.{◌≡◌, ◌+◌, ◌<◌, ◌≤◌, ℕ, max, length, get_or}
 use Rattle.fg_peel.specs.declared.Slot.TheVariants.{Empty}
 use Rattle.fg_buffer.proofs.entry_list.take_later.Given as goal
 
@@ -7,3 +7,4 @@ invariant-loop-i l =
     (length l.slots ≡ length l.initial.slots)
     × ((k : ℕ) → k + l.count < l.i → get_or l.slots k Empty ≡ get_or l.initial.slots (k + l.count) Empty)
     × ((k : ℕ) → l.i ≤ k → get_or l.slots k Empty ≡ get_or l.initial.slots k Empty)
+    × (l.i ≤ max l.count l.end)

@@ -3,7 +3,13 @@ use Rattle.std.proofs.Common.{◌≡◌, ◌+◌, ℕ, get_or, List, ap, ◌∙�
 use Rattle.fg_peel.specs.declared.Slot.{Slot}
 use Rattle.fg_peel.specs.declared.Slot.TheVariants.{Empty}
 use Rattle.fg_buffer.proofs.BufferStored.{live_moved}
+use Rattle.fg_buffer.proofs.BufferSkips.{none_from}
 use Rattle.fg_buffer.proofs.entry_list.EntryList.advance.Goals as goal
+
+pub shift_down-requires-clause-past : goal.shift_down-requires-clause-past
+shift_down-requires-clause-past c =
+    none_from c.self.inside.front c.self.inside.end c.self.inside.slots c.args.self.now c.self.invariant c.self.view_is c.min.result
+    (omega (arith, c.min.ensures, c.count.ensures.count))
 
 pub returns-then-end-le-SLACK-clause-moved : goal.returns-then-end-le-SLACK-clause-moved
 returns-then-end-le-SLACK-clause-moved c k =
