@@ -1,6 +1,6 @@
 //! The entries of a buffer.
 
-ghost use Rattle.std.specs.Prelude.{◌≡◌, ◌+◌, ◌-◌, ◌<◌, ◌≤◌, ◌^◌, ℕ, length, drop, slice_index_or, slice_set, IfOk, IfSome, IfNone, IsTrue};
+ghost use Rattle.std.specs.Prelude.{◌≡◌, ◌+◌, ◌-◌, ◌<◌, ◌≤◌, ◌^◌, ℕ, length, drop, slice_index_or, slice_set, IfOk, IfSome, IfNone};
 ghost use Rattle.std.specs.Option.{option_copied};
 ghost use Rattle.fg_shape.specs.Shape.{position_limit};
 ghost use Rattle.fg_peel.specs.declared.Slot.{Slot};
@@ -277,9 +277,12 @@ fn slide_down(slots: &mut SmallSlots, first: usize, count: usize, end: usize)
     ensures moved { (k : ℕ) → first ≤ k → slice_index_or slots.new k Slot.Empty
         ≡ slice_index_or slots.old (k + count) Slot.Empty }
 {
-    for i in first + count..end {
-        if !slots.is_empty(i) {
+    let mut i = first + count;
+    while i < end {
+        i += slots.empty_run(i, end);
+        if i < end {
             slots.swap(i - count, i);
+            i += 1;
         }
     }
 }
@@ -311,9 +314,12 @@ fn pass_few(slots: &mut SmallSlots, first: usize, end: usize, spares: &mut Spare
     ensures above { (k : ℕ) → end ≤ k
         → slice_index_or slots.new k Slot.Empty ≡ slice_index_or slots.old k Slot.Empty }
 {
-    for i in first..end {
-        if !slots.is_empty(i) {
+    let mut i = first;
+    while i < end {
+        i += slots.empty_run(i, end);
+        if i < end {
             slots.pass(i, spares);
+            i += 1;
         }
     }
 }

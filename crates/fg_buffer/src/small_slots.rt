@@ -1,6 +1,6 @@
 //! Slots of a few bytes.
 
-ghost use Rattle.std.specs.Prelude.{◌≡◌, ◌≢◌, ◌+◌, ◌<◌, ◌≤◌, ℕ, Some, length, slice_index_or, slice_set, IfOk, IsTrue};
+ghost use Rattle.std.specs.Prelude.{◌≡◌, ◌≢◌, ◌+◌, ◌<◌, ◌≤◌, ℕ, Some, length, slice_index_or, slice_set, IfOk};
 ghost use Rattle.std.specs.Option.{option_copied};
 ghost use Rattle.fg_peel.specs.declared.Slot.{Slot};
 ghost use Rattle.fg_peel.specs.Slots.{word_in, recovered_in, with_word};
@@ -167,17 +167,6 @@ impl SmallSlots {
             Some(SmallSlot::Solved(share)) => Content::Solved(share),
             Some(SmallSlot::Found(place)) => found_at(&self.words, *place),
             Some(SmallSlot::Nothing) | None => Content::Nothing,
-        }
-    }
-
-    /// Whether a slot is known to be empty, by a look at nothing else. Past all slots it is.
-    #[inline]
-    pub(crate) fn is_empty(&self, index: usize) -> bool
-        ensures { IsTrue result → slice_index_or self.now index Slot.Empty ≡ Slot.Empty }
-    {
-        match self.slots.get(index) {
-            Some(SmallSlot::Nothing) | None => true,
-            Some(_) => false,
         }
     }
 

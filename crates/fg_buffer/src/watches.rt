@@ -1,6 +1,6 @@
 //! Which lines have to be looked at: a line is, where one of the two slots that it watches got a word.
 
-ghost use Rattle.std.specs.Prelude.{◌≡◌, ◌≢◌, ◌+◌, ◌<◌, ◌≤◌, ℕ, true, false, length, slice_index, slice_index_or, IfSome, IfNone};
+ghost use Rattle.std.specs.Prelude.{◌≡◌, ◌≢◌, ◌+◌, ◌<◌, ◌≤◌, ℕ, true, false, length, slice_index, slice_index_or, IsTrue, IfSome, IfNone};
 ghost use Rattle.fg_buffer.specs.Watches.{IsQueued, IsWatching, Adds, TakesOut, WatchesAt, Wakes, first_of, nowhere};
 
 use crate::LIVE_LIMIT;
@@ -107,6 +107,14 @@ impl Watches {
             return None;
         }
         next_watching(&self.first, &self.second, from as usize, self.end, position)
+    }
+
+    /// Whether no line is known to have to be looked at.
+    #[inline]
+    pub fn is_idle(&self) -> bool
+        ensures { IsTrue result → (place : ℕ) → ¬ IsQueued self.now place }
+    {
+        self.low >= self.high
     }
 
     /// Takes the place of a line that has to be looked at.

@@ -13,7 +13,7 @@ ghost use Rattle.fg_desk.specs.Storage.{equations_in, AreInBuffer, EachSettled, 
 ghost use Rattle.fg_desk.specs.Watched.{EachWatched, NoneIsQueued, HaveRooms};
 
 use crate::desk::Played;
-use crate::finding::look_at_all;
+use crate::finding::look_at_queued;
 use crate::holding::move_on;
 use crate::storage::close;
 use fg_buffer::{LiveEquations, PlayoutBuffer, Watches};
@@ -51,7 +51,7 @@ pub(crate) fn find(
     solved_stays_peeled();
     maximal_peelings_are_tested();
     confluence();
-    let sound = look_at_all(buffer, lines, watches);
+    let sound = look_at_queued(buffer, lines, watches);
     let solved = is_solution(buffer, sound);
     queue_unless(watches, solved);
     solved

@@ -11,13 +11,30 @@ use fg_peel::Look;
 use fg_peel::laws::peelings_fill_the_closure;
 use fg_words::laws::xor_is_a_group;
 
-/// Looks at lines until none has to be looked at. It tells whether each word that was found is a media word,
-/// and each complete line comes out.
-pub(crate) fn look_at_all(
+/// Looks at lines until none has to be looked at, as at most plays none has. It tells whether each word that was
+/// found is a media word, and each complete line comes out.
+#[inline]
+pub(crate) fn look_at_queued(
     buffer: &mut PlayoutBuffer,
     lines: &mut LiveEquations,
     watches: &mut Watches,
 ) -> bool
+    requires within { AreInBuffer buffer.old lines.old }
+    requires rooms { HaveRooms lines.old }
+    requires settled { EachSettled lines.old (IsSettled (buffer_words buffer.old)) }
+    requires watched { EachWatched watches.old (buffer_words buffer.old) lines.old }
+    ensures finds { Finds buffer.old lines.old buffer.new lines.new watches.new result }
+    ensures idle { NoneIsQueued watches.new }
+{
+    if watches.is_idle() {
+        return true;
+    }
+    look_at_all(buffer, lines, watches)
+}
+
+/// Looks at one line after the other.
+#[inline(never)]
+fn look_at_all(buffer: &mut PlayoutBuffer, lines: &mut LiveEquations, watches: &mut Watches) -> bool
     requires within { AreInBuffer buffer.old lines.old }
     requires rooms { HaveRooms lines.old }
     requires settled { EachSettled lines.old (IsSettled (buffer_words buffer.old)) }

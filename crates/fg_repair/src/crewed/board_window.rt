@@ -4,11 +4,16 @@ ghost use Rattle.std.specs.Prelude.{◌≡◌, ◌≤◌};
 use fg_board::{Admitter, Board};
 use fg_crew::Hints;
 use fg_desk::{Played, Reply, Tray};
-use fg_engine::WindowState;
+use fg_engine::{Skipped, WindowState};
 use fg_shape::Shape;
 use fg_words::{Shared, Word};
 use fg_workers::{CALLER, Hears, HeldEquation, PLAYING, Progress, Signal};
 use std::sync::Wait;
+
+const NONE_SKIPPED: Skipped = Skipped {
+    windows: 0,
+    positions: 0,
+};
 
 /// A flow's windows on its board. Its workers are told and hinted of what is admitted: before what plays, and in between after so
 /// many datagrams.
@@ -121,6 +126,20 @@ impl<'a, W: Wait, G: Hears> WindowState for BoardWindow<'a, W, G> {
             self.progress.play(played);
         }
         step
+    }
+
+    // A board's windows are played one by one.
+
+    fn skip_due(&mut self, _seq: u16, _ssrc: u32) -> Skipped {
+        NONE_SKIPPED
+    }
+
+    fn skip_rest(&mut self) -> Skipped {
+        NONE_SKIPPED
+    }
+
+    fn skip_held(&mut self, _time: u64) -> Skipped {
+        NONE_SKIPPED
     }
 
     fn word(&self, _played: Played, i: u32) -> Option<&Word> {

@@ -1,4 +1,4 @@
-use Rattle.std.proofs.Common.{◌≡◌, ◌<◌, ◌≤◌, ℕ, length, get_or}
+use Rattle.std.proofs.Common.{◌≡◌, ◌-◌, ◌<◌, ◌≤◌, ℕ, length, get_or}
 use Rattle.fg_peel.specs.declared.Slot.TheVariants.{Empty}
 use Rattle.fg_buffer.proofs.entry_list.pass_few.Given as goal
 
@@ -7,3 +7,7 @@ invariant-loop-i l =
     (length l.slots ≡ length l.initial.slots)
     × ((k : ℕ) → l.first ≤ k → k < l.i → get_or l.slots k Empty ≡ Empty)
     × ((k : ℕ) → l.i ≤ k → get_or l.slots k Empty ≡ get_or l.initial.slots k Empty)
+    × (l.i ≤ l.end)
+
+abbrev pub decreases-loop-i : goal.decreases-loop-i
+decreases-loop-i l = l.end - l.i

@@ -1,4 +1,4 @@
-use Rattle.std.proofs.Common.{◌≡◌, ◌+◌, ◌<◌, ◌≤◌, ℕ, length, get_or}
+use Rattle.std.proofs.Common.{◌≡◌, ◌+◌, ◌-◌, ◌<◌, ◌≤◌, ℕ, length, get_or}
 use Rattle.fg_peel.specs.declared.Slot.TheVariants.{Empty}
 use Rattle.fg_buffer.proofs.entry_list.slide_down.Given as goal
 
@@ -8,3 +8,7 @@ invariant-loop-i l =
     × ((k : ℕ) → l.first ≤ k → k + l.count < l.i → get_or l.slots k Empty ≡ get_or l.initial.slots (k + l.count) Empty)
     × ((k : ℕ) → l.first ≤ k → l.i ≤ k + l.count → k < l.i → get_or l.slots k Empty ≡ Empty)
     × ((k : ℕ) → l.i ≤ k → get_or l.slots k Empty ≡ get_or l.initial.slots k Empty)
+    × (l.first + l.count ≤ l.i)
+
+abbrev pub decreases-loop-i : goal.decreases-loop-i
+decreases-loop-i l = l.end - l.i
