@@ -215,8 +215,8 @@ def of_work(code):
     """How much peeling is at most."""
     live = code.constant("fg_buffer/src/live_equations.rt", "LIVE_LIMIT")
     slots = code.greatest("encode", "columns")
-    yield PROOFS, (f"With {live} lines of {WORDS[slots]} slots that is at most {live * (slots + 1):,} looks and {live * live:,} "
-                   "tests on watched slots")
+    yield PROOFS, (f"With {live} lines of {WORDS[slots]} slots that is at most {live * (slots + 1):,} looks and {2 * live + 1:,} "
+                   f"passes over {live} places")
     product = code.constant("fg_plan/src/choosing.rt", "MOST_DATAGRAMS")
     yield PROOFS, f"a layout of up to {product + 1} datagrams, as {product + 1} is prime"
 
