@@ -167,7 +167,9 @@ impl Lanes {
         ensures lanes { OnOk result (self.new.lanes.items ≡ self.old.lanes.items ++ lane ∷ []) }
         ensures places { OnOk result (ArePlaces self.new.places.items self.new.lanes.items) }
     {
-        let place = u16::try_from(self.lanes.len()).unwrap_or(0).max(1);
+        let place = u16::try_from(self.lanes.len().saturating_add(1))
+            .unwrap_or(0)
+            .max(1);
         self.places[usize::from(lane.port)] = place;
         self.lanes.push(lane)?;
         Ok(())
