@@ -428,13 +428,8 @@ fn try_flow(
     came: Came,
     random: &mut Pcg32,
 ) -> Result<Came, Fail> {
-    let window = 1 + random.next_word() % 10;
-    let most = if random.next_word() % 10 == 0 {
-        990
-    } else {
-        20
-    };
-    let depth = window + random.next_word() % most;
+    let window = 1 + random.next_word() % 8;
+    let depth = window + random.next_word() % 20;
     let hold = u64::from(random.next_word() % 4 * 20);
     assert!(rt; 1 <= window && window <= 100 && window <= depth && depth <= 1000);
     let mut both = new_both(alloc, window, depth, hold, came)?;

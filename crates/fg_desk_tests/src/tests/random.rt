@@ -369,13 +369,8 @@ fn both_flush_at_last(
 
 /// Calls of two new desks.
 fn try_flow(rt: &impl Abort, alloc: Global, random: &mut Pcg32) -> Result<(), Fail> {
-    let window = 1 + random.next_word() % 10;
-    let most = if random.next_word() % 10 == 0 {
-        990
-    } else {
-        12
-    };
-    let depth = window + random.next_word() % most;
+    let window = 1 + random.next_word() % 6;
+    let depth = window + random.next_word() % 12;
     assert!(rt; 1 <= window && window <= 100 && window <= depth && depth <= 1000);
     let hold = u64::from(random.next_word() % 4) * 25;
     let mut desk = Desk::new(alloc, window, depth, hold)?;
