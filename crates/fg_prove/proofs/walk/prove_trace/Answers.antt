@@ -1,5 +1,5 @@
 use Rattle.std.proofs.Common.{◌≡◌, ◌∙◌, ℕ, List, [], ◌∷◌, Result, Ok, Err, IsNone, ap, arith, refl, subst, sym}
-use Rattle.std.proofs.lemmas.Result.{IfOk-weaker}
+use Rattle.std.proofs.lemmas.Result.{IfOk-weaker, on_err_weaker}
 use Rattle.fg_io.specs.declared.fault.Fault.TheVariants as fg
 use Rattle.fg_io.specs.Faults.{Answers, CountsFaults}
 use Rattle.fg_trace.specs.declared.step.Finish.{Finish}
@@ -91,3 +91,8 @@ pub returns-in-Ok-clause-whole : goal.returns-in-Ok-clause-whole
 returns-in-Ok-clause-whole g c =
     let left = g.S.Source.left c.args.input.now in
     IfOk-weaker c.prove_records.result _ _ (λ finish proves. proves left (c.in-Ok.ensures.opens left (c.in_ok-reader.ensures.opening left))) c.prove_records.ensures.whole
+
+pub returns-in-Ok-clause-part : goal.returns-in-Ok-clause-part
+returns-in-Ok-clause-part g c =
+    let left = g.S.Source.left c.args.input.now in
+    on_err_weaker c.prove_records.result (λ part. part left (c.in-Ok.ensures.opens left (c.in_ok-reader.ensures.opening left))) c.prove_records.ensures.part
