@@ -1,7 +1,7 @@
 //! The records of a batch, by flow.
 ghost use Rattle.std.specs.Prelude.{◌≡◌, ◌↔◌, ◌<◌, ◌≤◌, Some, IfOk, IsTrue, length, slice_get};
 ghost use Rattle.std.specs.Bool.{OnFalse, OnTrue};
-ghost use Rattle.fg_flows.specs.Sheaf.{HasRoom, items_of, no_items, with_item};
+ghost use Rattle.fg_flows.specs.Sheaf.{HasRoom, item_count, items_of, no_items, with_item};
 ghost use Rattle.fg_flows.specs.Entries.{AreEmpty, HaveRoom};
 
 use fg_shape::Kind;
@@ -83,6 +83,22 @@ impl Sheaf {
         }
         self.keep(flow, kind, time, payload);
         true
+    }
+
+    /// For how many flows it was made.
+    #[inline]
+    pub fn flows(&self) -> usize
+        ensures { result ≡ length self.now.items }
+    {
+        self.flows.len()
+    }
+
+    /// Whether there is no record of any flow.
+    #[inline]
+    pub fn is_empty(&self) -> bool
+        ensures { IsTrue result ↔ (item_count self.now ≡ 0) }
+    {
+        self.count == 0
     }
 
     /// How many records of a flow there are.

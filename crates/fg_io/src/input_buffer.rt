@@ -121,6 +121,14 @@ impl InputBuffer {
         Ok(self.ahead(want))
     }
 
+    /// Whether so many bytes are held, and within the limit.
+    pub fn has(&self, want: usize) -> bool
+        ensures { IsTrue result
+            ↔ ((want ≤ length self.now.held) × (self.now.place + want ≤ self.now.max)) }
+    {
+        want <= self.to - self.from && want as u64 <= self.max - self.place
+    }
+
     /// The bytes that were read and not stepped over, where they lie.
     pub fn held(&self) -> &[u8]
         ensures value { result.now ≡ self.now.held }
@@ -153,14 +161,6 @@ impl InputBuffer {
 }
 
 impl InputBuffer {
-    /// Whether so many bytes are held, and within the limit.
-    fn has(&self, want: usize) -> bool
-        ensures { IsTrue result
-            ↔ ((want ≤ length self.now.held) × (self.now.place + want ≤ self.now.max)) }
-    {
-        want <= self.to - self.from && want as u64 <= self.max - self.place
-    }
-
     /// How many bytes from the place on lie within the limit, but at most a buffer of them.
     fn within(&self) -> usize
         ensures count { result ≡ min (self.now.max - self.now.place)
