@@ -1,5 +1,5 @@
 //! A source that is read under a limit, through one buffer.
-ghost use Rattle.std.specs.Prelude.{◌≡◌, ◌+◌, ◌-◌, ◌<◌, ◌≤◌, ◌⊎◌, ◌^◌, ◌↔◌, ℕ, [], ◌∷◌, length, take, drop, slice_range, min, true, false, IsTrue, IfOk, IfErr, OnErr};
+ghost use Rattle.std.specs.Prelude.{◌≡◌, ◌+◌, ◌-◌, ◌<◌, ◌≤◌, ◌⊎◌, ◌^◌, ◌↔◌, ℕ, [], ◌∷◌, length, take, drop, slice_range, min, true, false, IsTrue, IfOk, IfErr, OnErr, Ok};
 ghost use Rattle.std.specs.Io.KnownBytes.{IsAtEnd};
 ghost use Rattle.fg_io.specs.Faults.{Counts};
 ghost use Rattle.fg_io.specs.InputBuffer.{IsAhead, TakesMore, front_of, most_held, new_input};
@@ -106,6 +106,13 @@ impl InputBuffer {
             → (self.old.ended ≡ true) ⊎ (length self.new.held < want) }
         ensures failed { OnErr result (self.new.ended ≡ self.old.ended) }
         ensures stays { self.old.ended ≡ true → (self.new ≡ self.old) × (from.new ≡ from.old) }
+
+        // Where so many are held within the limit, nothing is read.
+        ensures whole { (want ≤ length self.old.held) × (self.old.place + want ≤ self.old.max)
+            → (result ≡ Ok Ahead.Whole) × (self.new ≡ self.old) × (from.new ≡ from.old) }
+
+        // After a failed read so many aren't held.
+        ensures few_held { OnErr result (length self.new.held < want) }
         ensures bounded { self.new.place + length self.new.held ≤ self.new.max + 1 }
         ensures few { length self.new.held ≤ most_held self.new.longest self.new.piece }
         ensures fault { IfErr result (λ fault. fault ≡ Fault.Read) }
@@ -209,6 +216,7 @@ impl InputBuffer {
         ensures at_end { self.new.ended ≡ true → IsAtEnd (S.left from.new) }
         ensures short { self.new.ended ≡ true → length self.new.held < want }
         ensures failed { OnErr result (self.new.ended ≡ self.old.ended) }
+        ensures few_held { OnErr result (length self.new.held < want) }
         ensures bounded { self.new.place + length self.new.held ≤ self.new.max + 1 }
         ensures few { length self.new.held ≤ most_held self.new.longest self.new.piece }
         ensures fault { IfErr result (λ fault. fault ≡ Fault.Read) }
@@ -237,6 +245,7 @@ impl InputBuffer {
         ensures same { self.new ≡ record self.old { held = self.new.held } }
         ensures count { IfOk result (λ count. length self.new.held ≡ length self.old.held + count) }
         ensures end { IfOk result (λ count. count ≡ 0 → IsAtEnd (S.left from.new)) }
+        ensures failed { OnErr result (length self.new.held ≡ length self.old.held) }
         ensures bounded { self.new.place + length self.new.held ≤ self.new.max + 1 }
         ensures few { length self.new.held ≤ most_held self.new.longest self.new.piece }
         ensures fault { IfErr result (λ fault. fault ≡ Fault.Read) }
