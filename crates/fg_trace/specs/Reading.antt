@@ -1,9 +1,10 @@
 -- How far an input is read for an answer: this project's own rule.
-use Rattle.std.specs.Prelude.{◌≡◌, ◌+◌, ◌<◌, ◌≤◌, ◌⊎◌, ℕ, ⊤, Option, Some, List, [], ◌++◌, length}
+use Rattle.std.specs.Prelude.{◌≡◌, ◌+◌, ◌<◌, ◌≤◌, ◌⊎◌, ℕ, ⊤, Option, Some, None, List, [], ◌++◌, length}
 use Rattle.std.specs.Io.KnownBytes.{IsAtEnd}
 use Rattle.fg_trace.specs.declared.step.Finish.{Finish}
 use Rattle.fg_trace.specs.declared.step.Finish.TheVariants as finish
 use Rattle.fg_trace.specs.Reader.{ReaderState}
+use Rattle.fg_trace.specs.Trace.{Record, StandsFirst, spelling}
 
 -- The most bytes that a reader holds.
 abbrev pub most_held : ℕ
@@ -40,3 +41,11 @@ HasReached (finish.TooLong n) reader left = reader.max < reader.place + length r
 HasReached finish.ReadFault reader left = ⊤
 HasReached finish.WriteFault reader left = ⊤
 HasReached finish.Memory reader left = ⊤
+
+-- No ending was answered, and the record that stands next is held whole, and within the limit.
+pub record HoldsNext (reader : ReaderState) : Type 0 where
+  pub going : reader.kept ≡ None
+  pub next : Record
+  pub rest : List ℕ
+  pub stands : StandsFirst reader.held next rest
+  pub within : reader.place + length (spelling next) ≤ reader.max

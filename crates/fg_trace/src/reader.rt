@@ -1,12 +1,12 @@
 //! Walking a trace.
-ghost use Rattle.std.specs.Prelude.{◌≡◌, ◌+◌, ◌-◌, ◌<◌, ◌≤◌, ◌⊎◌, ℕ, Option, List, [], ◌∷◌, length, take, drop, true, false, IsSome, IsNone, IsTrue, IsOk, IfOk, IfErr, IfSome, IfNone, OnErr, Err, None, Some};
+ghost use Rattle.std.specs.Prelude.{◌≡◌, ◌+◌, ◌-◌, ◌<◌, ◌≤◌, ◌⊎◌, ◌↔◌, ℕ, Option, List, [], ◌∷◌, length, take, drop, true, false, IsSome, IsNone, IsTrue, IsOk, IfOk, IfErr, IfSome, IfNone, OnErr, Err, None, Some};
 ghost use Rattle.std.specs.Io.KnownBytes.{IsAtEnd};
 ghost use Rattle.fg_io.specs.Faults.{Answers, CountsFaults};
 ghost use Rattle.fg_io.specs.InputBuffer as buffer;
 ghost use Rattle.fg_io.specs.InputBuffer.{TakesMore};
 ghost use Rattle.fg_trace.specs.Trace.{Record};
 ghost use Rattle.fg_trace.specs.Reader.{StandsBefore, StandsAfter, Opens, Walks, payload_size, record_size, kept_answer, ending_at, ReadsToEnd, start_answer, IsDecided, IsOfStart, IsOfNext, new_reader};
-ghost use Rattle.fg_trace.specs.Reading.{most_held};
+ghost use Rattle.fg_trace.specs.Reading.{HoldsNext, most_held};
 ghost use Rattle.fg_trace.specs.Walk.{Finds, Has, Lacks};
 
 use crate::header::{HEADER, Header, LARGEST, MAGIC, differs_from_magic, read_header};
@@ -162,6 +162,23 @@ impl Reader {
                 self.kept = Some(answer);
                 answer
             }
+        }
+    }
+
+    /// Whether the next record is held whole and within the limit: `next` then answers it, and reads nothing.
+    pub fn is_next_held(&self) -> bool
+        ensures { IsTrue result ↔ HoldsNext self.now }
+    {
+        if self.kept.is_some() {
+            return false;
+        }
+        let held = &self.input.held()[self.answered..];
+        match read_header(held) {
+            Some(header) => {
+                let size = usize::from(header.size);
+                self.input.has(self.answered + HEADER + size)
+            }
+            None => false,
         }
     }
 
