@@ -1,7 +1,7 @@
 -- Whether the next record is held.
 use Rattle.std.proofs.Common.{◌≡◌, ℕ, ◌+◌, ◌-◌, ◌≤◌, ◌++◌, Bool, false, Option, None, Some, List, length, take, drop, sym, ap, ◌∙◌, refl, subst, arith, length-append}
 use Rattle.std.specs.Prelude.{◌↔◌, IsTrue, is_some}
-use Rattle.std.proofs.lemmas.List.{length-drop}
+use Rattle.std.proofs.lemmas.List.{length-drop, take_at, drop_at}
 use Rattle.std.proofs.lemmas.Slice.{between_to_end}
 use Rattle.fg_io.specs.InputBuffer.{InputState}
 use Rattle.fg_trace.specs.Header.{IsHeader}
@@ -75,3 +75,22 @@ next_is_held reader input answered started kept bytes b time port size n view he
     let behind : take (length bytes - answered) (drop answered bytes) ≡ drop answered input.held = between_to_end bytes answered (length bytes) (omega arith) ∙ ap (drop answered) same in
     subst (λ (t : ReaderState). IsTrue b ↔ HoldsNext t) view
     (held_by_size (reader_of input answered started kept) b time port size (not_some kept none) (subst (λ t. IsHeader t time port size) behind h) (told_behind input answered n size b is held tells))
+
+-- the next record stands at the front once what was answered is stepped over
+pub next_stands_first : (reader : ReaderState) (input stepped : InputState) (answered : ℕ) (started : Bool) (kept : Option Answer) → reader_of input answered started kept ≡ reader
+    → (let next : InputState = record input { place = input.place + answered; held = drop answered input.held } in stepped ≡ next)
+    → (h : HoldsNext reader) → StandsFirst stepped.held h.next h.rest × HoldsRecord stepped.max stepped.place stepped.held h.next.time h.next.port (length h.next.datagram)
+next_stands_first reader input stepped answered started kept view step h =
+    let held : stepped.held ≡ reader.held = ap (λ (t : InputState). t.held) step ∙ ap (λ (t : ReaderState). t.held) view in
+    let place : stepped.place ≡ reader.place = ap (λ (t : InputState). t.place) step ∙ ap (λ (t : ReaderState). t.place) view in
+    let max : stepped.max ≡ reader.max = ap (λ (t : InputState). t.max) step ∙ ap (λ (t : ReaderState). t.max) view in
+    let stands : StandsFirst stepped.held h.next h.rest = subst (λ t. StandsFirst t h.next h.rest) (sym held) h.stands in
+    (stands, record_first stepped.max stepped.place stepped.held h.next h.rest stands (omega (arith, h.within, place, max)))
+
+-- what is left of a record that stands first
+pub first_parts : (held : List ℕ) (r : Record) (rest : List ℕ) (n : ℕ) → n ≡ length r.datagram → StandsFirst held r rest → (drop 12 (take (12 + n) held) ≡ r.datagram) × (drop (12 + n) held ≡ rest)
+first_parts held r rest n is h =
+    let size : length (spelling r) ≡ 12 + n = omega (arith, is, length_spelling r) in (
+      ap (λ t. drop 12 (take (12 + n) t)) h.spelled ∙ ap (drop 12) (take_at (spelling r) rest (12 + n) size),
+      ap (drop (12 + n)) h.spelled ∙ drop_at (spelling r) rest (12 + n) size,
+    )

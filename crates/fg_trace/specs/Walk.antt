@@ -94,6 +94,11 @@ Finds (Next header) input left =
 Finds (Ends answer) input left =
     HoldsNone input.max input.place input.held left × (answer ≡ ending_at input.max input.place (length input.held))
 
+-- A record was found.
+abbrev pub IsRecord : Found → Type 0
+IsRecord (Next header) = ⊤
+IsRecord (Ends answer) = ⊥
+
 -- The record at the front was answered.
 abbrev pub after_record : ReaderState → ℕ → ReaderState
 after_record reader size =

@@ -1,5 +1,5 @@
 //! Walking a trace.
-ghost use Rattle.std.specs.Prelude.{◌≡◌, ◌+◌, ◌-◌, ◌<◌, ◌≤◌, ◌⊎◌, ◌↔◌, ℕ, Option, List, [], ◌∷◌, length, take, drop, true, false, IsSome, IsNone, IsTrue, IsOk, IfOk, IfErr, IfSome, IfNone, OnErr, Err, None, Some};
+ghost use Rattle.std.specs.Prelude.{◌≡◌, ◌+◌, ◌-◌, ◌<◌, ◌≤◌, ◌⊎◌, ◌↔◌, ℕ, Option, List, [], ◌∷◌, length, take, drop, true, false, IsSome, IsNone, IsTrue, IsOk, IsOkAnd, IfOk, IfErr, IfSome, IfNone, OnErr, Ok, Err, None, Some};
 ghost use Rattle.std.specs.Io.KnownBytes.{IsAtEnd};
 ghost use Rattle.fg_io.specs.Faults.{Answers, CountsFaults};
 ghost use Rattle.fg_io.specs.InputBuffer as buffer;
@@ -7,7 +7,7 @@ ghost use Rattle.fg_io.specs.InputBuffer.{TakesMore};
 ghost use Rattle.fg_trace.specs.Trace.{Record};
 ghost use Rattle.fg_trace.specs.Reader.{StandsBefore, StandsAfter, Opens, Walks, payload_size, record_size, kept_answer, ending_at, ReadsToEnd, start_answer, IsDecided, IsOfStart, IsOfNext, new_reader};
 ghost use Rattle.fg_trace.specs.Reading.{HoldsNext, most_held};
-ghost use Rattle.fg_trace.specs.Walk.{Finds, Has, Lacks};
+ghost use Rattle.fg_trace.specs.Walk.{Finds, Has, HoldsRecord, IsRecord, Lacks};
 
 use crate::header::{HEADER, Header, LARGEST, MAGIC, differs_from_magic, read_header};
 use crate::step::{Step, TraceFault};
@@ -131,6 +131,14 @@ impl Reader {
         // An ending that was found at the input's end leaves nothing of it.
         ensures at_end { IsNone self.old.kept → ReadsToEnd result → IsAtEnd (S.left from.new) }
 
+        // A record that is held is answered, and nothing is read.
+        ensures held { (held : HoldsNext self.old)
+            → (result ≡ Ok (Step.Datagram held.next.time held.next.port (length held.next.datagram)))
+            × (self.new.payload ≡ held.next.datagram) × (self.new.held ≡ held.rest) × (from.new ≡ from.old) }
+
+        // After a failed read none is held.
+        ensures short { result ≡ Err TraceFault.ReadFault → HoldsNext self.new → ⊥ }
+
         // An input that is too long was read past the limit.
         ensures past { (place : ℕ) → result ≡ Err (TraceFault.TooLong place)
             → self.new.max < self.new.place + length self.new.held }
@@ -200,6 +208,15 @@ fn look<S: Source>(input: &mut InputBuffer, from: &mut S) -> Result<Found, Trace
     ensures same { input.new ≡ record input.old { held = input.new.held; ended = input.new.ended } }
     ensures finds { IfOk result (λ found. Finds found input.new (S.left from.new)) }
     ensures failed { OnErr result (input.new.ended ≡ false) }
+
+    // A record that is held is found, and nothing is read.
+    ensures held { (time port size : ℕ)
+        → HoldsRecord input.old.max input.old.place input.old.held time port size
+        → IsOkAnd result IsRecord × (input.new ≡ input.old) × (from.new ≡ from.old) }
+
+    // After a failed read none is held.
+    ensures short { OnErr result ((time port size : ℕ)
+        → HoldsRecord input.new.max input.new.place input.new.held time port size → ⊥) }
     ensures bounded { input.new.place + length input.new.held ≤ input.new.max + 1 }
     ensures few { length input.new.held ≤ buffer.most_held input.new.longest input.new.piece }
     ensures fault { IfErr result (λ fault. fault ≡ TraceFault.ReadFault) }
@@ -233,6 +250,13 @@ fn ask<S: Source>(
     ensures lacks { IfOk result (λ ending. IfSome ending (λ answer.
         Lacks answer input.new (S.left from.new) want)) }
     ensures failed { OnErr result (input.new.ended ≡ false) }
+
+    // Where so many are held within the limit, nothing is read.
+    ensures whole { (want ≤ length input.old.held) × (input.old.place + want ≤ input.old.max)
+        → (result ≡ Ok None) × (input.new ≡ input.old) × (from.new ≡ from.old) }
+
+    // After a failed read so many aren't held.
+    ensures few_held { OnErr result (length input.new.held < want) }
     ensures bounded { input.new.place + length input.new.held ≤ input.new.max + 1 }
     ensures few { length input.new.held ≤ buffer.most_held input.new.longest input.new.piece }
     ensures fault { IfErr result (λ fault. fault ≡ TraceFault.ReadFault) }
