@@ -188,6 +188,30 @@ fn least_and_largest_records(rt: HostRuntime) -> Result<(), Fail> {
     Ok(())
 }
 
+/// Whether a record is held at the start, after the first of two, and after the second, over a source that gives pieces of
+/// this size.
+fn held_ahead(alloc: Global, piece: usize) -> Result<[bool; 3], AllocError>
+    requires { 1 ≤ piece }
+{
+    let mut source = SafeSource::new(alloc, &trace(alloc, &[3, 5])?, piece)?;
+    let mut reader = Reader::new(alloc, 1 << 40)?;
+    if reader.start(&mut source).is_err() {
+        return Ok([false; 3]);
+    }
+    let first = reader.is_next_held();
+    let _ = reader.next(&mut source);
+    let second = reader.is_next_held();
+    let _ = reader.next(&mut source);
+    Ok([first, second, reader.is_next_held()])
+}
+
+#[test]
+fn a_held_record_is_told(rt: HostRuntime) -> Result<(), Fail> {
+    assert_eq!(rt; held_ahead(rt.alloc(), 40)?, [true, true, false]);
+    assert_eq!(rt; held_ahead(rt.alloc(), 39)?, [true, false, false]);
+    Ok(())
+}
+
 #[test]
 fn goes_on_after_a_failed_read(rt: HostRuntime) -> Result<(), Fail> {
     let mut source = MemSource::new(rt.alloc(), &three(rt.alloc())?, 1, &[3, 1500])?;
