@@ -4,3 +4,4 @@ mod Later
 mod OneCall
 mod OneTurn
 pub mod OwnDesk
+mod Windows

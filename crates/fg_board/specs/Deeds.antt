@@ -5,7 +5,7 @@ use Rattle.fg_playout.specs.State.{Live}
 use Rattle.fg_turn.specs.Standing.{Standing}
 use Rattle.fg_core.specs.Board.{BoardState, look_of}
 use Rattle.fg_core.specs.Views.{Told, word_at, equation_is, seen_of, told_of_job}
-use Rattle.fg_core.specs.Core.{Call, media, parity, play, flush, held, Event, take, publish, vouch, give_back, look, offer, attest, CanCall, CanDo, IsCall, IsEvent, told_of_fate}
+use Rattle.fg_core.specs.Core.{Call, media, parity, play, flush, held, skip, Event, take, publish, vouch, give_back, look, offer, attest, CanCall, CanDo, IsCall, IsEvent, told_of_fate}
 use Rattle.fg_core.specs.Codes.{Entry, call_code, told_code, told_from, IsOwnedBy, GrowsFrom}
 use Rattle.fg_board.specs.declared.turns.Deed.{Deed}
 use Rattle.fg_board.specs.declared.turns.Deed.TheVariants as deed
@@ -79,6 +79,7 @@ call_of (made.Parity base shape share reply key) =
 call_of (made.Play played) = play played
 call_of (made.Flush played) = flush played
 call_of (made.Held time played) = held time played
+call_of (made.Skip time count) = skip time count
 
 -- The entry of a call, and what its turn tells.
 abbrev pub named_by : BoardState → Call → List Entry

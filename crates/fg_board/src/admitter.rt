@@ -14,6 +14,8 @@ ghost use Rattle.fg_core.specs.Codes.{opening_code, IsOwnedBy, GrowsFrom};
 ghost use Rattle.fg_core.specs.Core.{media, parity, play, flush, held, play_of};
 ghost use Rattle.fg_board.specs.Knowing.{top_of};
 
+mod skipping;
+
 use crate::board::Board;
 use crate::turns::{Made, settle_owner};
 use fg_core::laws::{calls_make_one_desk, opening_is_owned};
@@ -66,6 +68,22 @@ impl Near {
             runs: flow.runs(),
             mark: flow.mark(),
             calls: self.calls + 1,
+        }
+    }
+
+    // After so many windows that were passed, each of which counts as a call.
+    fn after_windows(self, flow: &Flow, count: u64) -> Near
+        requires calls { self.calls < call_limit }
+        requires few { count ≤ 2 ^ 62 }
+        ensures top { top_of result.top ≡ flow.now.desk.state.top }
+        ensures previous { result.previous ≡ flow.now.desk.state.previous }
+        ensures runs { result.runs ≡ flow.now.desk.state.runs }
+        ensures mark { result.mark ≡ flow.now.desk.state.mark }
+        ensures calls { result.calls ≡ self.calls + count }
+    {
+        Near {
+            calls: self.calls + count,
+            ..self.after(flow)
         }
     }
 }

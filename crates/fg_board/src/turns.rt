@@ -41,6 +41,8 @@ pub(crate) enum Made {
     Flush(Option<Played>),
     /// A held step at a time.
     Held(u64, Option<Played>),
+    /// How many windows were passed, and the time that was told with held ones.
+    Skip(Option<u64>, u64),
 }
 
 // Leaves what the deed made of the state, and is told what it tells.

@@ -7,6 +7,7 @@ mod crossing;
 mod fates;
 mod holds;
 mod jobs;
+mod jumps;
 mod random;
 mod scene;
 mod script;

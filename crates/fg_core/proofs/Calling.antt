@@ -1,5 +1,5 @@
 -- What a flow's calls make of its board, from what the desk's calls make of the desk.
-use Rattle.std.proofs.Common.{◌≡◌, ◌<◌, ℕ, Bool, List, length, replicate, set, true, true≢false, Option, Some, None, IfSome, IfNone, option_map, refl, sym, ap, subst, ◌∙◌, ⊎_elim, arith}
+use Rattle.std.proofs.Common.{◌≡◌, ◌≢◌, ◌<◌, ℕ, Bool, List, length, replicate, set, true, true≢false, Option, Some, None, IfSome, IfNone, option_map, refl, sym, ap, subst, ◌∙◌, ⊎_elim, arith}
 use Rattle.std.proofs.lemmas.Bool.{cases_lt}
 use Rattle.std.proofs.lemmas.List.{get_or-replicate, get_or_past, length-replicate}
 use Rattle.std.specs.FinMap.{get}
@@ -9,6 +9,7 @@ use Rattle.fg_shape.specs.Playout.{Playout}
 use Rattle.fg_peel.proofs.Options.{some_and}
 use Rattle.fg_playout.specs.declared.reply.Reply.{Reply}
 use Rattle.fg_playout.specs.declared.reply.Reply.TheVariants.{Admitted}
+use Rattle.fg_playout.specs.declared.reply.Outcome.TheVariants.{Repaired}
 use Rattle.fg_desk.specs.declared.desk.Played.{Played}
 use Rattle.fg_playout.specs.State.{State, Live}
 use Rattle.fg_playout.specs.Facts.{Holds}
@@ -20,10 +21,12 @@ use Rattle.fg_desk.specs.Contents.{Contents, IsPlaceAfter, ChangesInPlay, opened
 use Rattle.fg_core.specs.Board.{BoardState, IsCurrent, IsHeld, AdmitsParityOn, PlaysOn, FlushesOn, PlaysHeldOn, GivesKey, opened_board, with_vouched}
 use Rattle.fg_core.specs.Core.{play_of}
 use Rattle.fg_core.specs.Flow.{no_note, note_at, says, is_vouched, is_handed_out, board_of, with_handed, AreKept}
+use Rattle.fg_core.specs.Skipping.{Passes, PassesOn}
 use Rattle.fg_core.specs.declared.key.Key.{Key}
 use Rattle.fg_core.specs.declared.notes.Note.{Note}
 use Rattle.fg_core.proofs.Follows.{counted_follows, told_follows, parity_follows, play_follows, held_follows}
-use Rattle.fg_core.proofs.Noting.{keeps_notes, put_same, put_as, put_kept}
+use Rattle.fg_core.proofs.Noting.{keeps_notes, are_kept, put_same, put_as, put_kept}
+use Rattle.fg_core.proofs.Passing.{skip_follows}
 
 -- Nothing is noted at first.
 pub opened_is : (playout : Playout) (notes : List Note) → board_of (opened playout) notes ≡ opened_board playout
@@ -110,6 +113,16 @@ module _ (old new : Contents) (notes : List Note) (kept : AreKept old notes) whe
     keeps_notes notes old new kept (held_follows old new kept.bare time _ (play_of played shown) held.plays some.1),
   )
 
+  pub passes_on :
+      (time : Option ℕ) (count : ℕ) → Passes time count old.state new.state → (count ≡ 0 → new ≡ old)
+      → (count ≢ 0 → ChangesInPlay Repaired old new) → PassesOn (board_of old notes) time count (board_of new notes)
+  passes_on time count passes none changes = record {
+    state = passes;
+    none = none;
+    changes = changes;
+    notes = keeps_notes notes old new kept (skip_follows time old new kept.bare count passes none changes);
+  }
+
 -- A step of the desk that a flow holds is one on its board. `Step` is what the desk's call owes, `On` what the flow's does, and
 -- `Count` and `Still` are what both say of the tray.
 pub step_on_board :
@@ -130,6 +143,29 @@ step_on_board Step On Count Still result held desk new notes notes' board follow
     first : (r : Option Played) → IfNone r ((new ≡ record desk { state = new.state }) × Still) → IfNone r (new ≡ record desk { state = new.state })
     first None both = both.0
     first (Some played) both = both
+
+-- So are windows that are passed.
+pub pass_on_board :
+    (time : Option ℕ) (count : ℕ) (held desk new : Contents) (notes notes' : List Note) (board : BoardState)
+    → AreKept held notes → desk ≡ held → notes' ≡ notes → board_of held notes ≡ board
+    → Passes time count desk.state new.state → (count ≡ 0 → new ≡ desk) → (count ≢ 0 → ChangesInPlay Repaired desk new)
+    → PassesOn board time count (board_of new notes')
+pass_on_board time count held desk new notes notes' board kept same same_notes is passes none changes =
+    subst (λ (ns : List Note). PassesOn board time count (board_of new ns)) (sym same_notes)
+    (subst (λ (b : BoardState). PassesOn b time count (board_of new notes)) is
+    (passes_on held new notes kept time count (subst (λ (d : Contents). Passes time count d.state new.state) same passes)
+    (λ zero_is. none zero_is ∙ same)
+    (λ some. subst (λ (d : Contents). ChangesInPlay Repaired d new) same (changes some))))
+
+pub pass_keeps :
+    (time : Option ℕ) (count : ℕ) (held desk new : Contents) (notes notes' : List Note) → AreKept held notes → desk ≡ held
+    → notes' ≡ notes → Passes time count desk.state new.state → (count ≡ 0 → new ≡ desk)
+    → (count ≢ 0 → ChangesInPlay Repaired desk new) → AreKept new notes'
+pass_keeps time count held desk new notes notes' kept same same_notes passes none changes =
+    subst (λ (ns : List Note). AreKept new ns) (sym same_notes)
+    (are_kept notes held new kept
+    (skip_follows time held new kept.bare count (subst (λ (d : Contents). Passes time count d.state new.state) same passes)
+    (λ zero_is. none zero_is ∙ same) (λ some. subst (λ (d : Contents). ChangesInPlay Repaired d new) same (changes some))))
 
 -- A note is put at the place of a key.
 module _

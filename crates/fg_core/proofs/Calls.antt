@@ -12,7 +12,7 @@ use Rattle.fg_playout.proofs.Held.{at_time_holds}
 use Rattle.fg_desk.specs.Contents.{AreSolved, known_in}
 use Rattle.fg_core.specs.Board.{BoardState, IsLive, KeepsNotes}
 use Rattle.fg_core.specs.Views.{Told, saw, word_at, equation_is, IsBorneOut}
-use Rattle.fg_core.specs.Core.{Call, media, parity, play, flush, held, play_of, IsCallOn, CanCallOn, AreCallsOn, KeyIsOf, CanCall, IsCall}
+use Rattle.fg_core.specs.Core.{Call, media, parity, play, flush, held, skip, play_of, IsCallOn, CanCallOn, AreCallsOn, KeyIsOf, CanCall, IsCall}
 use Rattle.fg_core.specs.Below.{CallLaws}
 use Rattle.fg_core.specs.Laws.{CallsExtend, CallsKeepTold}
 use Rattle.fg_core.proofs.Known.{slot_is_kept, stays_settled}
@@ -20,6 +20,7 @@ use Rattle.fg_core.proofs.Next.{IsNext, AreBareKept, is_next_counted, is_next_to
 use Rattle.fg_core.proofs.Played.{play_is_next}
 use Rattle.fg_core.proofs.Protected.{parity_is_next}
 use Rattle.fg_core.proofs.Received.{media_is_next}
+use Rattle.fg_core.proofs.Passing.{passes_hold, skip_is_next}
 
 -- One call more on a desk of its own.
 calls_and_one :
@@ -38,6 +39,7 @@ call_on old new (flush None) is = is.0
 call_on old new (flush (Some played)) is = (is.0, is.1.0, is.2)
 call_on old new (held time None) is = is.0
 call_on old new (held time (Some played)) is = (is.0, is.1.0, is.2)
+call_on old new (skip time count) is = is.state
 
 -- Its notes stay as each call says.
 notes_kept : (old new : BoardState) (call : Call) → IsCall old call new → KeepsNotes old new
@@ -48,6 +50,7 @@ notes_kept old new (flush None) is = is.2
 notes_kept old new (flush (Some played)) is = is.1.2
 notes_kept old new (held time None) is = is.2
 notes_kept old new (held time (Some played)) is = is.1.2
+notes_kept old new (skip time count) is = is.notes
 
 -- The key that it gives is of the board's epoch.
 key_is_of : (old new : BoardState) (call : Call) → IsCall old call new → KeyIsOf new.desk.epoch call
@@ -57,6 +60,7 @@ key_is_of old new (parity datagram reply (Some key)) is = let e = is.key_epoch i
 key_is_of old new (play played) is = tt
 key_is_of old new (flush played) is = tt
 key_is_of old new (held time played) is = tt
+key_is_of old new (skip time count) is = tt
 
 later_epoch : (epoch later : ℕ) → epoch ≤ later → (call : Call) → KeyIsOf epoch call → KeyIsOf later call
 later_epoch epoch later rises (media seq ssrc word reply) is = tt
@@ -65,6 +69,7 @@ later_epoch epoch later rises (parity datagram reply (Some key)) is = omega (ari
 later_epoch epoch later rises (play played) is = tt
 later_epoch epoch later rises (flush played) is = tt
 later_epoch epoch later rises (held time played) is = tt
+later_epoch epoch later rises (skip time count) is = tt
 
 -- The facts hold after it.
 facts_hold :
@@ -83,6 +88,8 @@ facts_hold laws old new (flush (Some played)) holds can is =
 facts_hold laws old new (held time None) holds can is = laws.facts.held old.desk.state new.desk.state time None holds is.0
 facts_hold laws old new (held time (Some played)) holds can is =
     laws.facts.held old.desk.state new.desk.state time (Some (play_of played is.0)) holds is.1.0
+facts_hold laws old new (skip time count) holds can is =
+    passes_hold laws.facts.play time count old.desk.state new.desk.state holds can is.state
 
 -- What it keeps of the board's desk.
 desk_is_next :
@@ -103,6 +110,8 @@ desk_is_next laws old new (held time (Some played)) holds solved bare can is =
     next_of_told old.desk new.desk time
     (play_is_next laws.plays _ (desk_told old.desk time) new.desk (play_of played is.0) (at_time_holds old.desk.state time holds)
     (told_solved old.desk new.desk time solved) is.1.0.plays (told_changes old.desk new.desk time played.verdict is.1.1))
+desk_is_next laws old new (skip time count) holds solved bare can is =
+    skip_is_next time old.desk new.desk bare count solved is.state is.none is.changes
 
 module _
     (old new : BoardState) (holds : Holds old.desk.state) (holds' : Holds new.desk.state) (next : IsNext old.desk new.desk) where

@@ -7,7 +7,7 @@ use Rattle.fg_playout.specs.declared.reply.Outcome.{Outcome}
 use Rattle.fg_playout.specs.declared.reply.Outcome.TheVariants.{Repaired, Inconsistent}
 use Rattle.fg_desk.specs.declared.desk.Played.{Played}
 use Rattle.fg_core.specs.Views.{Told, saw, word_at, equation_is}
-use Rattle.fg_core.specs.Core.{Call, media, parity, play, flush, held}
+use Rattle.fg_core.specs.Core.{Call, media, parity, play, flush, held, skip}
 use Rattle.fg_core.specs.Codes.{reply_code, reply_from, outcome_code, outcome_from, call_code, call_from, told_code, told_from, played_from}
 
 reply_back : (reply : Reply) → reply_from (reply_code reply) ≡ reply
@@ -37,6 +37,8 @@ calls_read_back (flush None) = refl
 calls_read_back (flush (Some played)) = ap (λ (q : Played). flush (Some q)) (played_back played)
 calls_read_back (held time None) = refl
 calls_read_back (held time (Some played)) = ap (λ (q : Played). held time (Some q)) (played_back played)
+calls_read_back (skip None count) = refl
+calls_read_back (skip (Some time) count) = refl
 
 pub told_reads_back : (told : Told) → told_from (told_code told) ≡ told
 told_reads_back (saw mark epoch admitted) = refl

@@ -13,6 +13,7 @@ mod Next
 mod OneDesk
 mod Opening
 mod Owned
+mod Passing
 mod Played
 mod Protected
 mod Received

@@ -22,11 +22,11 @@ use Rattle.fg_core.proofs.Known.{known_alone, nothing_solved, kept_below}
 use Rattle.fg_core.proofs.Next.{IsNext, AreBareKept}
 
 module _ (count : ℕ) (old : State) (play : Play) (new : State) (plays : IsPlay count old play new) where
-  mark_rises : old.mark ≤ new.mark
+  pub mark_rises : old.mark ≤ new.mark
   mark_rises = let m = plays.mark in omega (arith, m)
 
   -- What is known ahead of the new mark is what was.
-  known_stays : (q : ℕ) → new.mark ≤ q → known new q ≡ known old q
+  pub known_stays : (q : ℕ) → new.mark ≤ q → known new q ≡ known old q
   known_stays q ahead =
       let rises = mark_rises in
       known_ahead new q ahead ∙ plays.media q
@@ -34,7 +34,7 @@ module _ (count : ℕ) (old : State) (play : Play) (new : State) (plays : IsPlay
       ∙ sym (known_ahead old q (omega (arith, ahead, rises)))
 
   -- At the 100 positions before it what was kept and the words of the play are kept.
-  kept_is :
+  pub kept_is :
       (q : ℕ) → q < new.mark → new.mark ≤ q + kept_count
       → get new.kept q ≡ cond (ltb q old.mark) (get old.kept q) (plays.words q)
   kept_is q below near =
@@ -43,10 +43,10 @@ module _ (count : ℕ) (old : State) (play : Play) (new : State) (plays : IsPlay
       (cond (ltb q old.mark) (get old.kept q) (plays.words q)) None
       (and_from (ltb q new.mark) (leb new.mark (q + kept_count)) (lt-ltb q new.mark below) (le-leb new.mark (q + kept_count) near))
 
-  was_live : (serial : ℕ) (live : Live) → get new.equations serial ≡ Some live → get old.equations serial ≡ Some live
+  pub was_live : (serial : ℕ) (live : Live) → get new.equations serial ≡ Some live → get old.equations serial ≡ Some live
   was_live serial live is = ((plays.equations serial live).0 is).0
 
-  same_admitted : new.admitted ≡ old.admitted
+  pub same_admitted : new.admitted ≡ old.admitted
   same_admitted = ap (λ (s : State). s.admitted) plays.rest
 
 -- What is bare after a play is kept.

@@ -6,7 +6,7 @@ use Rattle.fg_shape.specs.Playout.{Playout}
 use Rattle.fg_playout.specs.State.{State, opening}
 use Rattle.fg_core.specs.Board.{BoardState, opened_board}
 use Rattle.fg_core.specs.Views.{Told, IsBorneOut, Grows, seen_of}
-use Rattle.fg_core.specs.Core.{Call, media, parity, play, flush, held, IsCallOn, AreCallsOn, IsOwned, CanCall, IsCall, Event, CanDo, IsEvent, Tells, World, opened_world, with_told, Turn, admitter, pass, IsTurn, IsRun}
+use Rattle.fg_core.specs.Core.{Call, media, parity, play, flush, held, skip, IsCallOn, AreCallsOn, IsOwned, CanCall, IsCall, Event, CanDo, IsEvent, Tells, World, opened_world, with_told, Turn, admitter, pass, IsTurn, IsRun}
 use Rattle.fg_core.specs.Laws.{OpeningIsOwned, CallsExtend, CallsKeepTold, EventsKeepOwned, EventsKeepTold, EventsLeaveTheState, AnswersHold, CoreHolds, LaterTurnsKeepCalls}
 use Rattle.fg_core.proofs.Growing.{seen_holds}
 
@@ -96,6 +96,7 @@ call_on old (flush None) new does = does.0
 call_on old (flush (Some played)) new does = (does.0, does.1.0, does.2)
 call_on old (held time None) new does = does.0
 call_on old (held time (Some played)) new does = (does.0, does.1.0, does.2)
+call_on old (skip time count) new does = does.state
 
 -- The admitter's calls among a run's turns.
 record MakesCalls (old new : World) : Type 0 where

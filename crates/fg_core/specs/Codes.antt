@@ -12,7 +12,7 @@ use Rattle.fg_desk.specs.declared.desk.Played.{Played}
 use Rattle.fg_playout.specs.Admission.{Parity}
 use Rattle.fg_core.specs.Board.{BoardState}
 use Rattle.fg_core.specs.Views.{Told, saw, word_at, equation_is, Grows}
-use Rattle.fg_core.specs.Core.{Call, media, parity, play, flush, held, IsOwned}
+use Rattle.fg_core.specs.Core.{Call, media, parity, play, flush, held, skip, IsOwned}
 
 -- A list of numbers.
 abbrev pub Entry : Type 0
@@ -72,7 +72,7 @@ abbrev pub outcome_from : ℕ → Outcome
 outcome_from zero = Repaired
 outcome_from _ = Inconsistent
 
--- Calls: a media datagram, a parity datagram, a play, a flush step, a held step.
+-- Calls: a media datagram, a parity datagram, a play, a flush step, a held step, windows that are passed at once.
 
 abbrev pub played_code : Played → Entry
 played_code played = played.first ∷ played.count ∷ outcome_code played.verdict ∷ []
@@ -89,6 +89,8 @@ call_code (flush None) = 4 ∷ []
 call_code (flush (Some played)) = 5 ∷ played_code played
 call_code (held time None) = 6 ∷ time ∷ []
 call_code (held time (Some played)) = 7 ∷ time ∷ played_code played
+call_code (skip None count) = 8 ∷ count ∷ []
+call_code (skip (Some time) count) = 9 ∷ time ∷ count ∷ []
 
 abbrev pub parity_from : ℕ → ℕ → ℕ → Entry → Parity
 parity_from base offset count word =
@@ -108,8 +110,10 @@ call_from (suc (suc (suc zero)) ∷ first ∷ count ∷ outcome ∷ rest) = play
 call_from (suc (suc (suc (suc (suc zero)))) ∷ first ∷ count ∷ outcome ∷ rest) =
     flush (Some (played_from first count outcome))
 call_from (suc (suc (suc (suc (suc (suc zero))))) ∷ time ∷ rest) = held time None
-call_from (suc (suc (suc (suc (suc (suc (suc kind)))))) ∷ time ∷ first ∷ count ∷ outcome ∷ rest) =
+call_from (suc (suc (suc (suc (suc (suc (suc zero)))))) ∷ time ∷ first ∷ count ∷ outcome ∷ rest) =
     held time (Some (played_from first count outcome))
+call_from (suc (suc (suc (suc (suc (suc (suc (suc zero))))))) ∷ count ∷ rest) = skip None count
+call_from (suc (suc (suc (suc (suc (suc (suc (suc (suc kind)))))))) ∷ time ∷ count ∷ rest) = skip (Some time) count
 call_from _ = flush None
 
 -- The list with which the admitter's calls begin: the window, the depth and the hold.

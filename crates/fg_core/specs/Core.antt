@@ -18,6 +18,7 @@ use Rattle.fg_playout.specs.Facts.{Holds}
 use Rattle.fg_playout.specs.Play.{Play, Shown, IsPlay, Flushes, HasMore}
 use Rattle.fg_playout.specs.Held.{IsHeldStep}
 use Rattle.fg_core.specs.Board.{BoardState, JobState, IsLive, opened_board, GivesKey, AdmitsMediaOn, AdmitsParityOn, PlaysOn, FlushesOn, PlaysHeldOn, Takes, Publishes, Offers, Vouches, Attests, GivesBack, Looks}
+use Rattle.fg_core.specs.Skipping.{Passes, PassesOn}
 use Rattle.fg_core.specs.Views.{Told, word_at, equation_is, seen_of, IsWorked, IsChecked, told_of_job}
 use Rattle.fg_core.specs.declared.key.Key.{Key}
 use Rattle.fg_core.specs.declared.fate.Fate.{Fate}
@@ -28,13 +29,15 @@ use Rattle.fg_core.specs.declared.fate.Look.TheVariants as looked
 -- The admitter's calls
 
 -- A call of the admitter, with its arguments and its answer: a media datagram of a sequence number and an SSRC, a parity
--- datagram, a play, a flush step, a held step at a time.
+-- datagram, a play, a flush step, a held step at a time; and how many windows that show nothing were passed at once, at a time
+-- where one is told.
 pub data Call : Type 0 where
   media : ℕ → ℕ → Word → Reply → Call
   parity : Parity → Reply → Option Key → Call
   play : Played → Call
   flush : Option Played → Call
   held : ℕ → Option Played → Call
+  skip : Option ℕ → ℕ → Call
 
 -- A play, as its answer and what it shows tell it.
 abbrev pub play_of : Played → List Shown → Play
@@ -55,9 +58,10 @@ IsCallOn old (flush (Some played)) new =
 IsCallOn old (held time None) new = IsHeldStep old time None new
 IsCallOn old (held time (Some played)) new =
     (shown : List Shown) × IsHeldStep old time (Some (play_of played shown)) new × CountIs played shown
+IsCallOn old (skip time count) new = Passes time count old new
 
 -- The conditions of a call. A datagram of a fresh SSRC begins a run, so nothing may be left to be shown. Held steps are made where
--- a word may not wait for ever.
+-- a word may not wait for ever, and windows are passed within a run.
 abbrev pub CanCallOn : State → Call → Type 0
 CanCallOn desk (media seq ssrc word reply) =
     HasRoom desk × (¬ IsDue desk seq ssrc) × (IsFresh desk ssrc → ¬ HasMore desk) × IsMedia word
@@ -65,6 +69,7 @@ CanCallOn desk (parity given reply key) = HasRoom desk × IsShape given.offset g
 CanCallOn desk (play played) = HasRoom desk × IsSome desk.top
 CanCallOn desk (flush played) = HasRoom desk
 CanCallOn desk (held time played) = HasRoom desk × (desk.playout.hold ≢ 0)
+CanCallOn desk (skip time count) = IsSome desk.top
 
 -- What calls make of it one after another, each where its conditions are met.
 abbrev pub AreCallsOn : State → List Call → State → Type 0
@@ -80,6 +85,7 @@ KeyIsOf epoch (parity given reply (Some key)) = key.epoch ≤ epoch
 KeyIsOf epoch (play played) = ⊤
 KeyIsOf epoch (flush played) = ⊤
 KeyIsOf epoch (held time played) = ⊤
+KeyIsOf epoch (skip time count) = ⊤
 
 -- What the admitter's calls make of a board, whatever passes did between them.
 pub record IsOwned (playout : Playout) (calls : List Call) (board : BoardState) : Type 0 where
@@ -113,6 +119,7 @@ IsCall old (flush (Some played)) new =
 IsCall old (held time None) new = PlaysHeldOn old time None new
 IsCall old (held time (Some played)) new =
     (shown : List Shown) × PlaysHeldOn old time (Some (play_of played shown)) new × CountIs played shown
+IsCall old (skip time count) new = PassesOn old time count new
 
 -- The passes' events
 

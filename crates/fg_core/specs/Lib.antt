@@ -6,6 +6,7 @@ pub mod Core
 pub mod Flow
 pub mod Guarding
 pub mod Laws
+pub mod Skipping
 pub mod Steps
 pub mod Views
 pub mod Work

@@ -1,6 +1,6 @@
 //! The state of a board: a desk, and which of its live equations are handed out and which were vouched for.
 
-ghost use Rattle.std.specs.Prelude.{◌≡◌, ◌≢◌, ◌↔◌, ◌<◌, ◌≤◌, length, replicate, Some, None, Option, IsSome, IfOk, IfErr, IfSome, IfNone, IsTrue, option_map};
+ghost use Rattle.std.specs.Prelude.{◌≡◌, ◌≢◌, ◌↔◌, ◌+◌, ◌<◌, ◌≤◌, ◌^◌, length, replicate, Some, None, Option, IsSome, IfOk, IfErr, IfSome, IfNone, IsTrue, option_map};
 ghost use Rattle.std.specs.FinMap.{get};
 ghost use Rattle.fg_words.specs.Word.{IsMedia};
 ghost use Rattle.fg_shape.specs.Shape.{IsShape};
@@ -10,15 +10,19 @@ ghost use Rattle.fg_playout.specs.State.{Live, current};
 ghost use Rattle.fg_playout.specs.Admission.{IsDue, IsFresh};
 ghost use Rattle.fg_playout.specs.Play.{HasMore};
 ghost use Rattle.fg_playout.specs.Room.{HasRoom};
+ghost use Rattle.fg_playout.specs.Laws.{HavePlayed, AreFlushSteps, AreHeldSteps};
+ghost use Rattle.fg_playout.specs.Empty.{empty_plays};
 ghost use Rattle.fg_desk.specs.Contents.{CanFill, known_in, opened};
 ghost use Rattle.fg_core.specs.Board.{opened_board, IsCurrent, IsHeld, AdmitsMediaOn, AdmitsParityOn, PlaysOn, FlushesOn, PlaysHeldOn, Takes, Offers, Publishes, Attests, Vouches, GivesBack, Looks, Asks, TellsReadable, with_vouched, VouchedAreComplete};
 ghost use Rattle.fg_core.specs.Flow.{with_handed, no_note};
+ghost use Rattle.fg_core.specs.Skipping.{PassesOn};
 ghost use Rattle.fg_core.specs.Core.{play_of};
 
 use crate::fate::{Asked, Fate, Look};
 use crate::key::Key;
 use crate::notes::Notes;
 use crate::open::{equation_at, facts, next_open, note_of, work_of};
+use crate::skipping::{skip_due, skip_held, skip_rest};
 use crate::work::Work;
 use fg_desk::{Desk, Played, Reply, Tray};
 use fg_shape::Shape;
@@ -218,6 +222,51 @@ impl Flow {
         ensures tray { tray.new.window ≡ tray.old.window }
     {
         self.held.desk.held_step(time, tray)
+    }
+
+    /// Plays at once so many of the next windows as show nothing and are due before a media datagram of this sequence number and
+    /// SSRC, and answers how many. It may leave some of them, or all, to be played one by one, as it does where an equation is
+    /// live.
+    pub fn skip_due(&mut self, seq: u16, ssrc: u32) -> u64
+        ensures plays { HavePlayed self.old.desk.state seq ssrc
+            (empty_plays result self.old.desk.state.playout.window self.old.desk.state.mark) self.new.desk.state }
+        ensures passes { PassesOn self.old None result self.new }
+        ensures calls { self.new.desk.state.calls ≡ self.old.desk.state.calls + result }
+        ensures limit { result ≤ 2 ^ 62 }
+    {
+        let _window = self.held.desk.window();
+        let count = skip_due(&mut self.held.desk, seq, ssrc);
+        let _depth = self.held.desk.depth();
+        count
+    }
+
+    /// The same for steps of a flush.
+    pub fn skip_rest(&mut self) -> u64
+        ensures plays { AreFlushSteps self.old.desk.state
+            (empty_plays result self.old.desk.state.playout.window self.old.desk.state.mark) self.new.desk.state }
+        ensures passes { PassesOn self.old None result self.new }
+        ensures calls { self.new.desk.state.calls ≡ self.old.desk.state.calls + result }
+        ensures limit { result ≤ 2 ^ 62 }
+    {
+        let _window = self.held.desk.window();
+        let count = skip_rest(&mut self.held.desk);
+        let _depth = self.held.desk.depth();
+        count
+    }
+
+    /// The same for held plays at a time, in microseconds, which the desk is told where there are any.
+    pub fn skip_held(&mut self, time: u64) -> u64
+        requires limited { self.old.desk.state.playout.hold ≢ 0 }
+        ensures plays { AreHeldSteps self.old.desk.state time
+            (empty_plays result self.old.desk.state.playout.window self.old.desk.state.mark) self.new.desk.state }
+        ensures passes { PassesOn self.old (Some time) result self.new }
+        ensures calls { self.new.desk.state.calls ≡ self.old.desk.state.calls + result }
+        ensures limit { result ≤ 2 ^ 62 }
+    {
+        let _window = self.held.desk.window();
+        let count = skip_held(&mut self.held.desk, time);
+        let _depth = self.held.desk.depth();
+        count
     }
 
     /// Hands out the open equation of the least serial number, with a share of each word known at its slots. Want of

@@ -11,6 +11,7 @@ mod key;
 pub mod laws;
 mod notes;
 mod open;
+mod skipping;
 mod work;
 
 pub use fate::{Asked, Fate, Look};

@@ -70,6 +70,11 @@ impl Progress {
         self.next = ((played.first % 65_536) as u16).wrapping_add((played.count % 65_536) as u16);
     }
 
+    /// Notes that so many positions were passed at once.
+    pub fn skip(&mut self, positions: u64) {
+        self.next = self.next.wrapping_add((positions % 65_536) as u16);
+    }
+
     /// Notes that a run begins with a media datagram of this sequence number.
     pub fn begin(&mut self, seq: u16) {
         self.first = seq.wrapping_sub(self.next);

@@ -438,6 +438,24 @@ impl Scene {
         admit::held(wait, self.alloc, &self.board, &mut self.admitter, time)
     }
 
+    /// Passes windows that are due before a sequence number and SSRC.
+    pub(super) fn skip_due(&mut self, wait: &impl Wait, seq: u16, ssrc: u32) -> u64 {
+        self.admitter.skip_due(wait, &self.board, seq, ssrc)
+    }
+
+    /// Passes windows that are steps of a flush.
+    pub(super) fn skip_rest(&mut self, wait: &impl Wait) -> u64 {
+        self.admitter.skip_rest(wait, &self.board)
+    }
+
+    /// Passes windows that are held plays at a time. None where a word may wait for ever.
+    pub(super) fn skip_held(&mut self, wait: &impl Wait, time: u64) -> u64 {
+        if self.admitter.hold() == 0 {
+            return 0;
+        }
+        self.admitter.skip_held(wait, &self.board, time)
+    }
+
     pub(super) fn take(
         &mut self,
         wait: &impl Wait,

@@ -50,6 +50,12 @@ pub(super) enum Step {
     Flush(Shows),
     /// A held step at a time. None where no word has waited for long enough.
     Held(u64, Option<Shows>),
+    /// Windows that are due before a sequence number of SSRC 0 are passed: how many.
+    SkipDue(u16, u64),
+    /// Windows that are steps of a flush are passed: how many.
+    SkipRest(u64),
+    /// Windows that are held plays at a time are passed: how many.
+    SkipHeld(u64, u64),
 }
 
 /// What a look shows: the word that has the number of the position, no word, or that the equation is
@@ -223,7 +229,17 @@ fn answers(scene: &mut Scene, wait: &impl Wait, step: Step) -> Result<bool, Allo
         Step::Play(seq, want) => Ok(is_shown(scene.play(wait, seq, 0)?, want)),
         Step::Flush(want) => Ok(is_shown(scene.flush(wait)?, want)),
         Step::Held(time, want) => is_held(scene, wait, time, want),
-        _ => is_brought(scene, wait, step),
+        _ => Ok(passes(scene, wait, step) || is_brought(scene, wait, step)?),
+    }
+}
+
+/// Whether so many windows are passed at once as is wanted.
+fn passes(scene: &mut Scene, wait: &impl Wait, step: Step) -> bool {
+    match step {
+        Step::SkipDue(seq, want) => scene.skip_due(wait, seq, 0) == want,
+        Step::SkipRest(want) => scene.skip_rest(wait) == want,
+        Step::SkipHeld(time, want) => scene.skip_held(wait, time) == want,
+        _ => false,
     }
 }
 

@@ -128,15 +128,24 @@ impl<'a, W: Wait, G: Hears> WindowState for BoardWindow<'a, W, G> {
         step
     }
 
-    // A board's windows are played one by one.
-
-    fn skip_due(&mut self, _seq: u16, _ssrc: u32) -> Skipped {
-        NONE_SKIPPED
+    fn skip_due(&mut self, seq: u16, ssrc: u32) -> Skipped {
+        let mark = self.admitter.mark();
+        let windows = self.admitter.skip_due(self.wait, self.board, seq, ssrc);
+        let positions = self.admitter.mark() - mark;
+        self.progress.skip(positions);
+        Skipped { windows, positions }
     }
 
     fn skip_rest(&mut self) -> Skipped {
-        NONE_SKIPPED
+        let mark = self.admitter.mark();
+        let windows = self.admitter.skip_rest(self.wait, self.board);
+        let positions = self.admitter.mark() - mark;
+        self.progress.skip(positions);
+        Skipped { windows, positions }
     }
+
+    // Held windows are played one by one: a word is held near the mark, within the depth, and to ask would take a turn after each
+    // held play.
 
     fn skip_held(&mut self, _time: u64) -> Skipped {
         NONE_SKIPPED
