@@ -5,7 +5,13 @@ use fg_desk::{Outcome, Reply};
 use std::alloc::{AllocError, Global};
 
 /// Positions are below this.
-const POSITIONS: usize = 512;
+const POSITIONS: usize = 16_384;
+
+/// So many positions before the mark, and so many more than the depth in all, can have a slot of a live equation or a word that
+/// wasn't shown.
+const BEHIND: usize = 100;
+
+const NEAR: usize = 300;
 
 /// What a parity datagram says.
 #[derive(Clone, Copy)]
@@ -71,18 +77,20 @@ fn last(sum: Sum) -> usize {
     slot(sum, sum.count.wrapping_sub(1))
 }
 
-fn tally_of(sum: Sum, words: &[Option<u32>]) -> Tally {
+/// The words of `near` begin at the position `first`.
+fn tally_of(sum: Sum, first: usize, near: &[Option<u32>]) -> Tally {
     let mut tally = Tally {
         unknown: 0,
         slot: 0,
         rest: sum.parity,
     };
     for j in 0..sum.count {
-        match at(words, slot(sum, j)) {
+        let slot = slot(sum, j).wrapping_sub(first);
+        match at(near, slot) {
             Some(word) => tally.rest ^= word,
             None => {
                 tally.unknown = tally.unknown.saturating_add(1);
-                tally.slot = slot(sum, j);
+                tally.slot = slot;
             }
         }
     }
@@ -90,12 +98,12 @@ fn tally_of(sum: Sum, words: &[Option<u32>]) -> Tally {
 }
 
 /// Takes the words that single equations give. Whether there was one.
-fn scan(live: &[Sum], words: &mut [Option<u32>]) -> bool {
+fn scan(live: &[Sum], first: usize, near: &mut [Option<u32>]) -> bool {
     let mut found = false;
     for sum in live {
-        let tally = tally_of(*sum, words);
+        let tally = tally_of(*sum, first, near);
         if tally.unknown == 1 {
-            put(words, tally.slot, Some(tally.rest));
+            put(near, tally.slot, Some(tally.rest));
             found = true;
         }
     }
@@ -103,9 +111,9 @@ fn scan(live: &[Sum], words: &mut [Option<u32>]) -> bool {
 }
 
 /// Whether each equation comes out whose words are all there.
-fn comes_out(live: &[Sum], words: &[Option<u32>]) -> bool {
+fn comes_out(live: &[Sum], first: usize, near: &[Option<u32>]) -> bool {
     for sum in live {
-        let tally = tally_of(*sum, words);
+        let tally = tally_of(*sum, first, near);
         if tally.unknown == 0 && tally.rest != 0 {
             return false;
         }
@@ -165,29 +173,36 @@ impl Plain {
         }
     }
 
-    /// Each word that is known or follows.
+    /// The first position near the mark.
+    fn near(&self) -> usize {
+        self.mark.saturating_sub(BEHIND)
+    }
+
+    /// Each word near the mark that is known or follows.
     pub(super) fn closure(&self, alloc: Global) -> Result<Vec<Option<u32>>, AllocError> {
-        let mut words = Vec::new(alloc);
-        for position in 0..POSITIONS {
-            words.push(self.known(position))?;
+        let first = self.near();
+        let mut near = Vec::new(alloc);
+        for i in 0..self.depth.saturating_add(NEAR) {
+            near.push(self.known(first.wrapping_add(i)))?;
         }
         for _ in 0..POSITIONS {
-            if !scan(&self.live, &mut words) {
+            if !scan(&self.live, first, &mut near) {
                 break;
             }
         }
-        Ok(words)
+        Ok(near)
     }
 
-    /// How many positions a flush step plays.
-    pub(super) fn rest(&self, words: &[Option<u32>]) -> usize {
-        let mut end = self.mark;
-        for position in 0..POSITIONS {
-            if position >= self.mark && at(words, position).is_some() {
-                end = position.saturating_add(1);
+    /// How many positions a flush step plays, where these words near the mark are known or follow.
+    pub(super) fn rest(&self, near: &[Option<u32>]) -> usize {
+        let mark = self.mark.wrapping_sub(self.near());
+        let mut end = mark;
+        for (i, word) in near.iter().enumerate() {
+            if i >= mark && word.is_some() {
+                end = i.saturating_add(1);
             }
         }
-        end.saturating_sub(self.mark).min(self.window)
+        end.saturating_sub(mark).min(self.window)
     }
 
     /// A time is told. How many positions a held step plays then.
@@ -197,13 +212,21 @@ impl Plain {
             return 0;
         }
         let mut end = self.mark;
-        for (position, came) in self.came.iter().enumerate() {
-            let waits = position >= self.mark && at(&self.media, position).is_some();
-            if waits && came.saturating_add(self.hold) <= self.clock {
+        for i in 0..self.depth.saturating_add(NEAR) {
+            let position = self.mark.wrapping_add(i);
+            if at(&self.media, position).is_some() && self.waited(position) >= self.hold {
                 end = position.saturating_add(1);
             }
         }
         end.saturating_sub(self.mark).min(self.window)
+    }
+
+    /// How long a word waited.
+    fn waited(&self, position: usize) -> u64 {
+        match self.came.get(position) {
+            Some(came) => self.clock.saturating_sub(*came),
+            None => 0,
+        }
     }
 
     fn receive(&mut self, position: usize, word: u32) {
@@ -279,26 +302,23 @@ impl Plain {
         Ok(Reply::Admitted)
     }
 
-    /// Plays so many positions, where these words are known or follow.
+    /// Plays so many positions, where these words near the mark are known or follow.
     pub(super) fn play(
         &mut self,
         alloc: Global,
-        words: &[Option<u32>],
+        near: &[Option<u32>],
         count: usize,
     ) -> Result<Outcome, AllocError> {
-        let solved = comes_out(&self.live, words);
+        let first = self.near();
+        let solved = comes_out(&self.live, first, near);
         for i in 0..count {
             let position = self.mark.wrapping_add(i);
-            let received = at(&self.media, position);
-            put(
-                &mut self.shown,
-                position,
-                if solved {
-                    at(words, position)
-                } else {
-                    received
-                },
-            );
+            let word = if solved {
+                at(near, position.wrapping_sub(first))
+            } else {
+                at(&self.media, position)
+            };
+            put(&mut self.shown, position, word);
         }
         self.mark = self.mark.saturating_add(count);
         let mut live = Vec::new(alloc);

@@ -14,6 +14,48 @@ use std::test::Fail;
 /// The first sequence number of all.
 const FIRST: u16 = 65_500;
 
+/// How many flows there are.
+const FLOWS: u32 = 16;
+
+/// A flush has so many steps at most: a window of one position, and the greatest depth.
+const FLUSHES: u32 = 1_200;
+
+/// A datagram makes so many plays due at most.
+const PLAYS: u32 = 600;
+
+/// What is drawn in a flow, and what came of it.
+#[derive(Drop)]
+struct Draw {
+    random: Pcg32,
+    /// How many of a hundred datagrams that follow one another are lost.
+    loss: u32,
+    /// One of so many datagrams has another word than was sent.
+    wrong: u32,
+    /// Whether parity datagrams come.
+    parity: bool,
+    /// How many windows were passed at once.
+    passed: u64,
+    /// How many plays were inconsistent.
+    inconsistent: u64,
+    /// How many runs were begun.
+    runs: u64,
+}
+
+/// One of so many numbers from 0 on, or 0 where there are none.
+fn one_of(draw: &mut Draw, count: usize) -> usize {
+    draw.random.next_word() as usize % count.max(1)
+}
+
+/// What was sent at a position, or now and then another word.
+fn arriving(draw: &mut Draw, position: usize) -> u32 {
+    let flips = if draw.random.next_word() % draw.wrong.max(1) == 0 {
+        1 + draw.random.next_word() % 2
+    } else {
+        0
+    };
+    sent(position) ^ flips
+}
+
 /// A media word with this timestamp.
 fn stamped(timestamp: u32) -> Word {
     let mut word = super::script::word_of(0);
@@ -75,6 +117,11 @@ fn tell_same(desk: &Desk, plain: &Plain) -> bool {
     {
         return false;
     }
+    true
+}
+
+/// Whether both desks know the same near the mark.
+fn know_same(desk: &Desk, plain: &Plain) -> bool {
     for i in 0..140usize {
         let position = plain.mark.saturating_add(i).wrapping_sub(100);
         if position < 100_000 && !has_stamp(desk.word(position as u64), plain.known(position)) {
@@ -139,23 +186,146 @@ fn plays_same(
     Ok(shows_same(plain, done, first, count, outcome) && tell_same(desk, plain))
 }
 
-/// How many positions a flush step of the plain desk plays.
-fn rest_of(plain: &Plain, alloc: Global) -> Result<usize, AllocError> {
-    let words = plain.closure(alloc)?;
-    Ok(plain.rest(&words))
+/// Whether no word was shown at so many positions.
+fn is_nothing(plain: &Plain, first: usize, count: usize) -> bool {
+    for i in 0..count {
+        if at(&plain.shown, first.wrapping_add(i)).is_some() {
+            return false;
+        }
+    }
+    true
 }
 
-/// Both are flushed. Whether they agree.
-fn both_are_flushed(desk: &mut Desk, plain: &mut Plain, alloc: Global) -> Result<bool, AllocError> {
-    for _ in 0..200 {
-        if rest_of(plain, alloc)? == 0 {
-            break;
-        }
-        if !both_play(desk, plain, alloc, Way::Flush)? {
+/// The plain desk plays a window in this way. Whether it can, and shows nothing.
+fn plays_nothing(plain: &mut Plain, alloc: Global, way: Way) -> Result<bool, AllocError> {
+    let words = plain.closure(alloc)?;
+    let (first, count) = (plain.mark, plain.window);
+    let most = match way {
+        Way::Window => count,
+        Way::Flush => plain.rest(&words),
+        Way::Held(time) => plain.held(time),
+    };
+    let outcome = plain.play(alloc, &words, count)?;
+    Ok(most == count && outcome == Outcome::Repaired && is_nothing(plain, first, count))
+}
+
+/// The plain desk plays as many windows as a desk passed at once. Whether each shows nothing.
+fn both_pass(
+    desk: &Desk,
+    plain: &mut Plain,
+    alloc: Global,
+    way: Way,
+    count: u64,
+) -> Result<bool, AllocError> {
+    for _ in 0..count {
+        if !plays_nothing(plain, alloc, way)? {
             return Ok(false);
         }
     }
-    Ok(true)
+    Ok(tell_same(desk, plain))
+}
+
+/// How many windows are due before a position.
+fn due_before(plain: &Plain, position: usize) -> u64 {
+    let first = plain.mark.saturating_add(plain.depth);
+    if position < first {
+        return 0;
+    }
+    ((position - first) / plain.window.max(1)).saturating_add(1) as u64
+}
+
+/// A desk passes, half of the time, windows that are due before a position of this sequence number.
+fn passes_due(desk: &mut Desk, draw: &mut Draw, seq: u16, ssrc: u32) -> u64 {
+    if draw.random.next_word() % 2 == 0 {
+        return 0;
+    }
+    let count = desk.skip_due(seq, ssrc);
+    draw.passed = draw.passed.saturating_add(count);
+    count
+}
+
+/// A desk passes, half of the time, windows that are steps of a flush.
+fn passes_rest(desk: &mut Desk, draw: &mut Draw) -> u64 {
+    if draw.random.next_word() % 2 == 0 {
+        return 0;
+    }
+    let count = desk.skip_rest();
+    draw.passed = draw.passed.saturating_add(count);
+    count
+}
+
+/// A desk passes, half of the time, windows that are held plays at a time.
+fn passes_held(desk: &mut Desk, draw: &mut Draw, time: u64) -> u64 {
+    if desk.hold() == 0 || draw.random.next_word() % 2 == 0 {
+        return 0;
+    }
+    let count = desk.skip_held(time);
+    draw.passed = draw.passed.saturating_add(count);
+    count
+}
+
+/// Both make plays that are due before a position, at least one. Whether they agree.
+fn both_play_some(
+    desk: &mut Desk,
+    plain: &mut Plain,
+    alloc: Global,
+    draw: &mut Draw,
+    seq: u16,
+    position: usize,
+) -> Result<bool, AllocError> {
+    let most = due_before(plain, position);
+    let count = passes_due(desk, draw, seq, plain.current.unwrap_or(0));
+    if count == 0 {
+        return both_play(desk, plain, alloc, Way::Window);
+    }
+    Ok(count <= most && both_pass(desk, plain, alloc, Way::Window, count)?)
+}
+
+/// Both make the plays that are due before a position. Whether they agree.
+fn both_play_before(
+    desk: &mut Desk,
+    plain: &mut Plain,
+    alloc: Global,
+    draw: &mut Draw,
+    seq: u16,
+    position: usize,
+) -> Result<bool, AllocError> {
+    for _ in 0..PLAYS {
+        let due = due_before(plain, position) > 0;
+        if desk.due(seq, plain.current.unwrap_or(0)) != due {
+            return Ok(false);
+        }
+        if !due {
+            return Ok(true);
+        }
+        if !both_play_some(desk, plain, alloc, draw, seq, position)? {
+            return Ok(false);
+        }
+    }
+    Ok(false)
+}
+
+/// Both are flushed until nothing is left. Whether they agree.
+fn both_are_flushed(
+    desk: &mut Desk,
+    plain: &mut Plain,
+    alloc: Global,
+    draw: &mut Draw,
+) -> Result<bool, AllocError> {
+    for _ in 0..FLUSHES {
+        let count = passes_rest(desk, draw);
+        if !both_pass(desk, plain, alloc, Way::Flush, count)? {
+            return Ok(false);
+        }
+        let mark = plain.mark;
+        if !both_play(desk, plain, alloc, Way::Flush)? {
+            return Ok(false);
+        }
+        if plain.mark == mark {
+            return Ok(true);
+        }
+    }
+    Ok(false)
 }
 
 /// A media datagram of another sender than the current one comes to both. Where it begins a run, both are
@@ -164,6 +334,7 @@ fn both_take_another(
     desk: &mut Desk,
     plain: &mut Plain,
     alloc: Global,
+    draw: &mut Draw,
     seq: u16,
     ssrc: u32,
 ) -> Result<bool, AllocError> {
@@ -171,7 +342,7 @@ fn both_take_another(
     if desk.fresh(ssrc) != fresh || desk.due(seq, ssrc) {
         return Ok(false);
     }
-    if fresh && !both_are_flushed(desk, plain, alloc)? {
+    if fresh && !both_are_flushed(desk, plain, alloc, draw)? {
         return Ok(false);
     }
     let timestamp = sent(plain.mark);
@@ -180,36 +351,61 @@ fn both_take_another(
     Ok(reply == Some(want) && tell_same(desk, plain))
 }
 
-/// A media datagram of the current run, near the mark, comes to both, and plays that it makes due.
+/// The media datagram three positions before this one comes to both, and plays that it makes due.
+fn both_take_at(
+    desk: &mut Desk,
+    plain: &mut Plain,
+    alloc: Global,
+    draw: &mut Draw,
+    from_three: usize,
+) -> Result<bool, AllocError> {
+    let seq = seq_of(plain, from_three).wrapping_sub(3);
+    let position = from_three.checked_sub(3);
+    if !both_play_before(desk, plain, alloc, draw, seq, position.unwrap_or(0))? {
+        return Ok(false);
+    }
+    let ssrc = plain.current.unwrap_or(0);
+    let timestamp = arriving(draw, from_three.wrapping_sub(3));
+    let reply = admit_media(desk, seq, ssrc, stamped(timestamp).share(alloc)?);
+    Ok(reply == Some(plain.admit_media(seq, ssrc, position, timestamp)))
+}
+
+/// A media datagram of the current run comes to both, near the mark, and now and then from farther ahead.
 fn both_take_own(
     desk: &mut Desk,
     plain: &mut Plain,
     alloc: Global,
-    random: &mut Pcg32,
+    draw: &mut Draw,
 ) -> Result<bool, AllocError> {
-    let near = random.next_word() as usize % plain.depth.saturating_add(6).max(1);
-    let from_three = plain.mark.saturating_add(near);
-    let seq = seq_of(plain, from_three).wrapping_sub(3);
-    let position = from_three.checked_sub(3);
-    let ssrc = plain.current.unwrap_or(0);
-    for _ in 0..4 {
-        let due = position.is_some_and(|position| position
-            >= plain.mark.saturating_add(plain.depth));
-        if desk.due(seq, ssrc) != due {
-            return Ok(false);
-        }
-        if due && !both_play(desk, plain, alloc, Way::Window)? {
-            return Ok(false);
-        }
-    }
-    let wrong = if random.next_word() % 12 == 0 {
-        1 + random.next_word() % 2
+    let near = one_of(draw, plain.depth.saturating_add(6));
+    let far = if one_of(draw, 16) == 0 {
+        one_of(draw, 400)
     } else {
         0
     };
-    let timestamp = sent(from_three.wrapping_sub(3)) ^ wrong;
-    let reply = admit_media(desk, seq, ssrc, stamped(timestamp).share(alloc)?);
-    Ok(reply == Some(plain.admit_media(seq, ssrc, position, timestamp)))
+    let from_three = plain.mark.saturating_add(near).saturating_add(far);
+    both_take_at(desk, plain, alloc, draw, from_three)
+}
+
+/// The media datagrams that follow the last one come to both, but for those that are lost.
+fn both_take_run(
+    desk: &mut Desk,
+    plain: &mut Plain,
+    alloc: Global,
+    draw: &mut Draw,
+) -> Result<bool, AllocError> {
+    let top = match desk.top() {
+        Some((top, _)) => (top % 65_536) as usize,
+        None => 0,
+    };
+    let next = top.max(plain.mark).saturating_add(4);
+    for i in 0..one_of(draw, 50) {
+        let lost = draw.random.next_word() % 100 < draw.loss;
+        if !lost && !both_take_at(desk, plain, alloc, draw, next.saturating_add(i))? {
+            return Ok(false);
+        }
+    }
+    Ok(true)
 }
 
 /// A media datagram comes to both, mostly of the current run.
@@ -217,14 +413,14 @@ fn both_take_media(
     desk: &mut Desk,
     plain: &mut Plain,
     alloc: Global,
-    random: &mut Pcg32,
+    draw: &mut Draw,
 ) -> Result<bool, AllocError> {
-    let ssrc = random.next_word() % 4;
-    if random.next_word() % 12 == 0 && plain.current != Some(ssrc) {
-        let seq = (random.next_word() % 65_536) as u16;
-        return both_take_another(desk, plain, alloc, seq, ssrc);
+    let ssrc = draw.random.next_word() % 4;
+    if one_of(draw, 12) == 0 && plain.current != Some(ssrc) {
+        let seq = (draw.random.next_word() % 65_536) as u16;
+        return both_take_another(desk, plain, alloc, draw, seq, ssrc);
     }
-    both_take_own(desk, plain, alloc, random)
+    both_take_own(desk, plain, alloc, draw)
 }
 
 /// The parity of what was sent at these slots.
@@ -236,47 +432,72 @@ fn parity_of(base: usize, offset: usize, count: usize) -> u32 {
     parity
 }
 
-/// A parity datagram comes to both.
-fn both_take_parity(
-    desk: &mut Desk,
-    plain: &mut Plain,
-    alloc: Global,
-    random: &mut Pcg32,
-) -> Result<bool, AllocError> {
-    let offset = 1 + random.next_word() % 4;
-    let count = 1 + random.next_word() % 5;
-    let shape = Shape {
-        offset: offset as u8,
-        na: count as u8,
-    };
-    let near = random.next_word() as usize % plain.depth.saturating_add(10).max(1);
-    let far = if random.next_word() % 16 == 0 { 100 } else { 0 };
-    let from_eight = plain.mark.saturating_add(near).saturating_add(far);
-    let base = from_eight.checked_sub(8);
-    let wrong = if random.next_word() % 24 == 0 { 1 } else { 0 };
-    let parity = parity_of(from_eight.wrapping_sub(8), offset as usize, count as usize) ^ wrong;
+/// The parity word of what was sent at these slots, or now and then another one.
+fn arriving_parity(draw: &mut Draw, base: usize, offset: usize, count: usize) -> Word {
     let mut word = if count % 2 == 0 {
         Word::zero()
     } else {
         stamped(0)
     };
-    word.ts = parity;
+    let wrong = draw.wrong.saturating_mul(2).max(1);
+    let flips = if draw.random.next_word() % wrong == 0 {
+        1
+    } else {
+        0
+    };
+    word.ts = parity_of(base, offset, count) ^ flips;
+    word
+}
+
+/// A parity datagram comes to both.
+fn both_take_parity(
+    desk: &mut Desk,
+    plain: &mut Plain,
+    alloc: Global,
+    draw: &mut Draw,
+) -> Result<bool, AllocError> {
+    let offset = 1 + draw.random.next_word() % 4;
+    let count = 1 + draw.random.next_word() % 5;
+    let near = one_of(draw, plain.depth.saturating_add(10));
+    let far = if one_of(draw, 16) == 0 { 100 } else { 0 };
+    let from_eight = plain.mark.saturating_add(near).saturating_add(far);
+    let base = from_eight.wrapping_sub(8);
+    let word = arriving_parity(draw, base, offset as usize, count as usize);
+    let parity = word.ts;
     let reply = admit_parity(
         desk,
         seq_of(plain, from_eight).wrapping_sub(8),
-        shape,
+        Shape {
+            offset: offset as u8,
+            na: count as u8,
+        },
         word.share(alloc)?,
     );
-    let want = match base {
-        Some(base) => plain.admit_parity(Sum {
-            base,
-            offset: offset as usize,
-            count: count as usize,
-            parity,
-        })?,
-        None => Reply::BeforeStart,
+    if from_eight < 8 {
+        return Ok(reply == Some(Reply::BeforeStart));
+    }
+    let sum = Sum {
+        base,
+        offset: offset as usize,
+        count: count as usize,
+        parity,
     };
-    Ok(reply == Some(want))
+    Ok(reply == Some(plain.admit_parity(sum)?))
+}
+
+/// Both make a held step at a time, or pass windows by then. Whether they agree.
+fn both_hold_some(
+    desk: &mut Desk,
+    plain: &mut Plain,
+    alloc: Global,
+    draw: &mut Draw,
+    time: u64,
+) -> Result<bool, AllocError> {
+    let count = passes_held(desk, draw, time);
+    if count == 0 {
+        return both_play(desk, plain, alloc, Way::Held(time));
+    }
+    both_pass(desk, plain, alloc, Way::Held(time), count)
 }
 
 /// Both are told a time, which may be before the last one, and play what has waited for too long by then.
@@ -284,16 +505,30 @@ fn both_are_told(
     desk: &mut Desk,
     plain: &mut Plain,
     alloc: Global,
-    random: &mut Pcg32,
+    draw: &mut Draw,
 ) -> Result<bool, AllocError> {
-    let later = u64::from(random.next_word() % 100);
+    let later = u64::from(draw.random.next_word() % 100);
     let time = plain.clock.saturating_add(later).saturating_sub(30);
     for _ in 0..4 {
-        if !both_play(desk, plain, alloc, Way::Held(time))? {
+        if !both_hold_some(desk, plain, alloc, draw, time)? {
             return Ok(false);
         }
     }
     Ok(true)
+}
+
+/// A parity datagram comes to both, or media datagrams in a flow without parity.
+fn both_take_sum(
+    desk: &mut Desk,
+    plain: &mut Plain,
+    alloc: Global,
+    draw: &mut Draw,
+) -> Result<bool, AllocError> {
+    if draw.parity {
+        both_take_parity(desk, plain, alloc, draw)
+    } else {
+        both_take_run(desk, plain, alloc, draw)
+    }
 }
 
 /// One call of both. Whether they agree.
@@ -301,16 +536,17 @@ fn both_go_on(
     desk: &mut Desk,
     plain: &mut Plain,
     alloc: Global,
-    random: &mut Pcg32,
+    draw: &mut Draw,
 ) -> Result<bool, AllocError> {
-    let agree = match random.next_word() % 40 {
+    let agree = match draw.random.next_word() % 40 {
         0 => both_play(desk, plain, alloc, Way::Window)?,
         1 => both_play(desk, plain, alloc, Way::Flush)?,
-        2..20 => both_take_media(desk, plain, alloc, random)?,
-        20..32 => both_take_parity(desk, plain, alloc, random)?,
-        _ => both_are_told(desk, plain, alloc, random)?,
+        2..16 => both_take_media(desk, plain, alloc, draw)?,
+        16..20 => both_take_run(desk, plain, alloc, draw)?,
+        20..32 => both_take_sum(desk, plain, alloc, draw)?,
+        _ => both_are_told(desk, plain, alloc, draw)?,
     };
-    Ok(agree && desk.live() as usize == plain.live.len())
+    Ok(agree && tell_same(desk, plain) && know_same(desk, plain))
 }
 
 /// A media datagram that begins a run comes to both.
@@ -325,63 +561,86 @@ fn both_are_called(
     alloc: Global,
     desk: &mut Desk,
     plain: &mut Plain,
-    random: &mut Pcg32,
+    draw: &mut Draw,
 ) -> Result<(), Fail> {
     assert!(rt; both_begin(desk, plain, alloc)?);
     for i in 0..100 {
-        assert!(rt; both_go_on(desk, plain, alloc, random)?, "call {i}");
+        assert!(rt; both_go_on(desk, plain, alloc, draw)?, "call {i}");
     }
     Ok(())
 }
 
-/// Calls of a desk and of a new plain one, which flush at last.
-fn try_desk(
-    rt: &impl Abort,
-    alloc: Global,
-    desk: &mut Desk,
-    random: &mut Pcg32,
-) -> Result<(), Fail> {
+/// Calls of a desk and of a new plain one, which are flushed at last.
+fn try_desk(rt: &impl Abort, alloc: Global, desk: &mut Desk, draw: &mut Draw) -> Result<(), Fail> {
     let mut plain = Plain::new(
         alloc,
         desk.window() as usize,
         desk.depth() as usize,
         desk.hold(),
     )?;
-    both_are_called(rt, alloc, desk, &mut plain, random)?;
-    both_flush_at_last(rt, alloc, desk, &mut plain)
-}
-
-/// Twenty flush steps of both.
-fn both_flush_at_last(
-    rt: &impl Abort,
-    alloc: Global,
-    desk: &mut Desk,
-    plain: &mut Plain,
-) -> Result<(), Fail> {
-    for i in 0..20 {
-        assert!(rt;
-            both_play(desk, plain, alloc, Way::Flush)?,
-            "flush step {i}"
-        );
-    }
+    both_are_called(rt, alloc, desk, &mut plain, draw)?;
+    assert!(rt; both_are_flushed(desk, &mut plain, alloc, draw)?);
+    draw.inconsistent = draw.inconsistent.saturating_add(plain.epoch);
+    draw.runs = draw.runs.saturating_add(plain.runs);
     Ok(())
 }
 
+/// A window: mostly a small one.
+fn drawn_window(draw: &mut Draw) -> u32 {
+    if one_of(draw, 4) == 0 {
+        1 + draw.random.next_word() % 100
+    } else {
+        1 + draw.random.next_word() % 10
+    }
+}
+
+/// A depth for a window: a small one, or any.
+fn drawn_depth(draw: &mut Draw, window: u32) -> u32 {
+    let more = if one_of(draw, 3) == 0 {
+        draw.random.next_word() % 1000
+    } else {
+        draw.random.next_word() % 20
+    };
+    window.saturating_add(more).min(1000)
+}
+
+/// How seldom a word is wrong.
+fn drawn_wrong(draw: &mut Draw) -> u32 {
+    if one_of(draw, 3) == 0 { 1000 } else { 12 }
+}
+
 /// Calls of two new desks.
-fn try_flow(rt: &impl Abort, alloc: Global, random: &mut Pcg32) -> Result<(), Fail> {
-    let window = 1 + random.next_word() % 6;
-    let depth = window + random.next_word() % 12;
+fn try_flow(rt: &impl Abort, alloc: Global, draw: &mut Draw) -> Result<(), Fail> {
+    draw.loss = draw.random.next_word() % 51;
+    draw.wrong = drawn_wrong(draw);
+    draw.parity = one_of(draw, 4) != 0;
+    let window = drawn_window(draw);
+    let depth = drawn_depth(draw, window);
     assert!(rt; 1 <= window && window <= 100 && window <= depth && depth <= 1000);
-    let hold = u64::from(random.next_word() % 4) * 25;
+    let hold = u64::from(draw.random.next_word() % 4) * 25;
     let mut desk = Desk::new(alloc, window, depth, hold)?;
-    try_desk(rt, alloc, &mut desk, random)
+    try_desk(rt, alloc, &mut desk, draw)
+}
+
+/// Whether windows were passed, plays were inconsistent, and runs were begun beside the first one of each flow.
+fn all_came(draw: &Draw) -> bool {
+    draw.passed > 0 && draw.inconsistent > 0 && draw.runs > u64::from(FLOWS)
 }
 
 #[test]
 fn random_calls(rt: HostRuntime) -> Result<(), Fail> {
-    let mut random = Pcg32::new(2022, 7);
-    for _ in 0..40 {
-        try_flow(&rt, rt.alloc(), &mut random)?;
+    let mut draw = Draw {
+        random: Pcg32::new(2022, 7),
+        loss: 0,
+        wrong: 1,
+        parity: false,
+        passed: 0,
+        inconsistent: 0,
+        runs: 0,
+    };
+    for _ in 0..FLOWS {
+        try_flow(&rt, rt.alloc(), &mut draw)?;
     }
+    assert!(rt; all_came(&draw));
     Ok(())
 }
