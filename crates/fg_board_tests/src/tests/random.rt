@@ -7,7 +7,7 @@ use super::bare::same_plays;
 use super::scene::{Scene, Who};
 use super::script::word_of;
 use fg_board::{Fate, Look};
-use fg_desk::{Desk, Reply};
+use fg_desk::{Desk, Outcome, Played, Reply, Tray};
 use fg_shape::Shape;
 use fg_words::Word;
 use rand_core::utils::NextWord;
@@ -24,13 +24,16 @@ const SEED: u64 = 2022;
 const FLOWS: u32 = 30;
 
 /// How many steps a flow has before it is flushed.
-const STEPS: u32 = 120;
+const STEPS: u32 = 240;
 
 /// The sequence number of position 0 in the first run.
 const FIRST: u16 = 65_500;
 
-/// A flush has so many steps at most.
-const FLUSHES: u32 = 40;
+/// A flush has so many steps at most: a window of one position, and the greatest depth.
+const FLUSHES: u32 = 1_200;
+
+/// A datagram makes so many plays due at most.
+const PLAYS: u32 = 600;
 
 /// How often passes and the admitter were answered what.
 #[derive(Clone, Copy)]
@@ -45,6 +48,20 @@ struct Came {
     foreign: u32,
     /// Held plays.
     held: u32,
+    /// Windows that were passed at once.
+    passed: u64,
+    inconsistent: u64,
+}
+
+/// What is drawn for a flow.
+#[derive(Clone, Copy)]
+struct Odds {
+    /// How many of a hundred datagrams that follow one another are lost.
+    loss: u32,
+    /// One of so many datagrams has another word than was sent.
+    wrong: u32,
+    /// Whether parity datagrams come.
+    parity: bool,
 }
 
 /// A board, and a desk that takes the same.
@@ -58,6 +75,7 @@ struct Both {
     first: u16,
     /// The time that was told last, in microseconds.
     time: u64,
+    odds: Odds,
     came: Came,
 }
 
@@ -96,7 +114,91 @@ fn one_of(random: &mut Pcg32, count: u64) -> u64 {
     u64::from(random.next_word()) % count.max(1)
 }
 
-/// Both play a window where one is due before a sequence number and SSRC. Whether they agree.
+/// Whether a play shows no word at as many positions as a window has.
+fn is_nothing(done: &Option<(Played, Tray)>, window: u32) -> bool {
+    let Some((played, tray)) = done else {
+        return false;
+    };
+    if played.count != window || played.verdict != Outcome::Repaired {
+        return false;
+    }
+    for i in 0..100u32 {
+        if tray.word(i).is_some() {
+            return false;
+        }
+    }
+    true
+}
+
+/// The desk alone makes as many flush steps as windows were passed. Whether each shows nothing.
+fn alone_flushes(alloc: Global, both: &mut Both, count: u64) -> Result<bool, AllocError> {
+    for _ in 0..count {
+        if !is_nothing(&bare::flush(&mut both.desk, alloc)?, both.desk.window()) {
+            return Ok(false);
+        }
+    }
+    Ok(true)
+}
+
+/// The desk alone makes as many due plays as windows were passed. Whether each shows nothing.
+fn alone_plays(
+    alloc: Global,
+    both: &mut Both,
+    seq: u16,
+    ssrc: u32,
+    count: u64,
+) -> Result<bool, AllocError> {
+    for _ in 0..count {
+        if !is_nothing(
+            &bare::play(&mut both.desk, alloc, seq, ssrc)?,
+            both.desk.window(),
+        ) {
+            return Ok(false);
+        }
+    }
+    Ok(true)
+}
+
+/// The desk alone makes as many held steps as windows were passed. Whether each shows nothing.
+fn alone_holds(alloc: Global, both: &mut Both, count: u64) -> Result<bool, AllocError> {
+    for _ in 0..count {
+        if !is_nothing(
+            &bare::held(&mut both.desk, alloc, both.time)?,
+            both.desk.window(),
+        ) {
+            return Ok(false);
+        }
+    }
+    Ok(true)
+}
+
+/// Counts windows that were passed. Whether board and desk have one mark.
+fn have_passed(both: &mut Both, count: u64) -> bool {
+    both.came.passed = both.came.passed.saturating_add(count);
+    both.scene.mark() == both.desk.mark()
+}
+
+/// Whether a play was made, and was inconsistent.
+fn is_inconsistent(done: &Option<(Played, Tray)>) -> bool {
+    match done {
+        Some((played, _)) => played.verdict == Outcome::Inconsistent,
+        None => false,
+    }
+}
+
+/// Counts a play. Whether it is the same for both, or neither made it.
+fn have_played(
+    both: &mut Both,
+    shared: &Option<(Played, Tray)>,
+    alone: &Option<(Played, Tray)>,
+) -> bool {
+    if is_inconsistent(shared) {
+        both.came.inconsistent = both.came.inconsistent.saturating_add(1);
+    }
+    same_plays(shared, alone)
+}
+
+/// Both play a window that is due before a sequence number and SSRC. Whether they agree.
 fn both_play(
     wait: &impl Wait,
     alloc: Global,
@@ -104,27 +206,59 @@ fn both_play(
     seq: u16,
     ssrc: u32,
 ) -> Result<bool, AllocError> {
-    let due = both.scene.due(seq, ssrc);
-    if due != both.desk.due(seq, ssrc) {
-        return Ok(false);
-    }
-    if !due {
-        return Ok(true);
-    }
     let shared = both.scene.play(wait, seq, ssrc)?;
     let alone = bare::play(&mut both.desk, alloc, seq, ssrc)?;
-    Ok(shared.is_some() && same_plays(&shared, &alone))
+    Ok(shared.is_some() && have_played(both, &shared, &alone))
 }
 
 /// Both make a flush step. Whether they agree.
 fn both_flush(wait: &impl Wait, alloc: Global, both: &mut Both) -> Result<bool, AllocError> {
     let shared = both.scene.flush(wait)?;
     let alone = bare::flush(&mut both.desk, alloc)?;
-    Ok(same_plays(&shared, &alone))
+    Ok(have_played(both, &shared, &alone))
 }
 
-/// Both make a held step at a time, which may go back. Whether they agree.
-fn both_hold(
+/// Both make a held step. Whether they agree.
+fn both_hold(wait: &impl Wait, alloc: Global, both: &mut Both) -> Result<bool, AllocError> {
+    let shared = both.scene.held(wait, both.time)?;
+    let alone = bare::held(&mut both.desk, alloc, both.time)?;
+    if shared.is_some() {
+        both.came.held = both.came.held.saturating_add(1);
+    }
+    Ok(have_played(both, &shared, &alone))
+}
+
+/// Both pass windows that are due before a sequence number and SSRC, or play one. Whether they agree.
+fn both_play_some(
+    wait: &impl Wait,
+    alloc: Global,
+    both: &mut Both,
+    seq: u16,
+    ssrc: u32,
+) -> Result<bool, AllocError> {
+    let count = both.scene.skip_due(wait, seq, ssrc);
+    if count == 0 {
+        return both_play(wait, alloc, both, seq, ssrc);
+    }
+    Ok(alone_plays(alloc, both, seq, ssrc, count)? && have_passed(both, count))
+}
+
+/// Both pass, half of the time, windows that are steps of a flush. Whether they agree.
+fn both_pass_rest(
+    wait: &impl Wait,
+    alloc: Global,
+    both: &mut Both,
+    random: &mut Pcg32,
+) -> Result<bool, AllocError> {
+    if random.next_word() % 2 == 0 {
+        return Ok(true);
+    }
+    let count = both.scene.skip_rest(wait);
+    Ok(alone_flushes(alloc, both, count)? && have_passed(both, count))
+}
+
+/// Both pass windows that are held plays, or make one, at a time that may go back. Whether they agree.
+fn both_hold_some(
     wait: &impl Wait,
     alloc: Global,
     both: &mut Both,
@@ -132,12 +266,11 @@ fn both_hold(
 ) -> Result<bool, AllocError> {
     let time = both.time.saturating_add(one_of(random, 40));
     both.time = time.saturating_sub(10);
-    let shared = both.scene.held(wait, both.time)?;
-    let alone = bare::held(&mut both.desk, alloc, both.time)?;
-    if shared.is_some() {
-        both.came.held = both.came.held.saturating_add(1);
+    let count = both.scene.skip_held(wait, both.time);
+    if count == 0 {
+        return both_hold(wait, alloc, both);
     }
-    Ok(same_plays(&shared, &alone))
+    Ok(alone_holds(alloc, both, count)? && have_passed(both, count))
 }
 
 /// Both play while a play is due before a sequence number and SSRC.
@@ -148,27 +281,46 @@ fn both_play_on(
     seq: u16,
     ssrc: u32,
 ) -> Result<bool, AllocError> {
-    for _ in 0..4 {
-        if !both_play(wait, alloc, both, seq, ssrc)? {
+    for _ in 0..PLAYS {
+        let due = both.scene.due(seq, ssrc);
+        if due != both.desk.due(seq, ssrc) {
+            return Ok(false);
+        }
+        if !due {
+            return Ok(true);
+        }
+        if !both_play_some(wait, alloc, both, seq, ssrc)? {
             return Ok(false);
         }
     }
-    Ok(true)
+    Ok(false)
 }
 
-/// Both are flushed. Whether they agree.
-fn both_flush_on(wait: &impl Wait, alloc: Global, both: &mut Both) -> Result<bool, AllocError> {
+/// Both are flushed until nothing is left. Whether they agree.
+fn both_flush_on(
+    wait: &impl Wait,
+    alloc: Global,
+    both: &mut Both,
+    random: &mut Pcg32,
+) -> Result<bool, AllocError> {
     for _ in 0..FLUSHES {
+        if !both_pass_rest(wait, alloc, both, random)? {
+            return Ok(false);
+        }
+        let mark = both.desk.mark();
         if !both_flush(wait, alloc, both)? {
             return Ok(false);
         }
+        if both.desk.mark() == mark {
+            return Ok(true);
+        }
     }
-    Ok(true)
+    Ok(false)
 }
 
 /// What was sent at a position, or now and then another word.
-fn arriving(random: &mut Pcg32, position: u64) -> Word {
-    let wrong = if random.next_word() % 8 == 0 {
+fn arriving(random: &mut Pcg32, odds: Odds, position: u64) -> Word {
+    let wrong = if random.next_word() % odds.wrong.max(1) == 0 {
         1 + random.next_word() % 2
     } else {
         0
@@ -201,14 +353,15 @@ fn both_begin(
     random: &mut Pcg32,
     ssrc: u32,
 ) -> Result<bool, AllocError> {
-    if !both_flush_on(wait, alloc, both)? {
+    if !both_flush_on(wait, alloc, both, random)? {
         return Ok(false);
     }
     let mark = both.desk.mark();
     let seq = (random.next_word() % 65_536) as u16;
     both.ssrc = ssrc;
     both.first = seq.wrapping_sub((mark % 65_536) as u16);
-    both_admit(wait, alloc, both, seq, ssrc, arriving(random, mark))
+    let word = arriving(random, both.odds, mark);
+    both_admit(wait, alloc, both, seq, ssrc, word)
 }
 
 /// Who sends: mostly the sender of the current run.
@@ -220,7 +373,25 @@ fn sender(random: &mut Pcg32, current: u32) -> u32 {
     }
 }
 
-/// A media datagram near the mark comes to both, after the plays that it makes due. Now and then another sender begins a run.
+/// The media datagram three positions before this one comes to both, after the plays that it makes due.
+fn both_take_at(
+    wait: &impl Wait,
+    alloc: Global,
+    both: &mut Both,
+    random: &mut Pcg32,
+    ssrc: u32,
+    from_three: u64,
+) -> Result<bool, AllocError> {
+    let seq = seq_of(both, from_three).wrapping_sub(3);
+    if !both_play_on(wait, alloc, both, seq, ssrc)? {
+        return Ok(false);
+    }
+    let word = arriving(random, both.odds, from_three.wrapping_sub(3));
+    both_admit(wait, alloc, both, seq, ssrc, word)
+}
+
+/// A media datagram near the mark comes to both, or now and then one from farther ahead. Now and then another sender begins a
+/// run.
 fn both_take_media(
     wait: &impl Wait,
     alloc: Global,
@@ -236,13 +407,35 @@ fn both_take_media(
         return both_begin(wait, alloc, both, random, ssrc);
     }
     let near = one_of(random, u64::from(both.depth).saturating_add(6));
-    let from_three = both.desk.mark().saturating_add(near);
-    let seq = seq_of(both, from_three).wrapping_sub(3);
-    if !both_play_on(wait, alloc, both, seq, ssrc)? {
-        return Ok(false);
+    let far = if one_of(random, 16) == 0 {
+        one_of(random, 400)
+    } else {
+        0
+    };
+    let from_three = both.desk.mark().saturating_add(near).saturating_add(far);
+    both_take_at(wait, alloc, both, random, ssrc, from_three)
+}
+
+/// The media datagrams that follow the last one come to both, but for those that are lost.
+fn both_take_run(
+    wait: &impl Wait,
+    alloc: Global,
+    both: &mut Both,
+    random: &mut Pcg32,
+) -> Result<bool, AllocError> {
+    let top = match both.desk.top() {
+        Some((top, _)) => top,
+        None => 0,
+    };
+    let next = top.max(both.desk.mark()).saturating_add(4);
+    for i in 0..one_of(random, 40) {
+        let lost = random.next_word() % 100 < both.odds.loss;
+        let ssrc = both.ssrc;
+        if !lost && !both_take_at(wait, alloc, both, random, ssrc, next.saturating_add(i))? {
+            return Ok(false);
+        }
     }
-    let word = arriving(random, from_three.wrapping_sub(3));
-    both_admit(wait, alloc, both, seq, ssrc, word)
+    Ok(true)
 }
 
 /// A parity datagram comes to both.
@@ -260,7 +453,7 @@ fn both_take_parity(
     let from_eight = both.desk.mark().saturating_add(near);
     let seq = seq_of(both, from_eight).wrapping_sub(8);
     let mut word = parity_of(from_eight.wrapping_sub(8), shape);
-    if random.next_word() % 24 == 0 {
+    if random.next_word() % both.odds.wrong.saturating_mul(3).max(1) == 0 {
         word.ts ^= 1;
     }
     let shared = both.scene.parity(wait, seq, shape, word)?;
@@ -354,8 +547,10 @@ fn admitter_goes_on(
     random: &mut Pcg32,
     kind: u32,
 ) -> Result<bool, AllocError> {
-    if kind < 13 {
+    if kind < 10 {
         both_take_media(wait, alloc, both, random)
+    } else if kind < 13 || !both.odds.parity {
+        both_take_run(wait, alloc, both, random)
     } else {
         both_take_parity(wait, alloc, both, random)
     }
@@ -372,7 +567,7 @@ fn go_on(
     if kind == 39 {
         both_flush(wait, alloc, both)
     } else if kind > 35 {
-        both_hold(wait, alloc, both, random)
+        both_hold_some(wait, alloc, both, random)
     } else if kind < 21 {
         admitter_goes_on(wait, alloc, both, random, kind)
     } else {
@@ -386,6 +581,7 @@ fn new_both(
     window: u32,
     depth: u32,
     hold: u64,
+    odds: Odds,
     came: Came,
 ) -> Result<Both, AllocError>
     requires window { (1 ≤ window) × (window ≤ 100) }
@@ -400,6 +596,7 @@ fn new_both(
         ssrc: 0,
         first: FIRST,
         time: 0,
+        odds,
         came,
     })
 }
@@ -421,6 +618,35 @@ fn steps(
     Ok(())
 }
 
+/// A window: mostly a small one.
+fn drawn_window(random: &mut Pcg32) -> u32 {
+    if one_of(random, 4) == 0 {
+        1 + random.next_word() % 100
+    } else {
+        1 + random.next_word() % 10
+    }
+}
+
+/// A depth for a window: a small one, or any.
+fn drawn_depth(random: &mut Pcg32, window: u32) -> u32 {
+    let more = if one_of(random, 4) == 0 {
+        random.next_word() % 1000
+    } else {
+        random.next_word() % 20
+    };
+    window.saturating_add(more).min(1000)
+}
+
+/// What a flow loses, how seldom its words are wrong, and whether it has parity.
+fn drawn_odds(random: &mut Pcg32) -> Odds {
+    let wrong = if one_of(random, 3) == 0 { 1000 } else { 8 };
+    Odds {
+        loss: random.next_word() % 51,
+        wrong,
+        parity: one_of(random, 4) != 0,
+    }
+}
+
 /// Steps of a new board and a new desk, which flush at last.
 fn try_flow(
     rt: &(impl Abort + Wait),
@@ -428,14 +654,14 @@ fn try_flow(
     came: Came,
     random: &mut Pcg32,
 ) -> Result<Came, Fail> {
-    let window = 1 + random.next_word() % 8;
-    let depth = window + random.next_word() % 20;
+    let window = drawn_window(random);
+    let depth = drawn_depth(random, window);
     let hold = u64::from(random.next_word() % 4 * 20);
     assert!(rt; 1 <= window && window <= 100 && window <= depth && depth <= 1000);
-    let mut both = new_both(alloc, window, depth, hold, came)?;
+    let mut both = new_both(alloc, window, depth, hold, drawn_odds(random), came)?;
     assert!(rt; both_start(rt, alloc, &mut both)?);
     steps(rt, alloc, &mut both, random)?;
-    assert!(rt; both_flush_on(rt, alloc, &mut both)?);
+    assert!(rt; both_flush_on(rt, alloc, &mut both, random)?);
     let Both {
         scene,
         desk,
@@ -458,6 +684,8 @@ fn try_flows(rt: &(impl Abort + Wait), alloc: Global, random: &mut Pcg32) -> Res
         runs: 0,
         foreign: 0,
         held: 0,
+        passed: 0,
+        inconsistent: 0,
     };
     for _ in 0..FLOWS {
         came = try_flow(rt, alloc, came, random)?;
@@ -465,10 +693,12 @@ fn try_flows(rt: &(impl Abort + Wait), alloc: Global, random: &mut Pcg32) -> Res
     Ok(came)
 }
 
-/// Whether each answer came, held plays were made, and runs were begun beside the first one of each flow.
+/// Whether each answer came, held and inconsistent plays were made, windows were passed, and runs were begun beside the first one
+/// of each flow.
 fn all_came(came: Came) -> bool {
     let passes = came.done > 0 && came.beaten > 0 && came.gone > 0 && came.withdrawn > 0;
-    passes && came.foreign > 0 && came.held > 0 && came.runs > u64::from(FLOWS)
+    let plays = came.held > 0 && came.passed > 0 && came.inconsistent > 0;
+    passes && plays && came.foreign > 0 && came.runs > u64::from(FLOWS)
 }
 
 #[test]

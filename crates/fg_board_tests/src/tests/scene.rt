@@ -363,6 +363,11 @@ impl Scene {
         self.admitter.runs()
     }
 
+    /// The first position that isn't played yet.
+    pub(super) fn mark(&self) -> u64 {
+        self.admitter.mark()
+    }
+
     /// How many equations were admitted.
     pub(super) fn admitted(&self) -> usize {
         self.keys.len()
