@@ -120,11 +120,19 @@ fn tell_same(desk: &Desk, plain: &Plain) -> bool {
     true
 }
 
-/// Whether both desks know the same near the mark.
+/// Whether a word has this timestamp, which alone tells the words of a flow apart.
+fn is_sent(word: Option<&Word>, timestamp: Option<u32>) -> bool {
+    match word {
+        Some(word) => timestamp == Some(word.ts),
+        None => timestamp.is_none(),
+    }
+}
+
+/// Whether both desks know the same near the mark. What they show is compared byte by byte.
 fn know_same(desk: &Desk, plain: &Plain) -> bool {
     for i in 0..140usize {
         let position = plain.mark.saturating_add(i).wrapping_sub(100);
-        if position < 100_000 && !has_stamp(desk.word(position as u64), plain.known(position)) {
+        if position < 100_000 && !is_sent(desk.word(position as u64), plain.known(position)) {
             return false;
         }
     }
