@@ -2,12 +2,11 @@
 use Rattle.std.proofs.Common.{◌≡◌, ℕ, List, Result, Ok, Err, IsOk, refl, sym, ap, subst, ◌∙◌}
 use Rattle.fg_io.specs.declared.fault.Fault.{Fault}
 use Rattle.fg_io.specs.declared.fault.Fault.TheVariants.{Read, Write, Memory}
-use Rattle.fg_io.specs.Faults.{Counts}
+use Rattle.fg_io.specs.Faults.{Counts, CountsFaults}
 use Rattle.fg_trace.specs.declared.step.Finish.{Finish}
 use Rattle.fg_trace.specs.declared.step.Finish.TheVariants as finish
 use Rattle.fg_trace.specs.Finish.{IsFault, finish_after}
 use Rattle.fg_results.specs.Counted.{MayHaveFailedToRead, RepairCounts, CountsBeside}
-use Rattle.fg_results.specs.Laws.{ByRecordCountsInAnyWay}
 use Rattle.fg_results.specs.Stops.{Growth, ByRecord, ByBatch}
 
 -- Whoever answers a fault of reading may have counted one.
@@ -15,7 +14,10 @@ may_have_failed : (growth : Growth) (answer : Finish) → answer ≡ finish.Read
 may_have_failed ByRecord answer read = read
 may_have_failed ByBatch answer read = subst IsFault (sym read) tt
 
-pub by_record_counts_in_any_way : ByRecordCountsInAnyWay
+-- What is counted by a repair whose lanes grow record by record is what one may count whose lanes grow in any way.
+pub by_record_counts_in_any_way :
+    (growth : Growth) (answer : Finish) (sources sinks : List (ℕ × ℕ))
+    → CountsFaults (answer ≡ finish.ReadFault) (answer ≡ finish.WriteFault) sources sinks → RepairCounts growth answer sources sinks
 by_record_counts_in_any_way growth answer sources sinks h = record {
   read = h.read;
   write = h.write;

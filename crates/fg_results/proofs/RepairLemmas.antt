@@ -15,7 +15,7 @@ use Rattle.fg_flows.specs.Plan.{playout_of}
 use Rattle.fg_results.specs.Contract.{IsRepair}
 use Rattle.fg_results.specs.Flow.{FlowResult}
 use Rattle.fg_results.specs.Lanes.{OthersStay, PutsAll}
-use Rattle.fg_results.specs.Laws.{ByRecordIsOneWay, OneFlowResult, StopsLeaveParts}
+use Rattle.fg_results.specs.Laws.{OneFlowResult, StopsLeaveParts}
 use Rattle.fg_results.specs.Repair.{AreResults, Finishes, OutputsPart, lanes_of as lanes_of_results, report_text}
 use Rattle.fg_results.specs.Stops.{Growth, ByRecord, Stops, StopsIn}
 use Rattle.fg_results.proofs.Fronts.{one_of_each}
@@ -169,29 +169,3 @@ module _ {O K : Type 0}
       faulted fault (parts_in_report law one plan input (lanes_of lanes) (lanes_of lanes') written out out' h)
       (report_stops law growth plan answer input (lanes_of lanes) (lanes_of lanes') (written out) (written out') h)
       (λ read. absurd (unread read))
-
--- In any way
-
-stops_in_any :
-    ByRecordIsOneWay → (growth : Growth) (plan : Plan) (answer : Finish) (input : Option (List ℕ)) (lanes lanes' : Option Lanes)
-    → StopsIn ByRecord plan answer input lanes lanes' → StopsIn growth plan answer input lanes lanes'
-stops_in_any law growth plan answer None lanes lanes' stops = tt
-stops_in_any law growth plan answer (Some bytes) lanes lanes' stops =
-    λ records end trace. law growth plan answer records lanes lanes' (stops records end trace)
-
--- A repair whose lanes grow record by record is one whose lanes grow in any way.
-pub repair_in_any :
-    {O K : Type 0} → ByRecordIsOneWay → (growth : Growth) (plan : Plan) (answer : Finish) (input input' : Option (List ℕ))
-    (lanes_of : O → Option Lanes) (lanes lanes' : O) (written : K → Option (List ℕ)) (out out' : K)
-    → IsRepair ByRecord plan answer input input' lanes_of lanes lanes' written out out'
-    → IsRepair growth plan answer input input' lanes_of lanes lanes' written out out'
-repair_in_any law growth plan answer input input' lanes_of lanes lanes' written out out' h = record {
-  whole = h.whole;
-  exactly = h.exactly;
-  all_read = h.all_read;
-  reads = h.reads;
-  refused = h.refused;
-  part = h.part;
-  stops = λ fault. stops_in_any law growth plan answer input (lanes_of lanes) (lanes_of lanes') (h.stops fault);
-  no_report = h.no_report;
-}

@@ -10,7 +10,6 @@ use Rattle.fg_flows.specs.declared.Plan.{Plan}
 use Rattle.fg_flows.specs.Plan.{playout_of}
 use Rattle.fg_results.specs.Flow.{FlowResult, IsFlowResult}
 use Rattle.fg_results.specs.Lanes.{PutsAll}
-use Rattle.fg_results.specs.Laws.{ByRecordIsOneWay}
 use Rattle.fg_results.specs.Repair.{AreResults, lanes_of}
 use Rattle.fg_results.specs.Stops.{Growth, ByRecord, ByBatch, Stage, Making, Taking, Emptying, Flushing, MayStopAt, Stops, HasGained, HasGainedPart}
 
@@ -51,23 +50,6 @@ may_take ByBatch answer n = tt
 pub may_flush : (growth : Growth) (answer : Finish) (n : ℕ) → MayStopAt growth answer (Flushing n)
 may_flush ByRecord answer n = tt
 may_flush ByBatch answer n = tt
-
-may_in_any : (growth : Growth) (answer : Finish) (stage : Stage) → MayStopAt ByRecord answer stage → MayStopAt growth answer stage
-may_in_any growth answer (Making n) may = may_make growth answer n
-may_in_any growth answer (Taking n) may = may_take growth answer n
-may_in_any growth answer (Emptying done first next) may = absurd may
-may_in_any growth answer (Flushing n) may = may_flush growth answer n
-
-pub by_record_is_one_way : ByRecordIsOneWay
-by_record_is_one_way growth plan answer records before after stops = record {
-  stage = stops.stage;
-  may = may_in_any growth answer stops.stage stops.may;
-  broken = stops.broken;
-  unbroken = stops.unbroken;
-  pieces = stops.pieces;
-  gained = stops.gained;
-  puts = stops.puts;
-}
 
 -- A repair whose lanes are whole stops where all flows are flushed, whatever it answers.
 pub stops_whole :

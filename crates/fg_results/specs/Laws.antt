@@ -1,18 +1,15 @@
 -- Laws that show the definition of a repair to be right.
 use Rattle.std.specs.Prelude.{◌≡◌, ◌≤◌, ◌++◌, ℕ, Option, List}
-use Rattle.fg_io.specs.Faults.{CountsFaults}
 use Rattle.fg_io.specs.Outlet.{Lanes}
 use Rattle.fg_io.specs.Prefix.{IsPrefix}
 use Rattle.fg_trace.specs.declared.step.Finish.{Finish}
-use Rattle.fg_trace.specs.declared.step.Finish.TheVariants as finish
 use Rattle.fg_flows.specs.declared.Plan.{Plan}
 use Rattle.fg_trace.specs.Trace.{Record, Ending, IsTrace}
 use Rattle.fg_shape.specs.Playout.{Playout}
 use Rattle.fg_results.specs.Flow.{FlowResult, IsFlowResult}
 use Rattle.fg_results.specs.Lanes.{PutsAllPart}
 use Rattle.fg_results.specs.Repair.{AreResults, lanes_of}
-use Rattle.fg_results.specs.Counted.{RepairCounts}
-use Rattle.fg_results.specs.Stops.{Growth, ByRecord, Stage, Stops, HasGained, HasShown}
+use Rattle.fg_results.specs.Stops.{Growth, Stage, Stops, HasGained, HasShown}
 
 -- Records give a flow one result at most.
 abbrev pub OneFlowResult : Type 0
@@ -40,12 +37,6 @@ OneGained =
     (plan : Plan) (records : List Record) (stage : Stage) (flow : ℕ) (one other : List ℕ)
     → HasGained plan records stage flow one → HasGained plan records stage flow other → one ≡ other
 
--- Where a repair stops whose lanes grow record by record, one may stop whose lanes grow in any way.
-abbrev pub ByRecordIsOneWay : Type 0
-ByRecordIsOneWay =
-    (growth : Growth) (plan : Plan) (answer : Finish) (records : List Record) (before after : Option Lanes)
-    → Stops ByRecord plan answer records before after → Stops growth plan answer records before after
-
 -- Wherever a repair stops, each flow's lane has gained a prefix of its bytes.
 abbrev pub StopsLeaveParts : Type 0
 StopsLeaveParts =
@@ -53,9 +44,3 @@ StopsLeaveParts =
     (before after : Option Lanes)
     → 1 ≤ plan.window → AreResults plan records results → Stops growth plan answer records before after
     → PutsAllPart before plan.table (lanes_of results) after
-
--- What is counted by a repair whose lanes grow record by record is what one may count whose lanes grow in any way.
-abbrev pub ByRecordCountsInAnyWay : Type 0
-ByRecordCountsInAnyWay =
-    (growth : Growth) (answer : Finish) (sources sinks : List (ℕ × ℕ))
-    → CountsFaults (answer ≡ finish.ReadFault) (answer ≡ finish.WriteFault) sources sinks → RepairCounts growth answer sources sinks

@@ -68,6 +68,19 @@ MayStopAt ByBatch answer (Taking n) = ⊤
 MayStopAt ByBatch answer (Emptying done first next) = (answer ≡ finish.WriteFault) × (first ≤ next)
 MayStopAt ByBatch answer (Flushing n) = ⊤
 
+-- No lane is broken there: after a fault of reading, and, where lanes grow batch by batch, after want of memory while records are
+-- taken, since nothing is put of the batch for which there was none.
+abbrev pub TakesInBatches : Growth → Stage → Type 0
+TakesInBatches growth (Making n) = ⊥
+TakesInBatches ByRecord (Taking n) = ⊥
+TakesInBatches ByBatch (Taking n) = ⊤
+TakesInBatches growth (Emptying done first next) = ⊥
+TakesInBatches growth (Flushing n) = ⊥
+
+abbrev pub LeavesWhole : Growth → Finish → Stage → Type 0
+LeavesWhole growth answer stage =
+    (answer ≡ finish.ReadFault) ⊎ ((answer ≡ finish.Memory) × TakesInBatches growth stage)
+
 -- The flows whose lanes are made.
 abbrev pub made_at : Plan → Stage → List ℕ
 made_at plan (Making n) = take n plan.table
@@ -99,14 +112,14 @@ HasGainedPart plan records stage flow bytes =
     LiesBetween (HasGained plan records stage flow) (HasGained plan records (next_stage stage) flow) bytes
 
 -- A repair of these records, whose lanes grow so, stopped at a stage. Each flow whose lane is made has gained exactly what stands there, but for
--- one at most, at which a put failed or memory was wanting: it has gained that and a part of what comes next. After a read
--- fault there is no such one. All other lanes are as they were.
+-- one at most, at which a put failed or memory was wanting: it has gained that and a part of what comes next. Some faults leave no
+-- such one. All other lanes are as they were.
 pub record Stops
     (growth : Growth) (plan : Plan) (answer : Finish) (records : List Record) (before after : Option Lanes) : Type 0 where
   pub stage : Stage
   pub may : MayStopAt growth answer stage
   pub broken : Option ℕ
-  pub unbroken : answer ≡ finish.ReadFault → broken ≡ None
+  pub unbroken : LeavesWhole growth answer stage → broken ≡ None
   pub pieces : List (List ℕ)
   pub gained : AllZip
       (λ flow piece. HasGained plan records stage flow piece

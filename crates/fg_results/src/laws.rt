@@ -1,7 +1,7 @@
 //! The laws that show the definition of a repair to be right. Each is the contract of a function that does nothing, or only
 //! calls laws of the crates below.
 ghost use Rattle.fg_results.specs.Existence.{FlowResultExists, ResultsExist};
-ghost use Rattle.fg_results.specs.Laws.{OneFlowResult, OneResult, OneGained, ShownIsFront, ByRecordIsOneWay, ByRecordCountsInAnyWay, StopsLeaveParts};
+ghost use Rattle.fg_results.specs.Laws.{OneFlowResult, OneResult, OneGained, ShownIsFront, StopsLeaveParts};
 ghost use Rattle.fg_results.specs.Picked.{NamedFlowsArePicked, PickedFlowResult, PickedResults};
 
 use fg_fechead::laws::{parity_datagrams_are_decided, parity_datagrams_read_one_way};
@@ -54,13 +54,6 @@ pub fn one_gained()
     one_taking();
     one_flow_result();
 }
-
-/// Where a repair stops whose lanes grow record by record, one may stop whose lanes grow in any way, and it may have counted what that
-/// one has.
-pub fn by_record_is_one_way()
-    ensures stops { ByRecordIsOneWay }
-    ensures counts { ByRecordCountsInAnyWay }
-{}
 
 /// Wherever a repair stops, each flow's lane has gained a prefix of its bytes.
 pub fn stops_leave_parts()
