@@ -16,41 +16,48 @@ use Rattle.fg_results.proofs.CountLemmas.{by_record_counts_in_any_way}
 use Rattle.fg_engine.specs.declared.engine.Engine.{Engine}
 use Rattle.fg_engine.specs.declared.records.Begun.{Begun}
 use Rattle.fg_engine.specs.Driver.{PartCounts, HasBegun, HasTakenAll}
-use Rattle.fg_engine.specs.Engine.{HasWalked, HasRead, TookAll, LanesStop, told_finish}
+use Rattle.fg_engine.specs.Engine.{HasWalked, IsAtStart, HasRead, TookAll, LanesStop, told_finish}
+
+-- What a taking asks to begin at.
+abbrev pub Begins : Type 1
+Begins = Option (List ℕ) → Option Lanes → Type 0
 
 whole_taken :
-    {D : Type 0} → (plan : Plan) (first now : Option (List ℕ)) (reader : ReaderState) (engine engine' : Engine D) (before made after : Option Lanes)
-    (taken : Result Tail Fault) → HasWalked plan first now reader engine before made
-    → IfOk taken (λ tail. (first : Option (List ℕ)) (before : Option Lanes) → HasWalked plan first now reader engine before made → TookAll plan first engine' tail before after)
-    → IfOk taken (λ tail. TookAll plan first engine' tail before after)
-whole_taken plan first now reader engine engine' before made after (Ok tail) walked whole = whole first before walked
-whole_taken plan first now reader engine engine' before made after (Err fault) walked whole = tt
+    {D : Type 0} → (At : Begins) (plan : Plan) (first : Option (List ℕ)) (engine : Engine D) (before after : Option Lanes)
+    (taken : Result Tail Fault) → At first before
+    → IfOk taken (λ tail. (first : Option (List ℕ)) (before : Option Lanes) → At first before → TookAll plan first engine tail before after)
+    → IfOk taken (λ tail. TookAll plan first engine tail before after)
+whole_taken At plan first engine before after (Ok tail) at whole = whole first before at
+whole_taken At plan first engine before after (Err fault) at whole = tt
 
 stops_taken :
-    {D : Type 0} → (growth : Growth) (plan : Plan) (first now : Option (List ℕ)) (reader : ReaderState) (engine : Engine D) (before made after : Option Lanes)
-    (taken : Result Tail Fault) → HasWalked plan first now reader engine before made
-    → IfErr taken (λ fault. (first : Option (List ℕ)) (before : Option Lanes) → HasWalked plan first now reader engine before made → LanesStop growth plan (finish_after fault) first before after)
+    (At : Begins) (growth : Growth) (plan : Plan) (first : Option (List ℕ)) (before after : Option Lanes) (taken : Result Tail Fault) → At first before
+    → IfErr taken (λ fault. (first : Option (List ℕ)) (before : Option Lanes) → At first before → LanesStop growth plan (finish_after fault) first before after)
     → IfErr taken (λ fault. LanesStop growth plan (finish_after fault) first before after)
-stops_taken growth plan first now reader engine before made after (Ok tail) walked stops = tt
-stops_taken growth plan first now reader engine before made after (Err fault) walked stops = stops first before walked
+stops_taken At growth plan first before after (Ok tail) at stops = tt
+stops_taken At growth plan first before after (Err fault) at stops = stops first before at
 
 pub taken_all :
-    {D : Type 0} → (growth : Growth) (plan : Plan) (first now left : Option (List ℕ)) (begun : Begun D) (engine : Engine D) (reader : ReaderState)
-    (before made after : Option Lanes) (taken : Result Tail Fault) → HasBegun plan first now begun before made
-    → IfOk taken (λ tail. (first : Option (List ℕ)) (before : Option Lanes)
-    → HasWalked plan first now begun.reader begun.engine before made → TookAll plan first engine tail before after)
-    → IfErr taken (λ fault. (first : Option (List ℕ)) (before : Option Lanes)
-    → HasWalked plan first now begun.reader begun.engine before made → LanesStop growth plan (finish_after fault) first before after)
+    {D : Type 0} → (At : Begins) (growth : Growth) (plan : Plan) (first now left : Option (List ℕ)) (begun : Begun D) (engine : Engine D) (reader : ReaderState)
+    (before made after : Option Lanes) (taken : Result Tail Fault) → HasBegun plan first now begun before made → At first before
+    → IfOk taken (λ tail. (first : Option (List ℕ)) (before : Option Lanes) → At first before → TookAll plan first engine tail before after)
+    → IfErr taken (λ fault. (first : Option (List ℕ)) (before : Option Lanes) → At first before → LanesStop growth plan (finish_after fault) first before after)
     → ((first : Option (List ℕ)) → HasRead plan.max begun.reader first now → HasRead plan.max reader first left)
     → IfOk taken (λ tail. HasReached (told_finish tail) reader left)
     → HasTakenAll growth plan first left (record begun { engine = engine; reader = reader }) before after taken
-taken_all growth plan first now left begun engine reader before made after taken h whole stops far reaches = record {
+taken_all At growth plan first now left begun engine reader before made after taken h at whole stops far reaches = record {
   magic = h.magic;
-  whole = whole_taken plan first now begun.reader begun.engine engine before made after taken h.walked whole;
-  stops = stops_taken growth plan first now begun.reader begun.engine before made after taken h.walked stops;
+  whole = whole_taken At plan first engine before after taken at whole;
+  stops = stops_taken At growth plan first before after taken at stops;
   far = far first h.far;
   reaches = reaches;
 }
+
+-- Where no record was taken, the reader stands after those that were.
+pub walked_none :
+    {D : Type 0} → (plan : Plan) (first now : Option (List ℕ)) (reader : ReaderState) (engine : Engine D) (before after : Option Lanes)
+    → IsAtStart plan first now reader engine before after → HasWalked plan first now reader engine before after
+walked_none plan first now reader engine before after h = record { records = []; stands = h.stands; come = h.come }
 
 -- Where nothing was counted before it, what it counted was counted in all.
 pub taken_counts :

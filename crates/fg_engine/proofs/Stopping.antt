@@ -11,7 +11,7 @@ use Rattle.fg_trace.specs.declared.step.Finish.TheVariants as finish
 use Rattle.fg_trace.specs.Trace.{Record}
 use Rattle.fg_engine.specs.Engine.{GrowAll, AreThere, BreaksAfter, MakesFirst}
 use Rattle.fg_results.specs.Lanes.{PutsAll}
-use Rattle.fg_results.specs.Stops.{Growth, MayStopAt, Stops, HasShown, LiesBetween, Stage, Making, Taking, made_at, HasGained, HasGainedPart}
+use Rattle.fg_results.specs.Stops.{Growth, LeavesWhole, MayStopAt, Stops, HasShown, LiesBetween, Stage, Making, Taking, made_at, HasGained, HasGainedPart}
 use Rattle.fg_results.proofs.StopLemmas.{may_make, may_take}
 use Rattle.fg_engine.proofs.Flushing.{some_is}
 
@@ -33,7 +33,7 @@ each_put ports gained None None g t = tt
 
 pub stops_at :
     (growth : Growth) (plan : Plan) (answer : Finish) (records : List Record) (stage : Stage) (broken : Option ℕ) (gained : ℕ → List ℕ) (before after : Option Lanes)
-    → MayStopAt growth answer stage → (answer ≡ finish.ReadFault → broken ≡ None)
+    → MayStopAt growth answer stage → (LeavesWhole growth answer stage → broken ≡ None)
     → ((flow : ℕ) → Contains (made_at plan stage) flow
     → HasGained plan records stage flow (gained flow) ⊎ ((broken ≡ Some flow) × HasGainedPart plan records stage flow (gained flow)))
     → GrowAll before (made_at plan stage) gained after → AreThere (made_at plan stage) after → Stops growth plan answer records before after
@@ -96,7 +96,7 @@ shown_at_stage plan all taken next broken flow bytes now then (inr part) =
 
 pub taking_stops :
     (growth : Growth) (plan : Plan) (answer : Finish) (all taken next : List Record) (broken : Option ℕ) (before after : Option Lanes)
-    → (answer ≡ finish.ReadFault → broken ≡ None) → Follows taken next broken → next ≡ take (length next) all → BreaksAfter plan taken next broken before after
+    → (LeavesWhole growth answer (Taking (length taken)) → broken ≡ None) → Follows taken next broken → next ≡ take (length next) all → BreaksAfter plan taken next broken before after
     → Stops growth plan answer all before after
 taking_stops growth plan answer all taken next broken before after quiet follows walked h =
     stops_at growth plan answer all (Taking (length taken)) broken h.gained before after (may_take growth answer (length taken)) quiet

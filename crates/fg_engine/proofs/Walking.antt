@@ -1,5 +1,5 @@
 -- How the records of a trace are taken, from where the reader stands.
-use Rattle.std.proofs.Common.{◌≡◌, inl, inr, ℕ, Option, Some, None, IfSome, Ok, Err, List, [], ◌∷◌, ◌++◌, refl, sym, subst}
+use Rattle.std.proofs.Common.{◌≡◌, inl, inr, ℕ, Option, Some, None, IfSome, Ok, Err, List, [], ◌∷◌, ◌++◌, length, refl, sym, subst}
 use Rattle.fg_io.specs.Outlet.{Lanes, WhereTold}
 use Rattle.fg_flows.specs.declared.Plan.{Plan}
 use Rattle.fg_flows.specs.Plan.{PlanFits}
@@ -16,7 +16,7 @@ use Rattle.fg_results.proofs.FlowRecords.{few_records}
 use Rattle.fg_engine.specs.declared.engine.Engine.{Engine}
 use Rattle.fg_engine.specs.Engine.{LanesGrow, GrowAll, IsRunning, HasCome, BreaksAfter, LanesStop, HasWalked, TookAll, TellsTail}
 use Rattle.fg_results.specs.Lanes.{OthersStay}
-use Rattle.fg_results.specs.Stops.{Growth, StopsIn}
+use Rattle.fg_results.specs.Stops.{Growth, ByRecord, LeavesWhole, StopsIn, Taking}
 use Rattle.fg_engine.proofs.Lanes.{told_map}
 use Rattle.fg_engine.proofs.Standing.{shown_at}
 use Rattle.fg_engine.proofs.Stopping.{Follows, taking_stops}
@@ -34,13 +34,13 @@ running plan fits first now reader engine before after max h = record {
 pub others_told : (ports : List ℕ) (gained : ℕ → List ℕ) (before after : Option Lanes) → GrowAll before ports gained after → WhereTold (OthersStay ports) before after
 others_told ports gained before after g = told_map (λ old new. LanesGrow old ports gained new) (OthersStay ports) (λ old new h. h.others) before after g
 
-break_stop : WalksTheFront → (growth : Growth) (plan : Plan) (answer : Finish) (first now : Option (List ℕ)) (reader : ReaderState) (taken records : List Record) (broken : Option ℕ) (before after : Option Lanes) → reader.max ≡ plan.max → StandsAfter reader first now records → (answer ≡ finish.ReadFault → broken ≡ None) → Follows taken records broken → BreaksAfter plan taken records broken before after → StopsIn growth plan answer first before after
+break_stop : WalksTheFront → (growth : Growth) (plan : Plan) (answer : Finish) (first now : Option (List ℕ)) (reader : ReaderState) (taken records : List Record) (broken : Option ℕ) (before after : Option Lanes) → reader.max ≡ plan.max → StandsAfter reader first now records → (LeavesWhole growth answer (Taking (length taken)) → broken ≡ None) → Follows taken records broken → BreaksAfter plan taken records broken before after → StopsIn growth plan answer first before after
 break_stop law growth plan answer None now reader taken records broken before after max stands quiet follows h = tt
 break_stop law growth plan answer (Some bytes) now reader taken records broken before after max stands quiet follows h = λ all end trace.
     taking_stops growth plan answer all taken records broken before after quiet follows
     (law reader bytes now records all end stands (subst (λ n. IsTrace bytes n all end) (sym max) trace)) h
 
-pub broken_stop : WalksTheFront → (growth : Growth) (plan : Plan) (answer : Finish) (first now : Option (List ℕ)) (reader : ReaderState) (taken records : List Record) (broken : Option ℕ) (before after : Option Lanes) → reader.max ≡ plan.max → StandsAfter reader first now records → (answer ≡ finish.ReadFault → broken ≡ None) → Follows taken records broken → BreaksAfter plan taken records broken before after → LanesStop growth plan answer first before after
+pub broken_stop : WalksTheFront → (growth : Growth) (plan : Plan) (answer : Finish) (first now : Option (List ℕ)) (reader : ReaderState) (taken records : List Record) (broken : Option ℕ) (before after : Option Lanes) → reader.max ≡ plan.max → StandsAfter reader first now records → (LeavesWhole growth answer (Taking (length taken)) → broken ≡ None) → Follows taken records broken → BreaksAfter plan taken records broken before after → LanesStop growth plan answer first before after
 broken_stop law growth plan answer first now reader taken records broken before after max stands quiet follows h = record {
   others = others_told plan.table h.gained before after h.grow;
   stops = break_stop law growth plan answer first now reader taken records broken before after max stands quiet follows h;
@@ -48,17 +48,21 @@ broken_stop law growth plan answer first now reader taken records broken before 
 
 -- A record
 
+by_record_loud : (fault : Finish) (n : ℕ) → (fault ≡ finish.ReadFault → ⊥) → LeavesWhole ByRecord fault (Taking n) → ⊥
+by_record_loud fault n loud (inl read) = loud read
+by_record_loud fault n loud (inr whole) = whole.1
+
 pub stop_at_record :
-    {D : Type 0} → WalksTheFront → (growth : Growth) (plan : Plan) (fault : Finish) → (fault ≡ finish.ReadFault → ⊥) → (first left now : Option (List ℕ)) (reader next : ReaderState) (engine : Engine D) (before at after : Option Lanes) (answer : Answer) (time port size : ℕ) (datagram : List ℕ)
+    {D : Type 0} → WalksTheFront → (plan : Plan) (fault : Finish) → (fault ≡ finish.ReadFault → ⊥) → (first left now : Option (List ℕ)) (reader next : ReaderState) (engine : Engine D) (before at after : Option Lanes) (answer : Answer) (time port size : ℕ) (datagram : List ℕ)
     → next.max ≡ plan.max → answer ≡ Ok (Datagram time port size) → datagram ≡ next.payload
     → ((records : List Record) → StandsAfter reader first left records → Walks answer next first now records)
     → ((records : List Record) (r : Record) → HasCome plan records engine before at → r.port ≡ port → r.time ≡ time → r.datagram ≡ datagram → (broken : Option ℕ) × BreaksAfter plan records (records ++ r ∷ []) broken before after)
-    → HasWalked plan first left reader engine before at → LanesStop growth plan fault first before after
-stop_at_record law growth plan fault loud first left now reader next engine before at after answer time port size datagram max is payload walks breaks h =
+    → HasWalked plan first left reader engine before at → LanesStop ByRecord plan fault first before after
+stop_at_record law plan fault loud first left now reader next engine before at after answer time port size datagram max is payload walks breaks h =
     let r : Record = record { time = time; port = port; datagram = next.payload } in
     let stands : StandsAfter next first now (h.records ++ r ∷ []) = subst (λ (a : Answer). Walks a next first now h.records) is (walks h.records h.stands) in
     let off = breaks h.records r h.come refl refl (sym payload) in
-    broken_stop law growth plan fault first now next h.records (h.records ++ r ∷ []) off.0 before after max stands (λ quiet. absurd (loud quiet)) (inr (r, refl)) off.1
+    broken_stop law ByRecord plan fault first now next h.records (h.records ++ r ∷ []) off.0 before after max stands (λ whole. absurd (by_record_loud fault (length h.records) loud whole)) (inr (r, refl)) off.1
 
 -- A read fault
 

@@ -1,5 +1,5 @@
 -- How the lanes of a trace are written, from its magic on.
-use Rattle.std.proofs.Common.{◌≡◌, ℕ, Option, Some, None, IfSome, Result, Ok, Err, IfErr, List, [], sym, ◌∙◌, subst, arith}
+use Rattle.std.proofs.Common.{◌≡◌, inl, inr, ℕ, Option, Some, None, IfSome, Result, Ok, Err, IfErr, List, [], sym, ◌∙◌, subst, arith}
 use Rattle.fg_io.specs.declared.fault.Fault.{Fault}
 use Rattle.fg_io.specs.Outlet.{Lanes}
 use Rattle.fg_flows.specs.declared.Plan.{Plan}
@@ -15,7 +15,7 @@ use Rattle.fg_engine.specs.declared.engine.Engine.{Engine}
 use Rattle.fg_engine.specs.Engine.{GrowAll, AreThere, MakesFirst, EngineStands, LanesStop, HasWalked, TookAll, AreReady, IsFlushing, BreaksAtFlush, HasEnded, LanesWhole}
 use Rattle.fg_engine.proofs.Flushing.{flushing_none}
 use Rattle.fg_engine.proofs.Lanes.{grow_none}
-use Rattle.fg_results.specs.Stops.{Growth, Stops, StopsIn, Flushing}
+use Rattle.fg_results.specs.Stops.{Growth, LeavesWhole, Stops, StopsIn, Flushing}
 use Rattle.fg_results.proofs.StopLemmas.{may_flush}
 use Rattle.fg_engine.proofs.Stopping.{making_stops, stops_at}
 use Rattle.fg_engine.specs.View.{FlowView}
@@ -73,11 +73,15 @@ ready plan fits first engine tail before now flows e h = record {
   flushing = took_flushing plan first engine tail before now flows e h;
 }
 
+flush_loud : (growth : Growth) (answer : Finish) (n : ℕ) → (answer ≡ finish.ReadFault → ⊥) → LeavesWhole growth answer (Flushing n) → ⊥
+flush_loud growth answer n loud (inl read) = loud read
+flush_loud growth answer n loud (inr whole) = whole.1
+
 flush_stop : OneTrace → (growth : Growth) (plan : Plan) (answer : Finish) → (answer ≡ finish.ReadFault → ⊥) → (first : Option (List ℕ)) (records : List Record) (end : Ending) (before after : Option Lanes) → IfSome first (λ bytes. IsTrace bytes plan.max records end) → BreaksAtFlush plan records before after → StopsIn growth plan answer first before after
 flush_stop law growth plan answer loud None records end before after trace h = tt
 flush_stop law growth plan answer loud (Some bytes) records end before after trace h = λ all other k.
     subst (λ (rs : List Record). Stops growth plan answer rs before after) (sym (law bytes plan.max all records other end k trace).0)
-    (stops_at growth plan answer records (Flushing h.count) h.broken h.gained before after (may_flush growth answer h.count) (λ quiet. absurd (loud quiet)) h.exact h.grow h.there)
+    (stops_at growth plan answer records (Flushing h.count) h.broken h.gained before after (may_flush growth answer h.count) (λ whole. absurd (flush_loud growth answer h.count loud whole)) h.exact h.grow h.there)
 
 pub flush_stops : {D : Type 0} → OneTrace → (growth : Growth) (plan : Plan) (answer : Finish) → (answer ≡ finish.ReadFault → ⊥) → (first : Option (List ℕ)) (engine : Engine D) (tail : Tail) (before now after : Option Lanes) (t : TookAll plan first engine tail before now) → BreaksAtFlush plan t.records before after → LanesStop growth plan answer first before after
 flush_stops law growth plan answer loud first engine tail before now after t h = record {

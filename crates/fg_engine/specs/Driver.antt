@@ -11,7 +11,7 @@ use Rattle.fg_report.specs.declared.tail.Tail.{Tail}
 use Rattle.fg_results.specs.Counted.{CountsBeside}
 use Rattle.fg_results.specs.Stops.{Growth, ByRecord, ByBatch}
 use Rattle.fg_engine.specs.declared.records.Begun.{Begun}
-use Rattle.fg_engine.specs.Engine.{HasWalked, HasRead, TookAll, LanesStop, told_finish}
+use Rattle.fg_engine.specs.Engine.{IsAtStart, HasRead, TookAll, LanesStop, told_finish}
 
 -- What a part of a repair has counted whose lanes grow so.
 abbrev pub PartCounts : {A : Type 0} → Growth → Result A Fault → List (ℕ × ℕ) → List (ℕ × ℕ) → Type 0
@@ -25,7 +25,7 @@ HasMagic plan first = IfSome first (λ bytes. (place : ℕ) → ¬ IsTrace bytes
 -- The repair of an input has begun: its lanes are made, and the reader stands before the first record.
 pub record HasBegun {D : Type 0} (plan : Plan) (first left : Option (List ℕ)) (begun : Begun D) (before after : Option Lanes) : Type 0 where
   pub magic : HasMagic plan first
-  pub walked : HasWalked plan first left begun.reader begun.engine before after
+  pub start : IsAtStart plan first left begun.reader begun.engine before after
   pub far : HasRead plan.max begun.reader first left
   pub unkept : begun.reader.kept ≡ None
   pub max : begun.reader.max ≡ plan.max

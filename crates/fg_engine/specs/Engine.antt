@@ -99,6 +99,12 @@ pub record HasWalked {D : Type 0}
   pub stands : StandsAfter reader first now records
   pub come : HasCome plan records engine before after
 
+-- No record was taken yet: the reader stands before the first.
+pub record IsAtStart {D : Type 0}
+    (plan : Plan) (first now : Option (List ℕ)) (reader : ReaderState) (engine : Engine D) (before after : Option Lanes) : Type 0 where
+  pub stands : StandsAfter reader first now []
+  pub come : HasCome plan [] engine before after
+
 -- The reader stands after some records of a trace under this limit, and holds at most a byte past it.
 pub record HasRead (max : ℕ) (reader : ReaderState) (first now : Option (List ℕ)) : Type 0 where
   pub records : List Record

@@ -1,7 +1,14 @@
 use Rattle.fg_results.specs.Stops.{ByRecord}
-use Rattle.fg_engine.proofs.Driving.{taken_all, taken_counts}
+use Rattle.fg_engine.specs.Engine.{HasWalked}
+use Rattle.fg_engine.proofs.Driving.{taken_all, taken_counts, walked_none}
 use Rattle.fg_engine.proofs.Faults.{counts_alone}
 use Rattle.fg_engine.proofs.records.repair_windows.Goals as goal
+
+pub take_all-taken-requires-clause-underway : goal.take_all-taken-requires-clause-underway
+take_all-taken-requires-clause-underway g c =
+    let first = g.S.Source.left c.args.input.now in
+    let before = g.O.Outlet.lanes c.args.lanes.now in
+    (first, before, walked_none _ first _ _ _ before _ c.in-Ok.ensures.begun.start)
 
 pub end-requires-clause-taken : goal.end-requires-clause-taken
 end-requires-clause-taken g c =
@@ -12,8 +19,8 @@ end-requires-clause-taken g c =
       first,
       g.S.Source.left took.new.input,
       before,
-      taken_all ByRecord c.args.plan.now first _ _ c.in-Ok.begun took.new.self took.new.reader before _ _ took.result
-          c.in-Ok.ensures.begun took.ensures.whole took.ensures.stops took.ensures.far took.ensures.reaches,
+      taken_all (λ first before. HasWalked c.args.plan.now first _ c.in-Ok.begun.reader c.in-Ok.begun.engine before _) ByRecord c.args.plan.now first _ _ c.in-Ok.begun
+          took.new.self took.new.reader before _ _ took.result c.in-Ok.ensures.begun (walked_none _ first _ _ _ before _ c.in-Ok.ensures.begun.start) took.ensures.whole took.ensures.stops took.ensures.far took.ensures.reaches,
     )
 
 pub returns-in-Ok-clause-repairs : goal.returns-in-Ok-clause-repairs
@@ -22,8 +29,8 @@ returns-in-Ok-clause-repairs g c =
     let first = g.S.Source.left c.args.input.now in
     let before = g.O.Outlet.lanes c.args.lanes.now in
     c.end.ensures.repairs ByRecord first _ c.args.lanes.now
-    (taken_all ByRecord c.args.plan.now first _ _ c.in-Ok.begun took.new.self took.new.reader before _ _ took.result
-    c.in-Ok.ensures.begun took.ensures.whole took.ensures.stops took.ensures.far took.ensures.reaches)
+    (taken_all (λ first before. HasWalked c.args.plan.now first _ c.in-Ok.begun.reader c.in-Ok.begun.engine before _) ByRecord c.args.plan.now first _ _ c.in-Ok.begun
+    took.new.self took.new.reader before _ _ took.result c.in-Ok.ensures.begun (walked_none _ first _ _ _ before _ c.in-Ok.ensures.begun.start) took.ensures.whole took.ensures.stops took.ensures.far took.ensures.reaches)
 
 pub returns-in-Ok-clause-faults : goal.returns-in-Ok-clause-faults
 returns-in-Ok-clause-faults g c =

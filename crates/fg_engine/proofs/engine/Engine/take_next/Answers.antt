@@ -24,7 +24,7 @@ returns-in_err-take-in-Ok-Datagram-clause-stops g c =
     → LanesStop ByRecord c.args.plan.now (finish_after fault) first before (g.O.Outlet.lanes c.take.new.lanes))
     c.from_residual.result c.in_err-take-in-Ok-Datagram.field-0.0 c.from_residual.ensures.1
     (λ first before h.
-    stop_at_record c.walks_the_front.ensures ByRecord c.args.plan.now (finish_after c.in_err-take-in-Ok-Datagram.field-0.0)
+    stop_at_record c.walks_the_front.ensures c.args.plan.now (finish_after c.in_err-take-in-Ok-Datagram.field-0.0)
     (λ read. c.in_err-take-in-Ok-Datagram.ensures.faults.read (read_only c.in_err-take-in-Ok-Datagram.field-0.0 read))
     first _ _ c.args.reader.now c.next.new.self c.args.self.now before _ _ c.next.result c.in-Ok-Datagram.time c.in-Ok-Datagram.port c.in-Ok-Datagram.field-0-2 c.payload.result.now
     (c.next.ensures.max ∙ c.requires.max) (c.in-Ok-Datagram.is ∙ ap Ok c.in-Ok-Datagram.field-0-is) c.payload.ensures (c.next.ensures.walks first) (c.in_err-take-in-Ok-Datagram.ensures.breaks before) h)
