@@ -32,6 +32,10 @@ pub ok_then : {T E : Type 0} (P Q : T → Type 0) (r : Result T E) → ((x : T) 
 ok_then P Q (Ok x) f h = f x h
 ok_then P Q (Err e) f h = tt
 
+pub fault_then : {T E : Type 0} (P Q : E → Type 0) (r : Result T E) → ((e : E) → P e → Q e) → IfErr r P → IfErr r Q
+fault_then P Q (Ok x) f h = tt
+fault_then P Q (Err e) f h = f e h
+
 pub err_then : {T E : Type 0} (P Q : Type 0) (r : Result T E) → (P → Q) → OnErr r P → OnErr r Q
 err_then P Q (Ok x) f h = tt
 err_then P Q (Err e) f h = f h
@@ -40,3 +44,12 @@ err_then P Q (Err e) f h = f h
 pub either_way : {T E : Type 0} (P : T → Type 0) (Q R : Type 0) (r : Result T E) → ((x : T) → P x → R) → (Q → R) → IfOk r P → OnErr r Q → R
 either_way P Q R (Ok x) f g ok err = f x ok
 either_way P Q R (Err e) f g ok err = g err
+
+-- What holds of an answer from each of many beginnings on.
+pub ok_all : {X Y T E : Type 0} (Q : X → Y → Type 0) (P : X → Y → T → Type 0) (r : Result T E) → ((x : X) (y : Y) → Q x y → IfOk r (P x y)) → IfOk r (λ t. (x : X) (y : Y) → Q x y → P x y t)
+ok_all Q P (Ok t) f = f
+ok_all Q P (Err e) f = tt
+
+pub err_all : {X Y T E : Type 0} (Q : X → Y → Type 0) (P : X → Y → E → Type 0) (r : Result T E) → ((x : X) (y : Y) → Q x y → IfErr r (P x y)) → IfErr r (λ e. (x : X) (y : Y) → Q x y → P x y e)
+err_all Q P (Ok t) f = tt
+err_all Q P (Err e) f = f

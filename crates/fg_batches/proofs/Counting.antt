@@ -1,60 +1,78 @@
--- What is counted where a walk in batches breaks off.
-use Rattle.std.proofs.Common.{◌≡◌, ◌∙◌, ℕ, ◌≤◌, [], ◌∷◌, Result, Ok, Err, refl, sym, subst, arith}
-use Rattle.std.specs.Result.{IsErrAnd}
+-- What three stages have counted of faults of the outside.
+use Rattle.std.proofs.Common.{◌≡◌, ◌∙◌, ◌≤◌, ℕ, Bool, true, false, Option, Some, None, [], ◌∷◌, Result, Ok, Err, refl, sym, arith}
 use Rattle.fg_io.specs.declared.fault.Fault.{Fault}
 use Rattle.fg_io.specs.declared.fault.Fault.TheVariants.{Read, Write, Memory}
-use Rattle.fg_io.specs.Faults.{Counts, CountsFault}
+use Rattle.fg_report.specs.declared.tail.Tail.{Tail}
 use Rattle.fg_results.specs.Counted.{CountsBeside}
+use Rattle.fg_batches.specs.Stages.{CountsEnd, CountsPut, answer_to, starved_answer}
 
--- A part that only writes breaks it off, after which nothing is read. Reads may have failed before.
-pub counts_broken :
-    (A : Type 0) {C : Type 0} → (fault : Fault) (result : Result C Fault) (read read' put mid put' : ℕ) → IsErrAnd result (λ other. other ≡ fault)
-    → (fault ≡ Read → ⊥) → read ≤ read' → mid ≡ put → Counts {A = A} (Err fault) [] ((mid, put') ∷ [])
-    → CountsBeside result ((read, read') ∷ []) ((put, put') ∷ [])
-counts_broken A fault (Ok x) read read' put mid put' is never rise still then = absurd is
-counts_broken A fault (Err other) read read' put mid put' is never rise still then = record {
-  read = λ answers. absurd (never (sym is ∙ answers));
-  write = λ answers. subst (λ n. CountsFault n put') still (then.write (sym is ∙ answers));
+-- No count of reading falls.
+ends_rise : (end : Option (Result Tail Fault)) (read read' : ℕ) → CountsEnd end (read, read') → read ≤ read'
+ends_rise None read read' h = omega (arith, h)
+ends_rise (Some came) read read' h = h.rise
+
+ends_stand : (tail : Tail) (read read' : ℕ) → CountsEnd (Some (Ok tail)) (read, read') → read' ≡ read
+ends_stand tail read read' h = h.no_read (λ none. none)
+
+read_write : Read ≡ Write → ⊥
+read_write e = cc
+
+write_read : Write ≡ Read → ⊥
+write_read e = cc
+
+memory_read : Memory ≡ Read → ⊥
+memory_read e = cc
+
+memory_write : Memory ≡ Write → ⊥
+memory_write e = cc
+
+-- A reader that has ended, or has not where another stage broke off.
+pub stages_count :
+    (end : Option (Result Tail Fault)) (starved broken : Bool) (read read' put put' : ℕ) → CountsEnd end (read, read') → CountsPut broken (put, put')
+    → (broken ≡ false → starved ≡ false → (end ≡ None → ⊥)) → ((fault : Fault) → end ≡ Some (Err fault) → fault ≡ Read)
+    → CountsBeside (answer_to end starved broken) ((read, read') ∷ []) ((put, put') ∷ [])
+stages_count end starved true read read' put put' reads puts over is = record {
+  read = λ answers. absurd (write_read answers);
+  write = λ _. puts.0;
   no_read = λ none. absurd (none refl);
-  no_write = λ none. then.no_write (λ answers. none (is ∙ answers)) ∙ still;
-  rise = rise;
-  sinks_rise = subst (λ n. n ≤ put') still then.sinks_rise;
+  no_write = λ none. absurd (none refl);
+  rise = ends_rise end read read' reads;
+  sinks_rise = puts.1;
+}
+stages_count end true false read read' put put' reads puts over is = record {
+  read = λ answers. absurd (memory_read answers);
+  write = λ answers. absurd (memory_write answers);
+  no_read = λ none. absurd (none refl);
+  no_write = λ none. puts;
+  rise = ends_rise end read read' reads;
+  sinks_rise = omega (arith, puts);
+}
+stages_count None false false read read' put put' reads puts over is = absurd (over refl refl refl)
+stages_count (Some (Ok tail)) false false read read' put put' reads puts over is = record {
+  read = λ answers. absurd answers;
+  write = λ answers. absurd answers;
+  no_read = λ _. ends_stand tail read read' reads;
+  no_write = λ _. puts;
+  rise = reads.rise;
+  sinks_rise = omega (arith, puts);
+}
+stages_count (Some (Err fault)) false false read read' put put' reads puts over is = record {
+  read = λ answers. reads.read answers;
+  write = λ answers. absurd (read_write (sym (is fault refl) ∙ answers));
+  no_read = λ none. absurd (none refl);
+  no_write = λ _. puts;
+  rise = reads.rise;
+  sinks_rise = omega (arith, puts);
 }
 
-no_write : Read ≡ Write → ⊥
-no_write e = cc
-
--- A read failed, and no put.
-pub counts_unread :
-    (A : Type 0) {C : Type 0} → (fault : Fault) (result : Result C Fault) (read read' put put' : ℕ) → IsErrAnd result (λ other. other ≡ fault)
-    → fault ≡ Read → Counts {A = A} (Err fault) ((read, read') ∷ []) [] → put' ≡ put
-    → CountsBeside result ((read, read') ∷ []) ((put, put') ∷ [])
-counts_unread A fault (Ok x) read read' put put' is reads counts still = absurd is
-counts_unread A fault (Err other) read read' put put' is reads counts still = record {
-  read = λ answers. counts.read reads;
-  write = λ answers. absurd (no_write (sym reads ∙ (sym is ∙ answers)));
+-- Memory was wanting after all was taken.
+pub starved_counts : (taken : Result Tail Fault) (reads puts : ℕ × ℕ) → CountsBeside taken (reads ∷ []) (puts ∷ []) → CountsBeside (starved_answer taken) (reads ∷ []) (puts ∷ [])
+starved_counts (Ok tail) reads puts h = record {
+  read = λ answers. absurd (memory_read answers);
+  write = λ answers. absurd (memory_write answers);
   no_read = λ none. absurd (none refl);
-  no_write = λ none. still;
-  rise = counts.rise;
-  sinks_rise = subst (λ n. put ≤ n) (sym still) (omega arith);
+  no_write = λ _. h.no_write (λ none. none);
+  rise = h.rise;
+  sinks_rise = h.sinks_rise;
 }
-
-memory_no_read : Memory ≡ Read → ⊥
-memory_no_read e = cc
-
-memory_no_write : Memory ≡ Write → ⊥
-memory_no_write e = cc
-
--- There is no memory, and nothing was counted.
-pub counts_starved :
-    {C : Type 0} → (result : Result C Fault) (read read' put put' : ℕ) → IsErrAnd result (λ fault. fault ≡ Memory)
-    → read ≤ read' → put' ≡ put → CountsBeside result ((read, read') ∷ []) ((put, put') ∷ [])
-counts_starved (Ok x) read read' put put' is rise still = absurd is
-counts_starved (Err fault) read read' put put' is rise still = record {
-  read = λ answers. absurd (memory_no_read (sym is ∙ answers));
-  write = λ answers. absurd (memory_no_write (sym is ∙ answers));
-  no_read = λ none. absurd (none refl);
-  no_write = λ none. still;
-  rise = rise;
-  sinks_rise = subst (λ n. put ≤ n) (sym still) (omega arith);
-}
+starved_counts (Err fault) reads puts h = h

@@ -9,14 +9,15 @@ use Rattle.fg_shape.specs.declared.kind.Kind.{Kind}
 use Rattle.fg_shape.specs.Kind.{port_of}
 use Rattle.fg_flows.specs.Flows.{IsPortOf, IsTable}
 use Rattle.fg_flows.specs.Laws.{OneFlowHasAPort}
-use Rattle.fg_flows.specs.Sheaf.{Item}
+use Rattle.fg_flows.specs.declared.Plan.{Plan}
+use Rattle.fg_flows.specs.Sheaf.{Item, SheafState, items_of}
 use Rattle.fg_results.specs.Flow.{is_of, records_of}
 use Rattle.fg_results.proofs.ArrivalLemmas.{one_more_record}
 use Rattle.fg_results.proofs.Zips.{zip_push, zip_length}
 use Rattle.fg_results.proofs.FlowRecords.{is_of_no}
 use Rattle.fg_engine.proofs.Standing.{not_of, IsOfNone}
-use Rattle.fg_batches.specs.Batches.{IsItemOf, AreItemsOf}
-use Rattle.fg_batches.specs.Load.{join_items}
+use Rattle.fg_batches.specs.Batches.{IsItemOf, AreItemsOf, HoldsBatch}
+use Rattle.fg_batches.specs.Stages.{all_of, items_in}
 
 -- Two lists, place by place
 
@@ -81,7 +82,7 @@ holds_other table batch r items none zip =
     (λ k below. others_hold (slice_index table k) batch r (get_or items k []) (is_of_no (slice_index table k) r (λ kind e. none k kind (below, e)))
     (zip_place (AreItemsOf batch) 0 [] table items k zip below))
 
--- Those of another batch after them
+-- Those of other batches after them
 
 zip_append : {A B : Type 0} (R : A → B → Type 0) (xs xs' : List A) (ys ys' : List B) → AllZip R xs ys → AllZip R xs' ys' → AllZip R (xs ++ xs') (ys ++ ys')
 zip_append R [] xs' [] ys' zip zip' = zip'
@@ -89,19 +90,19 @@ zip_append R [] xs' (y ∷ ys) ys' zip zip' = absurd zip
 zip_append R (x ∷ xs) xs' [] ys' zip zip' = absurd zip
 zip_append R (x ∷ xs) xs' (y ∷ ys) ys' zip zip' = (zip.0, zip_append R xs xs' ys ys' zip.1 zip')
 
-pub holds_joined :
-    (table : List ℕ) (first more : List Record) (items others : List (List Item))
-    → AllZip (AreItemsOf first) table items → AllZip (AreItemsOf more) table others → AllZip (AreItemsOf (first ++ more)) table (join_items items others)
-holds_joined [] first more [] [] zip zip' = tt
-holds_joined [] first more [] (o ∷ others) zip zip' = absurd zip'
-holds_joined [] first more (i ∷ items) others zip zip' = absurd zip
-holds_joined (port ∷ table) first more [] others zip zip' = absurd zip
-holds_joined (port ∷ table) first more (i ∷ items) [] zip zip' = absurd zip'
-holds_joined (port ∷ table) first more (i ∷ items) (o ∷ others) zip zip' = (
-  subst (λ (rs : List Record). AllZip (IsItemOf port) rs (i ++ o)) (sym (filter-append (is_of port) first more))
-      (zip_append (IsItemOf port) (records_of port first) (records_of port more) i o zip.0 zip'.0),
-  holds_joined table first more items others zip.1 zip'.1,
-)
+-- A flow's records of batches are its items of their sheaves.
+pub holds_all :
+    (plan : Plan) (batches : List (List Record)) (sheaves : List SheafState) (k : ℕ) → k < length plan.table → AllZip (HoldsBatch plan) batches sheaves
+    → AreItemsOf (all_of batches) (slice_index plan.table k) (items_in sheaves k)
+holds_all plan [] [] k below zip = tt
+holds_all plan [] (sheaf ∷ sheaves) k below zip = absurd zip
+holds_all plan (batch ∷ batches) [] k below zip = absurd zip
+holds_all plan (batch ∷ batches) (sheaf ∷ sheaves) k below zip =
+    let port = slice_index plan.table k in
+    subst (λ (rs : List Record). AllZip (IsItemOf port) rs (items_of sheaf k ++ items_in sheaves k)) (sym (filter-append (is_of port) batch (all_of batches)))
+    (zip_append (IsItemOf port) (records_of port batch) (records_of port (all_of batches)) (items_of sheaf k) (items_in sheaves k)
+    (zip_place (AreItemsOf batch) 0 [] plan.table sheaf.items k zip.0 below)
+    (holds_all plan batches sheaves k below zip.1))
 
 -- None at all
 

@@ -52,7 +52,7 @@ ran_none old = record {
 
 -- Some are run, and then others
 
-zip_split :
+pub zip_split :
     {A B : Type 0} (R : A → B → Type 0) (more : List A) (xs ys : List B) → AllZip R more (xs ++ ys)
     → (front : List A) × (rest : List A) × (more ≡ front ++ rest) × AllZip R front xs × AllZip R rest ys
 zip_split R more [] ys zip = ([], more, refl, tt, zip)
@@ -174,7 +174,7 @@ ran_one item old new before after starved starved' here still port playout takes
 
 -- No flow is starved
 
-is_false : (b : Bool) → (b ≡ true → ⊥) → b ≡ false
+pub is_false : (b : Bool) → (b ≡ true → ⊥) → b ≡ false
 is_false true never = absurd (never refl)
 is_false false never = refl
 

@@ -11,7 +11,7 @@ use Rattle.fg_trace.specs.Reader.{ReaderState, StandsAfter}
 use Rattle.fg_trace.specs.Trace.{Record, Ending, IsTrace}
 use Rattle.fg_flows.specs.declared.Plan.{Plan}
 use Rattle.fg_flows.specs.Plan.{playout_of}
-use Rattle.fg_results.specs.Stops.{ByBatch, StopsIn, Taking, Emptying, HasGained, HasGainedPart, HasShown, LiesBetween}
+use Rattle.fg_results.specs.Stops.{ByBatch, LeavesWhole, Stage, StopsIn, Taking, Emptying, HasGained, HasGainedPart, HasShown, LiesBetween}
 use Rattle.fg_engine.specs.Engine.{GrowAll, AreThere, LanesStop}
 use Rattle.fg_engine.proofs.Stopping.{stops_at}
 use Rattle.fg_engine.proofs.Walking.{others_told}
@@ -99,8 +99,9 @@ broken_at plan all taken next done broken flow bytes first then (inr part) =
 longer : (records batch : List Record) → length records ≤ length (records ++ batch)
 longer records batch = omega (arith, length-append records batch)
 
-no_read : finish.WriteFault ≡ finish.ReadFault → ⊥
-no_read e = cc
+write_loud : (stage : Stage) → LeavesWhole ByBatch finish.WriteFault stage → ⊥
+write_loud stage (inl read) = let no = read in cc
+write_loud stage (inr (memory, taking)) = let no = memory in cc
 
 broken_in :
     (plan : Plan) (first : Option (List ℕ)) (put ran : List Record) (before after : Option Lanes) → BreaksInBatch plan put (put ++ ran) before after
@@ -110,7 +111,7 @@ broken_in plan (Some bytes) put ran before after h front = λ all end trace.
     let next : take (length (put ++ ran)) all ≡ put ++ ran = front all end trace in
     let taken : take (length put) all ≡ put = front_of_front put ran all (length (put ++ ran)) (sym next) in
     stops_at ByBatch plan finish.WriteFault all (Emptying h.done (length put) (length (put ++ ran))) h.broken h.gained before after (refl, longer put ran)
-    (λ read. absurd (no_read read))
+    (λ whole. absurd (write_loud (Emptying h.done (length put) (length (put ++ ran))) whole))
     (λ flow c. broken_at plan all put (put ++ ran) h.done h.broken flow (h.gained flow) taken next (h.exact flow c))
     h.grow h.there
 

@@ -1,18 +1,13 @@
 -- The batches of a repair with workers, which run the flows side by side. No public contract cites what stands here.
-use Rattle.std.specs.Prelude.{◌≡◌, ◌≢◌, ◌==◌, ◌⊎◌, ◌+◌, ◌<◌, ◌≤◌, ◌^◌, ◌++◌, ℕ, Option, Some, List, [], ◌∷◌, length, slice_index, if◌then◌else◌}
-use Rattle.std.specs.Int.{from_be_bytes, w16, w32}
-use Rattle.std.specs.List.{AllZip, slice_get, slice_index_or}
+use Rattle.std.specs.Prelude.{◌≡◌, ◌==◌, ◌+◌, ◌<◌, ◌^◌, ◌++◌, ℕ, Option, List, [], ◌∷◌, length, slice_index, if◌then◌else◌}
+use Rattle.std.specs.List.{AllZip, slice_index_or}
 use Rattle.fg_io.specs.Outlet.{Lanes}
 use Rattle.fg_io.specs.Prefix.{IsPrefix}
 use Rattle.fg_trace.specs.Trace.{Record}
-use Rattle.fg_shape.specs.declared.kind.Kind.{Kind}
-use Rattle.fg_shape.specs.declared.kind.Kind.TheVariants as kind
 use Rattle.fg_shape.specs.Kind.{port_of}
 use Rattle.fg_shape.specs.Playout.{PlayoutFits}
 use Rattle.fg_flows.specs.declared.Plan.{Plan}
 use Rattle.fg_flows.specs.Sheaf.{Item, SheafState, items_of}
-use Rattle.fg_playout.specs.State.{State}
-use Rattle.fg_playout.specs.Admission.{IsDue, IsFresh}
 use Rattle.fg_results.specs.Flow.{records_of}
 use Rattle.fg_engine.specs.View.{FlowView}
 use Rattle.fg_engine.specs.declared.shelved.Shelved.{Shelved}
@@ -56,60 +51,16 @@ pub record HasRun (items : List Item) (old new : BatchView) : Type 0 where
       → (piece : List ℕ) × (new.shelf ≡ old.shelf ++ piece)
       × HasTaken old.flow.state.playout old.flow.sum.port (records ++ more) new.flow.state new.flow.sum (lane ++ piece)
 
--- Whether a flow may play
-
--- The sequence number and the SSRC of a media datagram: bytes 2 and 3, and 8 to 11, of its header, by RFC 3550, section 5.1.
-abbrev pub numbers_in : List ℕ → ℕ × ℕ
-numbers_in bytes = (
-  from_be_bytes w16 (slice_index bytes 2 ∷ slice_index bytes 3 ∷ []),
-  from_be_bytes w32 (slice_index bytes 8 ∷ slice_index bytes 9 ∷ slice_index bytes 10 ∷ slice_index bytes 11 ∷ []),
-)
-
--- The bytes are those of a media datagram with these.
-pub record HasNumbers (stream : Kind) (bytes : List ℕ) (numbers : ℕ × ℕ) : Type 0 where
-  pub media : stream ≡ kind.Media
-  pub long : 12 ≤ length bytes
-  pub are : numbers ≡ numbers_in bytes
-
--- None of these items has such numbers, from the one with the index `first` on, and before `end`.
-abbrev pub HaveNoNumbers : List Item → ℕ → ℕ → Type 0
-HaveNoNumbers items first end =
-    (j : ℕ) (item : Item) → first ≤ j → j < end → slice_get items j ≡ Some item → (numbers : ℕ × ℕ) → ¬ HasNumbers item.kind item.payload numbers
-
--- The last numbers that the first `end` items have are these.
-pub record AreLastNumbers (items : List Item) (end : ℕ) (numbers : ℕ × ℕ) : Type 0 where
-  pub at : ℕ
-  pub item : Item
-  pub within : at < end
-  pub is_at : slice_get items at ≡ Some item
-  pub has : HasNumbers item.kind item.payload numbers
-  pub later : HaveNoNumbers items (at + 1) end
-
--- Before such a media datagram is admitted a run begins or a play is due, or a word may have waited for too long.
-abbrev pub MayMakePlay : State → ℕ → ℕ → Type 0
-MayMakePlay desk seq ssrc = IsFresh desk ssrc ⊎ IsDue desk seq ssrc ⊎ (desk.playout.hold ≢ 0)
-
--- The flow may play while it runs the items: it has admitted no media datagram yet, or before the last of them it may.
-pub record MayPlay (flow : FlowView) (items : List Item) : Type 0 where
-  pub numbers : ℕ × ℕ
-  pub last : AreLastNumbers items (length items) numbers
-  pub plays : (flow.sum.media.admitted ≡ 0) ⊎ MayMakePlay flow.state numbers.0 numbers.1
-
--- Two of the flows may play while they run what the sheaf has of each.
-pub record TwoMayPlay (flows : List BatchView) (sheaf : SheafState) (d : BatchView) : Type 0 where
-  pub one : ℕ
-  pub other : ℕ
-  pub apart : one < other
-  pub within : other < length flows
-  pub one_may : MayPlay (slice_index_or flows one d).flow (items_of sheaf one)
-  pub other_may : MayPlay (slice_index_or flows other d).flow (items_of sheaf other)
-
 -- What waits for the lanes
 
 -- What waits is for the lanes of these ports, in this order.
 pub record WaitFor (table : List ℕ) (shelves : List Shelved) : Type 0 where
   pub long : length shelves ≡ length table
   pub ports : (k : ℕ) (d : Shelved) → k < length table → (slice_index_or shelves k d).port ≡ slice_index table k
+
+-- The lane, for which nothing waits.
+abbrev pub nothing_waits : ℕ → Shelved
+nothing_waits port = record { port = port; shelf = [] }
 
 -- What waits for the lane of this port: what is on the first shelf of it.
 abbrev pub waiting : List Shelved → ℕ → List ℕ

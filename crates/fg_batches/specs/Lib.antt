@@ -2,5 +2,5 @@
 pub mod BatchView
 pub mod Batches
 pub mod Gathering
-pub mod Load
+pub mod Stages
 pub mod Walking

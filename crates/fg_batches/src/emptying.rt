@@ -1,23 +1,43 @@
 //! What waits for the lanes, and how it is put to them.
-ghost use Rattle.std.specs.Prelude.{◌≡◌, [], ◌∷◌, length, map, IfOk, IfErr, OnOk, OnErr};
+ghost use Rattle.std.specs.Prelude.{◌≡◌, [], ◌∷◌, length, map, replicate, IfOk, IfErr, OnOk, OnErr};
 ghost use Rattle.fg_io.specs.Faults.{Counts};
 ghost use Rattle.fg_flows.specs.declared.Plan.{Plan};
 ghost use Rattle.fg_flows.specs.Plan.{PlanFits};
 ghost use Rattle.fg_engine.specs.Engine.{GrowAll};
 ghost use Rattle.fg_engine.specs.Steps.{Grows, GrowsPart};
-ghost use Rattle.fg_batches.specs.Batches.{WaitFor, BreaksEmptying, HaveExchanged, emptied, waiting};
+ghost use Rattle.fg_batches.specs.Batches.{WaitFor, BreaksEmptying, HaveExchanged, emptied, nothing_waits, waiting};
 
 use crate::flows::BatchFlow;
+use crate::passing::{Row, Tabled};
 use fg_engine::{Shelved, WindowState};
 use fg_flows::Table;
 use fg_flows::laws::one_flow_has_a_port;
 use fg_io::{Failed, Fault, Outlet};
 use fg_report::Shelf;
 use std::alloc::{AllocError, Global};
+use std::marker::PhantomData;
+
+/// So many rows of empty shelves.
+pub(crate) fn empty_rows<P: Tabled>(
+    alloc: Global,
+    table: &Table,
+    count: usize,
+) -> Result<Vec<Row<P>>, AllocError>
+    ensures { IfOk result (λ rows. rows.items ≡ replicate count (map nothing_waits table.now)) }
+{
+    let mut rows = Vec::with_capacity(alloc, count)?;
+    for _ in 0..count {
+        rows.push(Row {
+            shelves: shelves_for(alloc, table)?,
+            of: PhantomData,
+        })?;
+    }
+    Ok(rows)
+}
 
 /// An empty shelf for the lane of each port of the table, in its order. No memory is taken for what will wait.
-pub(crate) fn shelves_for(alloc: Global, table: &Table) -> Result<Vec<Shelved>, AllocError>
-    ensures { IfOk result (λ shelves. shelves.items ≡ map (λ port. record { port = port; shelf = [] }) table.now) }
+fn shelves_for(alloc: Global, table: &Table) -> Result<Vec<Shelved>, AllocError>
+    ensures { IfOk result (λ shelves. shelves.items ≡ map nothing_waits table.now) }
 {
     let mut shelves = Vec::with_capacity(alloc, table.count())?;
     for k in 0..table.count() {

@@ -2,11 +2,12 @@
 ghost use Rattle.std.specs.Prelude.{◌≡◌, ◌<◌, ◌≤◌, ◌^◌, ◌++◌, ℕ, Option, None, Some, List, [], ◌∷◌, length, IfOk, IfErr, IfSome, IfNone, IsSome, OnErr};
 ghost use Rattle.fg_io.specs.Faults.{Counts};
 ghost use Rattle.fg_trace.specs.Reader.{StandsAfter};
-ghost use Rattle.fg_trace.specs.Reading.{HasReached};
+ghost use Rattle.fg_trace.specs.Reading.{HasReached, HoldsNext};
 ghost use Rattle.fg_trace.specs.Trace.{Record};
 ghost use Rattle.fg_flows.specs.Plan.{PlanFits};
 ghost use Rattle.fg_flows.specs.Sheaf.{HasRoom, no_items};
 ghost use Rattle.fg_engine.specs.Engine.{HasRead, told_finish};
+ghost use Rattle.fg_batches.specs.Batches.{HoldsBatch};
 ghost use Rattle.fg_batches.specs.Gathering.{GathersLast, HasAdded, HasGathered, HasKept, with_record};
 
 use fg_flows::laws::one_flow_has_a_port;
@@ -52,12 +53,13 @@ impl Gathering {
         })
     }
 
-    /// Reads records into the sheaf, until it has no room for one, or the trace ends, and answers how it ends then. A record
-    /// for which there was no room is the first of the next batch.
+    /// Reads records into the sheaf, until it has no room for one, or has some and the next is not held: its source may keep the
+    /// reader waiting for it. Or the trace ends, and then it answers how. A record for which there was no room is the first of the
+    /// next batch.
     ///
     /// # Errors
     ///
-    /// A read failed.
+    /// A read failed. The batch has what came before it.
     pub(crate) fn fill<S: Source>(
         &mut self,
         plan: &Plan,
@@ -77,23 +79,20 @@ impl Gathering {
         ensures ends { IfOk result (λ end. IfSome end (λ tail. (first : Option (List ℕ)) (records : List Record)
             → HasGathered plan.now first (S.left input.old) reader.old records [] self.old
             → (batch : List Record) × GathersLast plan.now first records batch self.new tail)) }
-
-        // Before the trace ends, a batch ends only where the sheaf has no room for the next record.
-        ensures full { IfOk result (λ end. IfNone end
-            (IsSome self.new.next × ¬ HasRoom self.new.sheaf reader.new.payload)) }
         ensures fault { IfErr result (λ fault. fault ≡ Fault.Read) }
 
-        // A read that fails leaves the reader after some records more.
+        // A read that fails leaves the reader right after the batch.
         ensures after { OnErr result ((first : Option (List ℕ)) (records : List Record)
             → HasGathered plan.now first (S.left input.old) reader.old records [] self.old
-            → (more : List Record) × StandsAfter reader.new first (S.left input.new) (records ++ more)) }
+            → (batch : List Record) × HoldsBatch plan.now batch self.new.sheaf
+            × StandsAfter reader.new first (S.left input.new) (records ++ batch)) }
+        ensures short { OnErr result (¬ HoldsNext reader.new) }
         ensures far { (first : Option (List ℕ)) → HasRead plan.now.max reader.old first (S.left input.old)
             → HasRead plan.now.max reader.new first (S.left input.new) }
         ensures reaches { IfOk result (λ end. IfSome end (λ tail.
             HasReached (told_finish tail) reader.new (S.left input.new))) }
         ensures open { IfOk result (λ end. IfNone end (reader.new.kept ≡ None)) }
         ensures max { reader.new.max ≡ reader.old.max }
-        ensures place { IfOk result (λ end. IfNone end (reader.old.place < reader.new.place)) }
         ensures within { reader.new.place ≤ reader.new.max }
         ensures faults { Counts result ((S.faults input.old, S.faults input.new) ∷ []) [] }
         ensures fixed { S.fixed input.new ≡ S.fixed input.old }
@@ -101,6 +100,9 @@ impl Gathering {
         one_flow_has_a_port();
         self.add_left(reader.payload());
         loop {
+            if !self.sheaf.is_empty() && !reader.is_next_held() {
+                return Ok(None);
+            }
             if let Some(tail) = self.take_next(plan, reader, input)? {
                 return Ok(Some(tail));
             }
@@ -157,6 +159,8 @@ impl Gathering {
         ensures after { OnErr result ((first : Option (List ℕ)) (records batch : List Record)
             → HasGathered plan.now first (S.left input.old) reader.old records batch self.old
             → StandsAfter reader.new first (S.left input.new) (records ++ batch)) }
+        ensures unchanged { OnErr result (self.new ≡ self.old) }
+        ensures short { OnErr result (¬ HoldsNext reader.new) }
         ensures far { (first : Option (List ℕ)) → HasRead plan.now.max reader.old first (S.left input.old)
             → HasRead plan.now.max reader.new first (S.left input.new) }
         ensures reaches { IfOk result (λ end. IfSome end (λ tail.

@@ -1,15 +1,16 @@
-//! The repair of several flows in batches of records: the flows run up to four batches side by side, and beside that what those
-//! before them have shown is put to the lanes, and those after them are read.
+//! The repair of a trace in batches of records, in three stages beside each other: one reads batches ahead, one has the flows run
+//! them, and one puts what they show to the lanes.
 #![tactic(auto)]
 
 mod emptying;
 mod flows;
 mod gathering;
-mod load;
+mod passing;
+mod playing;
+mod putting;
 mod reading;
 mod records;
 mod running;
-mod stepping;
 mod walking;
 
 pub use records::repair_in_batches;

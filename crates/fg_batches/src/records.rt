@@ -7,17 +7,19 @@ ghost use Rattle.fg_results.specs.Counted.{RepairCounts};
 ghost use Rattle.fg_results.specs.Stops.{ByBatch};
 
 use crate::walking::take_in_batches;
-use fg_engine::{WindowState, begin, end};
+use fg_engine::{Begun, WindowState, begin, end};
 use fg_flows::Plan;
 use fg_io::{Outlet, Sink, Source};
 use fg_trace::Finish;
 use std::alloc::Global;
+use std::marker::Brand;
+use std::sync::Wait;
 use std::thread::Threads;
 
 /// Repairs the flows of a trace over these windows, which are those of the plan's flows in their order, and empty. Their
-/// records are taken batch by batch, and the flows run those of up to four batches side by side.
+/// records are taken batch by batch: one thread reads batches, the caller's has the flows run them, and another puts what they show.
 pub fn repair_in_batches<
-    W: Threads + Sync,
+    W: Threads + Wait + Sync,
     D: WindowState + Send,
     S: Source + Send,
     K: Sink,
@@ -46,16 +48,26 @@ pub fn repair_in_batches<
     ensures fixed { S.fixed input.new ≡ S.fixed input.old }
 {
     match begin(alloc, plan, windows, input, out, lanes) {
-        Ok(mut begun) => {
-            let taken = take_in_batches(
+        Ok(begun) => {
+            let Begun {
+                mut engine,
+                reader,
+                sums,
+            } = begun;
+            let (reader, taken) = take_in_batches::<W, Brand, D, S, O>(
                 rt,
                 alloc,
                 plan,
-                &mut begun.engine,
-                &mut begun.reader,
+                &mut engine,
+                reader,
                 input,
                 lanes,
             );
+            let begun = Begun {
+                engine,
+                reader,
+                sums,
+            };
             end(alloc, plan, begun, taken, out, lanes)
         }
         Err(finish) => finish,

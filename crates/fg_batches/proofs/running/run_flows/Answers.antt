@@ -9,7 +9,7 @@ use Rattle.fg_batches.proofs.running.run_flows.Goals as goal
 
 pub returns : goal.returns
 returns g c = λ (k : ℕ) (d : BatchView) within.
-    let items = items_of c.args.load.now.sheaf k in
+    let items = items_of c.args.sheaf.now k in
     let old : BatchView = slice_index_or c.args.flows.now k d in
     let new : BatchView = slice_index_or c.for_each_mut.new.s k d in
     let step = (c.for_each_mut.ensures k d within).1 in

@@ -8,7 +8,7 @@ use Rattle.fg_batches.proofs.flows.BatchFlow.run.Goals as goal
 
 pub returns : goal.returns
 returns g c =
-    let items = items_of c.args.load.now.sheaf c.args.index in
+    let items = items_of c.args.sheaf.now c.args.index in
     let starved = c.is_err-self-inside.result in
     OnFalse_from starved _ (λ (e : starved ≡ false).
     let inside : BatchView = record { flow = c.self.inside.flow; shelf = c.self.inside.shelved.shelf; starved = c.self.inside.starved } in

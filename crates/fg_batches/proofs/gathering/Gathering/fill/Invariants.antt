@@ -4,8 +4,8 @@ use Rattle.fg_engine.specs.Engine.{HasRead}
 use Rattle.fg_batches.specs.Gathering.{HasGathered}
 use Rattle.fg_batches.proofs.gathering.Gathering.fill.Given as goal
 
-abbrev pub invariant-loop-tail : goal.invariant-loop-tail
-invariant-loop-tail g l = record {
+abbrev pub invariant-loop-reader : goal.invariant-loop-reader
+invariant-loop-reader g l = record {
   came : (first : Option (List ℕ)) (records : List Record)
       → HasGathered l.plan first (g.S.Source.left l.fn.input) l.fn.reader records [] l.fn.self
       → (batch : List Record) × HasGathered l.plan first (g.S.Source.left l.input) l.reader records batch l.self;
@@ -19,5 +19,5 @@ invariant-loop-tail g l = record {
   fixed : g.S.Source.fixed l.input ≡ g.S.Source.fixed l.fn.input;
 }
 
-abbrev pub decreases-loop-tail : goal.decreases-loop-tail
-decreases-loop-tail g l = l.reader.max - l.reader.place
+abbrev pub decreases-loop-reader : goal.decreases-loop-reader
+decreases-loop-reader g l = l.reader.max - l.reader.place
