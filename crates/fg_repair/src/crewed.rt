@@ -1,10 +1,9 @@
 //! The repair with workers beside the caller.
 //!
-//! Each flow's desk stands on a board. The caller's thread takes the records batch by batch: its flows run those of up to four side
-//! by side, admit the datagrams and play the windows, and beside that another thread puts what they have shown of those before to
-//! the lanes and reads those after them. A lone flow takes its records one by one instead, in the caller's thread. The workers
-//! start tallies for the equations that are held, fold into them meanwhile what has arrived, and bring the word of the one slot that
-//! is missing. Whatever they do, the replies and the plays are those of desks that each flow has to itself.
+//! Each flow's desk stands on a board. One thread reads batches of records ahead. The caller's thread takes batch after batch, in which
+//! its flows admit the datagrams and play the windows, and a third thread puts what they show to the lanes. The workers start
+//! tallies for the equations that are held, fold into them meanwhile what has arrived, and bring the word of the one slot that is
+//! missing. Whatever they do, the replies and the plays are those of desks that each flow has to itself.
 ghost use Rattle.std.specs.Prelude.{◌≡◌, [], ◌∷◌, length, All, IsOk, IfOk, OnErr};
 ghost use Rattle.std.specs.Thread.{IsSync};
 ghost use Rattle.fg_flows.specs.Plan.{PlanFits};
@@ -30,8 +29,8 @@ use std::thread::Threads;
 /// Repairs the flows of a trace, with workers beside the caller.
 ///
 /// What it reads, writes and answers is what [`crate::repair_alone`] does, whatever the workers do. But lanes grow batch by
-/// batch: after a put that failed those of the first flows may have what up to four batches show, and those of the others not yet.
-/// Of several flows the source is read and the lanes are put to in another thread, where one can be made.
+/// batch: after a put that failed those of the first flows may have what the batch shows, and those of the others not yet.
+/// The source is read, and the lanes are put to, in two threads more, where these can be made.
 ///
 /// The gate hears of the points that the threads pass: 1 where at most one slot of a held equation isn't folded and the worker
 /// hasn't settled it yet, with no lock, 3 where a board has taken a word, 4 where a settle found no memory, and 5 before each play,

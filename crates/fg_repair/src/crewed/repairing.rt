@@ -1,7 +1,7 @@
 //! What the workers help: the repair in batches.
 ghost use Rattle.std.specs.Prelude.{◌≡◌, ◌<◌, ◌^◌, [], ◌∷◌, length, All, IfOk};
 ghost use Rattle.fg_shape.specs.Playout.{Playout};
-ghost use Rattle.fg_flows.specs.Plan.{PlanFits, playout_of};
+ghost use Rattle.fg_flows.specs.Plan.{PlanFits};
 ghost use Rattle.fg_playout.specs.State.{opening};
 ghost use Rattle.fg_results.specs.Contract.{IsRepair};
 ghost use Rattle.fg_results.specs.Counted.{RepairCounts};
@@ -12,10 +12,9 @@ ghost use Rattle.fg_workers.specs.Crewed.{HostAll, IsNewHost, CanBegin};
 use crate::crewed::board_window::BoardWindow;
 use fg_batches::repair_in_batches;
 use fg_crew::{Gate, Hints};
-use fg_engine::{WindowState, give_up, repair_windows};
+use fg_engine::give_up;
 use fg_flows::Plan;
 use fg_io::{Outlet, Sink, Source};
-use fg_results::laws::by_record_is_one_way;
 use fg_trace::Finish;
 use fg_workers::{Hears, Host, Post, Progress};
 use std::alloc::{AllocError, Global};
@@ -52,42 +51,8 @@ pub(crate) fn repair_here<
 {
     let hosts = mem::replace(hosts, Vec::new(alloc));
     match windows_on(rt, alloc, gate, hints, posts, hosts) {
-        Ok(windows) => repair_over(rt, alloc, plan, windows, input, out, lanes),
+        Ok(windows) => repair_in_batches(rt, alloc, plan, windows, input, out, lanes),
         Err(AllocError) => give_up(plan, input, out, lanes),
-    }
-}
-
-/// Repairs the flows of a trace over these windows, which are those of the plan's flows in their order, and empty: batch by batch,
-/// or record by record where there is one flow, beside which no other can run.
-fn repair_over<
-    W: Threads + Sync,
-    D: WindowState + Send,
-    S: Source + Send,
-    K: Sink,
-    O: Outlet + Send,
->(
-    rt: &W,
-    alloc: Global,
-    plan: &Plan,
-    windows: Vec<D>,
-    input: &mut S,
-    out: &mut K,
-    lanes: &mut O,
-) -> Finish
-    requires fits { PlanFits plan.now }
-    requires count { length windows.items ≡ length plan.now.table }
-    requires empty { All (λ window. D.state window ≡ opening (playout_of plan.now)) windows.items }
-    ensures repairs { IsRepair ByBatch plan.now result (S.left input.old) (S.left input.new) O.lanes lanes.old lanes.new
-        K.written out.old out.new }
-    ensures faults { RepairCounts ByBatch result ((S.faults input.old, S.faults input.new) ∷ [])
-        ((K.faults out.old, K.faults out.new) ∷ (O.faults lanes.old, O.faults lanes.new) ∷ []) }
-    ensures fixed { S.fixed input.new ≡ S.fixed input.old }
-{
-    by_record_is_one_way();
-    if plan.table.count() == 1 {
-        repair_windows(alloc, plan, windows, input, out, lanes)
-    } else {
-        repair_in_batches(rt, alloc, plan, windows, input, out, lanes)
     }
 }
 

@@ -12,7 +12,7 @@ windows_on-requires-clause-new g c = (
   subst (λ (hosts : Vec Host). All (IsNewHost (playout_of c.args.plan.now)) hosts.items) (sym c.replace-hosts.ensures.value) c.requires.begins.new_hosts,
 )
 
-pub repair_over-requires-clause-empty : goal.repair_over-requires-clause-empty
-repair_over-requires-clause-empty g c κs within =
+pub repair_in_batches-requires-clause-empty : goal.repair_in_batches-requires-clause-empty
+repair_in_batches-requires-clause-empty g c κs within =
     c.in-Ok.ensures.new (playout_of c.args.plan.now)
     (subst (λ (hosts : Vec Host). All (IsNewHost (playout_of c.args.plan.now)) hosts.items) (sym c.replace-hosts.ensures.value) c.requires.begins.new_hosts)
