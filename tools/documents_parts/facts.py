@@ -36,8 +36,7 @@ def of_folders(code):
         "bad_words": code.read("tools/fleet", r"^BAD_WORDS, UNAVAILABLE = (\d+)"),
         "questions": code.count("docs/GUIDE.md", r"^\d+\. \[.*\?\]"),
         "checker_lines": code.count("tools/check_cases", r"^") // 10 * 10,
-        "sheaves": (code.constant("fg_batches/src/load.rt", "MOST_BATCHES")
-                    * code.count("crates/fg_batches/src/*.rt", r"Load::new\(")
+        "sheaves": (code.constant("fg_batches/src/walking.rt", "BATCHES")
                     + code.count("crates/fg_batches/src/gathering.rt", r"Sheaf::new\(")),
         "guarded": code.count("crates/fg_turn/src/guarded.rt", r"^    ghost \w+: \{ \("),
         "gap_bytes": 8 * code.count("crates/fg_report/src/gaps.rt", r"(?<=runs: Vec<\()u64|(?<=runs: Vec<\(u64, )u64"),
@@ -66,7 +65,8 @@ def of_crates(code):
         "spares": code.constant("fg_buffer/src/spares.rt", "SPARE_LIMIT"),
         "batch": code.constant("fg_flows/src/sheaf.rt", "MOST_RECORDS"),
         "batch_bytes": code.constant("fg_flows/src/sheaf.rt", "MOST_BYTES"),
-        "batches": code.constant("fg_batches/src/load.rt", "MOST_BATCHES"),
+        "batches": code.constant("fg_batches/src/walking.rt", "BATCHES"),
+        "shelf_rows": code.constant("fg_batches/src/walking.rt", "ROWS"),
         "streams": code.constant("fg_survey/src/streams.rt", "MOST"),
         "jump": code.constant("fg_streams/src/fates.rt", "JUMP"),
         "case_lines": code.constant("fg_check/src/gathering.rt", "LINES"),

@@ -26,7 +26,7 @@ KINDS = (
      r"`fgate repair workers=0`"),
     ("a hundred, of which parts are told", r"\b100 of media\b"),
     ("as many as are named beside it",
-     r"\bthree (?:crates\*\* \(|kinds of tasks|UDP ports|standard streams|ports (?:or|are))", r"\bThree loads are under way: one",
+     r"\bthree (?:crates\*\* \(|kinds of tasks|UDP ports|standard streams|ports (?:or|are))",
      r"two and four (?:ports below|above) it"),
     ("a worked example in words, and a line of counters that only shows their names",
      r"media 8 to 15 of one sender, 10 of another, then the first one's row of 12 to 15, then 11 to 21 of the second without 13\. "
@@ -36,7 +36,7 @@ KINDS = (
      r"12 GB of memory, 5 GB of disk", r"has 180 minutes on two processors", r"stack below 128 KB", r"functions under 40 lines",
      r"about ten a crate, none"),
     ("measured or tried by hand, and kept in no bench",
-     r"machine of four processors", r"up to 10 MB where datagrams are large, 12 with 64 flows", r"takes 16 kB more",
+     r"machine of four processors", r"takes 16 kB more",
      r"two million gaps take 34 MB", r"rows with 3 percent lost", r"`workers=0` 5, 10, 30 and 110 MB were enough for 1, 4, 16 and "
      r"64 flows at `depth=400`\. With `workers=4` a run took up to 360, 450, 480 and 600, and with less",
      r"stream of a thousand datagrams, here with about one record in a hundred", r"a depth of 100 loses all columns",

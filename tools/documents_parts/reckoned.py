@@ -138,6 +138,15 @@ def of_gateways(code):
     yield GUIDE, f"After {most / 1e12:.0f} TB (`--max`), {WORDS[int(most * 8 / 12e6 / 86400)]} days at 12 Mb/s"
 
 
+def of_batches(code):
+    """What the batches of a repair with workers take, in MB."""
+    sheaves = code.constant("fg_batches/src/walking.rt", "BATCHES") + 1
+    entry = code.read("crates/fg_flows/src/sheaf.rt", r"An entry has (\d+) bytes")
+    payloads, records = (code.constant("fg_flows/src/sheaf.rt", name) for name in ("MOST_BYTES", "MOST_RECORDS"))
+    least, most = (sheaves * (payloads + flows * records * entry) / 1e6 for flows in (1, code.most("repair", "flow")))
+    yield GUIDE, f"up to {least:.1f} MB where datagrams are large, {most:.1f} with {code.most('repair', 'flow')} flows"
+
+
 def of_parts(code):
     """Figures, and a word of an example, that documents tell as a part of one, and the heads of a table of figures."""
     parts = {3: "third", 4: "quarter", 5: "fifth"}
@@ -221,8 +230,8 @@ def of_work(code):
     yield PROOFS, f"a layout of up to {product + 1} datagrams, as {product + 1} is prime"
 
 
-PARTS = (of_captures, of_bytes, of_layouts, of_statuses, of_times, of_disks, of_gateways, of_parts, of_costs, of_examples,
-         of_losses, of_surveys, of_work)
+PARTS = (of_captures, of_bytes, of_layouts, of_statuses, of_times, of_disks, of_gateways, of_batches, of_parts, of_costs,
+         of_examples, of_losses, of_surveys, of_work)
 
 
 def passages(code):

@@ -39,9 +39,10 @@ STATED = (
     ("live", r"# equations (?:of the flow )?(?:were|are) live|With # lines of twenty|for a watched slot\*\*, # at most"),
     ("kept", r"shown at the # positions before|of the last # below M|last slot is # positions past"),
     ("spares", r"used again\*\*, # at most"),
-    ("batch", r"up to # records of all flows|batches of up to # records"),
-    ("batch_bytes", r"records and # MB of payloads"),
-    ("batches", r"up to # batches|# batches are a load|in batches, up to # at once"),
+    ("batch", r"up to # records of all flows|full, with # records"),
+    ("batch_bytes", r"records or # MB of payloads"),
+    ("batches", r"# batches and two rows go round"),
+    ("shelf_rows", r"batches and # rows go round"),
     ("streams", r"more than # streams|order (?:in which they first appear|of their first datagrams), # at most|none of the #\b|"
                 r"kB, at most # of each"),
     ("jump", r"# or more behind|by more than #(?=;|\.| \|)|Times of the last # positions"),
@@ -93,7 +94,6 @@ MEASURED = (
     ("memory_of_a_lane", r"a lane # kB"),
     ("share_taken_anew", r"new one costs # times"),
     ("wakes_and_short_rests_beside_4_workers", r"shorter rests a repair beside four workers took # times"),
-    ("load_written_and_read_after_its_run_most", r"One after another took up to # times"),
 ) + tuple((f"memory_{flows}_flow{'s' * (flows > 1)}_depth_{depth}{workers}", rf"^\| {flows} \| {before}")
           for flows in (1, 4, 16, 64) for depth, workers, before in (
               (400, "", "#, "), (400, "_workers_4", r"[\d.]+, # MB"), (1000, "", r"[\d., ]*MB \| #, "),
