@@ -1,4 +1,4 @@
-//! Batches of records, which several flows run side by side where there are workers.
+//! Batches of records, which are read, run and put beside each other where there are workers.
 use super::workers::{Counts, PLAYS};
 use super::*;
 use std::sync::atomic::Ordering;
@@ -6,10 +6,16 @@ use std::sync::atomic::Ordering;
 /// The flows of these tests.
 const PORTS: [u16; 4] = [5000, 5010, 5020, 5030];
 
-/// An outside with room for them.
+/// An outside with room for them. A read gives less than a record of a media datagram has, so that each is a batch.
 const ROOMY: Setting<'static> = Setting {
     ports: &PORTS,
     ..PLAIN
+};
+
+/// An outside that gives a short trace at once, so that its records are one batch.
+const AT_ONCE: Setting<'static> = Setting {
+    piece: 100_000,
+    ..ROOMY
 };
 
 /// The trace of media datagrams of these numbers on each of the flows in turn.
@@ -35,7 +41,7 @@ fn two_flows_in_one_batch(rt: HostRuntime) -> Result<(), Fail> {
     let bytes = in_turn(alloc, &PORTS[..2], &[10, 11, 12])?;
     assert_eq!(rt; bytes.len(), 8_048);
     let line = "repair flow=5000 flow=5010";
-    let (ended, outside) = run_line(&rt, alloc, &ROOMY, line, &bytes)?;
+    let (ended, outside) = run_line(&rt, alloc, &AT_ONCE, line, &bytes)?;
     assert_eq!(rt; ended.status, 0);
     assert_eq!(rt; count_lines(&outside, b"flow 5000 shown 3 "), 1);
     assert_eq!(rt; count_lines(&outside, b"flow 5010 shown 3 "), 1);
@@ -76,7 +82,7 @@ fn check_meeting<W: Abort + Threads + Wait + Sync>(
         least,
     };
     let bytes = in_turn(alloc, ports, &FIVE)?;
-    let (ended, outside) = run_gated(rt, alloc, &ROOMY, line, &bytes, &gate)?;
+    let (ended, outside) = run_gated(rt, alloc, &AT_ONCE, line, &bytes, &gate)?;
     assert_eq!(rt; ended.status, 0);
     assert_eq!(rt; gate.counts.failed.load(Ordering::SeqCst), 0);
     for port in ports {
@@ -102,44 +108,39 @@ fn others_go_on_beside_a_flow_that_is_held(rt: HostRuntime) -> Result<(), Fail> 
     Ok(())
 }
 
-// A batch has at most 256 records.
+// A batch has at most 256 records. Each media datagram is the first of 64 records, so that each fourth of them is the first record
+// for which a batch has no room, and so is the last record.
 #[test]
 fn a_batch_that_ends_by_its_number(rt: HostRuntime) -> Result<(), Fail> {
     let alloc = rt.alloc();
-    let sent = numbers(alloc, 600)?;
-    let mut bytes = in_turn(alloc, &PORTS[..1], &sent)?;
+    let sent = numbers(alloc, 20)?;
+    let mut bytes = Vec::from_slice(alloc, b"FECTRAC1")?;
+    for number in &sent {
+        push_sent(alloc, &mut bytes, 5000, Sent::Media(*number))?;
+        for _ in 0..63 {
+            push_record(&mut bytes, 5000, &[0x47])?;
+        }
+    }
     push_sent(alloc, &mut bytes, 5010, Sent::Media(7))?;
-    let setting = Setting {
-        piece: 100_000,
-        lane: 800_000,
-        ..ROOMY
-    };
-    let line = "repair flow=5000 flow=5010 flow=5020 window=50 depth=100 workers=2";
-    let (ended, outside) = run_line(&rt, alloc, &setting, line, &bytes)?;
+    let line = "repair flow=5000 flow=5010 flow=5020 window=4 depth=4 workers=2";
+    let (ended, outside) = run_line(&rt, alloc, &AT_ONCE, line, &bytes)?;
     assert_eq!(rt; ended.status, 0);
-    assert_eq!(rt;
-        count_lines(
-            &outside,
-            b"flow 5000 shown 600 repaired 0 missing 0 windows 12 "
-        ),
-        1
-    );
-    assert_eq!(rt;
-        count_lines(
-            &outside,
-            b"flow 5020 shown 0 repaired 0 missing 0 windows 0 "
-        ),
-        1
-    );
+    for begins in [
+        "flow 5000 shown 20 repaired 0 missing 0 windows 5 ",
+        "media 5000 admitted 20 duplicate 0 conflict 0 late 0 bad 1260",
+        "flow 5020 shown 0 repaired 0 missing 0 windows 0 ",
+    ] {
+        assert_eq!(rt; count_lines(&outside, begins.as_bytes()), 1);
+    }
     outside.check_lane(&rt, alloc, 5000, Some(sent.as_slice()))?;
     outside.check_lane(&rt, alloc, 5010, Some(&[7]))?;
     outside.check_lane(&rt, alloc, 5020, Some(&[]))?;
     Ok(())
 }
 
-// It has at most 1,048,576 bytes of payloads, so 16 of the greatest records.
+// A batch ends where the next record is not held whole. Here that is so before and behind most of the greatest records.
 #[test]
-fn a_batch_that_ends_by_its_bytes(rt: HostRuntime) -> Result<(), Fail> {
+fn a_batch_that_ends_by_what_is_held(rt: HostRuntime) -> Result<(), Fail> {
     let alloc = rt.alloc();
     let big = vec![in alloc; 0x47; 65_535]?;
     let mut bytes = Vec::from_slice(alloc, b"FECTRAC1")?;
@@ -147,12 +148,8 @@ fn a_batch_that_ends_by_its_bytes(rt: HostRuntime) -> Result<(), Fail> {
         push_sent(alloc, &mut bytes, 5000, Sent::Media(number))?;
         push_record(&mut bytes, 5000, &big)?;
     }
-    let setting = Setting {
-        piece: 100_000,
-        ..ROOMY
-    };
     let line = "repair flow=5000 flow=5010 workers=2";
-    let (ended, outside) = run_line(&rt, alloc, &setting, line, &bytes)?;
+    let (ended, outside) = run_line(&rt, alloc, &AT_ONCE, line, &bytes)?;
     assert_eq!(rt; ended.status, 0);
     let media = b"media 5000 admitted 20 duplicate 0 conflict 0 late 0 bad 20";
     assert_eq!(rt; count_lines(&outside, media), 1);
@@ -193,13 +190,97 @@ fn a_put_that_fails_leaves_the_first_flows_ahead(rt: HostRuntime) -> Result<(), 
     for (call, first, second) in &PUTS {
         let setting = Setting {
             puts: &[*call],
-            ..ROOMY
+            ..AT_ONCE
         };
         let (ended, outside) = run_line(&rt, alloc, &setting, line, &bytes)?;
         assert_eq!(rt; ended.status, 3);
         check_front(&rt, alloc, &outside, 5000, *first)?;
         check_front(&rt, alloc, &outside, 5010, *second)?;
         assert!(rt; outside.out.bytes().is_empty());
+    }
+    Ok(())
+}
+
+/// Checks that each of these lanes has so many datagrams, from number 0 up.
+fn check_counts<W: Abort>(
+    rt: &W,
+    alloc: Global,
+    outside: &Outside,
+    counts: &[u16],
+) -> Result<(), AllocError> {
+    for (port, count) in PORTS.iter().zip(counts) {
+        outside.check_lane(rt, alloc, *port, Some(numbers(alloc, *count)?.as_slice()))?;
+    }
+    Ok(())
+}
+
+/// A put that fails, to the second of three lanes, and how many datagrams each has then.
+const SECOND_PUTS: [(u64, [u16; 3]); 4] = [
+    // Three puts make the lanes, and three follow each batch.
+    (4, [24, 0, 0]),
+    (7, [48, 24, 20]),
+    (10, [56, 48, 48]),
+    // Then the flows are flushed.
+    (13, [60, 56, 56]),
+];
+
+// Reads of 100,000 bytes make batches of 74, 75 and 31 records of 1,340 bytes, in turn of the three flows.
+#[test]
+fn a_put_that_fails_in_the_second_of_three_flows(rt: HostRuntime) -> Result<(), Fail> {
+    let alloc = rt.alloc();
+    let bytes = in_turn(alloc, &PORTS[..3], &numbers(alloc, 60)?)?;
+    let line = "repair flow=5000 flow=5010 flow=5020 window=4 depth=4 workers=2";
+    for (call, counts) in &SECOND_PUTS {
+        let setting = Setting {
+            lane: 100_000,
+            puts: &[*call],
+            ..AT_ONCE
+        };
+        let (ended, outside) = run_line(&rt, alloc, &setting, line, &bytes)?;
+        assert_eq!(rt; ended.status, 3);
+        check_counts(&rt, alloc, &outside, counts)?;
+        assert!(rt; outside.out.bytes().is_empty());
+    }
+    Ok(())
+}
+
+/// A repair, which read of 5,000 bytes fails in it, and how many datagrams each lane has then: what the records show that were whole.
+const FAILED_READS: [(&str, u64, &[u16]); 4] = [
+    // Of 1,340 bytes each, they are 14,
+    ("repair flow=5000", 4, &[12]),
+    ("repair flow=5000 flow=5010 flow=5020", 4, &[4, 4, 0]),
+    // and 18.
+    ("repair flow=5000", 5, &[16]),
+    ("repair flow=5000 flow=5010 flow=5020", 5, &[4, 4, 4]),
+];
+
+/// Checks that with so many workers the lanes have this where a read fails.
+fn check_failed_reads<W: Abort + Threads + Wait + Sync>(
+    rt: &W,
+    alloc: Global,
+    workers: u32,
+) -> Result<(), AllocError> {
+    for (words, call, counts) in &FAILED_READS {
+        let setting = Setting {
+            piece: 5_000,
+            reads: &[*call],
+            ..ROOMY
+        };
+        let ports = PORTS.get(..counts.len()).unwrap_or(&PORTS);
+        let bytes = in_turn(alloc, ports, &numbers(alloc, 20)?)?;
+        let line = format!(in alloc; "{words} window=4 depth=4 workers={workers}")?;
+        let (ended, outside) = run_line(rt, alloc, &setting, &line, &bytes)?;
+        assert_eq!(rt; ended.status, 2);
+        check_counts(rt, alloc, &outside, counts)?;
+    }
+    Ok(())
+}
+
+// Batches change nothing of what the lanes have then.
+#[test]
+fn a_read_that_fails_with_and_without_workers(rt: HostRuntime) -> Result<(), Fail> {
+    for workers in [0, 2] {
+        check_failed_reads(&rt, rt.alloc(), workers)?;
     }
     Ok(())
 }
@@ -216,37 +297,37 @@ fn has_failed(input: &mut MemSource) -> bool {
     false
 }
 
-/// What comes of three loads, of which only the first batch of the third can be read, by the puts that fail: the status, how many
-/// datagrams the lane has, and whether the third was read at all.
-const THIRD_LOAD: [(&[u64], u8, u16, bool); 4] = [
-    // It is read beside the run of the second, which is put all the same, and so is the batch that was whole.
-    (&[], 2, 2_300, true),
-    // Where these can't be put both have failed, and of the two they are the first in the trace: the batch,
-    (&[4], 3, 2_044, true),
-    // or the load.
-    (&[3], 3, 1_020, true),
-    // Before that what the first has shown is put, and where it can't be nothing is read.
-    (&[2], 3, 0, false),
+/// What comes of a trace of 2,400 records, of which 2,350 are whole before the read that fails, by the puts that fail: the status,
+/// how many datagrams the lane has, and whether that read was made, `None` where the schedule decides.
+const LONG_READS: [(&[u64], u8, u16, Option<bool>); 3] = [
+    // All that they show is put.
+    (&[], 2, 2_348, Some(true)),
+    // A put that fails is before that read in the trace, also where both have failed: here the last,
+    (&[588], 3, 2_344, None),
+    // and the first, while only a few batches may have been read ahead.
+    (&[2], 3, 0, Some(false)),
 ];
 
-// A batch has 256 records here, and a load four batches. The batch in which the read fails is not run.
+// Each record has 1,340 bytes, and a read gives 1,000, so that each is a batch. Two puts make the lanes, and each fourth batch from the
+// fifth on is put.
 #[test]
 fn a_read_that_fails_beside_a_run(rt: HostRuntime) -> Result<(), Fail> {
     let alloc = rt.alloc();
     let bytes = in_turn(alloc, &PORTS[..1], &numbers(alloc, 2_400)?)?;
     let line = "repair flow=5000 flow=5010 window=4 depth=4 workers=1";
-    for (puts, status, count, is_read) in &THIRD_LOAD {
+    for (puts, status, count, is_read) in &LONG_READS {
         let setting = Setting {
             lane: 3_100_000,
-            // Each record has 1,340 bytes, and a read gives 1,000.
             reads: &[3_150],
             puts,
             ..ROOMY
         };
         let (ended, mut outside) = run_line(&rt, alloc, &setting, line, &bytes)?;
         assert_eq!(rt; ended.status, *status);
-        outside.check_lane(&rt, alloc, 5000, Some(numbers(alloc, *count)?.as_slice()))?;
-        assert_eq!(rt; has_failed(&mut outside.input), *is_read);
+        check_counts(&rt, alloc, &outside, &[*count, 0])?;
+        if let Some(is_read) = is_read {
+            assert_eq!(rt; has_failed(&mut outside.input), *is_read);
+        }
     }
     Ok(())
 }
