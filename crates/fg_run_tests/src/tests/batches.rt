@@ -214,6 +214,24 @@ fn check_counts<W: Abort>(
     Ok(())
 }
 
+/// A repair of three flows, whose lanes have 60 datagrams each.
+const THREE_FLOWS: &str = "repair flow=5000 flow=5010 flow=5020 window=4 depth=4 workers=2";
+
+/// Runs it where these puts fail. Reads of 100,000 bytes make batches of 74, 75 and 31 records of 1,340 bytes, in turn of the flows.
+fn run_three_flows<W: Threads + Wait + Sync>(
+    rt: &W,
+    alloc: Global,
+    puts: &[u64],
+) -> Result<(Ended, Outside), AllocError> {
+    let bytes = in_turn(alloc, &PORTS[..3], &numbers(alloc, 60)?)?;
+    let setting = Setting {
+        lane: 100_000,
+        puts,
+        ..AT_ONCE
+    };
+    run_line(rt, alloc, &setting, THREE_FLOWS, &bytes)
+}
+
 /// A put that fails, to the second of three lanes, and how many datagrams each has then.
 const SECOND_PUTS: [(u64, [u16; 3]); 4] = [
     // Three puts make the lanes, and three follow each batch.
@@ -224,23 +242,50 @@ const SECOND_PUTS: [(u64, [u16; 3]); 4] = [
     (13, [60, 56, 56]),
 ];
 
-// Reads of 100,000 bytes make batches of 74, 75 and 31 records of 1,340 bytes, in turn of the three flows.
 #[test]
 fn a_put_that_fails_in_the_second_of_three_flows(rt: HostRuntime) -> Result<(), Fail> {
-    let alloc = rt.alloc();
-    let bytes = in_turn(alloc, &PORTS[..3], &numbers(alloc, 60)?)?;
-    let line = "repair flow=5000 flow=5010 flow=5020 window=4 depth=4 workers=2";
     for (call, counts) in &SECOND_PUTS {
-        let setting = Setting {
-            lane: 100_000,
-            puts: &[*call],
-            ..AT_ONCE
-        };
-        let (ended, outside) = run_line(&rt, alloc, &setting, line, &bytes)?;
+        let (ended, outside) = run_three_flows(&rt, rt.alloc(), &[*call])?;
         assert_eq!(rt; ended.status, 3);
-        check_counts(&rt, alloc, &outside, counts)?;
+        check_counts(&rt, rt.alloc(), &outside, counts)?;
         assert!(rt; outside.out.bytes().is_empty());
     }
+    Ok(())
+}
+
+/// How many datagrams the three lanes may have where memory is wanting: what whole batches show, and flows that were flushed.
+const WHOLE_BATCHES: [[u16; 3]; 7] = [
+    [0, 0, 0],
+    [24, 24, 20],
+    [48, 48, 48],
+    [56, 56, 56],
+    [60, 56, 56],
+    [60, 60, 56],
+    [60, 60, 60],
+];
+
+/// Whether each of these lanes has so many datagrams. One that isn't there has none.
+fn has_counts(outside: &Outside, counts: &[u16]) -> bool {
+    PORTS.iter().zip(counts).all(|(port, count)| {
+        let lane = outside.lanes.lane(*port).unwrap_or(b"");
+        lane.len() == usize::from(*count) * 1_316
+    })
+}
+
+// Memory is wanting where `rt try --test --fail-alloc` has it so, and else nowhere.
+#[test]
+fn want_of_memory_puts_nothing_of_its_batch(rt: HostRuntime) -> Result<(), Fail> {
+    let (ended, outside) = run_three_flows(&rt, rt.alloc(), &[])?;
+    if ended.why == Why::Memory {
+        assert!(rt;
+            WHOLE_BATCHES
+                .iter()
+                .any(|counts| has_counts(&outside, counts))
+        );
+        return Ok(());
+    }
+    assert_eq!(rt; ended.status, 0);
+    check_counts(&rt, rt.alloc(), &outside, &[60, 60, 60])?;
     Ok(())
 }
 
