@@ -138,7 +138,7 @@ fn a_batch_that_ends_by_its_number(rt: HostRuntime) -> Result<(), Fail> {
     Ok(())
 }
 
-// A batch ends where the next record is not held whole. Here that is so before and behind most of the greatest records.
+// A batch ends where the next record is not held whole. Here that is one of the greatest.
 #[test]
 fn a_batch_that_ends_by_what_is_held(rt: HostRuntime) -> Result<(), Fail> {
     let alloc = rt.alloc();
