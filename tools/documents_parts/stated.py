@@ -81,10 +81,12 @@ STATED = (
 # How documents state figures of benches, rounded as they like.
 MEASURED = (
     ("proofs_processors", r"proofs took some # processor minutes"),
-    ("one_flow_lost_3_most", r"one flow beside workers took up to # times as long"),
-    ("several_flows_processors_most", r"and up to # times the processor time"),
-    ("flows_16_lost_3_workers_4_least", r"Several flows took from #"),
-    ("flows_64_lost_3_workers_4_most", r"Several flows took from [\d.]+ to #"),
+    ("flows_1_lost_3_workers_4", r"one flow took # of the time without"),
+    ("flows_4_lost_3_workers_4", r"of the time without workers, four took #,"),
+    ("flows_16_lost_3_workers_4", r"four took [\d.]+, sixteen #"),
+    ("flows_64_lost_3_workers_4", r"sixteen [\d.]+ and sixty-four #,"),
+    ("several_flows_processors_most", r"with up to # times the processor time"),
+    ("one_processor_most", r"stages go in turns, up to # times as long"),
     ("large_pages_processors_least", r"16 and 64 flows took # to"),
     ("large_pages_processors_most", r"16 and 64 flows took [\d.]+ to #"),
     ("large_pages_memory_64_flows", r"64 flows without workers # MB"),
