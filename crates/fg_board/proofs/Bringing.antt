@@ -1,6 +1,5 @@
 -- What passes bring: it follows from what they were told, and from what jobs tell.
-use Rattle.std.proofs.Common.{◌≡◌, ◌==◌, ◌↔◌, not, ℕ, Bool, List, [], ◌∷◌, ◌++◌, map, filter_map, true, false, Option, Some, None, IsSome, IsTrue, refl, sym, ap, subst, ◌∙◌, ⊎_elim, eq-eqb, ne_eqb}
-use Rattle.std.proofs.lemmas.Bool.{cases_eq, cond-true, cond-false}
+use Rattle.std.proofs.Common.{◌≡◌, ◌↔◌, ℕ, Bool, List, [], ◌∷◌, ◌++◌, map, filter_map, true, false, Option, Some, None, IsSome, IsTrue, refl, sym, ap, subst, ◌∙◌, ⊎_elim}
 use Rattle.std.proofs.lemmas.List.{length-replicate, map-append}
 use Rattle.std.proofs.lemmas.List.Elements.{All-contains, All-weaker, All-contains_itself, Contains-append_right}
 use Rattle.std.proofs.lemmas.Simd.{length-zip2}
@@ -13,7 +12,7 @@ use Rattle.fg_words.specs.Laws.{XorAssociates, XorCommutes, XorHasZero, XorUndoe
 use Rattle.fg_peel.specs.declared.span.Missing.TheVariants.{One}
 use Rattle.fg_peel.specs.Equation.{Equation, slots, others, sum_at, IsComplete, IsSettled}
 use Rattle.fg_peel.specs.Slots.{IsMissing}
-use Rattle.fg_peel.proofs.Lists.{Contains-here, Contains-there, Contains-map}
+use Rattle.fg_peel.proofs.Lists.{Contains-here, Contains-there, Contains-map, others-head_dropped, others-kept, same_or_not}
 use Rattle.fg_peel.proofs.Options.{value_of}
 use Rattle.fg_peel.proofs.Maps.{entry_of_get}
 use Rattle.fg_playout.specs.State.{Live}
@@ -54,19 +53,18 @@ module _ (calls told : List Entry) (board : BoardState) (owned : IsOwnedBy calls
 -- Sums
 
 -- A slot without a word adds nothing to a sum.
-without_slot :
+pub without_slot :
     (words : ℕ → Option Word) (slot : ℕ) → words slot ≡ None → (xs : List ℕ)
     → filter_map words (others slot xs) ≡ filter_map words xs
 without_slot words slot none [] = refl
 without_slot words slot none (x ∷ xs) = ⊎_elim
     (λ same.
-    ap (filter_map words) (cond-false (not (x == slot)) (x ∷ others slot xs) (others slot xs) (ap not (eq-eqb x slot same)))
+    ap (filter_map words) (others-head_dropped slot x xs same)
     ∙ without_slot words slot none xs
     ∙ ap (λ (o : Option Word). cons_option o (filter_map words xs)) (sym (ap words same ∙ none)))
     (λ other.
-    ap (filter_map words) (cond-true (not (x == slot)) (x ∷ others slot xs) (others slot xs) (ap not (ne_eqb x slot other)))
-    ∙ ap (cons_option (words x)) (without_slot words slot none xs))
-    (cases_eq x slot)
+    ap (filter_map words) (others-kept slot x xs other) ∙ ap (cons_option (words x)) (without_slot words slot none xs))
+    (same_or_not x slot)
 
 -- Sums of words with room have room.
 cons_has_room :

@@ -1,4 +1,4 @@
-mod Bringing
+pub mod Bringing
 mod Flushed
 mod Later
 mod OneCall

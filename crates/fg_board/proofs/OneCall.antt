@@ -1,10 +1,9 @@
 -- What a turn of the admitter carries on.
-use Rattle.std.proofs.Common.{◌≡◌, ◌+◌, ◌++◌, ℕ, true, false, List, [], ◌∷◌, map, Option, Some, None, refl, sym, ap, subst, ◌∙◌, le_refl}
+use Rattle.std.proofs.Common.{◌≡◌, ◌+◌, ◌≤◌, ◌++◌, ℕ, true, false, List, [], ◌∷◌, map, Option, Some, None, refl, sym, ap, subst, ◌∙◌, le_refl}
 use Rattle.std.proofs.lemmas.List.{map-append}
 use Rattle.std.proofs.lemmas.List.Elements.{All-cons, All-nil}
 use Rattle.std.specs.Prelude.{length, IfSome, option_map}
 use Rattle.std.specs.List.{All}
-use Rattle.fg_shape.specs.Playout.{Playout}
 use Rattle.fg_desk.specs.declared.desk.Played.{Played}
 use Rattle.fg_playout.specs.Play.{Shown}
 use Rattle.fg_turn.specs.Standing.{Standing}
@@ -12,10 +11,12 @@ use Rattle.fg_core.specs.Board.{BoardState, PlaysOn, FlushesOn, PlaysHeldOn, mar
 use Rattle.fg_core.specs.Views.{Told, IsBorneOut, seen_of}
 use Rattle.fg_core.specs.Core.{Call, play, flush, held, play_of, IsOwned, CanCall, IsCall}
 use Rattle.fg_core.specs.Codes.{Entry, call_code, call_from, told_code, told_from, IsOwnedBy, GrowsFrom, CallsAreReadBack, ToldIsReadBack}
-use Rattle.fg_core.specs.Laws.{CallsExtend, CallsKeepTold}
+use Rattle.fg_core.specs.Laws.{CallsExtend, CallsKeepTold, CallsMakeOneDesk}
 use Rattle.fg_core.specs.Steps.{CarriesOn, IsStep}
-use Rattle.fg_board.specs.Actors.{MakesCall, desk_of}
+use Rattle.fg_board.specs.Actors.{AdmitterState, MakesCall, desk_of, IsOwnBoard}
 use Rattle.fg_board.specs.Deeds.{Makes}
+use Rattle.fg_board.specs.OwnTurns.{standing, Enters, Leaves}
+use Rattle.fg_board.specs.declared.admitter.own_seat.OwnSeat.{OwnSeat}
 use Rattle.fg_board.proofs.OneTurn.{owning}
 
 module _
@@ -65,42 +66,81 @@ seen_grows back board =
     subst (λ (t : Told). All (IsBorneOut board) (t ∷ [])) (sym (back (seen_of board)))
     (All-cons (IsBorneOut board) (seen_of board) [] (seen_holds board) (All-nil (IsBorneOut board)))
 
--- A whole turn, from the seat as it was, as it stood inside, and as it is, where the turn said this call.
-pub call_made :
-    (call said : Call) (playout : Playout) (old inner new : Standing BoardState) (entered left : BoardState) → said ≡ call
-    → entered.desk.state ≡ desk_of (record { seat = old; playout = playout })
-    → inner ≡ record old { turns = old.turns + 1; inside = true; entered = Some entered }
-    → new ≡ record inner {
-      calls = inner.calls ++ call_code said ∷ [];
-      told = inner.told ++ told_code (seen_of left) ∷ [];
-      inside = false;
-      left = Some left;
-    }
-    → IsOwnedBy old.calls entered → GrowsFrom old.told entered → IsCall entered call left → IsOwnedBy new.calls left
-    → MakesCall call (record { seat = old; playout = playout }) (record { seat = new; playout = playout })
-call_made call said playout old inner new entered left same own goes_in goes_out owned grows is left_owned = record {
-  playout = refl;
-  turn = ap (λ (s : Standing BoardState). s.turn) goes_out ∙ ap (λ (s : Standing BoardState). s.turn) goes_in;
-  made = ap (λ (s : Standing BoardState). s.made) goes_out ∙ ap (λ (s : Standing BoardState). s.made) goes_in;
-  seated = ap (λ (s : Standing BoardState). s.seated) goes_out ∙ ap (λ (s : Standing BoardState). s.seated) goes_in;
-  turns = ap (λ (s : Standing BoardState). s.turns) goes_out ∙ ap (λ (s : Standing BoardState). s.turns) goes_in;
-  entered = entered;
-  entered_is = ap (λ (s : Standing BoardState). s.entered) goes_out ∙ ap (λ (s : Standing BoardState). s.entered) goes_in;
-  own = own;
-  owned = owned;
-  grows = grows;
-  left = left;
-  left_is = ap (λ (s : Standing BoardState). s.left) goes_out;
-  call_is = is;
-  left_owned = left_owned;
-  calls =
-      ap (λ (s : Standing BoardState). s.calls) goes_out
-      ∙ ap (λ (s : Standing BoardState). s.calls ++ call_code said ∷ []) goes_in
-      ∙ ap (λ (c : Call). old.calls ++ call_code c ∷ []) same;
-  told =
-      ap (λ (s : Standing BoardState). s.told) goes_out
-      ∙ ap (λ (s : Standing BoardState). s.told ++ told_code (seen_of left) ∷ []) goes_in;
+-- The desk that is entered is that of the calls.
+pub has_entered :
+    CallsMakeOneDesk → (old : OwnSeat) (inner : Standing BoardState) (entered flow : BoardState)
+    → (1 ≤ old.window) × (old.window ≤ 100) × (old.window ≤ old.depth) → IsOwnBoard (standing old)
+    → IsOwnedBy old.owner.calls entered → GrowsFrom old.owner.told entered
+    → inner ≡ record old.owner { turns = old.owner.turns + 1; inside = true; entered = Some entered } → flow ≡ entered
+    → Enters old flow (record old { owner = inner })
+has_entered one_desk old inner entered flow window own owned grows inner_is same =
+    subst (λ (f : BoardState). Enters old f (record old { owner = inner })) (sym same) (record {
+      own = one_desk (standing old).playout (map call_from own.0) entered.desk.state (desk_of (standing old)) window.0 window.1
+          window.2 (subst (λ (entries : List Entry). IsOwnedBy entries entered) own.1 owned).desk own.2.desk;
+      owned = owned;
+      grows = grows;
+      inner_is = ap (λ (s : Standing BoardState). record old { owner = s }) inner_is;
+    })
+
+-- A whole turn, from the seat as it was to the seat as it is.
+abbrev pub seat_after : OwnSeat → Call → BoardState → BoardState → OwnSeat
+seat_after old call entered left = record old {
+  owner = record old.owner {
+    calls = old.owner.calls ++ call_code call ∷ [];
+    told = old.owner.told ++ told_code (seen_of left) ∷ [];
+    turns = old.owner.turns + 1;
+    inside = false;
+    entered = Some entered;
+    left = Some left;
+  };
 }
+
+module _
+    (call : Call) (old inner new : OwnSeat) (entered left : BoardState) (enters : Enters old entered inner)
+    (leaves : Leaves inner call left new) where
+  pub new_is_after : new ≡ seat_after old call entered left
+  new_is_after =
+      leaves.new_is
+      ∙ ap (λ (s : OwnSeat). record s {
+        owner = record s.owner {
+          calls = s.owner.calls ++ call_code call ∷ [];
+          told = s.owner.told ++ told_code (seen_of left) ∷ [];
+          inside = false;
+          left = Some left;
+        };
+      }) enters.inner_is
+
+  pub after_owned : IsOwnedBy (seat_after old call entered left).owner.calls left
+  after_owned = subst (λ (s : OwnSeat). IsOwnedBy s.owner.calls left) new_is_after leaves.left_owned
+
+  one_call : IsCall entered call left → MakesCall call (standing old) (standing new)
+  one_call is = subst (λ (s : OwnSeat). MakesCall call (standing old) (standing s)) (sym new_is_after) (record {
+    playout = refl;
+    turn = refl;
+    made = refl;
+    seated = refl;
+    turns = refl;
+    entered = entered;
+    entered_is = refl;
+    own = enters.own;
+    owned = enters.owned;
+    grows = enters.grows;
+    left = left;
+    left_is = refl;
+    call_is = is;
+    left_owned = after_owned;
+    calls = refl;
+    told = refl;
+  })
+
+-- So it is for the admitter that has the seat, where the turn said this call.
+pub call_made :
+    (call said : Call) (admitter : AdmitterState) (old inner new : OwnSeat) (entered left : BoardState)
+    → standing old ≡ admitter → said ≡ call → Enters old entered inner → IsCall entered call left → Leaves inner said left new
+    → MakesCall call admitter (standing new)
+call_made call said admitter old inner new entered left seat same enters is leaves =
+    subst (λ (a : AdmitterState). MakesCall call a (standing new)) seat
+    (one_call call old inner new entered left enters (subst (λ (c : Call). Leaves inner c left new) same leaves) is)
 
 -- A play, a flush step and a held step, with what the tray shows.
 pub play_is :

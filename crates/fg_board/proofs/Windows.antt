@@ -1,16 +1,18 @@
 -- What an admitter knows of its desk after it passed windows that show nothing.
-use Rattle.std.proofs.Common.{◌≡◌, ◌≢◌, ◌++◌, ◌+◌, ◌≤◌, ◌<◌, ◌^◌, ℕ, zero, suc, false, List, [], ◌∷◌, map, Option, Some, None, IfSome, refl, sym, ap, subst, ◌∙◌, arith}
+use Rattle.std.proofs.Common.{◌≡◌, ◌≢◌, ◌++◌, ◌+◌, ◌≤◌, ◌<◌, ◌^◌, ℕ, zero, suc, List, [], ◌∷◌, Option, Some, None, IfSome, refl, sym, ap, subst, ◌∙◌, arith}
 use Rattle.fg_shape.specs.Shape.{position_limit}
 use Rattle.fg_shape.specs.Playout.{Playout}
 use Rattle.fg_playout.specs.State.{State, Top}
 use Rattle.fg_playout.specs.Held.{at_time}
-use Rattle.fg_turn.specs.Standing.{Standing}
-use Rattle.fg_core.specs.Board.{BoardState, opened_board}
-use Rattle.fg_core.specs.Codes.{Entry, call_from, IsOwnedBy}
-use Rattle.fg_core.specs.Core.{IsOwned}
+use Rattle.fg_core.specs.Board.{BoardState}
+use Rattle.fg_core.specs.Codes.{Entry, call_code, IsOwnedBy}
+use Rattle.fg_core.specs.Core.{Call}
 use Rattle.fg_core.specs.Skipping.{ArePassed, Passes}
-use Rattle.fg_board.specs.Actors.{board_of, IsOwnBoard}
+use Rattle.fg_board.specs.Actors.{IsOwnBoard}
 use Rattle.fg_board.specs.Knowing.{top_of, Knows, KnowsItsDesk}
+use Rattle.fg_board.specs.OwnTurns.{standing, Enters, Leaves}
+use Rattle.fg_board.specs.declared.admitter.own_seat.OwnSeat.{OwnSeat}
+use Rattle.fg_board.proofs.OneCall.{new_is_after, after_owned}
 
 -- The settings and the top stay.
 record Stays (old new : State) : Type 0 where
@@ -61,29 +63,25 @@ knows_passed time count playout own old new top top' previous previous' runs run
           (sym (stays.top ∙ ap (λ (s : State). s.top) is)) knows.top_limit;
     }
 
--- After a call whose entry is this, with the board that it left.
+-- After a call, with the state that it left.
 pub knows_its_desk :
-    (playout : Playout) (old new : Standing BoardState) (entry : Entry) (left : BoardState) (top : Option (ℕ × ℕ × ℕ))
-    (previous : Option ℕ) (runs mark calls : ℕ)
-    → (1 ≤ playout.window) × (playout.window ≤ 100) × (playout.window ≤ playout.depth) → playout.depth < 2 ^ 32
-    → IsOwnBoard (record { seat = old; playout = playout }) → new.calls ≡ old.calls ++ entry ∷ [] → new.inside ≡ false
-    → new.left ≡ Some left → IsOwnedBy new.calls left → Knows playout top previous runs mark calls left.desk.state
-    → KnowsItsDesk (record { seat = new; playout = playout }) top previous runs mark calls
-knows_its_desk playout old new entry left top previous runs mark calls window depth own calls_are outside left_is owned knows =
-    let board : left ≡ board_of (record { seat = new; playout = playout }) =
-    sym (ap (λ (o : Option BoardState). elim o as (λ _. BoardState) [
-      | None ↦ opened_board playout
-      | Some left ↦ left
-    ]) left_is) in
-    let all = calls_are ∙ ap (λ (entries : List Entry). entries ++ entry ∷ []) own.1 in record {
-      outside = outside;
+    (call : Call) (old inner new : OwnSeat) (entered left : BoardState) (top : Option (ℕ × ℕ × ℕ)) (previous : Option ℕ)
+    (runs mark calls : ℕ)
+    → (1 ≤ old.window) × (old.window ≤ 100) × (old.window ≤ old.depth) → old.depth < 2 ^ 32 → IsOwnBoard (standing old)
+    → Enters old entered inner → Leaves inner call left new
+    → Knows (standing old).playout top previous runs mark calls left.desk.state
+    → KnowsItsDesk (standing new) top previous runs mark calls
+knows_its_desk call old inner new entered left top previous runs mark calls window depth own enters leaves knows =
+    let all = ap (λ (entries : List Entry). entries ++ call_code call ∷ []) own.1 in
+    subst (λ (s : OwnSeat). KnowsItsDesk (standing s) top previous runs mark calls)
+    (sym (new_is_after call old inner new entered left enters leaves)) (record {
+      outside = refl;
       window = window;
       depth = depth;
       own = (
-        own.0 ++ entry ∷ [],
+        own.0 ++ call_code call ∷ [],
         all,
-        subst (λ (b : BoardState). IsOwned playout (map call_from (own.0 ++ entry ∷ [])) b) board
-            (subst (λ (entries : List Entry). IsOwnedBy entries left) all owned),
+        subst (λ (entries : List Entry). IsOwnedBy entries left) all (after_owned call old inner new entered left enters leaves),
       );
-      knows = subst (λ (b : BoardState). Knows playout top previous runs mark calls b.desk.state) board knows;
-    }
+      knows = knows;
+    })

@@ -3,7 +3,8 @@ use Rattle.std.specs.Prelude.{ℕ, Bool, true, false, List, [], ◌∷◌, ◌++
 use Rattle.std.specs.FinMap.{get}
 use Rattle.fg_playout.specs.State.{Live}
 use Rattle.fg_turn.specs.Standing.{Standing}
-use Rattle.fg_core.specs.Board.{BoardState, look_of}
+use Rattle.fg_core.specs.Board.{BoardState, look_of, look_seen}
+use Rattle.fg_core.specs.Skipping.{time_of}
 use Rattle.fg_core.specs.Views.{Told, word_at, equation_is, seen_of, told_of_job}
 use Rattle.fg_core.specs.Core.{Call, media, parity, play, flush, held, skip, Event, take, publish, vouch, give_back, look, offer, attest, CanCall, CanDo, IsCall, IsEvent, told_of_fate}
 use Rattle.fg_core.specs.Codes.{Entry, call_code, told_code, told_from, IsOwnedBy, GrowsFrom}
@@ -33,7 +34,7 @@ event_of (deed.Take job) = take job.value
 event_of (deed.Bring holds_job key slot share fate) = brings holds_job key slot share.value fate
 event_of (deed.Check holds_job key zero fate) = checks holds_job key zero fate
 event_of (deed.GiveBack key fate) = give_back key fate
-event_of (deed.Look key slot answer) = look key (Some slot) answer.value
+event_of (deed.Look key slot answer) = look key (Some slot) (look_seen answer.value)
 event_of (deed.Ask key answer) = look key None (look_of answer.value)
 
 -- The equation of a serial number, where one is live under it.
@@ -79,7 +80,7 @@ call_of (made.Parity base shape share reply key) =
 call_of (made.Play played) = play played
 call_of (made.Flush played) = flush played
 call_of (made.Held time played) = held time played
-call_of (made.Skip time count) = skip time count
+call_of (made.Skip which count) = skip (time_of which) count
 
 -- The entry of a call, and what its turn tells.
 abbrev pub named_by : BoardState → Call → List Entry

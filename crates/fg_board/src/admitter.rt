@@ -1,6 +1,6 @@
 //! The admitter: the one seat that takes datagrams in and plays windows.
 
-ghost use Rattle.std.specs.Prelude.{◌≡◌, ◌≢◌, ◌↔◌, ◌+◌, ◌<◌, ◌≤◌, ◌^◌, [], ◌∷◌, length, false, true, Some, None, IsTrue, IsSome, IfSome, IfNone, option_map};
+ghost use Rattle.std.specs.Prelude.{◌≡◌, ◌≢◌, ◌↔◌, ◌+◌, ◌<◌, ◌≤◌, ◌^◌, [], ◌∷◌, length, false, None, IsTrue, IsSome, IfSome, IfNone, option_map};
 ghost use Rattle.fg_words.specs.Word.{IsMedia};
 ghost use Rattle.fg_shape.specs.Shape.{IsShape};
 ghost use Rattle.fg_playout.specs.Admission.{IsDue, IsFresh, AdmitsMedia, AdmitsParity};
@@ -10,20 +10,22 @@ ghost use Rattle.fg_playout.specs.Facts.{Holds};
 ghost use Rattle.fg_playout.specs.Play.{IsPlay, Flushes, HasMore};
 ghost use Rattle.fg_playout.specs.Held.{IsHeldStep};
 ghost use Rattle.fg_board.specs.Actors.{MakesCall, board_of, desk_of, IsOwnBoard, GivesKeyOf};
-ghost use Rattle.fg_core.specs.Codes.{opening_code, IsOwnedBy, GrowsFrom};
+ghost use Rattle.fg_core.specs.Codes.{opening_code};
 ghost use Rattle.fg_core.specs.Core.{media, parity, play, flush, held, play_of};
 ghost use Rattle.fg_board.specs.Knowing.{top_of};
 
+mod own_seat;
 mod skipping;
 
+use crate::admitter::own_seat::OwnSeat;
 use crate::board::Board;
-use crate::turns::{Made, settle_owner};
-use fg_core::laws::{calls_make_one_desk, opening_is_owned};
+use crate::turns::Made;
+use fg_core::laws::opening_is_owned;
 use fg_core::{Flow, Key};
 use fg_desk::{Played, Reply, Tray};
 use fg_playout::{CALL_LIMIT, FARTHEST_LIMIT};
 use fg_shape::Shape;
-use fg_turn::{Owner, Turn};
+use fg_turn::Owner;
 use fg_unwrap::position;
 use fg_words::Shared;
 use std::marker::Model;
@@ -94,10 +96,7 @@ impl Near {
 /// Contracts see its standing, and the settings of its board.
 #[derive(Drop)]
 pub struct Admitter {
-    pub(crate) owner: Owner<Flow>,
-    window: u32,
-    depth: u32,
-    hold: u64,
+    pub(crate) seat: OwnSeat,
     near: Near,
     /// A share that the desk let go, for the payload of the next datagram.
     spare: Option<Shared>,
@@ -107,48 +106,15 @@ impl Model for Admitter {
     ghost use Rattle.fg_board.specs.Actors.{AdmitterState};
     ghost use Rattle.fg_board.specs.Standings.{admitter_code};
     ghost use Rattle.fg_board.specs.Knowing.{KnowsItsDesk};
+    ghost use Rattle.fg_board.specs.OwnTurns.{standing};
 
     ghost Value = { AdmitterState };
 
     ghost coded = { admitter_code };
 
-    ghost view = { λ a. record { seat = a.owner; playout = record { window = a.window; depth = a.depth; hold = a.hold } } };
+    ghost view = { λ a. standing a.seat };
 
-    ghost invariant = { λ a. KnowsItsDesk
-        (record { seat = a.owner; playout = record { window = a.window; depth = a.depth; hold = a.hold } })
-        a.near.top a.near.previous a.near.runs a.near.mark a.near.calls };
-}
-
-// Enters the admitter's turn, and takes a spare share there where the admitter has none. The desk there is its own.
-fn enter_own(
-    wait: &impl Wait,
-    turn: &Turn<Flow>,
-    owner: &mut Owner<Flow>,
-    spare: &mut Option<Shared>,
-    window: u32,
-    depth: u32,
-    hold: u64,
-) -> Flow
-    requires turn { (owner.old.turn ≡ turn.now.name) × (owner.old.inside ≡ false) }
-    requires window { (1 ≤ window) × (window ≤ 100) × (window ≤ depth) }
-    requires own { IsOwnBoard (record { seat = owner.old; playout = record { window = window; depth = depth; hold = hold } }) }
-    ensures own { result.desk.state
-        ≡ desk_of (record { seat = owner.old; playout = record { window = window; depth = depth; hold = hold } }) }
-    ensures owner { IsOwnedBy owner.old.calls result }
-    ensures grows { GrowsFrom owner.old.told result }
-    ensures seat { owner.new
-        ≡ record owner.old {
-          turns = owner.old.turns + 1;
-          inside = true;
-          entered = Some result;
-        } }
-{
-    calls_make_one_desk();
-    let mut flow = turn.enter_owner(wait, owner);
-    if spare.is_none() {
-        *spare = flow.spare();
-    }
-    flow
+    ghost invariant = { λ a. KnowsItsDesk (standing a.seat) a.near.top a.near.previous a.near.runs a.near.mark a.near.calls };
 }
 
 impl Admitter {
@@ -169,10 +135,12 @@ impl Admitter {
             calls: 0,
         };
         Admitter {
-            owner,
-            window,
-            depth,
-            hold,
+            seat: OwnSeat {
+                owner,
+                window,
+                depth,
+                hold,
+            },
             near,
             spare: None,
         }
@@ -184,14 +152,11 @@ impl Admitter {
         ensures outside { result.inside ≡ false }
     {
         let Admitter {
-            owner,
-            window: _,
-            depth: _,
-            hold: _,
+            seat,
             near: _,
             spare: _,
         } = self;
-        owner
+        seat.owner
     }
 
     /// Whether an SSRC (RFC 3550) is fresh: there is a current run, and the SSRC is neither its own nor that of the run before.
@@ -219,7 +184,7 @@ impl Admitter {
     pub fn hold(&self) -> u64
         ensures { result ≡ (desk_of self.now).playout.hold }
     {
-        self.hold
+        self.seat.hold
     }
 
     /// Whether a play is due before a datagram of this sequence number and SSRC is admitted: it is of the current run, and
@@ -236,7 +201,8 @@ impl Admitter {
         }
         match position(top, top_seq, seq) {
             Some(position) => {
-                position >= self.near.mark && position - self.near.mark >= u64::from(self.depth)
+                position >= self.near.mark
+                    && position - self.near.mark >= u64::from(self.seat.depth)
             }
             None => false,
         }
@@ -262,7 +228,7 @@ impl Admitter {
     pub fn made(&self) -> u32
         ensures { result ≡ self.now.seat.made }
     {
-        self.owner.made()
+        self.seat.owner.made()
     }
 
     /// A share that its desk let go, where it has one, for the payload of the next datagram. It takes no turn: each turn
@@ -291,24 +257,12 @@ impl Admitter {
         ensures call { MakesCall (media seq ssrc share result) self.old self.new }
         ensures state { AdmitsMedia (desk_of self.old) seq ssrc share result (desk_of self.new) }
     {
-        let mut flow = enter_own(
-            wait,
-            &board.turn,
-            &mut self.owner,
-            &mut self.spare,
-            self.window,
-            self.depth,
-            self.hold,
-        );
+        let mut flow = self.seat.enter(wait, board, &mut self.spare);
         let word = Snapshot::of(&share);
         let reply = flow.admit_media(seq, ssrc, share);
         self.near = self.near.after(&flow);
-        settle_owner(
-            &board.turn,
-            &mut self.owner,
-            flow,
-            Made::Media(seq, ssrc, word, reply),
-        );
+        self.seat
+            .leave(board, flow, Made::Media(seq, ssrc, word, reply));
         reply
     }
 
@@ -332,24 +286,12 @@ impl Admitter {
             result.0 (desk_of self.new) }
         ensures key { GivesKeyOf self.old result.0 result.1 self.new }
     {
-        let mut flow = enter_own(
-            wait,
-            &board.turn,
-            &mut self.owner,
-            &mut self.spare,
-            self.window,
-            self.depth,
-            self.hold,
-        );
+        let mut flow = self.seat.enter(wait, board, &mut self.spare);
         let word = Snapshot::of(&share);
         let (reply, key) = flow.admit_parity(base, shape, share);
         self.near = self.near.after(&flow);
-        settle_owner(
-            &board.turn,
-            &mut self.owner,
-            flow,
-            Made::Parity(base, shape, word, reply, key),
-        );
+        self.seat
+            .leave(board, flow, Made::Parity(base, shape, word, reply, key));
         (reply, key)
     }
 
@@ -364,18 +306,10 @@ impl Admitter {
         ensures count { result.count ≡ length tray.new.shown }
         ensures tray { tray.new.window ≡ tray.old.window }
     {
-        let mut flow = enter_own(
-            wait,
-            &board.turn,
-            &mut self.owner,
-            &mut self.spare,
-            self.window,
-            self.depth,
-            self.hold,
-        );
+        let mut flow = self.seat.enter(wait, board, &mut self.spare);
         let played = flow.play(tray);
         self.near = self.near.after(&flow);
-        settle_owner(&board.turn, &mut self.owner, flow, Made::Play(played));
+        self.seat.leave(board, flow, Made::Play(played));
         played
     }
 
@@ -390,18 +324,10 @@ impl Admitter {
         ensures none { IfNone result (tray.new ≡ tray.old) }
         ensures tray { tray.new.window ≡ tray.old.window }
     {
-        let mut flow = enter_own(
-            wait,
-            &board.turn,
-            &mut self.owner,
-            &mut self.spare,
-            self.window,
-            self.depth,
-            self.hold,
-        );
+        let mut flow = self.seat.enter(wait, board, &mut self.spare);
         let played = flow.flush_step(tray);
         self.near = self.near.after(&flow);
-        settle_owner(&board.turn, &mut self.owner, flow, Made::Flush(played));
+        self.seat.leave(board, flow, Made::Flush(played));
         played
     }
 
@@ -425,18 +351,10 @@ impl Admitter {
         ensures none { IfNone result (tray.new ≡ tray.old) }
         ensures tray { tray.new.window ≡ tray.old.window }
     {
-        let mut flow = enter_own(
-            wait,
-            &board.turn,
-            &mut self.owner,
-            &mut self.spare,
-            self.window,
-            self.depth,
-            self.hold,
-        );
+        let mut flow = self.seat.enter(wait, board, &mut self.spare);
         let played = flow.held_step(time, tray);
         self.near = self.near.after(&flow);
-        settle_owner(&board.turn, &mut self.owner, flow, Made::Held(time, played));
+        self.seat.leave(board, flow, Made::Held(time, played));
         played
     }
 }

@@ -9,7 +9,7 @@ ghost use Rattle.fg_peel.specs.Slots.{IsMissing};
 ghost use Rattle.fg_turn.specs.Standing.{owner_of, newcomer_of};
 ghost use Rattle.fg_playout.specs.State.{Live};
 ghost use Rattle.fg_desk.specs.Contents.{CanFill, known_in};
-ghost use Rattle.fg_core.specs.Board.{IsCurrent, job_sum, look_of, TellsEquation, TellsReadable};
+ghost use Rattle.fg_core.specs.Board.{IsCurrent, job_sum, look_of, look_seen, TellsEquation, TellsReadable};
 ghost use Rattle.fg_core.specs.Codes.{told_from, opening_code};
 ghost use Rattle.fg_core.specs.Core.{take, publish, vouch, give_back, look, offer, attest, IsEvent};
 ghost use Rattle.fg_board.specs.Deeds.{brings, checks};
@@ -21,7 +21,7 @@ use crate::job::Job;
 use crate::pass::Pass;
 use crate::turns::{Deed, settle, skip};
 use fg_core::laws::{checked_come_out, codes_are_read_back, opening_is_owned, worked_words_follow};
-use fg_core::{Asked, Fate, Flow, Key, Look, Work};
+use fg_core::{Asked, Fate, Flow, Key, Look, Seen, Work};
 use fg_turn::{Seat, Turn};
 use fg_words::Shared;
 use fg_words::laws::xor_is_a_group;
@@ -160,19 +160,19 @@ fn give_back_inside(wait: &impl Wait, turn: &Turn<Flow>, seat: &mut Seat<Flow>, 
 }
 
 // A look, in one turn.
-fn look_inside(
+fn see_inside(
     wait: &impl Wait,
     turn: &Turn<Flow>,
     seat: &mut Seat<Flow>,
     key: Key,
     slot: u64,
-) -> Look
+) -> Seen
     requires { (seat.old.turn ≡ turn.now.name) × (seat.old.inside ≡ false) }
     ensures outside { seat.new.inside ≡ false }
-    ensures turn { TakesTurn (look key (Some slot) result) seat.old seat.new }
+    ensures turn { TakesTurn (look key (Some slot) (look_seen result)) seat.old seat.new }
 {
     let flow = turn.enter(wait, seat);
-    let answer = flow.look(key, slot);
+    let answer = flow.see(key, slot);
     settle(
         turn,
         seat,
@@ -241,7 +241,7 @@ impl Board {
             } }
         ensures pass { result ≡ newcomer_of self.now.name admitter.old.seat.seated admitter.old.seat.calls }
     {
-        let seat = self.turn.pass(&mut admitter.owner);
+        let seat = self.turn.pass(&mut admitter.seat.owner);
         Pass { seat }
     }
 
@@ -253,7 +253,7 @@ impl Board {
             ≡ record admitter.old { seat = record admitter.old.seat { made = admitter.old.seat.made - 1 } } }
     {
         let Pass { seat } = pass;
-        self.turn.back(&mut admitter.owner, seat);
+        self.turn.back(&mut admitter.seat.owner, seat);
     }
 
     /// Ends the board, once every pass is back.
@@ -321,12 +321,24 @@ impl Board {
         give_back_inside(wait, &self.turn, &mut pass.seat, job.key())
     }
 
-    /// The word known at a position, asked in one turn by the key of an equation.
+    /// The word known at a position, asked in one turn by the key of an equation. The turn lends a share of it, so that the
+    /// word is copied behind it, where it can be lent.
     pub fn look(&self, wait: &impl Wait, pass: &mut Pass, key: Key, slot: u64) -> Look
         requires { pass.old.turn ≡ self.now.name }
         ensures { TakesTurn (look key (Some slot) result) pass.old pass.new }
     {
-        look_inside(wait, &self.turn, &mut pass.seat, key, slot)
+        match self.see(wait, pass, key, slot) {
+            Seen::Lent(share) => Look::Known(*share.word()),
+            Seen::Told(look) => look,
+        }
+    }
+
+    /// A look that gives a share of the word known at a position, where one can be lent, so that the word isn't copied at all.
+    pub fn see(&self, wait: &impl Wait, pass: &mut Pass, key: Key, slot: u64) -> Seen
+        requires { pass.old.turn ≡ self.now.name }
+        ensures { TakesTurn (look key (Some slot) (look_seen result)) pass.old pass.new }
+    {
+        see_inside(wait, &self.turn, &mut pass.seat, key, slot)
     }
 
     /// The equation of a key, asked in one turn. It is a look that gives no word.

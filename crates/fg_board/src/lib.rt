@@ -14,6 +14,6 @@ mod turns;
 
 pub use admitter::Admitter;
 pub use board::Board;
-pub use fg_core::{Asked, Fate, Key, Look};
+pub use fg_core::{Asked, Fate, Key, Look, Seen};
 pub use job::Job;
 pub use pass::Pass;

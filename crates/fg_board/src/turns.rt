@@ -2,16 +2,13 @@
 
 ghost use Rattle.std.specs.Prelude.{◌≡◌, ◌++◌, ◌∷◌, [], true, false, None, Some, IsSomeAnd};
 ghost use Rattle.fg_core.specs.Steps.{IsStep};
-ghost use Rattle.fg_core.specs.Codes.{call_code, told_code, IsOwnedBy, GrowsFrom};
+ghost use Rattle.fg_core.specs.Codes.{call_code, told_code, GrowsFrom};
 ghost use Rattle.fg_core.specs.Core.{Tells};
-ghost use Rattle.fg_board.specs.Deeds.{event_of, told_of, told_by, Follows, call_of, named_by, Makes};
+ghost use Rattle.fg_board.specs.Deeds.{event_of, told_of, told_by, Follows, call_of, named_by};
 ghost use Rattle.fg_core.specs.Views.{seen_of};
 
-use fg_core::laws::{
-    answers_hold, calls_extend, calls_keep_told, codes_are_read_back, events_keep_owned,
-    events_keep_told,
-};
-use fg_core::{Asked, Fate, Flow, Key, Look, Work};
+use fg_core::laws::{answers_hold, codes_are_read_back, events_keep_owned, events_keep_told};
+use fg_core::{Asked, Fate, Flow, Key, Seen, Skip, Work};
 use fg_desk::{Played, Reply};
 use fg_shape::Shape;
 use fg_turn::{Named, Owner, Seat, Turn};
@@ -28,7 +25,7 @@ pub(crate) enum Deed {
     /// A check, and whether who brings it holds the job.
     Check(bool, Key, bool, Fate),
     GiveBack(Key, Fate),
-    Look(Key, u64, Snapshot<Look>),
+    Look(Key, u64, Snapshot<Seen>),
     Ask(Key, Snapshot<Asked>),
 }
 
@@ -41,8 +38,8 @@ pub(crate) enum Made {
     Flush(Option<Played>),
     /// A held step at a time.
     Held(u64, Option<Played>),
-    /// How many windows were passed, and the time that was told with held ones.
-    Skip(Option<u64>, u64),
+    /// Which windows were passed, and how many.
+    Skip(Skip, u64),
 }
 
 // Leaves what the deed made of the state, and is told what it tells.
@@ -91,8 +88,13 @@ pub(crate) fn skip(turn: &Turn<Flow>, seat: &mut Seat<Flow>, flow: Flow)
     turn.leave::<Brand>(seat, flow);
 }
 
-// As `tell` for the admitter, whose call is added to its calls.
-fn tell_owner<N: Named>(turn: &Turn<Flow>, owner: &mut Owner<Flow>, flow: Flow, made: Made)
+/// As `tell` for the admitter, whose call is added to its calls.
+pub(crate) fn tell_owner<N: Named>(
+    turn: &Turn<Flow>,
+    owner: &mut Owner<Flow>,
+    flow: Flow,
+    made: Made,
+)
     requires turn { (owner.old.turn ≡ turn.now.name) × (owner.old.inside ≡ true) }
     requires step { IsSomeAnd owner.old.entered (λ old. IsStep (Some (call_code (call_of made))) old flow) }
     requires grows { GrowsFrom (told_code (seen_of flow) ∷ []) flow }
@@ -107,23 +109,4 @@ fn tell_owner<N: Named>(turn: &Turn<Flow>, owner: &mut Owner<Flow>, flow: Flow, 
 {
     let _ = made;
     turn.leave_owner::<N>(owner, flow);
-}
-
-/// Ends the admitter's turn with what its call made of the state.
-pub(crate) fn settle_owner(turn: &Turn<Flow>, owner: &mut Owner<Flow>, flow: Flow, made: Made)
-    requires turn { (owner.old.turn ≡ turn.now.name) × (owner.old.inside ≡ true) }
-    requires makes { IsSomeAnd owner.old.entered (λ old. Makes owner.old (call_of made) old flow) }
-    ensures owned { IsOwnedBy owner.new.calls flow }
-    ensures owner { owner.new
-        ≡ record owner.old {
-          calls = owner.old.calls ++ call_code (call_of made) ∷ [];
-          told = owner.old.told ++ told_code (seen_of flow) ∷ [];
-          inside = false;
-          left = Some flow;
-        } }
-{
-    calls_extend();
-    calls_keep_told();
-    codes_are_read_back();
-    tell_owner::<Brand>(turn, owner, flow, made);
 }

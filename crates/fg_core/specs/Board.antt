@@ -24,6 +24,8 @@ use Rattle.fg_core.specs.declared.fate.Fate.{Fate}
 use Rattle.fg_core.specs.declared.fate.Fate.TheVariants.{Done, Beaten, Gone}
 use Rattle.fg_core.specs.declared.fate.Look.{Look}
 use Rattle.fg_core.specs.declared.fate.Look.TheVariants as looked
+use Rattle.fg_core.specs.declared.fate.Seen.{Seen}
+use Rattle.fg_core.specs.declared.fate.Seen.TheVariants as seen
 use Rattle.fg_core.specs.declared.fate.Asked.{Asked}
 use Rattle.fg_core.specs.declared.fate.Asked.TheVariants as asked
 
@@ -225,6 +227,11 @@ Looks old key None looked.Unknown new = IsHeld old key × (new ≡ old)
 Looks old key (Some slot) looked.Unknown new = IsHeld old key × (known_in old.desk slot ≡ None) × (new ≡ old)
 Looks old key None (looked.Known word) new = ⊥
 Looks old key (Some slot) (looked.Known word) new = IsHeld old key × (known_in old.desk slot ≡ Some word) × (new ≡ old)
+
+-- What was seen is told: a share that was lent as the word.
+abbrev pub look_seen : Seen → Look
+look_seen (seen.Lent word) = looked.Known word
+look_seen (seen.Told look) = look
 
 -- What is asked is answered by a look without a position: that the key's equation is gone, or no word.
 abbrev pub look_of : Asked → Look

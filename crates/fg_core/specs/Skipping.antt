@@ -1,12 +1,27 @@
 -- Windows that show nothing, passed in one call. This project's own.
-use Rattle.std.specs.Prelude.{◌≡◌, ◌≢◌, ℕ, zero, suc, [], Option, Some, None}
+use Rattle.std.specs.Prelude.{◌≡◌, ◌≢◌, ℕ, zero, suc, List, [], Option, Some, None}
 use Rattle.fg_playout.specs.declared.reply.Outcome.TheVariants.{Repaired}
 use Rattle.fg_playout.specs.State.{State, live_equations}
-use Rattle.fg_playout.specs.Play.{IsPlay}
+use Rattle.fg_playout.specs.Play.{Play, IsPlay}
+use Rattle.fg_playout.specs.Laws.{HavePlayed, AreFlushSteps, AreHeldSteps}
 use Rattle.fg_playout.specs.Held.{at_time}
 use Rattle.fg_playout.specs.Empty.{empty_play}
 use Rattle.fg_desk.specs.Contents.{ChangesInPlay}
 use Rattle.fg_core.specs.Board.{BoardState, KeepsNotes}
+use Rattle.fg_core.specs.declared.skipping.Skip.{Skip}
+use Rattle.fg_core.specs.declared.skipping.Skip.TheVariants as skip
+
+-- The time that is told with windows that are passed so.
+abbrev pub time_of : Skip → Option ℕ
+time_of (skip.Due seq ssrc) = None
+time_of skip.Rest = None
+time_of (skip.Held time) = Some time
+
+-- These plays are those that are due before a datagram, those of a flush, or those that are held at a time.
+abbrev pub ArePlayed : Skip → State → List Play → State → Type 0
+ArePlayed (skip.Due seq ssrc) old plays new = HavePlayed old seq ssrc plays new
+ArePlayed skip.Rest old plays new = AreFlushSteps old plays new
+ArePlayed (skip.Held time) old plays new = AreHeldSteps old time plays new
 
 -- The desk, told a time where one is given.
 abbrev pub timed : Option ℕ → State → State

@@ -1,7 +1,7 @@
 //! What becomes of what a pass brings, and what it is told.
 
 use fg_shape::Shape;
-use fg_words::Word;
+use fg_words::{Shared, Word};
 
 /// What became of a word or a check that a pass brought.
 #[derive(Clone, Copy, PartialEq)]
@@ -33,6 +33,16 @@ pub enum Look {
         /// How often solved words were withdrawn.
         epoch: u64,
     },
+}
+
+/// What a look at a position saw. It leaves the turn as it is, and is told behind it: a word that the desk can lend isn't
+/// copied for it.
+#[derive(Drop)]
+pub enum Seen {
+    /// A share of the word known there.
+    Lent(Shared),
+    /// All else that a look tells: also a word of which no share could be lent.
+    Told(Look),
 }
 
 /// What a pass is told that asks for the equation of a key.

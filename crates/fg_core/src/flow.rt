@@ -13,16 +13,16 @@ ghost use Rattle.fg_playout.specs.Room.{HasRoom};
 ghost use Rattle.fg_playout.specs.Laws.{HavePlayed, AreFlushSteps, AreHeldSteps};
 ghost use Rattle.fg_playout.specs.Empty.{empty_plays};
 ghost use Rattle.fg_desk.specs.Contents.{CanFill, known_in, opened};
-ghost use Rattle.fg_core.specs.Board.{opened_board, IsCurrent, IsHeld, AdmitsMediaOn, AdmitsParityOn, PlaysOn, FlushesOn, PlaysHeldOn, Takes, Offers, Publishes, Attests, Vouches, GivesBack, Looks, Asks, TellsReadable, with_vouched, VouchedAreComplete};
+ghost use Rattle.fg_core.specs.Board.{opened_board, IsCurrent, IsHeld, AdmitsMediaOn, AdmitsParityOn, PlaysOn, FlushesOn, PlaysHeldOn, Takes, Offers, Publishes, Attests, Vouches, GivesBack, Looks, look_seen, Asks, TellsReadable, with_vouched, VouchedAreComplete};
 ghost use Rattle.fg_core.specs.Flow.{with_handed, no_note};
-ghost use Rattle.fg_core.specs.Skipping.{PassesOn};
+ghost use Rattle.fg_core.specs.Skipping.{ArePlayed, PassesOn, time_of};
 ghost use Rattle.fg_core.specs.Core.{play_of};
 
-use crate::fate::{Asked, Fate, Look};
+use crate::fate::{Asked, Fate, Look, Seen};
 use crate::key::Key;
 use crate::notes::Notes;
-use crate::open::{equation_at, facts, next_open, note_of, work_of};
-use crate::skipping::{skip_due, skip_held, skip_rest};
+use crate::open::{equation_at, facts, next_open, note_of, share_at, work_of};
+use crate::skipping::{Skip, pass_windows};
 use crate::work::Work;
 use fg_desk::{Desk, Played, Reply, Tray};
 use fg_shape::Shape;
@@ -224,47 +224,18 @@ impl Flow {
         self.held.desk.held_step(time, tray)
     }
 
-    /// Plays at once so many of the next windows as show nothing and are due before a media datagram of this sequence number and
-    /// SSRC, and answers how many. It may leave some of them, or all, to be played one by one, as it does where an equation is
-    /// live.
-    pub fn skip_due(&mut self, seq: u16, ssrc: u32) -> u64
-        ensures plays { HavePlayed self.old.desk.state seq ssrc
+    /// Plays at once so many of these windows as come next and show nothing, and answers how many. It may leave some of them, or
+    /// all, to be played one by one, as it does where an equation is live.
+    pub fn skip(&mut self, which: Skip) -> u64
+        requires limited { IsSome (time_of which) → self.old.desk.state.playout.hold ≢ 0 }
+        ensures plays { ArePlayed which self.old.desk.state
             (empty_plays result self.old.desk.state.playout.window self.old.desk.state.mark) self.new.desk.state }
-        ensures passes { PassesOn self.old None result self.new }
+        ensures passes { PassesOn self.old (time_of which) result self.new }
         ensures calls { self.new.desk.state.calls ≡ self.old.desk.state.calls + result }
         ensures limit { result ≤ 2 ^ 62 }
     {
         let _window = self.held.desk.window();
-        let count = skip_due(&mut self.held.desk, seq, ssrc);
-        let _depth = self.held.desk.depth();
-        count
-    }
-
-    /// The same for steps of a flush.
-    pub fn skip_rest(&mut self) -> u64
-        ensures plays { AreFlushSteps self.old.desk.state
-            (empty_plays result self.old.desk.state.playout.window self.old.desk.state.mark) self.new.desk.state }
-        ensures passes { PassesOn self.old None result self.new }
-        ensures calls { self.new.desk.state.calls ≡ self.old.desk.state.calls + result }
-        ensures limit { result ≤ 2 ^ 62 }
-    {
-        let _window = self.held.desk.window();
-        let count = skip_rest(&mut self.held.desk);
-        let _depth = self.held.desk.depth();
-        count
-    }
-
-    /// The same for held plays at a time, in microseconds, which the desk is told where there are any.
-    pub fn skip_held(&mut self, time: u64) -> u64
-        requires limited { self.old.desk.state.playout.hold ≢ 0 }
-        ensures plays { AreHeldSteps self.old.desk.state time
-            (empty_plays result self.old.desk.state.playout.window self.old.desk.state.mark) self.new.desk.state }
-        ensures passes { PassesOn self.old (Some time) result self.new }
-        ensures calls { self.new.desk.state.calls ≡ self.old.desk.state.calls + result }
-        ensures limit { result ≤ 2 ^ 62 }
-    {
-        let _window = self.held.desk.window();
-        let count = skip_held(&mut self.held.desk, time);
+        let count = pass_windows(&mut self.held.desk, which);
         let _depth = self.held.desk.depth();
         count
     }
@@ -361,19 +332,22 @@ impl Flow {
         Fate::Done
     }
 
-    /// The word known at a position.
-    pub fn look(&self, key: Key, slot: u64) -> Look
-        ensures { Looks self.now key (Some slot) result self.now }
+    /// The word known at a position: a share of it, and a copy where none can be lent or memory lacks for it.
+    pub fn see(&self, key: Key, slot: u64) -> Seen
+        ensures { Looks self.now key (Some slot) (look_seen result) self.now }
     {
         if !self.holds(key) {
-            return Look::Gone {
+            return Seen::Told(Look::Gone {
                 mark: self.held.desk.mark(),
                 epoch: self.held.desk.epoch(),
-            };
+            });
+        }
+        if let Ok(Some(share)) = share_at(&self.held.desk, slot) {
+            return Seen::Lent(share);
         }
         match self.held.desk.word(slot) {
-            Some(word) => Look::Known(*word),
-            None => Look::Unknown,
+            Some(word) => Seen::Told(Look::Known(*word)),
+            None => Seen::Told(Look::Unknown),
         }
     }
 

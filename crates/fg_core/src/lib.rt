@@ -14,7 +14,8 @@ mod open;
 mod skipping;
 mod work;
 
-pub use fate::{Asked, Fate, Look};
+pub use fate::{Asked, Fate, Look, Seen};
 pub use flow::Flow;
 pub use key::Key;
+pub use skipping::Skip;
 pub use work::Work;

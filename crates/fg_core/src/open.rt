@@ -198,7 +198,7 @@ fn lent(share: &Shared) -> Result<Shared, AllocError>
 }
 
 /// A share of the word known at a position.
-fn share_at(desk: &Desk, position: u64) -> Result<Option<Shared>, AllocError>
+pub(crate) fn share_at(desk: &Desk, position: u64) -> Result<Option<Shared>, AllocError>
     ensures { IfOk result (λ share. (share ≡ shared_at desk.now position)
         × ((word : WordState) → share ≡ Some word → HasRoom word)) }
 {

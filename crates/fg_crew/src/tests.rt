@@ -1,6 +1,7 @@
 //! A crew by example.
 
 use crate::{Body, Chore, Gate, Hints, NoGate, crew};
+use std::alloc::{AllocError, Global};
 use std::sync::Wait;
 use std::sync::atomic::{AtomicU64, Ordering};
 use std::thread::Threads;
@@ -69,44 +70,34 @@ impl<'a> Gate for Counting<'a> {
     }
 }
 
-#[test]
-fn workers_take_the_hints(rt: HostRuntime) {
-    let sum = AtomicU64::new(0);
+/// What a crew's body that hints answers, beside a worker for each of these. So much is added up before.
+fn hinted<R: Threads + Wait + Sync, G: Gate>(
+    rt: &R,
+    alloc: Global,
+    before: u64,
+    owns: &mut [u64],
+    gate: &G,
+) -> Result<u64, AllocError> {
+    let sum = AtomicU64::new(before);
     let clock = AtomicU64::new(0);
-    let started = AtomicU64::new(0);
-    let mut owns = [0u64; 3];
     let mut body = Hinting {
         sum: &sum,
         clock: &clock,
     };
-    let answer = crew(
-        &rt,
-        rt.alloc(),
-        &mut owns,
-        &Adding { sum: &sum },
-        &Counting { started: &started },
-        &mut body,
-    );
+    crew(rt, alloc, owns, &Adding { sum: &sum }, gate, &mut body)
+}
+
+#[test]
+fn workers_take_the_hints(rt: HostRuntime) {
+    let started = AtomicU64::new(0);
+    let gate = Counting { started: &started };
+    let answer = hinted(&rt, rt.alloc(), 0, &mut [0; 3], &gate);
     assert!(rt; answer == Ok(55));
     assert_eq!(rt; started.load(Ordering::SeqCst), 6);
 }
 
 #[test]
 fn a_body_runs_alone(rt: HostRuntime) {
-    let sum = AtomicU64::new(55);
-    let clock = AtomicU64::new(0);
-    let mut owns: [u64; 0] = [];
-    let mut body = Hinting {
-        sum: &sum,
-        clock: &clock,
-    };
-    let answer = crew(
-        &rt,
-        rt.alloc(),
-        &mut owns,
-        &Adding { sum: &sum },
-        &NoGate,
-        &mut body,
-    );
+    let answer = hinted(&rt, rt.alloc(), 55, &mut [], &NoGate);
     assert!(rt; answer == Ok(55));
 }

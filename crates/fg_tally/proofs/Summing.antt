@@ -1,5 +1,5 @@
 -- What the words folded so far sum to, and what a pass was told of them.
-use Rattle.std.proofs.Common.{◌≡◌, ◌↔◌, ◌≤◌, ◌==◌, ◌++◌, ℕ, Bool, false, not, List, [], ◌∷◌, map, filter_map, Option, Some, None, IsSome, IsTrue, refl, sym, ap, subst, ◌∙◌, ⊎_elim, eq-eqb, ne_eqb, arith}
+use Rattle.std.proofs.Common.{◌≡◌, ◌↔◌, ◌≤◌, ◌++◌, ℕ, Bool, false, not, List, [], ◌∷◌, map, filter_map, Option, Some, None, IsSome, IsTrue, refl, sym, ap, subst, ◌∙◌, ⊎_elim, arith}
 use Rattle.std.proofs.lemmas.Bool.{both_ways, cases_eq, cases_Bool, cond-true, cond-false, not-true, not_from_false}
 use Rattle.std.proofs.lemmas.List.{map-append}
 use Rattle.std.proofs.lemmas.List.Elements.{All-contains, All-weaker, All-contains_itself, Contains-append_left, Contains-append_right}
@@ -34,6 +34,7 @@ use Rattle.fg_core.specs.declared.fate.Look.TheVariants as looked
 use Rattle.fg_core.specs.declared.fate.Asked.TheVariants as asked
 use Rattle.fg_board.specs.Actors.{TakesTurn}
 use Rattle.fg_board.specs.Laws.{EachIsLater, JobsAreWorked, JobsAreChecked}
+use Rattle.fg_board.proofs.Bringing.{without_slot}
 use Rattle.fg_tally.specs.Folding.{FoldingState, nothing_folded, with_folded, missing_of}
 use Rattle.fg_tally.specs.Tally.{IsPartOfSum, job_with, Begins, Settles}
 use Rattle.fg_tally.specs.declared.answers.Begun.TheVariants as begun
@@ -53,19 +54,6 @@ sum_of_none parity room xs =
     ap (λ (ws : List Word). word_xor parity (word_sum ws)) (nothing_at (get (empty {X = Word} {R = nat_cmp})) in_empty xs)
     ∙ word_xor-zero parity room
 
--- A position without a word adds nothing.
-without_one : (words : ℕ → Option Word) (p : ℕ) → words p ≡ None → (xs : List ℕ) → filter_map words (others p xs) ≡ filter_map words xs
-without_one words p none [] = refl
-without_one words p none (x ∷ xs) = ⊎_elim
-    (λ same.
-    ap (filter_map words) (cond-false (not (x == p)) (x ∷ others p xs) (others p xs) (ap not (eq-eqb x p same)))
-    ∙ without_one words p none xs
-    ∙ ap (λ (o : Option Word). cons_option o (filter_map words xs)) (sym (ap words same ∙ none)))
-    (λ other.
-    ap (filter_map words) (cond-true (not (x == p)) (x ∷ others p xs) (others p xs) (ap not (ne_eqb x p other)))
-    ∙ ap (cons_option (words x)) (without_one words p none xs))
-    (cases_eq x p)
-
 -- One more word.
 pub sum_with_one :
     (inputs : Words) (slot : ℕ) (word parity : Word) (xs : List ℕ) → Distinct xs → Contains xs slot → get inputs slot ≡ None
@@ -77,7 +65,7 @@ sum_with_one inputs slot word parity xs distinct c none =
     ∙ ap (word_xor word)
     (sum_at-agree (get (insert inputs slot word)) (get inputs) (others slot xs)
     (λ q e. beside_inserted inputs slot word q (others-element slot xs q e).1)
-    ∙ ap word_sum (without_one (get inputs) slot none xs)) in
+    ∙ ap word_sum (without_slot (get inputs) slot none xs)) in
     ap (word_xor parity) (split ∙ word_xor_comm word rest) ∙ sym (word_xor_assoc parity rest word)
 
 -- What was told

@@ -2,11 +2,12 @@
 
 ghost use Rattle.std.specs.Prelude.{◌≡◌, ◌⊎◌, IfSome, IsSomeAnd, Ok, None, Some};
 ghost use Rattle.std.specs.List.{Contains};
+ghost use Rattle.fg_words.specs.Word.{HasRoom};
 ghost use Rattle.fg_peel.specs.Equation.{slots};
 ghost use Rattle.fg_core.specs.Core.{look};
 ghost use Rattle.fg_core.specs.declared.fate.Look.{Look as LookState};
 ghost use Rattle.fg_board.specs.Actors.{TakesTurn};
-ghost use Rattle.fg_tally.specs.Folding.{missing_of};
+ghost use Rattle.fg_tally.specs.Folding.{missing_of, with_folded, Tells};
 ghost use Rattle.fg_tally.specs.Tally.{IsTally, IsPartOfSum, asked_of, Begins, Starts, IsLeft, Folds, FoldsBy, Settles, SettlesBy, ShowsHeld};
 ghost use Rattle.fg_tally.specs.declared.answers.Folded.TheVariants.{Stale};
 
@@ -14,7 +15,8 @@ use crate::answers::{Begun, Folded, Held};
 use crate::folding::{Folding, has_room};
 use crate::missing::Missing;
 use fg_board::laws::{codes_are_read_back, jobs_follow, passes_go_on};
-use fg_board::{Asked, Board, Fate, Key, Look, Pass};
+use fg_board::{Asked, Board, Fate, Key, Look, Pass, Seen};
+use fg_words::Word;
 use std::alloc::{AllocError, Global};
 use std::marker::Model;
 use std::sync::Wait;
@@ -72,6 +74,18 @@ fn begin(
     }
 }
 
+// Folds the word that is known at a slot.
+fn fold_word(folding: &mut Folding, slot: u64, word: &Word) -> Folded
+    requires { Contains (slots folding.old.equation) slot }
+    ensures folds { folding.new ≡ with_folded folding.old slot word.now }
+    ensures tells { Tells folding.new result }
+    ensures room { HasRoom word.now }
+{
+    has_room(word);
+    folding.fold(slot, word);
+    folding.answer()
+}
+
 // Looks at a slot, and folds the word that is known there.
 fn fold_known(
     wait: &impl Wait,
@@ -90,14 +104,11 @@ fn fold_known(
     ensures part { IsPartOfSum pass.new folding.new }
 {
     codes_are_read_back();
-    match board.look(wait, pass, key, slot) {
-        Look::Known(word) => {
-            has_room(&word);
-            folding.fold(slot, &word);
-            folding.answer()
-        }
-        Look::Unknown => Folded::Unknown,
-        Look::Gone { mark: _, epoch: _ } => Folded::Stale,
+    match board.see(wait, pass, key, slot) {
+        Seen::Lent(share) => fold_word(folding, slot, share.word()),
+        Seen::Told(Look::Known(word)) => fold_word(folding, slot, &word),
+        Seen::Told(Look::Unknown) => Folded::Unknown,
+        Seen::Told(Look::Gone { mark: _, epoch: _ }) => Folded::Stale,
     }
 }
 

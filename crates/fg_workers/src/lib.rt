@@ -21,7 +21,7 @@ pub use folding::Ready;
 pub use held_places::{HeldEquation, HeldPlaces};
 pub use helping::Helping;
 pub use opening::{open, open_tallies};
-pub use places::{FlowTallies, Places};
+pub use places::{FlowTallies, Places, Spot};
 pub use points::{CALLER, Hears, PLAYING};
 pub use post::{Crew, Host, Post, Remembered};
 pub use signal::Signal;

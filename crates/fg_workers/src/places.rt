@@ -10,14 +10,23 @@ use fg_tally::{Tallies, Tally};
 use std::alloc::{AllocError, Global};
 use std::sync::Wait;
 
+/// A place of a flow.
+#[derive(Clone, Copy)]
+pub struct Spot {
+    /// The flow's number, which a hint names.
+    pub flow: u32,
+    /// The place of an equation on the flow's board.
+    pub place: u32,
+}
+
 /// What holds the equations of all flows, each at its place. Nothing is done for a flow that isn't there.
 ///
 /// It is a trait so that who shares it among threads needn't know of what the tallies borrow.
 pub trait Places {
     /// Folds what arrived of the equation at a place, where exactly one slot is without a word. Answers what is to be settled, if
     /// something is. A place where nothing is left to be done is marked no more.
-    fn fold<W: Wait>(&self, wait: &W, signal: &Signal, flow: u32, place: u32) -> Option<Ready>
-        requires { place < live_limit };
+    fn fold<W: Wait>(&self, wait: &W, signal: &Signal, spot: Spot) -> Option<Ready>
+        requires { spot.place < live_limit };
 
     /// Settles what a place holds, if it still holds this key. A place that is settled is marked no more.
     fn settle<W: Wait>(
@@ -25,11 +34,10 @@ pub trait Places {
         wait: &W,
         alloc: Global,
         signal: &Signal,
-        flow: u32,
-        place: u32,
+        spot: Spot,
         key: Key,
     ) -> Result<Option<Fate>, AllocError>
-        requires { place < live_limit };
+        requires { spot.place < live_limit };
 }
 
 /// The tallies of each flow, in their order.
@@ -39,9 +47,9 @@ pub struct FlowTallies<'b> {
 }
 
 impl<'b> Places for FlowTallies<'b> {
-    fn fold<W: Wait>(&self, wait: &W, signal: &Signal, flow: u32, place: u32) -> Option<Ready> {
-        match self.flows.get(flow as usize) {
-            Some(tallies) => fold_at(wait, signal, tallies, place),
+    fn fold<W: Wait>(&self, wait: &W, signal: &Signal, spot: Spot) -> Option<Ready> {
+        match self.flows.get(spot.flow as usize) {
+            Some(tallies) => fold_at(wait, signal, tallies, spot.place),
             None => None,
         }
     }
@@ -51,12 +59,11 @@ impl<'b> Places for FlowTallies<'b> {
         wait: &W,
         alloc: Global,
         signal: &Signal,
-        flow: u32,
-        place: u32,
+        spot: Spot,
         key: Key,
     ) -> Result<Option<Fate>, AllocError> {
-        match self.flows.get(flow as usize) {
-            Some(tallies) => settle_at(wait, alloc, signal, tallies, place, key),
+        match self.flows.get(spot.flow as usize) {
+            Some(tallies) => settle_at(wait, alloc, signal, tallies, spot.place, key),
             None => Ok(None),
         }
     }

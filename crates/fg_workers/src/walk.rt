@@ -3,7 +3,7 @@ ghost use Rattle.std.specs.Prelude.{◌<◌, ◌≤◌, ◌+◌};
 ghost use Rattle.fg_playout.specs.Admission.{live_limit};
 
 use crate::held_places::PLACES;
-use crate::places::Places;
+use crate::places::{Places, Spot};
 use crate::points::{FOLDED, Hears, NO_MEMORY, TAKEN};
 use crate::post::Remembered;
 use crate::signal::Signal;
@@ -95,20 +95,19 @@ impl<'a, W: Wait, G: Hears, P: Places> Visit<'a, W, G, P> {
         if !self.signal.held.has(place) {
             return Help::Nothing;
         }
-        let Some(ready) = self.places.fold(self.wait, self.signal, self.flow, place) else {
+        let spot = Spot {
+            flow: self.flow,
+            place,
+        };
+        let Some(ready) = self.places.fold(self.wait, self.signal, spot) else {
             return Help::Nothing;
         };
         // Another worker may settle the next one meanwhile.
         self.signal.hint(self.wait, self.hints, self.flow);
         self.gate.hear(self.worker, FOLDED);
-        let settled = self.places.settle(
-            self.wait,
-            self.alloc,
-            self.signal,
-            self.flow,
-            place,
-            ready.key,
-        );
+        let settled = self
+            .places
+            .settle(self.wait, self.alloc, self.signal, spot, ready.key);
         match settled {
             Ok(Some(fate)) => {
                 self.tell(fate, ready.missing);

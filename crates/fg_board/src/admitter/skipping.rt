@@ -5,11 +5,13 @@ ghost use Rattle.fg_playout.specs.Laws.{HavePlayed, AreFlushSteps, AreHeldSteps}
 ghost use Rattle.fg_playout.specs.Empty.{empty_plays};
 ghost use Rattle.fg_playout.specs.Room.{call_limit};
 ghost use Rattle.fg_core.specs.Core.{skip};
+ghost use Rattle.fg_core.specs.Skipping.{ArePlayed, time_of};
 ghost use Rattle.fg_board.specs.Actors.{MakesCall, desk_of};
 
-use crate::admitter::{Admitter, enter_own};
+use crate::admitter::Admitter;
 use crate::board::Board;
-use crate::turns::{Made, settle_owner};
+use crate::turns::Made;
+use fg_core::Skip;
 use fg_playout::CALL_LIMIT;
 use std::sync::Wait;
 
@@ -26,7 +28,7 @@ impl Admitter {
         if !self.can_pass() || !self.due(seq, ssrc) {
             return 0;
         }
-        self.pass_due(wait, board, seq, ssrc)
+        self.pass(wait, board, Skip::Due { seq, ssrc })
     }
 
     /// The same for steps of a flush. It takes no turn where no word was received a window past the mark.
@@ -39,7 +41,7 @@ impl Admitter {
         if !self.can_pass() || !self.reaches_far() {
             return 0;
         }
-        self.pass_rest(wait, board)
+        self.pass(wait, board, Skip::Rest)
     }
 
     /// The same for held plays at a time, in microseconds, which the desk is told where there are any.
@@ -53,7 +55,7 @@ impl Admitter {
         if !self.can_pass() || !self.reaches_far() {
             return 0;
         }
-        self.pass_held(wait, board, time)
+        self.pass(wait, board, Skip::Held { time })
     }
 
     /// The first position that isn't played yet.
@@ -73,91 +75,30 @@ impl Admitter {
         self.near.top.is_some() && self.near.calls < CALL_LIMIT
     }
 
-    // As `skip_due`, always in a turn.
-    fn pass_due(&mut self, wait: &impl Wait, board: &Board, seq: u16, ssrc: u32) -> u64
-        requires board { self.old.seat.turn ≡ board.now.name }
-        requires started { IsSome (desk_of self.old).top }
-        requires calls { (desk_of self.old).calls < call_limit }
-        ensures call { MakesCall (skip None result) self.old self.new }
-        ensures plays { HavePlayed (desk_of self.old) seq ssrc
-            (empty_plays result (desk_of self.old).playout.window (desk_of self.old).mark) (desk_of self.new) }
-    {
-        let mut flow = enter_own(
-            wait,
-            &board.turn,
-            &mut self.owner,
-            &mut self.spare,
-            self.window,
-            self.depth,
-            self.hold,
-        );
-        let count = flow.skip_due(seq, ssrc);
-        self.near = self.near.after_windows(&flow, count);
-        settle_owner(&board.turn, &mut self.owner, flow, Made::Skip(None, count));
-        count
-    }
-
     // Whether a word was received a window past the mark. Else no window can be passed but one that is due.
     fn reaches_far(&self) -> bool {
         match self.near.top {
             Some((top, _, _)) => {
-                top >= self.near.mark && top - self.near.mark >= u64::from(self.window)
+                top >= self.near.mark && top - self.near.mark >= u64::from(self.seat.window)
             }
             None => false,
         }
     }
 
-    // As `skip_rest`, always in a turn.
-    fn pass_rest(&mut self, wait: &impl Wait, board: &Board) -> u64
+    // Passes such windows, always in a turn.
+    fn pass(&mut self, wait: &impl Wait, board: &Board, which: Skip) -> u64
         requires board { self.old.seat.turn ≡ board.now.name }
         requires started { IsSome (desk_of self.old).top }
         requires calls { (desk_of self.old).calls < call_limit }
-        ensures call { MakesCall (skip None result) self.old self.new }
-        ensures plays { AreFlushSteps (desk_of self.old)
+        requires limited { IsSome (time_of which) → (desk_of self.old).playout.hold ≢ 0 }
+        ensures call { MakesCall (skip (time_of which) result) self.old self.new }
+        ensures plays { ArePlayed which (desk_of self.old)
             (empty_plays result (desk_of self.old).playout.window (desk_of self.old).mark) (desk_of self.new) }
     {
-        let mut flow = enter_own(
-            wait,
-            &board.turn,
-            &mut self.owner,
-            &mut self.spare,
-            self.window,
-            self.depth,
-            self.hold,
-        );
-        let count = flow.skip_rest();
+        let mut flow = self.seat.enter(wait, board, &mut self.spare);
+        let count = flow.skip(which);
         self.near = self.near.after_windows(&flow, count);
-        settle_owner(&board.turn, &mut self.owner, flow, Made::Skip(None, count));
-        count
-    }
-
-    // As `skip_held`, always in a turn.
-    fn pass_held(&mut self, wait: &impl Wait, board: &Board, time: u64) -> u64
-        requires board { self.old.seat.turn ≡ board.now.name }
-        requires started { IsSome (desk_of self.old).top }
-        requires calls { (desk_of self.old).calls < call_limit }
-        requires limited { (desk_of self.old).playout.hold ≢ 0 }
-        ensures call { MakesCall (skip (Some time) result) self.old self.new }
-        ensures plays { AreHeldSteps (desk_of self.old) time
-            (empty_plays result (desk_of self.old).playout.window (desk_of self.old).mark) (desk_of self.new) }
-    {
-        let mut flow = enter_own(
-            wait,
-            &board.turn,
-            &mut self.owner,
-            &mut self.spare,
-            self.window,
-            self.depth,
-            self.hold,
-        );
-        let count = flow.skip_held(time);
-        self.near = self.near.after_windows(&flow, count);
-        settle_owner(
-            &board.turn,
-            &mut self.owner,
-            flow,
-            Made::Skip(Some(time), count),
-        );
+        self.seat.leave(board, flow, Made::Skip(which, count));
         count
     }
 }

@@ -9,31 +9,20 @@ use fg_words::Shared;
 use std::alloc::{AllocError, Global};
 use std::sync::Wait;
 
-/// Admits a media datagram. None where a play is due first, the SSRC is fresh, or the word is no media word.
-pub(super) fn media(
-    wait: &impl Wait,
-    board: &Board,
-    admitter: &mut Admitter,
-    seq: u16,
-    ssrc: u32,
-    share: Shared,
-) -> Option<Reply>
-    requires { admitter.old.seat.turn ≡ board.now.name }
-    ensures turn { admitter.new.seat.turn ≡ admitter.old.seat.turn }
-    ensures window { admitter.new.playout.window ≡ admitter.old.playout.window }
-{
-    if admitter.fresh(ssrc) {
-        return None;
-    }
-    if !admitter.room() || admitter.due(seq, ssrc) || !share.word().is_media() {
-        return None;
-    }
-    Some(admitter.admit_media(wait, board, seq, ssrc, share))
+/// Which window is to be played or passed.
+#[derive(Clone, Copy)]
+pub(super) enum Window {
+    /// One that is due before a datagram of this sequence number and SSRC.
+    Due(u16, u32),
+    /// One that is a step of a flush.
+    Rest,
+    /// One that is held at this time. There is none where a word may wait for ever.
+    Held(u64),
 }
 
-/// Admits a media datagram with which a run may begin. None where something is left to be shown first, or the word is no media
-/// word.
-pub(super) fn begin(
+/// Admits a media datagram. None where a play is due first, where a run begins and something is left to be shown first, or
+/// where the word is no media word.
+pub(super) fn media(
     wait: &impl Wait,
     alloc: Global,
     board: &Board,
@@ -47,9 +36,11 @@ pub(super) fn begin(
     ensures turn { admitter.new.seat.turn ≡ admitter.old.seat.turn }
     ensures window { admitter.new.playout.window ≡ admitter.old.playout.window }
 {
-    let mut tray = Tray::new(alloc, 100)?;
-    if !admitter.room() || admitter.flush_step(wait, board, &mut tray).is_some() {
-        return Ok(None);
+    if admitter.fresh(ssrc) {
+        let mut tray = Tray::new(alloc, 100)?;
+        if !admitter.room() || admitter.flush_step(wait, board, &mut tray).is_some() {
+            return Ok(None);
+        }
     }
     if !admitter.room() || admitter.due(seq, ssrc) || !share.word().is_media() {
         return Ok(None);
@@ -76,34 +67,13 @@ pub(super) fn parity(
     Some(admitter.admit_parity(wait, board, base, shape, share))
 }
 
-/// Plays a window. None where no play is due before this sequence number and SSRC.
+/// Plays a window. None where there is no such one.
 pub(super) fn play(
     wait: &impl Wait,
     alloc: Global,
     board: &Board,
     admitter: &mut Admitter,
-    seq: u16,
-    ssrc: u32,
-) -> Result<Option<(Played, Tray)>, AllocError>
-    requires turn { admitter.old.seat.turn ≡ board.now.name }
-    requires window { admitter.old.playout.window ≤ 100 }
-    ensures turn { admitter.new.seat.turn ≡ admitter.old.seat.turn }
-    ensures window { admitter.new.playout.window ≡ admitter.old.playout.window }
-{
-    let mut tray = Tray::new(alloc, 100)?;
-    if !admitter.room() || !admitter.due(seq, ssrc) {
-        return Ok(None);
-    }
-    let played = admitter.play(wait, board, &mut tray);
-    Ok(Some((played, tray)))
-}
-
-/// Plays a flush step. None where there is none.
-pub(super) fn flush(
-    wait: &impl Wait,
-    alloc: Global,
-    board: &Board,
-    admitter: &mut Admitter,
+    window: Window,
 ) -> Result<Option<(Played, Tray)>, AllocError>
     requires turn { admitter.old.seat.turn ≡ board.now.name }
     requires window { admitter.old.playout.window ≤ 100 }
@@ -114,31 +84,15 @@ pub(super) fn flush(
     if !admitter.room() {
         return Ok(None);
     }
-    match admitter.flush_step(wait, board, &mut tray) {
-        Some(played) => Ok(Some((played, tray))),
-        None => Ok(None),
-    }
-}
-
-/// Plays a held step at a time. None where there is none, or where a word may wait for ever.
-pub(super) fn held(
-    wait: &impl Wait,
-    alloc: Global,
-    board: &Board,
-    admitter: &mut Admitter,
-    time: u64,
-) -> Result<Option<(Played, Tray)>, AllocError>
-    requires turn { admitter.old.seat.turn ≡ board.now.name }
-    requires window { admitter.old.playout.window ≤ 100 }
-    ensures turn { admitter.new.seat.turn ≡ admitter.old.seat.turn }
-    ensures window { admitter.new.playout.window ≡ admitter.old.playout.window }
-{
-    let mut tray = Tray::new(alloc, 100)?;
-    if !admitter.room() || admitter.hold() == 0 {
-        return Ok(None);
-    }
-    match admitter.held_step(wait, board, time, &mut tray) {
-        Some(played) => Ok(Some((played, tray))),
-        None => Ok(None),
-    }
+    let played = match window {
+        Window::Due(seq, ssrc) if admitter.due(seq, ssrc) => {
+            Some(admitter.play(wait, board, &mut tray))
+        }
+        Window::Rest => admitter.flush_step(wait, board, &mut tray),
+        Window::Held(time) if admitter.hold() > 0 => {
+            admitter.held_step(wait, board, time, &mut tray)
+        }
+        Window::Due(..) | Window::Held(_) => None,
+    };
+    Ok(played.map(|played| (played, tray)))
 }

@@ -1,6 +1,6 @@
 //! A pass asks for an equation by its key.
 
-ghost use Rattle.std.specs.Prelude.{◌≡◌};
+ghost use Rattle.std.specs.Prelude.{◌≡◌, ◌≤◌};
 
 use super::admit;
 use super::scene::open;
@@ -18,13 +18,14 @@ fn row_of_four(
     board: &Board,
     admitter: &mut Admitter,
 ) -> Result<Option<Key>, AllocError>
-    requires { admitter.old.seat.turn ≡ board.now.name }
+    requires turn { admitter.old.seat.turn ≡ board.now.name }
+    requires window { admitter.old.playout.window ≤ 100 }
     ensures { admitter.new.seat.turn ≡ admitter.old.seat.turn }
 {
     let shape = Shape { offset: 1, na: 4 };
     let first = word_of(0).share(alloc)?;
     let parity = sum_of(0, shape).share(alloc)?;
-    let _ = admit::media(wait, board, admitter, 0, 0, first);
+    let _ = admit::media(wait, alloc, board, admitter, 0, 0, first)?;
     match admit::parity(wait, board, admitter, 0, shape, parity) {
         Some((_, key)) => Ok(key),
         None => Ok(None),

@@ -1,5 +1,6 @@
 //! A desk alone, which takes what a board's admitter takes.
 
+use super::admit::Window;
 use fg_desk::{Desk, Played, Reply, Tray};
 use fg_shape::{Shape, shape_ok};
 use fg_words::Shared;
@@ -36,41 +37,23 @@ pub(super) fn parity(desk: &mut Desk, base: u16, shape: Shape, share: Shared) ->
     Some(desk.admit_parity(base, shape, share))
 }
 
-/// Plays a window. None where no play is due before this sequence number and SSRC.
+/// Plays a window. None where there is no such one.
 pub(super) fn play(
     desk: &mut Desk,
     alloc: Global,
-    seq: u16,
-    ssrc: u32,
+    window: Window,
 ) -> Result<Option<(Played, Tray)>, AllocError> {
-    let mut tray = Tray::new(alloc, 100)?;
-    if !desk.room() || !desk.due(seq, ssrc) {
-        return Ok(None);
-    }
-    let played = desk.play(&mut tray);
-    Ok(Some((played, tray)))
-}
-
-/// Plays a flush step. None where there is none.
-pub(super) fn flush(desk: &mut Desk, alloc: Global) -> Result<Option<(Played, Tray)>, AllocError> {
     let mut tray = Tray::new(alloc, 100)?;
     if !desk.room() {
         return Ok(None);
     }
-    Ok(desk.flush_step(&mut tray).map(|played| (played, tray)))
-}
-
-/// Plays a held step at a time. None where there is none, or where a word may wait for ever.
-pub(super) fn held(
-    desk: &mut Desk,
-    alloc: Global,
-    time: u64,
-) -> Result<Option<(Played, Tray)>, AllocError> {
-    let mut tray = Tray::new(alloc, 100)?;
-    if !desk.room() || desk.hold() == 0 {
-        return Ok(None);
-    }
-    Ok(desk.held_step(time, &mut tray).map(|played| (played, tray)))
+    let played = match window {
+        Window::Due(seq, ssrc) if desk.due(seq, ssrc) => Some(desk.play(&mut tray)),
+        Window::Rest => desk.flush_step(&mut tray),
+        Window::Held(time) if desk.hold() > 0 => desk.held_step(time, &mut tray),
+        Window::Due(..) | Window::Held(_) => None,
+    };
+    Ok(played.map(|played| (played, tray)))
 }
 
 /// Whether two plays show the same, or neither was made.

@@ -2,8 +2,8 @@
 
 use super::scene::Who::{A, B, C};
 use super::script::Step::{
-    Attest, BackAndAttest, BackAndOffer, Flush, From, GiveBack, Look, Media, Parity, Play, Publish,
-    Run, Take, Vouch,
+    Attest, BackAndAttest, BackAndOffer, Block, Flush, From, GiveBack, Look, Media, Parity, Play,
+    Publish, Run, Take, Vouch,
 };
 use super::script::{FLIPPED, Sight, follows, to_show};
 use fg_board::Fate::{Beaten, Done, Gone};
@@ -109,9 +109,7 @@ fn looks_at_all_kinds_of_positions(rt: HostRuntime) -> Result<(), Fail> {
 #[test]
 fn words_and_checks_of_jobs_given_back(rt: HostRuntime) -> Result<(), Fail> {
     let script = [
-        Run(0, 16, 1 << 5),
-        Parity(4, 1, 4, 4, Admitted),
-        Parity(1, 4, 4, 1, Admitted),
+        Block,
         Take(A, Some((0, Some(5)))),
         BackAndOffer(A, Done),
         // Neither the offer nor the attest has noted it.

@@ -2,7 +2,7 @@
 
 use super::scene::Who::{A, B, C};
 use super::script::Step::{
-    Attest, Flush, GiveBack, Look, Media, Offer, Parity, Play, Publish, Run, Take, Vouch,
+    Attest, Block, Flush, GiveBack, Look, Media, Offer, Parity, Play, Publish, Run, Take, Vouch,
 };
 use super::script::{FLIPPED, Sight, follows, to_show};
 use fg_board::Fate::{Beaten, Done, Gone};
@@ -36,9 +36,7 @@ fn two_jobs_for_one_slot(rt: HostRuntime) -> Result<(), Fail> {
 fn word_of_an_older_epoch(rt: HostRuntime) -> Result<(), Fail> {
     let gone = Gone { mark: 0, epoch: 1 };
     let script = [
-        Run(0, 16, 1 << 5),
-        Parity(4, 1, 4, 4, Admitted),
-        Parity(1, 4, 4, 1, Admitted),
+        Block,
         Take(A, Some((0, Some(5)))),
         Take(C, Some((1, Some(5)))),
         Publish(A, Done),
@@ -55,9 +53,7 @@ fn word_of_an_older_epoch(rt: HostRuntime) -> Result<(), Fail> {
 #[test]
 fn job_given_back_and_looks(rt: HostRuntime) -> Result<(), Fail> {
     let script = [
-        Run(0, 16, 1 << 5),
-        Parity(4, 1, 4, 4, Admitted),
-        Parity(1, 4, 4, 1, Admitted),
+        Block,
         Take(A, Some((0, Some(5)))),
         GiveBack(A, Done),
         Take(B, Some((0, Some(5)))),
@@ -96,9 +92,7 @@ fn equation_that_does_not_come_out(rt: HostRuntime) -> Result<(), Fail> {
 #[test]
 fn words_and_checks_by_who_keeps_the_job(rt: HostRuntime) -> Result<(), Fail> {
     let script = [
-        Run(0, 16, 1 << 5),
-        Parity(4, 1, 4, 4, Admitted),
-        Parity(1, 4, 4, 1, Admitted),
+        Block,
         Take(A, Some((0, Some(5)))),
         Offer(A, Done),
         Offer(A, Beaten(5)),

@@ -2,10 +2,11 @@
 
 ghost use Rattle.std.specs.Prelude.{◌≤◌};
 
+use super::admit::Window;
 use super::bare;
 use super::bare::same_plays;
-use super::scene::{Scene, Who};
-use super::script::word_of;
+use super::scene::{Scene, Way, Who};
+use super::script::stamped;
 use fg_board::{Fate, Look};
 use fg_desk::{Desk, Outcome, Played, Reply, Tray};
 use fg_shape::Shape;
@@ -35,23 +36,24 @@ const FLUSHES: u32 = 1_200;
 /// A datagram makes so many plays due at most.
 const PLAYS: u32 = 600;
 
-/// How often passes and the admitter were answered what.
+/// What can come of a step.
 #[derive(Clone, Copy)]
-struct Came {
-    done: u32,
-    beaten: u32,
-    gone: u32,
+enum Event {
+    Done,
+    Beaten,
+    Gone,
     /// Gone, since a word that was solved was contradicted.
-    withdrawn: u32,
-    /// Runs that were begun.
-    runs: u64,
-    foreign: u32,
-    /// Held plays.
-    held: u32,
+    Withdrawn,
+    Foreign,
+    /// A held play.
+    Held,
     /// Windows that were passed at once.
-    passed: u64,
-    inconsistent: u64,
+    Passed,
+    Inconsistent,
 }
+
+/// Which of the events came, by their numbers.
+type Came = [bool; 8];
 
 /// What is drawn for a flow.
 #[derive(Clone, Copy)]
@@ -77,13 +79,6 @@ struct Both {
     time: u64,
     odds: Odds,
     came: Came,
-}
-
-/// A media word with this timestamp.
-fn stamped(timestamp: u32) -> Word {
-    let mut word = word_of(0);
-    word.ts = timestamp;
-    word
 }
 
 /// The timestamp that was sent at a position.
@@ -130,51 +125,22 @@ fn is_nothing(done: &Option<(Played, Tray)>, window: u32) -> bool {
     true
 }
 
-/// The desk alone makes as many flush steps as windows were passed. Whether each shows nothing.
-fn alone_flushes(alloc: Global, both: &mut Both, count: u64) -> Result<bool, AllocError> {
+/// The desk alone plays as many windows as were passed. Whether each shows nothing.
+fn alone_plays(both: &mut Both, window: Window, count: u64) -> Result<bool, AllocError> {
     for _ in 0..count {
-        if !is_nothing(&bare::flush(&mut both.desk, alloc)?, both.desk.window()) {
+        let done = bare::play(&mut both.desk, both.scene.alloc(), window)?;
+        if !is_nothing(&done, both.desk.window()) {
             return Ok(false);
         }
     }
     Ok(true)
 }
 
-/// The desk alone makes as many due plays as windows were passed. Whether each shows nothing.
-fn alone_plays(
-    alloc: Global,
-    both: &mut Both,
-    seq: u16,
-    ssrc: u32,
-    count: u64,
-) -> Result<bool, AllocError> {
-    for _ in 0..count {
-        if !is_nothing(
-            &bare::play(&mut both.desk, alloc, seq, ssrc)?,
-            both.desk.window(),
-        ) {
-            return Ok(false);
-        }
-    }
-    Ok(true)
-}
-
-/// The desk alone makes as many held steps as windows were passed. Whether each shows nothing.
-fn alone_holds(alloc: Global, both: &mut Both, count: u64) -> Result<bool, AllocError> {
-    for _ in 0..count {
-        if !is_nothing(
-            &bare::held(&mut both.desk, alloc, both.time)?,
-            both.desk.window(),
-        ) {
-            return Ok(false);
-        }
-    }
-    Ok(true)
-}
-
-/// Counts windows that were passed. Whether board and desk have one mark.
+/// Notes windows that were passed. Whether board and desk have one mark.
 fn have_passed(both: &mut Both, count: u64) -> bool {
-    both.came.passed = both.came.passed.saturating_add(count);
+    if count > 0 {
+        both.came[Event::Passed as usize] = true;
+    }
     both.scene.mark() == both.desk.mark()
 }
 
@@ -186,97 +152,66 @@ fn is_inconsistent(done: &Option<(Played, Tray)>) -> bool {
     }
 }
 
-/// Counts a play. Whether it is the same for both, or neither made it.
+/// Notes a play. Whether it is the same for both, or neither made it.
 fn have_played(
     both: &mut Both,
     shared: &Option<(Played, Tray)>,
     alone: &Option<(Played, Tray)>,
 ) -> bool {
     if is_inconsistent(shared) {
-        both.came.inconsistent = both.came.inconsistent.saturating_add(1);
+        both.came[Event::Inconsistent as usize] = true;
     }
     same_plays(shared, alone)
 }
 
-/// Both play a window that is due before a sequence number and SSRC. Whether they agree.
-fn both_play(
-    wait: &impl Wait,
-    alloc: Global,
-    both: &mut Both,
-    seq: u16,
-    ssrc: u32,
-) -> Result<bool, AllocError> {
-    let shared = both.scene.play(wait, seq, ssrc)?;
-    let alone = bare::play(&mut both.desk, alloc, seq, ssrc)?;
-    Ok(shared.is_some() && have_played(both, &shared, &alone))
-}
-
-/// Both make a flush step. Whether they agree.
-fn both_flush(wait: &impl Wait, alloc: Global, both: &mut Both) -> Result<bool, AllocError> {
-    let shared = both.scene.flush(wait)?;
-    let alone = bare::flush(&mut both.desk, alloc)?;
-    Ok(have_played(both, &shared, &alone))
-}
-
-/// Both make a held step. Whether they agree.
-fn both_hold(wait: &impl Wait, alloc: Global, both: &mut Both) -> Result<bool, AllocError> {
-    let shared = both.scene.held(wait, both.time)?;
-    let alone = bare::held(&mut both.desk, alloc, both.time)?;
-    if shared.is_some() {
-        both.came.held = both.came.held.saturating_add(1);
+/// Both play a window. Whether they agree, and there is one where it is to be due.
+fn both_play(wait: &impl Wait, both: &mut Both, window: Window) -> Result<bool, AllocError> {
+    let shared = both.scene.play(wait, window)?;
+    let alone = bare::play(&mut both.desk, both.scene.alloc(), window)?;
+    match window {
+        Window::Due(..) if shared.is_none() => return Ok(false),
+        Window::Held(_) if shared.is_some() => both.came[Event::Held as usize] = true,
+        _ => {}
     }
     Ok(have_played(both, &shared, &alone))
 }
 
-/// Both pass windows that are due before a sequence number and SSRC, or play one. Whether they agree.
-fn both_play_some(
-    wait: &impl Wait,
-    alloc: Global,
-    both: &mut Both,
-    seq: u16,
-    ssrc: u32,
-) -> Result<bool, AllocError> {
-    let count = both.scene.skip_due(wait, seq, ssrc);
+/// Both pass windows, or play one. Whether they agree.
+fn both_play_some(wait: &impl Wait, both: &mut Both, window: Window) -> Result<bool, AllocError> {
+    let count = both.scene.skip(wait, window);
     if count == 0 {
-        return both_play(wait, alloc, both, seq, ssrc);
+        return both_play(wait, both, window);
     }
-    Ok(alone_plays(alloc, both, seq, ssrc, count)? && have_passed(both, count))
+    Ok(alone_plays(both, window, count)? && have_passed(both, count))
 }
 
 /// Both pass, half of the time, windows that are steps of a flush. Whether they agree.
 fn both_pass_rest(
     wait: &impl Wait,
-    alloc: Global,
     both: &mut Both,
     random: &mut Pcg32,
 ) -> Result<bool, AllocError> {
     if random.next_word() % 2 == 0 {
         return Ok(true);
     }
-    let count = both.scene.skip_rest(wait);
-    Ok(alone_flushes(alloc, both, count)? && have_passed(both, count))
+    let count = both.scene.skip(wait, Window::Rest);
+    Ok(alone_plays(both, Window::Rest, count)? && have_passed(both, count))
 }
 
 /// Both pass windows that are held plays, or make one, at a time that may go back. Whether they agree.
 fn both_hold_some(
     wait: &impl Wait,
-    alloc: Global,
     both: &mut Both,
     random: &mut Pcg32,
 ) -> Result<bool, AllocError> {
     let time = both.time.saturating_add(one_of(random, 40));
     both.time = time.saturating_sub(10);
-    let count = both.scene.skip_held(wait, both.time);
-    if count == 0 {
-        return both_hold(wait, alloc, both);
-    }
-    Ok(alone_holds(alloc, both, count)? && have_passed(both, count))
+    both_play_some(wait, both, Window::Held(both.time))
 }
 
 /// Both play while a play is due before a sequence number and SSRC.
 fn both_play_on(
     wait: &impl Wait,
-    alloc: Global,
     both: &mut Both,
     seq: u16,
     ssrc: u32,
@@ -289,7 +224,7 @@ fn both_play_on(
         if !due {
             return Ok(true);
         }
-        if !both_play_some(wait, alloc, both, seq, ssrc)? {
+        if !both_play_some(wait, both, Window::Due(seq, ssrc))? {
             return Ok(false);
         }
     }
@@ -299,16 +234,15 @@ fn both_play_on(
 /// Both are flushed until nothing is left. Whether they agree.
 fn both_flush_on(
     wait: &impl Wait,
-    alloc: Global,
     both: &mut Both,
     random: &mut Pcg32,
 ) -> Result<bool, AllocError> {
     for _ in 0..FLUSHES {
-        if !both_pass_rest(wait, alloc, both, random)? {
+        if !both_pass_rest(wait, both, random)? {
             return Ok(false);
         }
         let mark = both.desk.mark();
-        if !both_flush(wait, alloc, both)? {
+        if !both_play(wait, both, Window::Rest)? {
             return Ok(false);
         }
         if both.desk.mark() == mark {
@@ -331,16 +265,16 @@ fn arriving(random: &mut Pcg32, odds: Odds, position: u64) -> Word {
 /// Both admit a media datagram. Whether they agree.
 fn both_admit(
     wait: &impl Wait,
-    alloc: Global,
     both: &mut Both,
     seq: u16,
     ssrc: u32,
     word: Word,
 ) -> Result<bool, AllocError> {
-    let shared = both.scene.media(wait, seq, ssrc, word)?;
+    let alloc = both.scene.alloc();
+    let shared = both.scene.media(wait, seq, ssrc, word.share(alloc)?)?;
     let alone = bare::media(&mut both.desk, seq, ssrc, word.share(alloc)?);
     if shared == Some(Reply::Foreign) {
-        both.came.foreign = both.came.foreign.saturating_add(1);
+        both.came[Event::Foreign as usize] = true;
     }
     Ok(shared.is_some() && shared == alone)
 }
@@ -348,12 +282,11 @@ fn both_admit(
 /// Both are flushed, and begin a run at the mark. Whether they agree.
 fn both_begin(
     wait: &impl Wait,
-    alloc: Global,
     both: &mut Both,
     random: &mut Pcg32,
     ssrc: u32,
 ) -> Result<bool, AllocError> {
-    if !both_flush_on(wait, alloc, both, random)? {
+    if !both_flush_on(wait, both, random)? {
         return Ok(false);
     }
     let mark = both.desk.mark();
@@ -361,7 +294,7 @@ fn both_begin(
     both.ssrc = ssrc;
     both.first = seq.wrapping_sub((mark % 65_536) as u16);
     let word = arriving(random, both.odds, mark);
-    both_admit(wait, alloc, both, seq, ssrc, word)
+    both_admit(wait, both, seq, ssrc, word)
 }
 
 /// Who sends: mostly the sender of the current run.
@@ -376,25 +309,23 @@ fn sender(random: &mut Pcg32, current: u32) -> u32 {
 /// The media datagram three positions before this one comes to both, after the plays that it makes due.
 fn both_take_at(
     wait: &impl Wait,
-    alloc: Global,
     both: &mut Both,
     random: &mut Pcg32,
     ssrc: u32,
     from_three: u64,
 ) -> Result<bool, AllocError> {
     let seq = seq_of(both, from_three).wrapping_sub(3);
-    if !both_play_on(wait, alloc, both, seq, ssrc)? {
+    if !both_play_on(wait, both, seq, ssrc)? {
         return Ok(false);
     }
     let word = arriving(random, both.odds, from_three.wrapping_sub(3));
-    both_admit(wait, alloc, both, seq, ssrc, word)
+    both_admit(wait, both, seq, ssrc, word)
 }
 
 /// A media datagram near the mark comes to both, or now and then one from farther ahead. Now and then another sender begins a
 /// run.
 fn both_take_media(
     wait: &impl Wait,
-    alloc: Global,
     both: &mut Both,
     random: &mut Pcg32,
 ) -> Result<bool, AllocError> {
@@ -404,7 +335,7 @@ fn both_take_media(
         return Ok(false);
     }
     if fresh {
-        return both_begin(wait, alloc, both, random, ssrc);
+        return both_begin(wait, both, random, ssrc);
     }
     let near = one_of(random, u64::from(both.depth).saturating_add(6));
     let far = if one_of(random, 16) == 0 {
@@ -413,13 +344,12 @@ fn both_take_media(
         0
     };
     let from_three = both.desk.mark().saturating_add(near).saturating_add(far);
-    both_take_at(wait, alloc, both, random, ssrc, from_three)
+    both_take_at(wait, both, random, ssrc, from_three)
 }
 
 /// The media datagrams that follow the last one come to both, but for those that are lost.
 fn both_take_run(
     wait: &impl Wait,
-    alloc: Global,
     both: &mut Both,
     random: &mut Pcg32,
 ) -> Result<bool, AllocError> {
@@ -431,7 +361,7 @@ fn both_take_run(
     for i in 0..one_of(random, 40) {
         let lost = random.next_word() % 100 < both.odds.loss;
         let ssrc = both.ssrc;
-        if !lost && !both_take_at(wait, alloc, both, random, ssrc, next.saturating_add(i))? {
+        if !lost && !both_take_at(wait, both, random, ssrc, next.saturating_add(i))? {
             return Ok(false);
         }
     }
@@ -441,7 +371,6 @@ fn both_take_run(
 /// A parity datagram comes to both.
 fn both_take_parity(
     wait: &impl Wait,
-    alloc: Global,
     both: &mut Both,
     random: &mut Pcg32,
 ) -> Result<bool, AllocError> {
@@ -456,7 +385,8 @@ fn both_take_parity(
     if random.next_word() % both.odds.wrong.saturating_mul(3).max(1) == 0 {
         word.ts ^= 1;
     }
-    let shared = both.scene.parity(wait, seq, shape, word)?;
+    let alloc = both.scene.alloc();
+    let shared = both.scene.parity(wait, seq, shape, word.share(alloc)?)?;
     let alone = bare::parity(&mut both.desk, seq, shape, word.share(alloc)?);
     Ok(shared.is_some() && shared == alone)
 }
@@ -482,15 +412,15 @@ fn look_agrees(wait: &impl Wait, both: &mut Both, who: Who, random: &mut Pcg32) 
     }
 }
 
-/// Counts what a pass was answered. Whether it tells the mark and the epoch as they are.
-fn count(came: &mut Came, desk: &Desk, fate: Option<Fate>) -> bool {
+/// Notes what a pass was answered. Whether it tells the mark and the epoch as they are.
+fn note(came: &mut Came, desk: &Desk, fate: Option<Fate>) -> bool {
     match fate {
-        Some(Fate::Done) => came.done = came.done.saturating_add(1),
-        Some(Fate::Beaten(_)) => came.beaten = came.beaten.saturating_add(1),
+        Some(Fate::Done) => came[Event::Done as usize] = true,
+        Some(Fate::Beaten(_)) => came[Event::Beaten as usize] = true,
         Some(Fate::Gone { mark, epoch }) => {
-            came.gone = came.gone.saturating_add(1);
+            came[Event::Gone as usize] = true;
             if epoch > desk.epoch() {
-                came.withdrawn = came.withdrawn.saturating_add(1);
+                came[Event::Withdrawn as usize] = true;
             }
             return mark == desk.mark() && epoch >= desk.epoch();
         }
@@ -517,10 +447,8 @@ fn end_job(
     if kind == 4 {
         return Ok(scene.give_back(wait, who));
     }
-    if kind < 7 {
-        return scene.bring_and_keep(wait, who);
-    }
-    scene.bring(wait, who)
+    let way = if kind < 7 { Way::Keeping } else { Way::Ending };
+    Ok(scene.bring(wait, who, way)?.map(|brought| brought.fate))
 }
 
 /// One turn of a pass, which is of no effect on what the admitter is answered.
@@ -536,40 +464,34 @@ fn pass_goes_on(wait: &impl Wait, both: &mut Both, random: &mut Pcg32) -> Result
         return Ok(true);
     }
     let fate = end_job(wait, &mut both.scene, who, kind)?;
-    Ok(count(&mut both.came, &both.desk, fate))
+    Ok(note(&mut both.came, &both.desk, fate))
 }
 
 /// One step of the admitter, and of the desk alone. Whether they agree.
 fn admitter_goes_on(
     wait: &impl Wait,
-    alloc: Global,
     both: &mut Both,
     random: &mut Pcg32,
     kind: u32,
 ) -> Result<bool, AllocError> {
     if kind < 10 {
-        both_take_media(wait, alloc, both, random)
+        both_take_media(wait, both, random)
     } else if kind < 13 || !both.odds.parity {
-        both_take_run(wait, alloc, both, random)
+        both_take_run(wait, both, random)
     } else {
-        both_take_parity(wait, alloc, both, random)
+        both_take_parity(wait, both, random)
     }
 }
 
 /// One step. Whether board and desk agree.
-fn go_on(
-    wait: &impl Wait,
-    alloc: Global,
-    both: &mut Both,
-    random: &mut Pcg32,
-) -> Result<bool, AllocError> {
+fn go_on(wait: &impl Wait, both: &mut Both, random: &mut Pcg32) -> Result<bool, AllocError> {
     let kind = random.next_word() % 40;
     if kind == 39 {
-        both_flush(wait, alloc, both)
+        both_play(wait, both, Window::Rest)
     } else if kind > 35 {
-        both_hold_some(wait, alloc, both, random)
+        both_hold_some(wait, both, random)
     } else if kind < 21 {
-        admitter_goes_on(wait, alloc, both, random, kind)
+        admitter_goes_on(wait, both, random, kind)
     } else {
         pass_goes_on(wait, both, random)
     }
@@ -602,18 +524,13 @@ fn new_both(
 }
 
 /// Both take the first datagram.
-fn both_start(wait: &impl Wait, alloc: Global, both: &mut Both) -> Result<bool, AllocError> {
-    both_admit(wait, alloc, both, FIRST, 0, stamped(sent(0)))
+fn both_start(wait: &impl Wait, both: &mut Both) -> Result<bool, AllocError> {
+    both_admit(wait, both, FIRST, 0, stamped(sent(0)))
 }
 
-fn steps(
-    rt: &(impl Abort + Wait),
-    alloc: Global,
-    both: &mut Both,
-    random: &mut Pcg32,
-) -> Result<(), Fail> {
+fn steps(rt: &(impl Abort + Wait), both: &mut Both, random: &mut Pcg32) -> Result<(), Fail> {
     for i in 0..STEPS {
-        assert!(rt; go_on(rt, alloc, both, random)?, "step {i}");
+        assert!(rt; go_on(rt, both, random)?, "step {i}");
     }
     Ok(())
 }
@@ -647,64 +564,44 @@ fn drawn_odds(random: &mut Pcg32) -> Odds {
     }
 }
 
-/// Steps of a new board and a new desk, which flush at last.
+/// Steps of a new board and a new desk, which flush at last. How many runs were begun.
 fn try_flow(
     rt: &(impl Abort + Wait),
     alloc: Global,
-    came: Came,
+    came: &mut Came,
     random: &mut Pcg32,
-) -> Result<Came, Fail> {
+) -> Result<u64, Fail> {
     let window = drawn_window(random);
     let depth = drawn_depth(random, window);
     let hold = u64::from(random.next_word() % 4 * 20);
     assert!(rt; 1 <= window && window <= 100 && window <= depth && depth <= 1000);
-    let mut both = new_both(alloc, window, depth, hold, drawn_odds(random), came)?;
-    assert!(rt; both_start(rt, alloc, &mut both)?);
-    steps(rt, alloc, &mut both, random)?;
-    assert!(rt; both_flush_on(rt, alloc, &mut both, random)?);
-    let Both {
-        scene,
-        desk,
-        came,
-        ..
-    } = both;
-    assert!(rt; scene.runs() == desk.runs());
-    let runs = came.runs.saturating_add(scene.runs());
-    assert!(rt; scene.close());
-    Ok(Came { runs, ..came })
+    let mut both = new_both(alloc, window, depth, hold, drawn_odds(random), *came)?;
+    assert!(rt; both_start(rt, &mut both)?);
+    steps(rt, &mut both, random)?;
+    assert!(rt; both_flush_on(rt, &mut both, random)?);
+    *came = both.came;
+    let runs = both.scene.runs();
+    assert_eq!(rt; runs, both.desk.runs());
+    assert!(rt; both.scene.close());
+    Ok(runs)
 }
 
-/// All flows, and what passes were answered in them.
-fn try_flows(rt: &(impl Abort + Wait), alloc: Global, random: &mut Pcg32) -> Result<Came, Fail> {
-    let mut came = Came {
-        done: 0,
-        beaten: 0,
-        gone: 0,
-        withdrawn: 0,
-        runs: 0,
-        foreign: 0,
-        held: 0,
-        passed: 0,
-        inconsistent: 0,
-    };
+/// All flows. Each event comes, and runs are begun beside the first one of each flow.
+fn try_flows(rt: &(impl Abort + Wait), alloc: Global, random: &mut Pcg32) -> Result<(), Fail> {
+    let mut came = [false; 8];
+    let mut runs = 0u64;
     for _ in 0..FLOWS {
-        came = try_flow(rt, alloc, came, random)?;
+        runs = runs.saturating_add(try_flow(rt, alloc, &mut came, random)?);
     }
-    Ok(came)
-}
-
-/// Whether each answer came, held and inconsistent plays were made, windows were passed, and runs were begun beside the first one
-/// of each flow.
-fn all_came(came: Came) -> bool {
-    let passes = came.done > 0 && came.beaten > 0 && came.gone > 0 && came.withdrawn > 0;
-    let plays = came.held > 0 && came.passed > 0 && came.inconsistent > 0;
-    passes && plays && came.foreign > 0 && came.runs > u64::from(FLOWS)
+    for (event, came) in came.iter().enumerate() {
+        assert!(rt; *came, "event {event}");
+    }
+    assert!(rt; runs > u64::from(FLOWS));
+    Ok(())
 }
 
 #[test]
 fn random_turns(rt: HostRuntime) -> Result<(), Fail> {
     let mut random = Pcg32::new(SEED, 7);
-    let came = try_flows(&rt, rt.alloc(), &mut random)?;
-    assert!(rt; all_came(came));
-    Ok(())
+    try_flows(&rt, rt.alloc(), &mut random)
 }

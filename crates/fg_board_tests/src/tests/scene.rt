@@ -1,17 +1,20 @@
 //! A board, its admitter and three passes, of which each has one job at most.
 
-ghost use Rattle.std.specs.Prelude.{◌≡◌, ◌≢◌, ◌+◌, ◌<◌, ◌≤◌, ◌↔◌, IfOk, IfSome, IsTrue};
+ghost use Rattle.std.specs.Prelude.{◌≡◌, ◌+◌, ◌<◌, ◌≤◌, ◌↔◌, IfOk, IsTrue};
 ghost use Rattle.std.specs.FinMap.{get};
 ghost use Rattle.fg_words.specs.Word.{zero_word};
+ghost use Rattle.fg_peel.specs.declared.span.Missing.TheVariants.{One};
 ghost use Rattle.fg_peel.specs.Equation.{IsComplete};
+ghost use Rattle.fg_peel.specs.Slots.{IsMissing};
 ghost use Rattle.fg_core.specs.Board.{job_sum};
-ghost use Rattle.fg_board.specs.Actors.{IsLater, IsCheckedBy};
+ghost use Rattle.fg_board.specs.Actors.{IsLater, IsWorkedBy, IsCheckedBy};
 
 use super::admit;
+use super::admit::Window;
 use fg_board::{Admitter, Board, Fate, Job, Key, Look, Pass};
 use fg_desk::{Played, Reply, Tray};
 use fg_shape::Shape;
-use fg_words::Word;
+use fg_words::Shared;
 use std::alloc::{AllocError, Global};
 use std::marker::Model;
 use std::sync::Wait;
@@ -26,7 +29,7 @@ pub(super) struct Hand {
 impl Model for Hand {
     ghost use Rattle.std.specs.Prelude.{IfSome};
     ghost use Rattle.fg_turn.specs.Standing.{Standing, standing_coded};
-    ghost use Rattle.fg_board.specs.Actors.{IsLater, IsCheckedBy};
+    ghost use Rattle.fg_board.specs.Actors.{IsLater};
     ghost use Rattle.fg_core.specs.Board.{BoardState};
     ghost use Rattle.fg_core.specs.Codings.{board_code};
 
@@ -37,6 +40,27 @@ impl Model for Hand {
     ghost view = { λ h. h.pass };
 
     ghost invariant = { λ h. IfSome h.job (λ job. IsLater job.taken h.pass) };
+}
+
+/// How a pass brings what it found of its job.
+#[derive(Clone, Copy)]
+pub(super) enum Way {
+    /// With the job, which it has no more.
+    Ending,
+    /// By the key of the job, which it keeps.
+    Keeping,
+    /// By the key of the job, which it gives back first.
+    BackFirst,
+}
+
+/// What a pass brought, and what it was answered.
+#[derive(Clone, Copy, PartialEq)]
+pub(super) struct Brought {
+    /// Whether the equation comes out. None where it is the word of a slot that had none.
+    pub zero: Option<bool>,
+    /// The answer as the job was given back first.
+    pub back: Option<Fate>,
+    pub fate: Fate,
 }
 
 /// Takes a job. Answers the serial number of its equation, and the slot that has no word.
@@ -55,82 +79,6 @@ pub(super) fn take(
     let answer = (job.key().serial, job.missing());
     hand.job = Some(job);
     Ok(Some(answer))
-}
-
-// Solves the job and publishes the word. None where there is no job, or no slot without a word.
-fn publish(
-    wait: &impl Wait,
-    alloc: Global,
-    board: &Board,
-    hand: &mut Hand,
-) -> Result<Option<Fate>, AllocError>
-    requires { hand.old.turn ≡ board.now.name }
-    ensures { hand.new.turn ≡ board.now.name }
-{
-    let Some(job) = hand.job.take() else {
-        return Ok(None);
-    };
-    if job.missing().is_none() {
-        return Ok(None);
-    }
-    let share = job.solve(alloc)?;
-    Ok(Some(board.publish(wait, &mut hand.pass, job, share)))
-}
-
-// Whether a job's equation comes out. None where a slot has no word.
-fn check(job: &Job) -> Option<bool>
-    ensures complete { IfSome result (λ _. IsComplete (get job.now.job.inputs) job.now.job.equation) }
-    ensures zero { IfSome result (λ zero. IsTrue zero ↔ (job_sum job.now.job ≡ zero_word)) }
-    ensures checked { IfSome result (IsCheckedBy job.now) }
-{
-    match job.missing() {
-        Some(_) => None,
-        None => Some(job.check()),
-    }
-}
-
-// Checks the job and vouches for what was found. None where there is no job, or a slot without a word.
-fn vouch(wait: &impl Wait, board: &Board, hand: &mut Hand) -> Option<(bool, Fate)>
-    requires { hand.old.turn ≡ board.now.name }
-    ensures { hand.new.turn ≡ board.now.name }
-{
-    let job = hand.job.take()?;
-    let zero = check(&job)?;
-    Some((zero, board.vouch(wait, &mut hand.pass, job, zero)))
-}
-
-// As `publish`, with the job in the hand.
-fn offer(
-    wait: &impl Wait,
-    alloc: Global,
-    board: &Board,
-    hand: &mut Hand,
-) -> Result<Option<Fate>, AllocError>
-    requires { hand.old.turn ≡ board.now.name }
-    ensures { hand.new.turn ≡ board.now.name }
-{
-    let Some(job) = &hand.job else {
-        return Ok(None);
-    };
-    let Some(slot) = job.missing() else {
-        return Ok(None);
-    };
-    let share = job.solve(alloc)?;
-    let key = job.key();
-    Ok(Some(board.offer(wait, &mut hand.pass, key, slot, share)))
-}
-
-// As `vouch`, with the job in the hand.
-fn attest(wait: &impl Wait, board: &Board, hand: &mut Hand) -> Option<(bool, Fate)>
-    requires { hand.old.turn ≡ board.now.name }
-    ensures { hand.new.turn ≡ board.now.name }
-{
-    let Some(job) = &hand.job else {
-        return None;
-    };
-    let zero = check(job)?;
-    let key = job.key();
-    Some((zero, board.attest(wait, &mut hand.pass, key, zero)))
 }
 
 // Gives the job back. None where there is none.
@@ -152,79 +100,102 @@ fn give_back_job(wait: &impl Wait, board: &Board, pass: &mut Pass, job: Job) -> 
     board.give_back(wait, pass, job)
 }
 
-// Gives the job back, and offers its word afterwards. None where there is no job, or no slot without a word.
-fn back_and_offer(
+// Brings the word of the slot that has none. Answers what became of the job where it was given back first, and of the word.
+fn bring_word(
+    wait: &impl Wait,
+    board: &Board,
+    hand: &mut Hand,
+    job: Job,
+    slot: u64,
+    share: Shared,
+    way: Way,
+) -> (Option<Fate>, Fate)
+    requires board { hand.old.turn ≡ board.now.name }
+    requires taken { IsLater job.taken hand.old }
+    requires missing { IsMissing (get job.job.inputs) job.job.equation (One slot) }
+    requires word { share ≡ job_sum job.job }
+    requires worked { IsWorkedBy job slot share }
+    ensures { hand.new.turn ≡ board.now.name }
+{
+    let key = job.key();
+    match way {
+        Way::Ending => (None, board.publish(wait, &mut hand.pass, job, share)),
+        Way::Keeping => {
+            let fate = board.offer(wait, &mut hand.pass, key, slot, share);
+            hand.job = Some(job);
+            (None, fate)
+        }
+        Way::BackFirst => {
+            hand.job = None;
+            let back = give_back_job(wait, board, &mut hand.pass, job);
+            (
+                Some(back),
+                board.offer(wait, &mut hand.pass, key, slot, share),
+            )
+        }
+    }
+}
+
+// Brings whether the equation comes out. Answers what became of the job where it was given back first, and of the check.
+fn bring_check(
+    wait: &impl Wait,
+    board: &Board,
+    hand: &mut Hand,
+    job: Job,
+    zero: bool,
+    way: Way,
+) -> (Option<Fate>, Fate)
+    requires board { hand.old.turn ≡ board.now.name }
+    requires taken { IsLater job.taken hand.old }
+    requires complete { IsComplete (get job.job.inputs) job.job.equation }
+    requires zero { IsTrue zero ↔ (job_sum job.job ≡ zero_word) }
+    requires checked { IsCheckedBy job zero }
+    ensures { hand.new.turn ≡ board.now.name }
+{
+    let key = job.key();
+    match way {
+        Way::Ending => (None, board.vouch(wait, &mut hand.pass, job, zero)),
+        Way::Keeping => {
+            let fate = board.attest(wait, &mut hand.pass, key, zero);
+            hand.job = Some(job);
+            (None, fate)
+        }
+        Way::BackFirst => {
+            hand.job = None;
+            let back = give_back_job(wait, board, &mut hand.pass, job);
+            (Some(back), board.attest(wait, &mut hand.pass, key, zero))
+        }
+    }
+}
+
+/// Does the job and brings what was found: the word of its slot that has none, or what its check says. None where there is no
+/// job.
+pub(super) fn bring(
     wait: &impl Wait,
     alloc: Global,
     board: &Board,
     hand: &mut Hand,
-) -> Result<Option<(Fate, Fate)>, AllocError>
+    way: Way,
+) -> Result<Option<Brought>, AllocError>
     requires { hand.old.turn ≡ board.now.name }
     ensures { hand.new.turn ≡ board.now.name }
 {
     let Some(job) = hand.job.take() else {
         return Ok(None);
     };
-    let Some(slot) = job.missing() else {
-        return Ok(None);
-    };
-    let share = job.solve(alloc)?;
-    let key = job.key();
-    let back = give_back_job(wait, board, &mut hand.pass, job);
-    Ok(Some((back, board.offer(wait, &mut hand.pass, key, slot, share))))
-}
-
-// Gives the job back, and attests afterwards what its check says. None where there is no job, or a slot without a word.
-fn back_and_attest(wait: &impl Wait, board: &Board, hand: &mut Hand) -> Option<(bool, Fate, Fate)>
-    requires { hand.old.turn ≡ board.now.name }
-    ensures { hand.new.turn ≡ board.now.name }
-{
-    let job = hand.job.take()?;
-    let zero = check(&job)?;
-    let key = job.key();
-    let back = give_back_job(wait, board, &mut hand.pass, job);
-    Some((zero, back, board.attest(wait, &mut hand.pass, key, zero)))
-}
-
-/// Does the job and brings what was found: its word, or what its check says. None where there is no job.
-pub(super) fn bring(
-    wait: &impl Wait,
-    alloc: Global,
-    board: &Board,
-    hand: &mut Hand,
-) -> Result<Option<Fate>, AllocError>
-    requires { hand.old.turn ≡ board.now.name }
-    ensures { hand.new.turn ≡ board.now.name }
-{
-    if solves(hand) {
-        publish(wait, alloc, board, hand)
-    } else {
-        Ok(vouch(wait, board, hand).map(|(_, fate)| fate))
-    }
-}
-
-// As `bring`, with the job in the hand.
-fn bring_and_keep(
-    wait: &impl Wait,
-    alloc: Global,
-    board: &Board,
-    hand: &mut Hand,
-) -> Result<Option<Fate>, AllocError>
-    requires { hand.old.turn ≡ board.now.name }
-    ensures { hand.new.turn ≡ board.now.name }
-{
-    if solves(hand) {
-        offer(wait, alloc, board, hand)
-    } else {
-        Ok(attest(wait, board, hand).map(|(_, fate)| fate))
-    }
-}
-
-// Whether there is a job, with a slot without a word.
-fn solves(hand: &Hand) -> bool {
-    match &hand.job {
-        Some(job) => job.missing().is_some(),
-        None => false,
+    match job.missing() {
+        Some(slot) => {
+            let share = job.solve(alloc)?;
+            let (back, fate) = bring_word(wait, board, hand, job, slot, share, way);
+            let zero = None;
+            Ok(Some(Brought { zero, back, fate }))
+        }
+        None => {
+            let zero = job.check();
+            let (back, fate) = bring_check(wait, board, hand, job, zero, way);
+            let zero = Some(zero);
+            Ok(Some(Brought { zero, back, fate }))
+        }
     }
 }
 
@@ -382,6 +353,11 @@ impl Scene {
         }
     }
 
+    /// The allocator of its words.
+    pub(super) fn alloc(&self) -> Global {
+        self.alloc
+    }
+
     /// Admits a media datagram. None where a play is due first, where a run begins and something is left to be shown first, or
     /// where the word is no media word.
     pub(super) fn media(
@@ -389,15 +365,10 @@ impl Scene {
         wait: &impl Wait,
         seq: u16,
         ssrc: u32,
-        word: Word,
+        share: Shared,
     ) -> Result<Option<Reply>, AllocError> {
-        let share = word.share(self.alloc)?;
         let (board, admitter) = (&self.board, &mut self.admitter);
-        if admitter.fresh(ssrc) {
-            admit::begin(wait, self.alloc, board, admitter, seq, ssrc, share)
-        } else {
-            Ok(admit::media(wait, board, admitter, seq, ssrc, share))
-        }
+        admit::media(wait, self.alloc, board, admitter, seq, ssrc, share)
     }
 
     /// Admits a parity datagram. None where there is no such shape.
@@ -406,9 +377,8 @@ impl Scene {
         wait: &impl Wait,
         base: u16,
         shape: Shape,
-        word: Word,
+        share: Shared,
     ) -> Result<Option<Reply>, AllocError> {
-        let share = word.share(self.alloc)?;
         let done = admit::parity(wait, &self.board, &mut self.admitter, base, shape, share);
         let Some((reply, key)) = done else {
             return Ok(None);
@@ -419,46 +389,25 @@ impl Scene {
         Ok(Some(reply))
     }
 
-    /// Plays a window. None where no play is due before this sequence number and SSRC.
+    /// Plays a window. None where there is no such one.
     pub(super) fn play(
         &mut self,
         wait: &impl Wait,
-        seq: u16,
-        ssrc: u32,
+        window: Window,
     ) -> Result<Option<(Played, Tray)>, AllocError> {
-        admit::play(wait, self.alloc, &self.board, &mut self.admitter, seq, ssrc)
+        admit::play(wait, self.alloc, &self.board, &mut self.admitter, window)
     }
 
-    /// Plays a flush step. None where there is none.
-    pub(super) fn flush(&mut self, wait: &impl Wait) -> Result<Option<(Played, Tray)>, AllocError> {
-        admit::flush(wait, self.alloc, &self.board, &mut self.admitter)
-    }
-
-    /// Plays a held step at a time. None where there is none.
-    pub(super) fn held(
-        &mut self,
-        wait: &impl Wait,
-        time: u64,
-    ) -> Result<Option<(Played, Tray)>, AllocError> {
-        admit::held(wait, self.alloc, &self.board, &mut self.admitter, time)
-    }
-
-    /// Passes windows that are due before a sequence number and SSRC.
-    pub(super) fn skip_due(&mut self, wait: &impl Wait, seq: u16, ssrc: u32) -> u64 {
-        self.admitter.skip_due(wait, &self.board, seq, ssrc)
-    }
-
-    /// Passes windows that are steps of a flush.
-    pub(super) fn skip_rest(&mut self, wait: &impl Wait) -> u64 {
-        self.admitter.skip_rest(wait, &self.board)
-    }
-
-    /// Passes windows that are held plays at a time. None where a word may wait for ever.
-    pub(super) fn skip_held(&mut self, wait: &impl Wait, time: u64) -> u64 {
-        if self.admitter.hold() == 0 {
-            return 0;
+    /// Passes such windows that show nothing. Answers how many.
+    pub(super) fn skip(&mut self, wait: &impl Wait, window: Window) -> u64 {
+        match window {
+            Window::Due(seq, ssrc) => self.admitter.skip_due(wait, &self.board, seq, ssrc),
+            Window::Rest => self.admitter.skip_rest(wait, &self.board),
+            Window::Held(time) if self.admitter.hold() > 0 => {
+                self.admitter.skip_held(wait, &self.board, time)
+            }
+            Window::Held(_) => 0,
         }
-        self.admitter.skip_held(wait, &self.board, time)
     }
 
     pub(super) fn take(
@@ -473,42 +422,6 @@ impl Scene {
         }
     }
 
-    pub(super) fn publish(
-        &mut self,
-        wait: &impl Wait,
-        who: Who,
-    ) -> Result<Option<Fate>, AllocError> {
-        match who {
-            Who::A => publish(wait, self.alloc, &self.board, &mut self.a),
-            Who::B => publish(wait, self.alloc, &self.board, &mut self.b),
-            Who::C => publish(wait, self.alloc, &self.board, &mut self.c),
-        }
-    }
-
-    pub(super) fn vouch(&mut self, wait: &impl Wait, who: Who) -> Option<(bool, Fate)> {
-        match who {
-            Who::A => vouch(wait, &self.board, &mut self.a),
-            Who::B => vouch(wait, &self.board, &mut self.b),
-            Who::C => vouch(wait, &self.board, &mut self.c),
-        }
-    }
-
-    pub(super) fn offer(&mut self, wait: &impl Wait, who: Who) -> Result<Option<Fate>, AllocError> {
-        match who {
-            Who::A => offer(wait, self.alloc, &self.board, &mut self.a),
-            Who::B => offer(wait, self.alloc, &self.board, &mut self.b),
-            Who::C => offer(wait, self.alloc, &self.board, &mut self.c),
-        }
-    }
-
-    pub(super) fn attest(&mut self, wait: &impl Wait, who: Who) -> Option<(bool, Fate)> {
-        match who {
-            Who::A => attest(wait, &self.board, &mut self.a),
-            Who::B => attest(wait, &self.board, &mut self.b),
-            Who::C => attest(wait, &self.board, &mut self.c),
-        }
-    }
-
     pub(super) fn give_back(&mut self, wait: &impl Wait, who: Who) -> Option<Fate> {
         match who {
             Who::A => give_back(wait, &self.board, &mut self.a),
@@ -517,51 +430,17 @@ impl Scene {
         }
     }
 
-    /// Gives the job back and offers its word.
-    pub(super) fn back_and_offer(
+    /// Brings what a pass finds of its job. None where it has none.
+    pub(super) fn bring(
         &mut self,
         wait: &impl Wait,
         who: Who,
-    ) -> Result<Option<(Fate, Fate)>, AllocError> {
+        way: Way,
+    ) -> Result<Option<Brought>, AllocError> {
         match who {
-            Who::A => back_and_offer(wait, self.alloc, &self.board, &mut self.a),
-            Who::B => back_and_offer(wait, self.alloc, &self.board, &mut self.b),
-            Who::C => back_and_offer(wait, self.alloc, &self.board, &mut self.c),
-        }
-    }
-
-    /// Gives the job back and attests its check.
-    pub(super) fn back_and_attest(
-        &mut self,
-        wait: &impl Wait,
-        who: Who,
-    ) -> Option<(bool, Fate, Fate)> {
-        match who {
-            Who::A => back_and_attest(wait, &self.board, &mut self.a),
-            Who::B => back_and_attest(wait, &self.board, &mut self.b),
-            Who::C => back_and_attest(wait, &self.board, &mut self.c),
-        }
-    }
-
-    /// Publishes the job's word or vouches for its check, as the job needs it.
-    pub(super) fn bring(&mut self, wait: &impl Wait, who: Who) -> Result<Option<Fate>, AllocError> {
-        match who {
-            Who::A => bring(wait, self.alloc, &self.board, &mut self.a),
-            Who::B => bring(wait, self.alloc, &self.board, &mut self.b),
-            Who::C => bring(wait, self.alloc, &self.board, &mut self.c),
-        }
-    }
-
-    /// As `bring`, and the pass keeps the job.
-    pub(super) fn bring_and_keep(
-        &mut self,
-        wait: &impl Wait,
-        who: Who,
-    ) -> Result<Option<Fate>, AllocError> {
-        match who {
-            Who::A => bring_and_keep(wait, self.alloc, &self.board, &mut self.a),
-            Who::B => bring_and_keep(wait, self.alloc, &self.board, &mut self.b),
-            Who::C => bring_and_keep(wait, self.alloc, &self.board, &mut self.c),
+            Who::A => bring(wait, self.alloc, &self.board, &mut self.a, way),
+            Who::B => bring(wait, self.alloc, &self.board, &mut self.b, way),
+            Who::C => bring(wait, self.alloc, &self.board, &mut self.c, way),
         }
     }
 

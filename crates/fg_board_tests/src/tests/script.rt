@@ -1,6 +1,7 @@
 //! Scripts: what a board's admitter and its passes do, each with the answer that is wanted.
 
-use super::scene::{Scene, Who};
+use super::admit::Window;
+use super::scene::{Brought, Scene, Way, Who};
 use fg_board::{Fate, Look};
 use fg_desk::{Outcome, Played, Reply, Tray};
 use fg_shape::Shape;
@@ -23,6 +24,9 @@ pub(super) enum Step {
     /// Media datagrams that are all admitted: the first sequence number, how many, and which of them
     /// are lost. The words have the sequence numbers.
     Run(u16, u16, u128),
+    /// The datagrams of a block of four rows and four columns without the word at 5, the parity of its row 1, and that of its
+    /// column 1, which are all admitted.
+    Block,
     /// A parity datagram: the sequence number of its base, offset and count of its shape, the word
     /// at its first slot, and the reply. The words at its slots are numbered as the slots are.
     Parity(u16, u8, u8, u32, Reply),
@@ -95,20 +99,26 @@ pub(super) fn to_show(
     }
 }
 
-/// The media word of this number.
-pub(super) fn word_of(number: u32) -> Word {
+/// A media word with this timestamp, of packets that say nothing.
+pub(super) fn stamped(timestamp: u32) -> Word {
     let mut word = Word::zero();
     word.pt = 33;
-    word.ts = number % FLIPPED;
+    word.ts = timestamp;
     word.len = 1316;
     for packet in 0..7usize {
         word.bytes[188 * packet] = 0x47;
+    }
+    word
+}
+
+/// The media word of this number, which each of its packets has.
+pub(super) fn word_of(number: u32) -> Word {
+    let mut word = stamped(number % FLIPPED);
+    for packet in 0..7usize {
         word.bytes[188 * packet + 1] = (number % 256) as u8;
         word.bytes[188 * packet + 2] = (number / 256 % 256) as u8;
     }
-    if number >= FLIPPED {
-        word.bytes[1315] = 1;
-    }
+    word.bytes[1315] = u8::from(number >= FLIPPED);
     word
 }
 
@@ -132,15 +142,47 @@ fn run_is_admitted(
     count: u16,
     lost: u128,
 ) -> Result<bool, AllocError> {
-    let mut admitted = true;
     for i in 0..count {
-        if lost >> (i % 128) & 1 == 0 {
-            let seq = seq.wrapping_add(i);
-            let reply = scene.media(wait, seq, 0, word_of(u32::from(seq)))?;
-            admitted &= reply == Some(Reply::Admitted);
+        let seq = seq.wrapping_add(i);
+        let sent = lost >> (i % 128) & 1 == 0;
+        if sent && media_reply(scene, wait, seq, 0, u32::from(seq))? != Some(Reply::Admitted) {
+            return Ok(false);
         }
     }
-    Ok(admitted)
+    Ok(true)
+}
+
+/// The reply to the media datagram that has the word of this number.
+fn media_reply(
+    scene: &mut Scene,
+    wait: &impl Wait,
+    seq: u16,
+    ssrc: u32,
+    number: u32,
+) -> Result<Option<Reply>, AllocError> {
+    let share = word_of(number).share(scene.alloc())?;
+    scene.media(wait, seq, ssrc, share)
+}
+
+/// The reply to the parity datagram of the words at the slots of a shape, of which the first has this number.
+fn parity_reply(
+    scene: &mut Scene,
+    wait: &impl Wait,
+    base: u16,
+    shape: Shape,
+    number: u32,
+) -> Result<Option<Reply>, AllocError> {
+    let share = sum_of(number, shape).share(scene.alloc())?;
+    scene.parity(wait, base, shape, share)
+}
+
+fn block_is_admitted(scene: &mut Scene, wait: &impl Wait) -> Result<bool, AllocError> {
+    if !run_is_admitted(scene, wait, 0, 16, 1 << 5)? {
+        return Ok(false);
+    }
+    let row = parity_reply(scene, wait, 4, Shape { offset: 1, na: 4 }, 4)?;
+    let column = parity_reply(scene, wait, 1, Shape { offset: 4, na: 4 }, 1)?;
+    Ok(row == Some(Reply::Admitted) && column == Some(Reply::Admitted))
 }
 
 /// What a look shows. None where it is another word than the one of this number.
@@ -202,7 +244,7 @@ fn is_held(
     time: u64,
     want: Option<Shows>,
 ) -> Result<bool, AllocError> {
-    let done = scene.held(wait, time)?;
+    let done = scene.play(wait, Window::Held(time))?;
     Ok(match want {
         Some(want) => is_shown(done, want),
         None => done.is_none(),
@@ -213,21 +255,22 @@ fn is_held(
 fn answers(scene: &mut Scene, wait: &impl Wait, step: Step) -> Result<bool, AllocError> {
     match step {
         Step::Media(seq, number, want) => {
-            Ok(scene.media(wait, seq, 0, word_of(number))? == Some(want))
+            Ok(media_reply(scene, wait, seq, 0, number)? == Some(want))
         }
         Step::From(ssrc, seq, number, want) => {
-            Ok(scene.media(wait, seq, ssrc, word_of(number))? == Some(want))
+            Ok(media_reply(scene, wait, seq, ssrc, number)? == Some(want))
         }
         Step::Run(seq, count, lost) => run_is_admitted(scene, wait, seq, count, lost),
+        Step::Block => block_is_admitted(scene, wait),
         Step::Parity(base, offset, na, number, want) => {
             let shape = Shape { offset, na };
-            Ok(scene.parity(wait, base, shape, sum_of(number, shape))? == Some(want))
+            Ok(parity_reply(scene, wait, base, shape, number)? == Some(want))
         }
         Step::Look(who, serial, slot, want) => {
             Ok(looks(scene, wait, who, serial, slot) == Some(want))
         }
-        Step::Play(seq, want) => Ok(is_shown(scene.play(wait, seq, 0)?, want)),
-        Step::Flush(want) => Ok(is_shown(scene.flush(wait)?, want)),
+        Step::Play(seq, want) => Ok(is_shown(scene.play(wait, Window::Due(seq, 0))?, want)),
+        Step::Flush(want) => Ok(is_shown(scene.play(wait, Window::Rest)?, want)),
         Step::Held(time, want) => is_held(scene, wait, time, want),
         _ => Ok(passes(scene, wait, step) || is_brought(scene, wait, step)?),
     }
@@ -236,30 +279,31 @@ fn answers(scene: &mut Scene, wait: &impl Wait, step: Step) -> Result<bool, Allo
 /// Whether so many windows are passed at once as is wanted.
 fn passes(scene: &mut Scene, wait: &impl Wait, step: Step) -> bool {
     match step {
-        Step::SkipDue(seq, want) => scene.skip_due(wait, seq, 0) == want,
-        Step::SkipRest(want) => scene.skip_rest(wait) == want,
-        Step::SkipHeld(time, want) => scene.skip_held(wait, time) == want,
+        Step::SkipDue(seq, want) => scene.skip(wait, Window::Due(seq, 0)) == want,
+        Step::SkipRest(want) => scene.skip(wait, Window::Rest) == want,
+        Step::SkipHeld(time, want) => scene.skip(wait, Window::Held(time)) == want,
         _ => false,
     }
 }
 
 /// Whether a pass that takes, brings or gives back is answered as is wanted.
 fn is_brought(scene: &mut Scene, wait: &impl Wait, step: Step) -> Result<bool, AllocError> {
-    match step {
-        Step::Take(who, want) => Ok(scene.take(wait, who)? == want),
-        Step::Publish(who, want) => Ok(scene.publish(wait, who)? == Some(want)),
-        Step::Vouch(who, zero, want) => Ok(scene.vouch(wait, who) == Some((zero, want))),
-        Step::Offer(who, want) => Ok(scene.offer(wait, who)? == Some(want)),
-        Step::Attest(who, zero, want) => Ok(scene.attest(wait, who) == Some((zero, want))),
-        Step::GiveBack(who, want) => Ok(scene.give_back(wait, who) == Some(want)),
-        Step::BackAndOffer(who, want) => {
-            Ok(scene.back_and_offer(wait, who)? == Some((Fate::Done, want)))
-        }
-        Step::BackAndAttest(who, zero, want) => {
-            Ok(scene.back_and_attest(wait, who) == Some((zero, Fate::Done, want)))
-        }
-        _ => Ok(false),
-    }
+    let (who, way, zero, fate) = match step {
+        Step::Take(who, want) => return Ok(scene.take(wait, who)? == want),
+        Step::GiveBack(who, want) => return Ok(scene.give_back(wait, who) == Some(want)),
+        Step::Publish(who, want) => (who, Way::Ending, None, want),
+        Step::Vouch(who, zero, want) => (who, Way::Ending, Some(zero), want),
+        Step::Offer(who, want) => (who, Way::Keeping, None, want),
+        Step::Attest(who, zero, want) => (who, Way::Keeping, Some(zero), want),
+        Step::BackAndOffer(who, want) => (who, Way::BackFirst, None, want),
+        Step::BackAndAttest(who, zero, want) => (who, Way::BackFirst, Some(zero), want),
+        _ => return Ok(false),
+    };
+    let back = match way {
+        Way::BackFirst => Some(Fate::Done),
+        Way::Ending | Way::Keeping => None,
+    };
+    Ok(scene.bring(wait, who, way)? == Some(Brought { zero, back, fate }))
 }
 
 /// A new board follows a script, and ends. Its words may wait for ever.

@@ -2,8 +2,9 @@
 
 ghost use Rattle.std.specs.Prelude.{◌≡◌, ◌+◌, ◌<◌, ◌≤◌};
 
+use super::admit::Window;
 use super::bare::same_play;
-use super::scene::{Hand, bring, further_hand, hand_of, open, pass_of, put_back, take};
+use super::scene::{Hand, Way, bring, further_hand, hand_of, open, pass_of, put_back, take};
 use super::script::{sum_of, word_of};
 use super::{admit, bare};
 use fg_board::{Admitter, Board, Pass};
@@ -48,6 +49,15 @@ impl Log {
             replies: Vec::new(alloc),
             plays: Vec::new(alloc),
         }
+    }
+
+    /// Adds a play. Whether there is one.
+    fn adds(&mut self, done: Option<(Played, Tray)>) -> Result<bool, AllocError> {
+        let Some(done) = done else {
+            return Ok(false);
+        };
+        self.plays.push(done)?;
+        Ok(true)
     }
 
     fn same(&self, other: &Log) -> bool {
@@ -100,13 +110,13 @@ fn flow(alloc: Global) -> Result<Vec<Datagram>, AllocError> {
     Ok(all)
 }
 
-// Plays what is due before a sequence number.
+// Plays such windows until there is none.
 fn board_plays(
     wait: &impl Wait,
     alloc: Global,
     board: &Board,
     admitter: &mut Admitter,
-    seq: u16,
+    window: Window,
     log: &mut Log,
 ) -> Result<(), AllocError>
     requires turn { admitter.old.seat.turn ≡ board.now.name }
@@ -115,10 +125,9 @@ fn board_plays(
     ensures window { admitter.new.playout.window ≡ admitter.old.playout.window }
 {
     for _ in 0..WINDOWS {
-        let Some(done) = admit::play(wait, alloc, board, admitter, seq, 0)? else {
+        if !log.adds(admit::play(wait, alloc, board, admitter, window)?)? {
             break;
-        };
-        log.plays.push(done)?;
+        }
     }
     Ok(())
 }
@@ -138,8 +147,8 @@ fn board_takes(
 {
     let reply = match *datagram {
         Datagram::Media(seq, word) => {
-            board_plays(wait, alloc, board, admitter, seq, log)?;
-            admit::media(wait, board, admitter, seq, 0, word.share(alloc)?)
+            board_plays(wait, alloc, board, admitter, Window::Due(seq, 0), log)?;
+            admit::media(wait, alloc, board, admitter, seq, 0, word.share(alloc)?)?
         }
         Datagram::Parity(base, shape, word) => {
             let share = word.share(alloc)?;
@@ -147,27 +156,6 @@ fn board_takes(
         }
     };
     log.replies.push(reply)?;
-    Ok(())
-}
-
-fn board_flushes(
-    wait: &impl Wait,
-    alloc: Global,
-    board: &Board,
-    admitter: &mut Admitter,
-    log: &mut Log,
-) -> Result<(), AllocError>
-    requires turn { admitter.old.seat.turn ≡ board.now.name }
-    requires window { admitter.old.playout.window ≤ 100 }
-    ensures turn { admitter.new.seat.turn ≡ admitter.old.seat.turn }
-    ensures window { admitter.new.playout.window ≡ admitter.old.playout.window }
-{
-    for _ in 0..WINDOWS {
-        let Some(done) = admit::flush(wait, alloc, board, admitter)? else {
-            break;
-        };
-        log.plays.push(done)?;
-    }
     Ok(())
 }
 
@@ -204,16 +192,20 @@ fn board_is_fed<R: Wait + Clock>(
         board_takes(wait, alloc, board, admitter, datagram, &mut log)?;
     }
     wait_for_a_take(wait, taken);
-    board_flushes(wait, alloc, board, admitter, &mut log)?;
+    board_plays(wait, alloc, board, admitter, Window::Rest, &mut log)?;
     Ok(log)
 }
 
-fn desk_plays(desk: &mut Desk, alloc: Global, seq: u16, log: &mut Log) -> Result<(), AllocError> {
+fn desk_plays(
+    desk: &mut Desk,
+    alloc: Global,
+    window: Window,
+    log: &mut Log,
+) -> Result<(), AllocError> {
     for _ in 0..WINDOWS {
-        let Some(done) = bare::play(desk, alloc, seq, 0)? else {
+        if !log.adds(bare::play(desk, alloc, window)?)? {
             break;
-        };
-        log.plays.push(done)?;
+        }
     }
     Ok(())
 }
@@ -226,22 +218,12 @@ fn desk_takes(
 ) -> Result<(), AllocError> {
     let reply = match *datagram {
         Datagram::Media(seq, word) => {
-            desk_plays(desk, alloc, seq, log)?;
+            desk_plays(desk, alloc, Window::Due(seq, 0), log)?;
             bare::media(desk, seq, 0, word.share(alloc)?)
         }
         Datagram::Parity(base, shape, word) => bare::parity(desk, base, shape, word.share(alloc)?),
     };
     log.replies.push(reply)?;
-    Ok(())
-}
-
-fn desk_flushes(desk: &mut Desk, alloc: Global, log: &mut Log) -> Result<(), AllocError> {
-    for _ in 0..WINDOWS {
-        let Some(done) = bare::flush(desk, alloc)? else {
-            break;
-        };
-        log.plays.push(done)?;
-    }
     Ok(())
 }
 
@@ -252,7 +234,7 @@ fn desk_is_fed(alloc: Global, flow: &[Datagram]) -> Result<Log, AllocError> {
     for datagram in flow {
         desk_takes(&mut desk, alloc, datagram, &mut log)?;
     }
-    desk_flushes(&mut desk, alloc, &mut log)?;
+    desk_plays(&mut desk, alloc, Window::Rest, &mut log)?;
     Ok(log)
 }
 
@@ -282,7 +264,7 @@ fn work_once(wait: &impl Wait, alloc: Global, board: &Board, hand: &mut Hand) ->
 {
     match take(wait, board, hand) {
         Ok(Some(_)) => {
-            let _ = bring(wait, alloc, board, hand);
+            let _ = bring(wait, alloc, board, hand, Way::Ending);
             true
         }
         Ok(None) | Err(AllocError) => false,

@@ -1,9 +1,7 @@
 //! A start with the key of an equation that a play retired.
 
-ghost use Rattle.std.specs.Prelude.{◌≡◌, ◌≤◌};
-
-use super::scene::{admit_media, admit_parity, fold, play};
-use fg_board::{Admitter, Board, Key};
+use super::scene::{Feed, fold};
+use fg_board::{Board, Key};
 use fg_shape::Shape;
 use fg_tally::{Begun, Folded, Tallies};
 use std::alloc::{AllocError, Global};
@@ -11,29 +9,21 @@ use std::sync::Wait;
 use std::test::Fail;
 
 // Four media datagrams and their row.
-fn admit_row(
-    wait: &impl Wait,
-    alloc: Global,
-    board: &Board,
-    admitter: &mut Admitter,
-) -> Result<Option<Key>, AllocError>
-    requires { admitter.old.seat.turn ≡ board.now.name }
-    ensures turn { admitter.new.seat.turn ≡ admitter.old.seat.turn }
-    ensures window { admitter.new.playout.window ≡ admitter.old.playout.window }
-{
+fn admit_row(wait: &impl Wait, feed: &mut Feed<'_>) -> Result<Option<Key>, AllocError> {
     for seq in 0..4u16 {
-        if !admit_media(wait, alloc, board, admitter, seq)? {
+        if !feed.admits(wait, seq)? {
             return Ok(None);
         }
     }
-    admit_parity(wait, alloc, board, admitter, 0, Shape { offset: 1, na: 4 })
+    feed.sum(wait, 0, Shape { offset: 1, na: 4 })
 }
 
 // Whether a tally that held the key holds none after a start with it.
 fn retired_is_gone(wait: &impl Wait, alloc: Global) -> Result<bool, AllocError> {
     let (board, mut admitter) = Board::new(alloc, 4, 4, 0, 512)?;
     let tallies = Tallies::new(alloc, &board, &mut admitter)?;
-    let Some(key) = admit_row(wait, alloc, &board, &mut admitter)? else {
+    let mut feed = Feed::new(alloc, &board, admitter);
+    let Some(key) = admit_row(wait, &mut feed)? else {
         return Ok(false);
     };
     if key.place >= 512 {
@@ -43,7 +33,7 @@ fn retired_is_gone(wait: &impl Wait, alloc: Global) -> Result<bool, AllocError> 
     if tally.start(wait, key) != Begun::Held || tally.held().is_none() {
         return Ok(false);
     }
-    if play(wait, alloc, &board, &mut admitter, 4)?.is_none() {
+    if feed.play(wait, 4)?.is_none() {
         return Ok(false);
     }
     let stale = fold(wait, &mut tally, key, 0) == Some(Folded::Stale);

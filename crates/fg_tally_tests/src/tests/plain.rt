@@ -1,5 +1,6 @@
 //! A flow and its tallies, kept plainly. Words are timestamps alone, and no equation spans 100 positions.
 
+use super::stage::PLACES;
 use fg_board::{Fate, Key};
 use fg_shape::Shape;
 use fg_tally::{Begun, Folded, Held};
@@ -7,9 +8,6 @@ use std::alloc::{AllocError, Global};
 
 /// Positions are below this.
 const POSITIONS: usize = 512;
-
-/// How many equations can be live at once.
-const PLACES: usize = 512;
 
 /// An equation that was admitted.
 #[derive(Clone, Copy)]
@@ -100,7 +98,7 @@ impl Plain {
             shown: vec![in alloc; None; POSITIONS]?,
             solved: vec![in alloc; None; POSITIONS]?,
             admitted: Vec::new(alloc),
-            tallies: vec![in alloc; None; PLACES]?,
+            tallies: vec![in alloc; None; PLACES as usize]?,
         })
     }
 

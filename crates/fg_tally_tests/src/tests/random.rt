@@ -1,7 +1,7 @@
 //! Random admissions, plays, starts, folds and settles over one board, beside plain counts and sums.
 
 use super::plain::{Plain, Sum};
-use super::scene::word_of;
+use super::scene::{Feed, word_of};
 use super::stage::{Stage, open};
 use fg_board::{Fate, Look};
 use fg_desk::{Outcome, Played, Reply, Tray};
@@ -33,18 +33,20 @@ const DEPTH: u32 = 32;
 /// So many of the equations that were admitted last are started, folded and settled.
 const RECENT: usize = 12;
 
-/// Which answers came.
-#[derive(Clone, Copy)]
-struct Came {
+/// Which answers of folds came.
+#[derive(Clone, Copy, Default)]
+struct Folds {
     waiting: bool,
     last: bool,
     comes_out: bool,
     left_over: bool,
     stale: bool,
-    /// Stale, though the equation is there: its tally holds another one.
-    other: bool,
     unknown: bool,
-    ended: bool,
+}
+
+/// Which fates came.
+#[derive(Clone, Copy, Default)]
+struct Fates {
     done: bool,
     beaten: bool,
     gone: bool,
@@ -52,9 +54,21 @@ struct Came {
     withdrawn: bool,
 }
 
-/// The tallies of a board, and what is plainly so of them.
+/// What came of the steps.
+#[derive(Clone, Copy, Default)]
+struct Came {
+    folds: Folds,
+    fates: Fates,
+    /// A stale fold, though the equation is there: its tally holds another one.
+    other: bool,
+    /// A start with the key of an equation that is gone.
+    ended: bool,
+}
+
+/// What comes to a board, its tallies, and what is plainly so of them.
 #[derive(Drop)]
 struct Both<'b> {
+    feed: Feed<'b>,
     stage: Stage<'b>,
     plain: Plain,
     /// The first position that wasn't sent yet.
@@ -130,7 +144,7 @@ fn take_play(plain: &mut Plain, played: Played, tray: &Tray) {
 /// Plays while a play is due before a sequence number.
 fn play_on(wait: &impl Wait, both: &mut Both<'_>, seq: u16) -> Result<(), AllocError> {
     for _ in 0..8 {
-        if let Some((played, tray)) = both.stage.play(wait, seq)? {
+        if let Some((played, tray)) = both.feed.play(wait, seq)? {
             take_play(&mut both.plain, played, &tray);
         }
     }
@@ -157,7 +171,7 @@ fn take_media(
 ) -> Result<bool, AllocError> {
     let seq = seq_of(position);
     play_on(wait, both, seq)?;
-    let reply = both.stage.media(wait, seq, stamped(word))?;
+    let reply = both.feed.media(wait, seq, stamped(word))?;
     let admitted = both.plain.media(position, word);
     Ok((reply == Some(Reply::Admitted)) == admitted)
 }
@@ -175,7 +189,7 @@ fn take_parity(
     let base = both.next.saturating_sub(one_of(random, 24));
     let parity = parity_of(base, shape) ^ wrong_bit(random);
     let word = parity_word(shape, parity);
-    let Some(key) = both.stage.parity(wait, seq_of(base), shape, word)? else {
+    let Some(key) = both.feed.parity(wait, seq_of(base), shape, word)? else {
         return Ok(true);
     };
     let sum = Sum {
@@ -203,21 +217,21 @@ fn start(wait: &impl Wait, both: &mut Both<'_>, sum: &Sum) -> bool {
     both.stage.start(wait, sum.key) == Some(wanted) && shows(wait, both, sum)
 }
 
-fn note_fold(came: &mut Came, answer: Folded) {
+fn note_fold(folds: &mut Folds, answer: Folded) {
     match answer {
-        Folded::Waiting(_) => came.waiting = true,
-        Folded::Last(_) => came.last = true,
-        Folded::Whole(true) => came.comes_out = true,
-        Folded::Whole(false) => came.left_over = true,
-        Folded::Stale => came.stale = true,
-        Folded::Unknown => came.unknown = true,
+        Folded::Waiting(_) => folds.waiting = true,
+        Folded::Last(_) => folds.last = true,
+        Folded::Whole(true) => folds.comes_out = true,
+        Folded::Whole(false) => folds.left_over = true,
+        Folded::Stale => folds.stale = true,
+        Folded::Unknown => folds.unknown = true,
     }
 }
 
 /// Folds a slot. Whether it answers what is plainly so.
 fn fold(wait: &impl Wait, both: &mut Both<'_>, sum: &Sum, number: u32) -> bool {
     let wanted = both.plain.fold(sum, number);
-    note_fold(&mut both.came, wanted);
+    note_fold(&mut both.came.folds, wanted);
     let held = both.stage.held(wait, sum.key);
     if both.plain.is_current(sum) && held.is_some_and(|held| held.key != sum.key) {
         both.came.other = true;
@@ -236,13 +250,12 @@ fn fold_all(wait: &impl Wait, both: &mut Both<'_>, sum: &Sum) -> bool {
     true
 }
 
-fn note_fate(came: &mut Came, sum: &Sum, fate: Option<Fate>) {
+fn note_fate(fates: &mut Fates, sum: &Sum, fate: Fate) {
     match fate {
-        Some(Fate::Done) => came.done = true,
-        Some(Fate::Beaten(_)) => came.beaten = true,
-        Some(Fate::Gone { mark: _, epoch }) if epoch > sum.key.epoch => came.withdrawn = true,
-        Some(Fate::Gone { mark: _, epoch: _ }) => came.gone = true,
-        None => {}
+        Fate::Done => fates.done = true,
+        Fate::Beaten(_) => fates.beaten = true,
+        Fate::Gone { mark: _, epoch } if epoch > sum.key.epoch => fates.withdrawn = true,
+        Fate::Gone { mark: _, epoch: _ } => fates.gone = true,
     }
 }
 
@@ -257,7 +270,9 @@ fn is_shown(wait: &impl Wait, both: &mut Both<'_>, sum: &Sum, slot: u64, rest: u
 /// Settles the tally of an equation's place. Whether it answers what is plainly so, and the board has the plain sum.
 fn settle(wait: &impl Wait, both: &mut Both<'_>, sum: &Sum) -> Result<bool, AllocError> {
     let (wanted, taken) = both.plain.settle(sum);
-    note_fate(&mut both.came, sum, wanted);
+    if let Some(fate) = wanted {
+        note_fate(&mut both.came.fates, sum, fate);
+    }
     if both.stage.settle(wait, sum.key)? != wanted || !shows(wait, both, sum) {
         return Ok(false);
     }
@@ -326,10 +341,13 @@ fn try_flow(
     came: Came,
     random: &mut Pcg32,
 ) -> Result<Came, Fail> {
-    let (board, admitter) = open(alloc, WINDOW, DEPTH)?;
+    let (board, mut admitter) = open(alloc, WINDOW, DEPTH)?;
+    let stage = Stage::new(alloc, &board, &mut admitter)?;
+    let plain = Plain::new(alloc)?;
     let mut both = Both {
-        stage: Stage::new(alloc, &board, admitter)?,
-        plain: Plain::new(alloc)?,
+        feed: Feed::new(alloc, &board, admitter),
+        stage,
+        plain,
         next: 1,
         came,
     };
@@ -338,45 +356,37 @@ fn try_flow(
     Ok(both.came)
 }
 
-fn none_came() -> Came {
-    Came {
-        waiting: false,
-        last: false,
-        comes_out: false,
-        left_over: false,
-        stale: false,
-        other: false,
-        unknown: false,
-        ended: false,
-        done: false,
-        beaten: false,
-        gone: false,
-        withdrawn: false,
-    }
-}
-
-fn all_words_came(came: Came) -> bool {
-    came.waiting && came.last && came.comes_out && came.left_over && came.unknown
-}
-
-fn all_ends_came(came: Came) -> bool {
-    came.ended
-        && came.stale
-        && came.other
-        && came.done
-        && came.beaten
-        && came.gone
-        && came.withdrawn
+/// Each answer came.
+fn have_come(rt: &impl Abort, came: &Came) -> Result<(), Fail> {
+    let Folds {
+        waiting,
+        last,
+        comes_out,
+        left_over,
+        stale,
+        unknown,
+    } = came.folds;
+    assert_eq!(rt;
+        [waiting, last, comes_out, left_over, stale, unknown],
+        [true; 6]
+    );
+    let Fates {
+        done,
+        beaten,
+        gone,
+        withdrawn,
+    } = came.fates;
+    assert_eq!(rt; [done, beaten, gone, withdrawn], [true; 4]);
+    assert!(rt; came.other && came.ended);
+    Ok(())
 }
 
 #[test]
 fn random_folds(rt: HostRuntime) -> Result<(), Fail> {
     let mut random = Pcg32::new(SEED, 7);
-    let mut came = none_came();
+    let mut came = Came::default();
     for _ in 0..FLOWS {
         came = try_flow(&rt, rt.alloc(), came, &mut random)?;
     }
-    assert!(rt; all_words_came(came));
-    assert!(rt; all_ends_came(came));
-    Ok(())
+    have_come(&rt, &came)
 }

@@ -1,9 +1,7 @@
 //! A row of four slots of which one is missing.
 
-ghost use Rattle.std.specs.Prelude.{◌≡◌, ◌≤◌};
-
-use super::scene::{admit_media, admit_parity, fold};
-use fg_board::{Admitter, Board, Fate, Key};
+use super::scene::{Feed, fold};
+use fg_board::{Board, Fate, Key};
 use fg_shape::Shape;
 use fg_tally::{Begun, Folded, Tallies, Tally};
 use std::alloc::{AllocError, Global};
@@ -11,21 +9,14 @@ use std::sync::Wait;
 use std::test::Fail;
 
 // Sixteen media datagrams but the one of number 5, then a row and a column that have it.
-fn admit_block(
-    wait: &impl Wait,
-    alloc: Global,
-    board: &Board,
-    admitter: &mut Admitter,
-) -> Result<Option<(Key, Key)>, AllocError>
-    requires { admitter.old.seat.turn ≡ board.now.name }
-{
+fn admit_block(wait: &impl Wait, feed: &mut Feed<'_>) -> Result<Option<(Key, Key)>, AllocError> {
     for seq in 0..16u16 {
-        if seq != 5 && !admit_media(wait, alloc, board, admitter, seq)? {
+        if seq != 5 && !feed.admits(wait, seq)? {
             return Ok(None);
         }
     }
-    let row = admit_parity(wait, alloc, board, admitter, 4, Shape { offset: 1, na: 4 })?;
-    let column = admit_parity(wait, alloc, board, admitter, 1, Shape { offset: 4, na: 4 })?;
+    let row = feed.sum(wait, 4, Shape { offset: 1, na: 4 })?;
+    let column = feed.sum(wait, 1, Shape { offset: 4, na: 4 })?;
     match (row, column) {
         (Some(row), Some(column)) => Ok(Some((row, column))),
         _ => Ok(None),
@@ -93,7 +84,8 @@ fn folds_whole(
 fn row_is_folded(wait: &impl Wait, alloc: Global) -> Result<bool, AllocError> {
     let (board, mut admitter) = Board::new(alloc, 100, 100, 0, 512)?;
     let tallies = Tallies::new(alloc, &board, &mut admitter)?;
-    let Some((row, column)) = admit_block(wait, alloc, &board, &mut admitter)? else {
+    let mut feed = Feed::new(alloc, &board, admitter);
+    let Some((row, column)) = admit_block(wait, &mut feed)? else {
         return Ok(false);
     };
     if row.place >= 512 || column.place >= 512 {

@@ -1,4 +1,4 @@
-//! A board's admitter, and tallies, where the conditions of their calls are met.
+//! What comes to a board, and to tallies, where the conditions of their calls are met.
 
 ghost use Rattle.std.specs.Prelude.{◌≡◌, ◌≤◌};
 
@@ -6,8 +6,9 @@ use fg_board::{Admitter, Board, Key};
 use fg_desk::{Played, Reply, Tray};
 use fg_shape::{Shape, contains, shape_ok};
 use fg_tally::{Folded, Tally};
-use fg_words::{Shared, Word};
+use fg_words::Word;
 use std::alloc::{AllocError, Global};
+use std::marker::Model;
 use std::sync::Wait;
 
 /// The media word of this number.
@@ -24,7 +25,7 @@ pub(super) fn word_of(number: u32) -> Word {
 }
 
 /// The sum of the words at the slots of a shape, which have the numbers of their positions.
-pub(super) fn sum_of(base: u32, shape: Shape) -> Word {
+fn sum_of(base: u32, shape: Shape) -> Word {
     let mut sum = Word::zero();
     for j in 0..u32::from(shape.na) {
         let at = j.wrapping_mul(u32::from(shape.offset));
@@ -33,99 +34,101 @@ pub(super) fn sum_of(base: u32, shape: Shape) -> Word {
     sum
 }
 
-/// Admits a media datagram of SSRC 0. None where a play is due first, or the word is no media word.
-pub(super) fn send_media(
-    wait: &impl Wait,
-    board: &Board,
-    admitter: &mut Admitter,
-    seq: u16,
-    share: Shared,
-) -> Option<Reply>
-    requires { admitter.old.seat.turn ≡ board.now.name }
-    ensures turn { admitter.new.seat.turn ≡ admitter.old.seat.turn }
-    ensures window { admitter.new.playout.window ≡ admitter.old.playout.window }
-{
-    if admitter.fresh(0) {
-        return None;
-    }
-    if !admitter.room() || admitter.due(seq, 0) || !share.word().is_media() {
-        return None;
-    }
-    Some(admitter.admit_media(wait, board, seq, 0, share))
-}
-
-/// Admits the media datagram that has the word of its sequence number. Whether it was admitted.
-pub(super) fn admit_media(
-    wait: &impl Wait,
+/// A board's admitter, with the allocator of the words that it admits.
+#[derive(Drop)]
+pub(super) struct Feed<'b> {
     alloc: Global,
-    board: &Board,
-    admitter: &mut Admitter,
-    seq: u16,
-) -> Result<bool, AllocError>
-    requires { admitter.old.seat.turn ≡ board.now.name }
-    ensures turn { admitter.new.seat.turn ≡ admitter.old.seat.turn }
-    ensures window { admitter.new.playout.window ≡ admitter.old.playout.window }
-{
-    let share = word_of(u32::from(seq)).share(alloc)?;
-    Ok(send_media(wait, board, admitter, seq, share) == Some(Reply::Admitted))
+    board: &'b Board,
+    admitter: Admitter,
 }
 
-/// Admits a parity datagram. Its key, where it was admitted.
-pub(super) fn send_parity(
-    wait: &impl Wait,
-    board: &Board,
-    admitter: &mut Admitter,
-    base: u16,
-    shape: Shape,
-    share: Shared,
-) -> Option<Key>
-    requires { admitter.old.seat.turn ≡ board.now.name }
-    ensures turn { admitter.new.seat.turn ≡ admitter.old.seat.turn }
-    ensures window { admitter.new.playout.window ≡ admitter.old.playout.window }
-{
-    if !admitter.room() || !shape_ok(shape) {
-        return None;
+impl<'b> Model for Feed<'b> {
+    ghost use Rattle.std.specs.Prelude.{◌≡◌, ◌≤◌};
+    ghost use Rattle.fg_turn.specs.Standing.{TurnId, turn_id_coded};
+
+    ghost Value = { TurnId };
+
+    ghost coded = { turn_id_coded };
+
+    ghost view = { λ f. f.board.now };
+
+    ghost invariant = { λ f. (f.admitter.seat.turn ≡ f.board.now.name) × (f.admitter.playout.window ≤ 100) };
+}
+
+impl<'b> Feed<'b> {
+    pub(super) fn new(alloc: Global, board: &'b Board, admitter: Admitter) -> Feed<'b>
+        requires { (admitter.seat.turn ≡ board.now.name) × (admitter.playout.window ≤ 100) }
+    {
+        Feed {
+            alloc,
+            board,
+            admitter,
+        }
     }
-    let (_, key) = admitter.admit_parity(wait, board, base, shape, share);
-    key
-}
 
-/// Admits the parity datagram of the words that have the numbers of their positions.
-pub(super) fn admit_parity(
-    wait: &impl Wait,
-    alloc: Global,
-    board: &Board,
-    admitter: &mut Admitter,
-    base: u16,
-    shape: Shape,
-) -> Result<Option<Key>, AllocError>
-    requires { admitter.old.seat.turn ≡ board.now.name }
-    ensures turn { admitter.new.seat.turn ≡ admitter.old.seat.turn }
-    ensures window { admitter.new.playout.window ≡ admitter.old.playout.window }
-{
-    let share = sum_of(u32::from(base), shape).share(alloc)?;
-    Ok(send_parity(wait, board, admitter, base, shape, share))
-}
-
-/// Plays a window, with what it shows. None where no play is due before this sequence number of SSRC 0.
-pub(super) fn play(
-    wait: &impl Wait,
-    alloc: Global,
-    board: &Board,
-    admitter: &mut Admitter,
-    seq: u16,
-) -> Result<Option<(Played, Tray)>, AllocError>
-    requires turn { admitter.old.seat.turn ≡ board.now.name }
-    requires window { admitter.old.playout.window ≤ 100 }
-    ensures turn { admitter.new.seat.turn ≡ admitter.old.seat.turn }
-    ensures window { admitter.new.playout.window ≡ admitter.old.playout.window }
-{
-    let mut tray = Tray::new(alloc, 100)?;
-    if !admitter.room() || !admitter.due(seq, 0) {
-        return Ok(None);
+    /// Admits a media datagram of SSRC 0. None where a play is due first, or the word is no media word.
+    pub(super) fn media(
+        &mut self,
+        wait: &impl Wait,
+        seq: u16,
+        word: Word,
+    ) -> Result<Option<Reply>, AllocError> {
+        let share = word.share(self.alloc)?;
+        if self.admitter.fresh(0) {
+            return Ok(None);
+        }
+        if !self.admitter.room() || self.admitter.due(seq, 0) || !share.word().is_media() {
+            return Ok(None);
+        }
+        Ok(Some(self.admitter.admit_media(wait, self.board, seq, 0, share)))
     }
-    let played = admitter.play(wait, board, &mut tray);
-    Ok(Some((played, tray)))
+
+    /// Admits the media datagram that has the word of its sequence number. Whether it was admitted.
+    pub(super) fn admits(&mut self, wait: &impl Wait, seq: u16) -> Result<bool, AllocError> {
+        Ok(self.media(wait, seq, word_of(u32::from(seq)))? == Some(Reply::Admitted))
+    }
+
+    /// Admits a parity datagram. Its key, where it was admitted.
+    pub(super) fn parity(
+        &mut self,
+        wait: &impl Wait,
+        base: u16,
+        shape: Shape,
+        word: Word,
+    ) -> Result<Option<Key>, AllocError> {
+        let share = word.share(self.alloc)?;
+        if !self.admitter.room() || !shape_ok(shape) {
+            return Ok(None);
+        }
+        let (_, key) = self
+            .admitter
+            .admit_parity(wait, self.board, base, shape, share);
+        Ok(key)
+    }
+
+    /// Admits the parity datagram of the words that have the numbers of their positions.
+    pub(super) fn sum(
+        &mut self,
+        wait: &impl Wait,
+        base: u16,
+        shape: Shape,
+    ) -> Result<Option<Key>, AllocError> {
+        self.parity(wait, base, shape, sum_of(u32::from(base), shape))
+    }
+
+    /// Plays a window, with what it shows. None where no play is due before this sequence number of SSRC 0.
+    pub(super) fn play(
+        &mut self,
+        wait: &impl Wait,
+        seq: u16,
+    ) -> Result<Option<(Played, Tray)>, AllocError> {
+        let mut tray = Tray::new(self.alloc, 100)?;
+        if !self.admitter.room() || !self.admitter.due(seq, 0) {
+            return Ok(None);
+        }
+        let played = self.admitter.play(wait, self.board, &mut tray);
+        Ok(Some((played, tray)))
+    }
 }
 
 /// Folds a slot. None where the tally holds this key, of an equation without such a slot.

@@ -1,31 +1,27 @@
-//! A board with its admitter, its tallies and a pass of its own, where the conditions of all calls are met.
+//! A board's tallies and a pass of its own, where the conditions of all calls are met.
 
-ghost use Rattle.std.specs.Prelude.{◌≡◌, ◌≤◌, ◌+◌, IfOk};
+ghost use Rattle.std.specs.Prelude.{◌≡◌, ◌≤◌, IfOk};
 
-use super::scene::{fold, play, send_media, send_parity};
+use super::scene::fold;
 use fg_board::{Admitter, Board, Fate, Key, Look, Pass};
-use fg_desk::{Played, Reply, Tray};
-use fg_shape::Shape;
 use fg_tally::{Begun, Folded, Held, Tallies};
-use fg_words::Word;
 use std::alloc::{AllocError, Global};
 use std::marker::Model;
 use std::sync::Wait;
 
 /// How many equations can be live at once.
-const PLACES: u32 = 512;
+pub(super) const PLACES: u32 = 512;
 
 #[derive(Drop)]
 pub(super) struct Stage<'b> {
     alloc: Global,
     board: &'b Board,
-    admitter: Admitter,
     pass: Pass,
     tallies: Tallies<'b>,
 }
 
 impl<'b> Model for Stage<'b> {
-    ghost use Rattle.std.specs.Prelude.{◌≡◌, ◌≤◌};
+    ghost use Rattle.std.specs.Prelude.{◌≡◌};
     ghost use Rattle.fg_turn.specs.Standing.{TurnId, turn_id_coded};
 
     ghost Value = { TurnId };
@@ -34,8 +30,7 @@ impl<'b> Model for Stage<'b> {
 
     ghost view = { λ s. s.board.now };
 
-    ghost invariant = { λ s. (s.admitter.seat.turn ≡ s.board.now.name) × (s.admitter.playout.window ≤ 100)
-        × (s.pass.turn ≡ s.board.now.name) };
+    ghost invariant = { λ s. s.pass.turn ≡ s.board.now.name };
 }
 
 /// A board with room for its tallies and one pass more.
@@ -52,53 +47,21 @@ impl<'b> Stage<'b> {
     pub(super) fn new(
         alloc: Global,
         board: &'b Board,
-        admitter: Admitter,
+        admitter: &mut Admitter,
     ) -> Result<Stage<'b>, AllocError>
-        requires board { (admitter.seat.turn ≡ board.now.name) × (board.now.seats ≡ 514) }
-        requires admitter { (admitter.seat.made ≡ 0) × (admitter.playout.window ≤ 100) }
+        requires board { (admitter.old.seat.turn ≡ board.now.name) × (board.now.seats ≡ 514) }
+        requires made { admitter.old.seat.made ≡ 0 }
+        ensures turn { admitter.new.seat.turn ≡ admitter.old.seat.turn }
+        ensures window { admitter.new.playout.window ≡ admitter.old.playout.window }
     {
-        let mut admitter = admitter;
-        let tallies = Tallies::new(alloc, board, &mut admitter)?;
-        let pass = board.pass(&mut admitter);
+        let tallies = Tallies::new(alloc, board, admitter)?;
+        let pass = board.pass(admitter);
         Ok(Stage {
             alloc,
             board,
-            admitter,
             pass,
             tallies,
         })
-    }
-
-    /// Admits a media datagram. None where a play is due first, or the word is no media word.
-    pub(super) fn media(
-        &mut self,
-        wait: &impl Wait,
-        seq: u16,
-        word: Word,
-    ) -> Result<Option<Reply>, AllocError> {
-        let share = word.share(self.alloc)?;
-        Ok(send_media(wait, self.board, &mut self.admitter, seq, share))
-    }
-
-    /// Admits a parity datagram. Its key, where it was admitted.
-    pub(super) fn parity(
-        &mut self,
-        wait: &impl Wait,
-        base: u16,
-        shape: Shape,
-        word: Word,
-    ) -> Result<Option<Key>, AllocError> {
-        let share = word.share(self.alloc)?;
-        Ok(send_parity(wait, self.board, &mut self.admitter, base, shape, share))
-    }
-
-    /// Plays a window. None where no play is due before this sequence number.
-    pub(super) fn play(
-        &mut self,
-        wait: &impl Wait,
-        seq: u16,
-    ) -> Result<Option<(Played, Tray)>, AllocError> {
-        play(wait, self.alloc, self.board, &mut self.admitter, seq)
     }
 
     /// What another pass is shown at a slot of the key's equation.
