@@ -28,6 +28,16 @@ pub record FirstExchanged (i : ℕ) (flows flows' : List BatchView) (shelves she
   pub flows_rest : (k : ℕ) (d : BatchView) → i ≤ k → slice_index_or flows' k d ≡ slice_index_or flows k d
   pub shelves_rest : (k : ℕ) (w : Shelved) → i ≤ k → slice_index_or shelves' k w ≡ slice_index_or shelves k w
 
+-- What holds of each of the first, holds of each once one more is set.
+one_more_set :
+    {A : Type 0} (Is : ℕ → A → Type 0) (xs : List A) (i k : ℕ) (y d : A) → i < length xs → Is i y
+    → (k < i → Is k (slice_index_or xs k d)) → k < i + 1 → Is k (slice_index_or (set xs i y) k d)
+one_more_set Is xs i k y d inside is first below = at (cases_eq k i)
+  where
+    at : (k ≡ i) ⊎ (k ≡ i → ⊥) → Is k (slice_index_or (set xs i y) k d)
+    at (inl e) = subst (λ j. Is j (slice_index_or (set xs i y) j d)) (sym e) (subst (Is i) (sym (get_or-set_same xs i y d inside)) is)
+    at (inr ne) = subst (Is k) (sym (get_or-set_other xs i k y d ne)) (first (omega (arith, below, ne)))
+
 -- One more has.
 
 module _ (i : ℕ) (flows flows' : List BatchView) (shelves shelves' : List Shelved) (x : BatchView) (s : Shelved)
@@ -39,23 +49,15 @@ module _ (i : ℕ) (flows flows' : List BatchView) (shelves shelves' : List Shel
   shelf_was : (w : Shelved) → s ≡ slice_index_or shelves i w
   shelf_was w = s_is ∙ h.shelves_rest i s (omega arith) ∙ get_or_default shelves i s w (subst (λ n. i < n) h.shelves_long within)
 
-  flow_at : (k : ℕ) (d : BatchView) (w : Shelved) → k < i + 1 → k < length flows → (k ≡ i) ⊎ (k ≡ i → ⊥) → slice_index_or (set flows' i (with_shelf x s)) k d ≡ with_shelf (slice_index_or flows k d) (slice_index_or shelves k w)
-  flow_at k d w below wide (inl e) =
-      subst (λ j. slice_index_or (set flows' i (with_shelf x s)) j d ≡ with_shelf (slice_index_or flows j d) (slice_index_or shelves j w)) (sym e)
-      (get_or-set_same flows' i (with_shelf x s) d inside
-      ∙ ap (λ (flow : BatchView). with_shelf flow s) (flow_was d)
-      ∙ ap (λ (shelved : Shelved). with_shelf (slice_index_or flows i d) shelved) (shelf_was w))
-  flow_at k d w below wide (inr ne) =
-      get_or-set_other flows' i k (with_shelf x s) d ne ∙ h.flows_first k d w (omega (arith, below, ne)) wide
+  flow_at : (k : ℕ) (d : BatchView) (w : Shelved) → k < i + 1 → k < length flows → slice_index_or (set flows' i (with_shelf x s)) k d ≡ with_shelf (slice_index_or flows k d) (slice_index_or shelves k w)
+  flow_at k d w below wide =
+      one_more_set (λ j flow. flow ≡ with_shelf (slice_index_or flows j d) (slice_index_or shelves j w)) flows' i k (with_shelf x s) d inside
+      (λ n. with_shelf (flow_was d n) (shelf_was w n)) (λ first. h.flows_first k d w first wide) below
 
-  shelf_at : (k : ℕ) (d : BatchView) (w : Shelved) → k < i + 1 → k < length flows → (k ≡ i) ⊎ (k ≡ i → ⊥) → slice_index_or (set shelves' i (with_shown s x)) k w ≡ with_shown (slice_index_or shelves k w) (slice_index_or flows k d)
-  shelf_at k d w below wide (inl e) =
-      subst (λ j. slice_index_or (set shelves' i (with_shown s x)) j w ≡ with_shown (slice_index_or shelves j w) (slice_index_or flows j d)) (sym e)
-      (get_or-set_same shelves' i (with_shown s x) w within
-      ∙ ap (λ (shelved : Shelved). with_shown shelved x) (shelf_was w)
-      ∙ ap (λ (flow : BatchView). with_shown (slice_index_or shelves i w) flow) (flow_was d))
-  shelf_at k d w below wide (inr ne) =
-      get_or-set_other shelves' i k (with_shown s x) w ne ∙ h.shelves_first k d w (omega (arith, below, ne)) wide
+  shelf_at : (k : ℕ) (d : BatchView) (w : Shelved) → k < i + 1 → k < length flows → slice_index_or (set shelves' i (with_shown s x)) k w ≡ with_shown (slice_index_or shelves k w) (slice_index_or flows k d)
+  shelf_at k d w below wide =
+      one_more_set (λ j shelved. shelved ≡ with_shown (slice_index_or shelves j w) (slice_index_or flows j d)) shelves' i k (with_shown s x) w within
+      (λ n. with_shown (shelf_was w n) (flow_was d n)) (λ first. h.shelves_first k d w first wide) below
 
   pub exchanged_more : (y : BatchView) (t : Shelved) → y ≡ with_shelf x s → t ≡ with_shown s x → FirstExchanged (i + 1) flows (set flows' i y) shelves (set shelves' i t)
   exchanged_more y t y_is t_is =
@@ -63,8 +65,8 @@ module _ (i : ℕ) (flows flows' : List BatchView) (shelves shelves' : List Shel
       (subst (λ (shelved : Shelved). FirstExchanged (i + 1) flows (set flows' i (with_shelf x s)) shelves (set shelves' i shelved)) (sym t_is) (record {
         flows_long = length-set flows' i (with_shelf x s) ∙ h.flows_long;
         shelves_long = length-set shelves' i (with_shown s x) ∙ h.shelves_long;
-        flows_first = λ k d w below wide. flow_at k d w below wide (cases_eq k i);
-        shelves_first = λ k d w below wide. shelf_at k d w below wide (cases_eq k i);
+        flows_first = λ k d w below wide. flow_at k d w below wide;
+        shelves_first = λ k d w below wide. shelf_at k d w below wide;
         flows_rest = λ k d past. get_or-set_other flows' i k (with_shelf x s) d (λ e. absurd (omega arith)) ∙ h.flows_rest k d (omega arith);
         shelves_rest = λ k w past. get_or-set_other shelves' i k (with_shown s x) w (λ e. absurd (omega arith)) ∙ h.shelves_rest k w (omega arith);
       }))

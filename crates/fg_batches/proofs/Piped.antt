@@ -1,5 +1,5 @@
 -- What the three stages come to, in the trace of the input.
-use Rattle.std.proofs.Common.{◌≡◌, inl, inr, ℕ, ◌⊎◌, ◌+◌, ◌<◌, ◌≤◌, Bool, true, false, Option, Some, None, Result, Ok, Err, IfOk, IfErr, List, [], ◌∷◌, ◌++◌, length, take, drop, slice_index, refl, sym, ap, ◌∙◌, subst, arith, append_assoc, append-nil, length-append}
+use Rattle.std.proofs.Common.{◌≡◌, inl, inr, ℕ, ◌⊎◌, ◌+◌, ◌<◌, ◌≤◌, Bool, true, false, Option, Some, None, IfSome, Result, Ok, Err, IfOk, IfErr, List, [], ◌∷◌, ◌++◌, length, take, drop, slice_index, refl, sym, ap, ◌∙◌, subst, arith, append_assoc, append-nil, length-append}
 use Rattle.std.specs.List.{AllZip, Contains, slice_index_or}
 use Rattle.std.specs.Option.{IsSome, is_some}
 use Rattle.std.proofs.Math.Seq.{take-append_seam}
@@ -9,9 +9,9 @@ use Rattle.fg_io.specs.declared.fault.Fault.{Fault}
 use Rattle.fg_io.specs.declared.fault.Fault.TheVariants.{Read, Write, Memory}
 use Rattle.fg_io.specs.Outlet.{Lanes}
 use Rattle.fg_trace.specs.Finish.{finish_after}
-use Rattle.fg_trace.specs.Laws.{OneTrace, WalksTheFront}
-use Rattle.fg_trace.specs.Reader.{ReaderState}
-use Rattle.fg_trace.specs.Reading.{HasReached}
+use Rattle.fg_trace.specs.Laws.{AnsweredIsLongest, OneTrace, WalksTheFront}
+use Rattle.fg_trace.specs.Reader.{ReaderState, StandsAfter}
+use Rattle.fg_trace.specs.Reading.{HasReached, HoldsNext}
 use Rattle.fg_trace.specs.Trace.{Record}
 use Rattle.fg_flows.specs.declared.Plan.{Plan}
 use Rattle.fg_flows.specs.Plan.{PlanFits, playout_of}
@@ -20,10 +20,12 @@ use Rattle.fg_flows.specs.Sheaf.{SheafState}
 use Rattle.fg_report.specs.declared.tail.Tail.{Tail}
 use Rattle.fg_results.specs.Counted.{CountsBeside}
 use Rattle.fg_results.specs.Laws.{OneGained}
-use Rattle.fg_results.specs.Stops.{ByBatch, HasShown}
+use Rattle.fg_results.specs.Stops.{ByBatch, HasShown, StandsAtRead}
+use Rattle.fg_results.proofs.AtRead.{shown_at_read}
 use Rattle.fg_engine.specs.declared.shelved.Shelved.{Shelved}
-use Rattle.fg_engine.specs.Engine.{AreThere, FlowStands, GrowAll, LanesStop, told_finish}
+use Rattle.fg_engine.specs.Engine.{AreThere, FlowStands, GrowAll, LanesStop, StandsAtFault, told_finish}
 use Rattle.fg_engine.proofs.Breaking.{shown_of}
+use Rattle.fg_engine.proofs.Stopping.{lanes_show}
 use Rattle.fg_batches.specs.declared.gathering.Gathering.{Gathering}
 use Rattle.fg_batches.specs.BatchView.{BatchView}
 use Rattle.fg_batches.specs.Batches.{BreaksEmptying, HoldsBatch, waiting}
@@ -108,9 +110,10 @@ at_front walks one plan first now reader gathering (Some (Err fault)) records ma
 
 -- What the stages come to: all was run and put, or the lanes have stopped.
 pub record Come
-    (plan : Plan) (first : Option (List ℕ)) (flows : List BatchView) (other : ℕ) (before after : Option Lanes) (answer : Result Tail Fault) : Type 0 where
+    (plan : Plan) (first now : Option (List ℕ)) (flows : List BatchView) (other : ℕ) (before after : Option Lanes) (answer : Result Tail Fault) : Type 0 where
   pub whole : IfOk answer (λ tail. RanAll plan first flows other tail before after)
   pub stops : IfErr answer (λ fault. LanesStop ByBatch plan (finish_after fault) first before after)
+  pub at_read : IfErr answer (λ fault. StandsAtFault plan fault first now before after)
 
 -- what they have done
 pub record Done
@@ -237,36 +240,47 @@ module _ (law : OneFlowHasAPort) (once : OneGained) (walks : WalksTheFront) (one
       front (rows_shown h.batches h.given h.made new h.holds ran) (grown h.made after put)
       (there_then lanes after plan.table (waiting_in h.made) there put)
 
+  -- and no record that was read whole was left
+  shown_unread : AnsweredIsLongest → StandsAfter reader first now (all_of h.batches) → (HoldsNext reader → ⊥) → RanRows plan.table old h.given h.made new
+      → GrowAll lanes plan.table (waiting_in h.made) after → IfSome first (λ bytes. StandsAtRead plan bytes now before after)
+  shown_unread answered stands none ran put =
+      shown_at_read answered plan first now reader (all_of h.batches) before after max stands none
+      (lanes_show plan (all_of h.batches) (λ port. gained port ++ waiting_in h.made port) before after
+      (rows_shown h.batches h.given h.made new h.holds ran) (grown h.made after put)
+      (there_then lanes after plan.table (waiting_in h.made) there put))
+
 -- What is answered, by which of these it was
 
 pub come :
-    OneFlowHasAPort → OneGained → WalksTheFront → OneTrace → (plan : Plan) → PlanFits plan
+    AnsweredIsLongest → OneFlowHasAPort → OneGained → WalksTheFront → OneTrace → (plan : Plan) → PlanFits plan
     → (first now : Option (List ℕ)) (reader : ReaderState) (gathering : Gathering) (end : Option (Result Tail Fault))
     (old new : List BatchView) (starved broken : Bool) (before lanes after : Option Lanes) (gained : ℕ → List ℕ) → length old ≡ length plan.table
     → Stand plan [] old gained → ((k : ℕ) (d : BatchView) → k < length plan.table → (slice_index_or old k d).shelf ≡ [])
     → GrowAll before plan.table gained lanes → AreThere plan.table lanes → reader.max ≡ plan.max
     → (h : Done plan first now reader gathering end old new starved broken lanes after)
     → (broken ≡ true) ⊎ ((h.stored ≡ h.made) × ((starved ≡ true) ⊎ ((h.took ≡ h.given) × IsSome end)))
-    → Come plan first new gathering.other before after (answer_to end starved broken)
-come law once walks one plan fits first now reader gathering end old new starved true before lanes after gained count stand empty grow there max h which =
+    → Come plan first now new gathering.other before after (answer_to end starved broken)
+come answered law once walks one plan fits first now reader gathering end old new starved true before lanes after gained count stand empty grow there max h which =
     let put = h.gained in
     record {
       whole = tt;
       stops =
           put_fails law once walks one plan fits first now reader gathering end old new starved true before lanes after gained count stand empty grow there max h
           put.0 put.1 put.2 put.3 put.5 put.6;
+      at_read = λ read. absurd cc;
     }
-come law once walks one plan fits first now reader gathering end old new starved false before lanes after gained count stand empty grow there max h (inl e) = absurd (let no = e in cc)
-come law once walks one plan fits first now reader gathering end old new true false before lanes after gained count stand empty grow there max h (inr which) = record {
+come answered law once walks one plan fits first now reader gathering end old new starved false before lanes after gained count stand empty grow there max h (inl e) = absurd (let no = e in cc)
+come answered law once walks one plan fits first now reader gathering end old new true false before lanes after gained count stand empty grow there max h (inr which) = record {
   whole = tt;
   stops =
       starves law once walks one plan fits first now reader gathering end old new true false before lanes after gained count stand empty grow there max h which.0 h.gained;
+  at_read = λ read. absurd cc;
 }
-come law once walks one plan fits first now reader gathering end old new false false before lanes after gained count stand empty grow there max h (inr (stored, inl e)) =
+come answered law once walks one plan fits first now reader gathering end old new false false before lanes after gained count stand empty grow there max h (inr (stored, inl e)) =
     absurd (let no = e in cc)
-come law once walks one plan fits first now reader gathering None old new false false before lanes after gained count stand empty grow there max h (inr (stored, inr (took, some))) =
+come answered law once walks one plan fits first now reader gathering None old new false false before lanes after gained count stand empty grow there max h (inr (stored, inr (took, some))) =
     absurd (let no = some in cc)
-come law once walks one plan fits first now reader gathering (Some (Ok tail)) old new false false before lanes after gained count stand empty grow there max h (inr (stored, inr (took, some))) =
+come answered law once walks one plan fits first now reader gathering (Some (Ok tail)) old new false false before lanes after gained count stand empty grow there max h (inr (stored, inr (took, some))) =
     let ran = all_ran law once walks one plan fits first now reader gathering (Some (Ok tail)) old new false false before lanes after gained count stand empty grow there max h refl took in
     let put = all_put law once walks one plan fits first now reader gathering (Some (Ok tail)) old new false false before lanes after gained count stand empty grow there max h stored h.gained in
     record {
@@ -274,8 +288,9 @@ come law once walks one plan fits first now reader gathering (Some (Ok tail)) ol
           ended law once walks one plan fits first now reader gathering (Some (Ok tail)) old new false false before lanes after gained count stand empty grow there max h tail
           h.at_end.0 ran put;
       stops = tt;
+      at_read = tt;
     }
-come law once walks one plan fits first now reader gathering (Some (Err fault)) old new false false before lanes after gained count stand empty grow there max h (inr (stored, inr (took, some))) =
+come answered law once walks one plan fits first now reader gathering (Some (Err fault)) old new false false before lanes after gained count stand empty grow there max h (inr (stored, inr (took, some))) =
     let ran = all_ran law once walks one plan fits first now reader gathering (Some (Err fault)) old new false false before lanes after gained count stand empty grow there max h refl took in
     let put = all_put law once walks one plan fits first now reader gathering (Some (Err fault)) old new false false before lanes after gained count stand empty grow there max h stored h.gained in
     record {
@@ -283,15 +298,18 @@ come law once walks one plan fits first now reader gathering (Some (Err fault)) 
       stops =
           unread law once walks one plan fits first now reader gathering (Some (Err fault)) old new false false before lanes after gained count stand empty grow there max h
           fault ran put;
+      at_read = λ _.
+          shown_unread law once walks one plan fits first now reader gathering (Some (Err fault)) old new false false before lanes after gained count stand empty grow there max h
+          answered h.at_end.1 h.at_end.2 ran put;
     }
 
 -- What the stages' own relations say of it
 
 module _ (law : OneFlowHasAPort) (once : OneGained) (walks : WalksTheFront) (one : OneTrace)
-    (plan : Plan) (fits : PlanFits plan) (table : List ℕ) (named : plan.table ≡ table)
-    (left now : Option (List ℕ)) (reads puts : ℕ × ℕ) (reader reader' : ReaderState) (gathering gathering' : Gathering) (end : Option (Result Tail Fault))
-    (old new : List BatchView) (starved broken : Bool) (lanes after : Option Lanes)
-    (given took : List SheafState) (made stored : List (List Shelved))
+    (plan : Plan) (fits : PlanFits plan) {table : List ℕ} (named : plan.table ≡ table)
+    {left now : Option (List ℕ)} {reads puts : ℕ × ℕ} {reader reader' : ReaderState} {gathering gathering' : Gathering} {end : Option (Result Tail Fault)}
+    {old new : List BatchView} {starved broken : Bool} {lanes after : Option Lanes}
+    {given took : List SheafState} {made stored : List (List Shelved)}
     (gives : GivesBatches plan left now reads reader reader' gathering gathering' end given)
     (played : HavePlayed table old new took made starved)
     (put : PutsRows table lanes after puts stored broken)
@@ -314,11 +332,11 @@ module _ (law : OneFlowHasAPort) (once : OneGained) (walks : WalksTheFront) (one
         stored_front = stored_front;
       }
 
-  pub stages_come : (first : Option (List ℕ)) (before : Option Lanes) → IsReady plan first left reader gathering old before lanes
-      → Come plan first new gathering'.other before after (answer_to end starved broken)
+  pub stages_come : AnsweredIsLongest → (first : Option (List ℕ)) (before : Option Lanes) → IsReady plan first left reader gathering old before lanes
+      → Come plan first now new gathering'.other before after (answer_to end starved broken)
   unfolding has_done
-  stages_come first before h =
-      come law once walks one plan fits first now reader' gathering' end old new starved broken before lanes after h.gained h.count h.stand h.empty h.grow h.there gives.max
+  stages_come answered first before h =
+      come answered law once walks one plan fits first now reader' gathering' end old new starved broken before lanes after h.gained h.count h.stand h.empty h.grow h.there gives.max
       (has_done first h.gathered) whole
 
   -- how far the trace was read

@@ -15,7 +15,7 @@ use Rattle.fg_report.specs.declared.tail.Tail.{Tail}
 use Rattle.fg_results.specs.Stops.{ByBatch}
 use Rattle.fg_engine.specs.declared.engine.Engine.{Engine}
 use Rattle.fg_engine.specs.View.{FlowView}
-use Rattle.fg_engine.specs.Engine.{FlowStands, IsAtStart, LanesStop, TookAll}
+use Rattle.fg_engine.specs.Engine.{FlowStands, IsAtStart, LanesStop, StandsAtFault, TookAll}
 use Rattle.fg_engine.proofs.Standing.{shown_at}
 use Rattle.fg_batches.specs.BatchView.{BatchView}
 use Rattle.fg_batches.specs.declared.gathering.Gathering.{Gathering}
@@ -123,3 +123,11 @@ pub starved_stops :
 starved_stops one plan flows other now Ready At (Ok tail) ready whole stops = λ first before at.
     ends_stopped one plan (finish_after Memory) first flows other tail before now (whole first before (ready first before at))
 starved_stops one plan flows other now Ready At (Err fault) ready whole stops = λ first before at. stops first before (ready first before at)
+
+pub starved_at_read :
+    (plan : Plan) (now : Option Lanes) (Ready At : Option (List ℕ) → Option Lanes → Type 0) (rest : Option (List ℕ)) (taken : Result Tail Fault)
+    → ((first : Option (List ℕ)) (before : Option Lanes) → At first before → Ready first before)
+    → IfErr taken (λ fault. (first : Option (List ℕ)) (before : Option Lanes) → Ready first before → StandsAtFault plan fault first rest before now)
+    → IfErr (starved_answer taken) (λ fault. (first : Option (List ℕ)) (before : Option Lanes) → At first before → StandsAtFault plan fault first rest before now)
+starved_at_read plan now Ready At rest (Ok tail) ready reads = λ first before at read. absurd cc
+starved_at_read plan now Ready At rest (Err fault) ready reads = λ first before at. reads first before (ready first before at)

@@ -17,7 +17,7 @@ use Rattle.fg_flows.specs.Plan.{PlanFits}
 use Rattle.fg_flows.specs.Sheaf.{Item, SheafState, items_of, no_items}
 use Rattle.fg_report.specs.declared.tail.Tail.{Tail}
 use Rattle.fg_engine.specs.declared.shelved.Shelved.{Shelved}
-use Rattle.fg_engine.specs.Engine.{GrowAll, HasRead, told_finish}
+use Rattle.fg_engine.specs.Engine.{GrowAll, ReadsOn, told_finish}
 use Rattle.fg_batches.specs.declared.gathering.Gathering.{Gathering}
 use Rattle.fg_batches.specs.BatchView.{BatchView}
 use Rattle.fg_batches.specs.Batches.{BreaksEmptying, CanRun, CanRunAll, HasRun, HaveExchanged, HaveRun, HoldsBatch, WaitFor, waiting}
@@ -63,7 +63,7 @@ pub record GivesBatches
   pub came : (first : Option (List ℕ)) → HasGathered plan first left old [] [] before
       → (batches : List (List Record)) × AllZip (HoldsBatch plan) batches sheaves
       × StandsAtEnd plan first now new after end (all_of batches)
-  pub far : (first : Option (List ℕ)) → HasRead plan.max old first left → HasRead plan.max new first now
+  pub far : ReadsOn plan.max old left new now
   pub free : after.sheaf ≡ no_items (length plan.table)
   pub max : new.max ≡ plan.max
   pub counts : CountsEnd end count

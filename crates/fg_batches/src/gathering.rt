@@ -6,7 +6,7 @@ ghost use Rattle.fg_trace.specs.Reading.{HasReached, HoldsNext};
 ghost use Rattle.fg_trace.specs.Trace.{Record};
 ghost use Rattle.fg_flows.specs.Plan.{PlanFits};
 ghost use Rattle.fg_flows.specs.Sheaf.{HasRoom, no_items};
-ghost use Rattle.fg_engine.specs.Engine.{HasRead, told_finish};
+ghost use Rattle.fg_engine.specs.Engine.{ReadsOn, told_finish};
 ghost use Rattle.fg_batches.specs.Batches.{HoldsBatch};
 ghost use Rattle.fg_batches.specs.Gathering.{GathersLast, HasAdded, HasGathered, HasKept, with_record};
 
@@ -87,8 +87,7 @@ impl Gathering {
             → (batch : List Record) × HoldsBatch plan.now batch self.new.sheaf
             × StandsAfter reader.new first (S.left input.new) (records ++ batch)) }
         ensures short { OnErr result (¬ HoldsNext reader.new) }
-        ensures far { (first : Option (List ℕ)) → HasRead plan.now.max reader.old first (S.left input.old)
-            → HasRead plan.now.max reader.new first (S.left input.new) }
+        ensures far { ReadsOn plan.now.max reader.old (S.left input.old) reader.new (S.left input.new) }
         ensures reaches { IfOk result (λ end. IfSome end (λ tail.
             HasReached (told_finish tail) reader.new (S.left input.new))) }
         ensures open { IfOk result (λ end. IfNone end (reader.new.kept ≡ None)) }
@@ -161,8 +160,7 @@ impl Gathering {
             → StandsAfter reader.new first (S.left input.new) (records ++ batch)) }
         ensures unchanged { OnErr result (self.new ≡ self.old) }
         ensures short { OnErr result (¬ HoldsNext reader.new) }
-        ensures far { (first : Option (List ℕ)) → HasRead plan.now.max reader.old first (S.left input.old)
-            → HasRead plan.now.max reader.new first (S.left input.new) }
+        ensures far { ReadsOn plan.now.max reader.old (S.left input.old) reader.new (S.left input.new) }
         ensures reaches { IfOk result (λ end. IfSome end (λ tail.
             HasReached (told_finish tail) reader.new (S.left input.new))) }
         ensures open { IfOk result (λ end. IfNone end (reader.new.kept ≡ None)) }

@@ -7,7 +7,7 @@ ghost use Rattle.fg_flows.specs.Plan.{PlanFits};
 ghost use Rattle.fg_flows.specs.Sheaf.{no_items};
 ghost use Rattle.fg_results.specs.Counted.{CountsBeside};
 ghost use Rattle.fg_results.specs.Stops.{ByBatch};
-ghost use Rattle.fg_engine.specs.Engine.{HasRead, IsAtStart, LanesStop, TookAll, told_finish};
+ghost use Rattle.fg_engine.specs.Engine.{IsAtStart, LanesStop, ReadsOn, StandsAtFault, TookAll, told_finish};
 ghost use Rattle.fg_batches.specs.Batches.{CanRunAll, nothing_waits};
 ghost use Rattle.fg_batches.specs.Stages.{HaveShown, RunsBatches, answer_to, starved_answer};
 ghost use Rattle.fg_batches.specs.Walking.{IsReady, RanAll, unshelved};
@@ -27,7 +27,7 @@ use fg_pipe::run_three;
 use fg_report::Tail;
 use fg_results::laws::one_gained;
 use fg_trace::Reader;
-use fg_trace::laws::{one_trace, walks_the_front};
+use fg_trace::laws::{one_trace, walks_the_front, whole_records_are_answered};
 use std::alloc::{AllocError, Global};
 use std::marker::PhantomData;
 use std::mem;
@@ -72,8 +72,10 @@ pub(crate) fn take_in_batches<
     ensures stops { IfErr result.1 (λ fault. (first : Option (List ℕ)) (before : Option Lanes)
         → IsAtStart plan.now first (S.left input.old) reader engine.old before (O.lanes lanes.old)
         → LanesStop ByBatch plan.now (finish_after fault) first before (O.lanes lanes.new)) }
-    ensures far { (first : Option (List ℕ)) → HasRead plan.now.max reader first (S.left input.old)
-        → HasRead plan.now.max result.0 first (S.left input.new) }
+    ensures at_read { IfErr result.1 (λ fault. (first : Option (List ℕ)) (before : Option Lanes)
+        → IsAtStart plan.now first (S.left input.old) reader engine.old before (O.lanes lanes.old)
+        → StandsAtFault plan.now fault first (S.left input.new) before (O.lanes lanes.new)) }
+    ensures far { ReadsOn plan.now.max reader (S.left input.old) result.0 (S.left input.new) }
     ensures reaches { IfOk result.1 (λ tail. HasReached (told_finish tail) result.0 (S.left input.new)) }
 
     // A fault of the outside is answered only where it was counted, and one of reading may have been counted with any fault.
@@ -170,8 +172,10 @@ fn run_stages<
     ensures stops { IfErr result (λ fault. (first : Option (List ℕ)) (before : Option Lanes)
         → IsReady giver.old.plan.now first (S.left input.old) giver.old.reader giver.old.gathering (L.seen player.old.flows) before (O.lanes lanes.old)
         → LanesStop ByBatch giver.old.plan.now (finish_after fault) first before (O.lanes lanes.new)) }
-    ensures far { (first : Option (List ℕ)) → HasRead giver.old.plan.now.max giver.old.reader first (S.left input.old)
-        → HasRead giver.old.plan.now.max giver.new.reader first (S.left input.new) }
+    ensures at_read { IfErr result (λ fault. (first : Option (List ℕ)) (before : Option Lanes)
+        → IsReady giver.old.plan.now first (S.left input.old) giver.old.reader giver.old.gathering (L.seen player.old.flows) before (O.lanes lanes.old)
+        → StandsAtFault giver.old.plan.now fault first (S.left input.new) before (O.lanes lanes.new)) }
+    ensures far { ReadsOn giver.old.plan.now.max giver.old.reader (S.left input.old) giver.new.reader (S.left input.new) }
     ensures reaches { IfOk result (λ tail. HasReached (told_finish tail) giver.new.reader (S.left input.new)) }
     ensures faults { CountsBeside result ((S.faults input.old, S.faults input.new) ∷ [])
         ((O.faults lanes.old, O.faults lanes.new) ∷ []) }
@@ -182,6 +186,7 @@ fn run_stages<
     one_gained();
     walks_the_front();
     one_trace();
+    whole_records_are_answered();
     let mut putter = RowPutter { broken: false };
     match run_three(
         rt,

@@ -5,12 +5,11 @@ use Rattle.fg_rtp.specs.Laws.{WrittenIsRead as MediaWrittenIsRead}
 use Rattle.fg_fechead.specs.Laws.{WrittenIsRead as ParityWrittenIsRead}
 use Rattle.fg_encode.specs.Encoding.{bits_before, column_shape, parity_at, row_shape, time_of, word_at}
 use Rattle.fg_encode.specs.Laws.{ColumnsAreTheLayouts}
-use Rattle.fg_peel.specs.Laws.{TruthIsSolvable, SolutionsAreTrue}
 use Rattle.fg_playout.specs.Existence.{RunsExist}
-use Rattle.fg_playout.specs.Laws.{LiveStandUnderSerials, SolutionsArePeelings, MediaAdds, ParityAdds, FactsAreKept, RunsStayWithin, TakingsJoin}
 use Rattle.fg_playout.specs.Run.{Arrival}
 use Rattle.fg_results.specs.Flow.{parity_of}
 use Rattle.fg_drill.specs.Covered.{CoveredLossesPeel}
+use Rattle.fg_drill.specs.TrueLaws.{RunsAreLawful}
 use Rattle.fg_drill.specs.Sent.{FewArrive, SentRecordsAreTrue, SentWordsAreMedia, source_sent, words_sent}
 use Rattle.fg_drill.proofs.ComingBack.{sent_true}
 use Rattle.fg_drill.proofs.CoveredRuns.{all_peel}
@@ -20,9 +19,8 @@ use Rattle.fg_drill.proofs.Truth.{parity_has_base, parity_is_true, word_sent}
 
 pub covered_losses_peel :
     SentWordsAreMedia → SentRecordsAreTrue → FewArrive → MediaWrittenIsRead → ParityWrittenIsRead → LayoutsAreRead
-    → ColumnsAreTheLayouts → RunsExist → LiveStandUnderSerials → SolutionsArePeelings → TruthIsSolvable → SolutionsAreTrue
-    → MediaAdds → ParityAdds → FactsAreKept → RunsStayWithin → TakingsJoin → CoveredLossesPeel
-covered_losses_peel media records few media_law law shapes ending exist stand peelings solvable found media_adds parity_adds keeps within join playout settings payloads lost can covered waits =
+    → ColumnsAreTheLayouts → RunsExist → RunsAreLawful → CoveredLossesPeel
+covered_losses_peel media records few media_law law shapes ending exist laws playout settings payloads lost can covered waits =
     let most = can.can.packets.1 in
     let are = can.whole in
     let arrivals : List Arrival = all_left settings payloads lost most are in
@@ -35,7 +33,8 @@ covered_losses_peel media records few media_law law shapes ending exist stand pe
     let read = shapes settings.layout in (
       arrivals,
       arrive,
-      all_peel stand peelings solvable found keeps media_adds parity_adds within join ending playout settings.layout (length payloads) lost
+      all_peel laws.stand laws.peelings laws.solvable laws.found laws.keeps laws.media_adds laws.parity_adds laws.within laws.join ending
+          playout settings.layout (length payloads) lost
           covered waits can.few.first seq ssrc (words_sent settings payloads) arrivals sent
           (λ slot. time_of settings (bits_before payloads slot))
           (word_at settings payloads)

@@ -69,6 +69,25 @@ none_left_out lost number (r ∷ records) rest none =
     (none_left_out lost (number + 1) records rest (λ n low high. none n (omega (arith, low)) (omega (arith, high)))
     ∙ ap (λ (n : ℕ). records ++ without lost n rest) step)
 
+module _ (settings : Settings) (payloads : List (List ℕ)) where
+  -- The records of parity that are sent for a slot, and how many they are.
+  abbrev pub parity_records : ℕ → List Record
+  parity_records slot =
+      map (column_record settings payloads slot) (columns_ending settings.layout slot)
+      ++ map (row_record settings payloads slot) (rows_ending settings.layout slot)
+
+  pub parity_count :
+      (slot : ℕ) → length (parity_records slot) ≡ length (columns_ending settings.layout slot) + length (rows_ending settings.layout slot)
+  parity_count slot =
+      let columns : List ℕ = columns_ending settings.layout slot in
+      let rows : List ℕ = rows_ending settings.layout slot in
+      omega (
+        arith,
+        length-append (map (column_record settings payloads slot) columns) (map (row_record settings payloads slot) rows),
+        length-map columns (column_record settings payloads slot),
+        length-map rows (row_record settings payloads slot),
+      )
+
 module _
     (settings : Settings) (payloads : List (List ℕ)) (lost : ℕ → Bool) (most : settings.packets ≤ 7)
     (are : ArePayloads settings.packets payloads) where
@@ -86,45 +105,28 @@ module _
   abbrev pub all_left : List Arrival
   all_left = flat_map left_at (range_with_len 0 (length payloads))
 
-  abbrev parity_records : ℕ → List Record
-  parity_records slot =
-      map (column_record settings payloads slot) (columns_ending settings.layout slot)
-      ++ map (row_record settings payloads slot) (rows_ending settings.layout slot)
-
-  parity_count :
-      (slot : ℕ) → length (parity_records slot) ≡ length (columns_ending settings.layout slot) + length (rows_ending settings.layout slot)
-  parity_count slot =
-      let columns : List ℕ = columns_ending settings.layout slot in
-      let rows : List ℕ = rows_ending settings.layout slot in
-      omega (
-        arith,
-        length-append (map (column_record settings payloads slot) columns) (map (row_record settings payloads slot) rows),
-        length-map columns (column_record settings payloads slot),
-        length-map rows (row_record settings payloads slot),
-      )
-
   module _ (alone : (number : ℕ) → lost number ≡ true → (slot : ℕ) × (number ≡ media_number settings.layout slot)) where
     -- What is left of the records of a slot, and what comes after them.
     left_of_parity :
         (slot : ℕ) (rest : List Record)
-        → without lost (media_number settings.layout slot + 1) (parity_records slot ++ rest)
-        ≡ parity_records slot ++ without lost (media_number settings.layout (slot + 1)) rest
+        → without lost (media_number settings.layout slot + 1) (parity_records settings payloads slot ++ rest)
+        ≡ parity_records settings payloads slot ++ without lost (media_number settings.layout (slot + 1)) rest
     left_of_parity slot rest =
         let number : ℕ = media_number settings.layout slot in
-        let size = parity_count slot in
+        let size = parity_count settings payloads slot in
         let next = next_number settings.layout slot in
-        let at : number + 1 + length (parity_records slot) ≡ media_number settings.layout (slot + 1) = omega (arith, size, next) in
-        none_left_out lost (number + 1) (parity_records slot) rest
+        let at : number + 1 + length (parity_records settings payloads slot) ≡ media_number settings.layout (slot + 1) = omega (arith, size, next) in
+        none_left_out lost (number + 1) (parity_records settings payloads slot) rest
         (λ n low high. ⊎_elim
         (λ (gone : lost n ≡ true).
         let media = alone n gone in
         absurd (between_numbers settings.layout slot n media.0 (omega (arith, low)) (omega (arith, high, size)) media.1))
         (λ (kept : lost n ≡ false). kept)
         (bool_cases (lost n)))
-        ∙ ap (λ (n : ℕ). parity_records slot ++ without lost n rest) at
+        ∙ ap (λ (n : ℕ). parity_records settings payloads slot ++ without lost n rest) at
 
     module _ (media_law : MediaWrittenIsRead) (law : ParityWrittenIsRead) (shapes : LayoutsAreRead) where
-      parity_arrives : (slot : ℕ) → slot < length payloads → AllZip (Arrives settings.port) (parity_records slot) (parity_arrivals slot)
+      parity_arrives : (slot : ℕ) → slot < length payloads → AllZip (Arrives settings.port) (parity_records settings payloads slot) (parity_arrivals slot)
       parity_arrives slot below =
           zip_append (Arrives settings.port)
           (map (column_record settings payloads slot) (columns_ending settings.layout slot))
@@ -138,13 +140,13 @@ module _
           (slot : ℕ) (b : Bool) (rest : List Record) (more : List Arrival) → slot < length payloads
           → AllZip (Arrives settings.port) rest more
           → AllZip (Arrives settings.port)
-          (cond b (parity_records slot ++ rest) (media_record settings payloads slot ∷ (parity_records slot ++ rest)))
+          (cond b (parity_records settings payloads slot ++ rest) (media_record settings payloads slot ∷ (parity_records settings payloads slot ++ rest)))
           (cond b (parity_arrivals slot) (media_arrival settings payloads most are slot ∷ parity_arrivals slot) ++ more)
       slot_arrives slot true rest more below zip =
-          zip_append (Arrives settings.port) (parity_records slot) rest (parity_arrivals slot) more (parity_arrives slot below) zip
+          zip_append (Arrives settings.port) (parity_records settings payloads slot) rest (parity_arrivals slot) more (parity_arrives slot below) zip
       slot_arrives slot false rest more below zip = (
         media_can_arrive settings payloads most are media_law slot below,
-        zip_append (Arrives settings.port) (parity_records slot) rest (parity_arrivals slot) more (parity_arrives slot below) zip,
+        zip_append (Arrives settings.port) (parity_records settings payloads slot) rest (parity_arrivals slot) more (parity_arrives slot below) zip,
       )
 
       slots_arrive :

@@ -24,7 +24,7 @@ use Rattle.fg_playout.specs.Facts.{Holds}
 use Rattle.fg_playout.specs.Laws.{IsRead, LiveStandUnderSerials, SolutionsArePeelings, MediaAdds, ParityAdds, FactsAreKept, RunsStayWithin, TakingsJoin}
 use Rattle.fg_drill.specs.Repaired.{IsPeeled, ArrivalsPeel}
 use Rattle.fg_drill.specs.True.{number_of, AreInFull, IsTrueArrival, ComesInTurn, AreTrueArrivals, last_after, AreSentTrue}
-use Rattle.fg_drill.specs.TrueLaws.{FullArrivalsPeel}
+use Rattle.fg_drill.specs.TrueLaws.{FullArrivalsPeel, RunsAreLawful}
 use Rattle.fg_peel.proofs.Options.{some_and}
 use Rattle.fg_playout.proofs.Orderly.{known_ahead}
 use Rattle.fg_playout.proofs.Following.{media_keeps_mark}
@@ -344,9 +344,8 @@ module _
       }
 
 pub full_arrivals_peel :
-    RunsExist → LiveStandUnderSerials → SolutionsArePeelings → TruthIsSolvable → SolutionsAreTrue → FactsAreKept → MediaAdds
-    → ParityAdds → RunsStayWithin → TakingsJoin → FullArrivalsPeel
-full_arrivals_peel exist stand peelings solvable found keeps media_adds parity_adds within join playout seq ssrc count truth arrivals sent full =
+    RunsExist → RunsAreLawful → FullArrivalsPeel
+full_arrivals_peel exist laws playout seq ssrc count truth arrivals sent full =
     let run = exist playout arrivals sent.fits.window.0 (all_are_read seq ssrc truth None arrivals sent.source sent.media sent.arrive) in
-    all_peel stand peelings solvable found keeps media_adds parity_adds within join playout seq ssrc count truth arrivals sent
-    full run.0 run.1 run.2
+    all_peel laws.stand laws.peelings laws.solvable laws.found laws.keeps laws.media_adds laws.parity_adds laws.within laws.join
+    playout seq ssrc count truth arrivals sent full run.0 run.1 run.2

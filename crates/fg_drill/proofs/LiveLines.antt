@@ -1,13 +1,14 @@
 -- How many equations of a layout can be live at once: fewer than there are places. Those that are live end at a slot of a stretch of
 -- little more than the depth, and of columns and rows only so many do.
-use Rattle.std.proofs.Common.{◌≡◌, ◌≢◌, ◌⊎◌, ◌+◌, ◌-◌, ◌*◌, ◌/◌, ◌%◌, ◌<◌, ◌≤◌, ◌&&◌, ℕ, Bool, true, false, cond, T, List, [], ◌∷◌, length, Ordering, Less, Equal, Greater, Some, inl, inr, refl, sym, ap, subst, ◌∙◌, ⊎_elim, arith}
+use Rattle.std.proofs.Common.{◌≡◌, ◌≢◌, ◌⊎◌, ◌+◌, ◌-◌, ◌*◌, ◌/◌, ◌%◌, ◌<◌, ◌≤◌, ◌&&◌, ℕ, Bool, true, false, cond, T, List, [], ◌∷◌, length, Ordering, Equal, Greater, Some, inl, inr, refl, sym, ap, subst, ◌∙◌, ⊎_elim, arith}
+use Rattle.std.proofs.lemmas.Cmp.{by_ranked}
 use Rattle.std.proofs.lemmas.Bool.{cases_eq, cases_lt}
 use Rattle.std.proofs.lemmas.Nat.{div-add-mod', mod_below, mul-add-lt, same_from_place}
 use Rattle.std.proofs.Math.Nat.{mul-le-mul_left, mul-le-mul_right}
 use Rattle.std.specs.Bool.{⊤}
 use Rattle.std.specs.List.{Contains}
 use Rattle.std.specs.Ordering.{nat_cmp, is_lt}
-use Rattle.std.specs.Cmp.{ranked}
+use Rattle.std.specs.Cmp.{ranks}
 use Rattle.std.specs.FinMap.{get, entries, len, len-entries, entries_sorted}
 use Rattle.std.specs.FinMap.Entries.{is_sorted, below_all}
 use Rattle.fg_shape.specs.declared.layouts.Layout.{Layout}
@@ -89,12 +90,9 @@ both_true true b h = (tt, h)
 both_true false b h = absurd h
 
 less : (x y : ℕ) → T (is_lt (nat_cmp x y)) → x < y
-less x y h = go (nat_cmp x y) refl h
-  where
-    go : (r : Ordering) → r ≡ nat_cmp x y → T (is_lt r) → x < y
-    go Less e t = ranked x y Less e
-    go Equal e t = absurd t
-    go Greater e t = absurd t
+less x y h =
+    let other : (o : Ordering) → nat_cmp x y ≡ o → T (is_lt o) = λ o is. subst (λ (r : Ordering). T (is_lt r)) is h in
+    by_ranked (x < y) (x ≡ y) (y < x) (nat_cmp x y) (ranks x y) (λ is low. low) (λ is same. absurd (other Equal is)) (λ is high. absurd (other Greater is))
 
 below_each :
     {X : Type 0} (key : ℕ) (es : List (ℕ × X)) → T (below_all nat_cmp key es) → (e : ℕ × X) → Contains es e → key < e.0

@@ -14,6 +14,7 @@ use Rattle.fg_fechead.specs.Laws.{WrittenIsRead as ParityWrittenIsRead}
 use Rattle.fg_shape.specs.declared.kind.Kind.{Kind}
 use Rattle.fg_shape.specs.declared.kind.Kind.TheVariants as kind
 use Rattle.fg_shape.specs.Kind.{port_of}
+use Rattle.fg_trace.specs.Trace.{Record}
 use Rattle.fg_playout.specs.Run.{Arrival, carries, protects, refused, time_of}
 use Rattle.fg_encode.specs.Encoding.{bits_before, column_record, column_shape, longest, media_record, parity_at, row_record, row_shape, sequence_of, timestamp_of, word_at}
 use Rattle.fg_encode.specs.Ends.{columns_before, rows_before}
@@ -152,20 +153,14 @@ module _ (settings : Settings) (payloads : List (List ℕ)) (most : settings.pac
       ParityWrittenIsRead → (slot base : ℕ) → IsShape settings.layout.l settings.layout.d → base < length payloads → (a : Arrival)
       → Arrives settings.port (column_record settings payloads slot base) a → a ≡ column_arrival slot base
   column_arrives law slot base read below a arrives =
-      let shape : Shape = column_shape settings.layout in
-      let written = parity_is_written law slot base (columns_before settings.layout slot) shape false read below in
-      let bytes : List ℕ = (column_record settings payloads slot base).datagram in
-      read_as_parity kind.Column bytes (column_record settings payloads slot base).time
-      (parity_at settings payloads base shape false) written.0 written.1 a arrives.3
-      (on_column settings.port arrives.0 bytes a arrives.1 arrives.2)
+      let r : Record = column_record settings payloads slot base in
+      let written = parity_is_written law slot base (columns_before settings.layout slot) (column_shape settings.layout) false read below in
+      read_as_parity kind.Column r.datagram r.time _ written.0 written.1 a arrives.3 (on_column settings.port arrives.0 r.datagram a arrives.1 arrives.2)
 
   pub row_arrives :
       ParityWrittenIsRead → (slot base : ℕ) → IsShape 1 settings.layout.l → base < length payloads → (a : Arrival)
       → Arrives settings.port (row_record settings payloads slot base) a → a ≡ row_arrival slot base
   row_arrives law slot base read below a arrives =
-      let shape : Shape = row_shape settings.layout in
-      let written = parity_is_written law slot base (rows_before settings.layout slot) shape true read below in
-      let bytes : List ℕ = (row_record settings payloads slot base).datagram in
-      read_as_parity kind.Row bytes (row_record settings payloads slot base).time
-      (parity_at settings payloads base shape true) written.0 written.1 a arrives.3
-      (on_row settings.port arrives.0 bytes a arrives.1 arrives.2)
+      let r : Record = row_record settings payloads slot base in
+      let written = parity_is_written law slot base (rows_before settings.layout slot) (row_shape settings.layout) true read below in
+      read_as_parity kind.Row r.datagram r.time _ written.0 written.1 a arrives.3 (on_row settings.port arrives.0 r.datagram a arrives.1 arrives.2)

@@ -19,6 +19,7 @@ use Rattle.fg_playout.specs.Run.{Arrival, carries, protects, refused, unlimited,
 use Rattle.fg_playout.specs.Facts.{Holds}
 use Rattle.fg_playout.specs.Laws.{IsRead, LiveStandUnderSerials, SolutionsArePeelings, MediaAdds, ParityAdds, FactsAreKept, RunsStayWithin, TakingsJoin, HavePlayedFor, still_held, then_played}
 use Rattle.fg_drill.specs.True.{IsTrueArrival, AreTrueArrivals, last_after, AreSentTrue}
+use Rattle.fg_drill.specs.TrueLaws.{RunsAreLawful}
 use Rattle.fg_playout.proofs.Orderly.{known_ahead}
 use Rattle.fg_drill.proofs.TrueDesks.{IsTrueWindow, IsTruePlay, play_is_true, true_after_play}
 use Rattle.fg_drill.proofs.TrueTakings.{LeavesTruth, is_taken_truly}
@@ -152,8 +153,7 @@ TrueRunsAreTrue =
     → All (IsTruePlay truth) plays
 
 pub true_runs_are_true :
-    LiveStandUnderSerials → SolutionsArePeelings → TruthIsSolvable → SolutionsAreTrue → MediaAdds → ParityAdds
-    → FactsAreKept → RunsStayWithin → TakingsJoin → TrueRunsAreTrue
-true_runs_are_true stand peelings solvable found media_adds parity_adds keeps within join playout seq ssrc truth arrivals plays replies sent run =
-    run_is_true stand peelings solvable found media_adds parity_adds keeps within join playout seq ssrc truth arrivals
-    sent plays replies run
+    RunsAreLawful → TrueRunsAreTrue
+true_runs_are_true laws playout seq ssrc truth arrivals plays replies sent run =
+    run_is_true laws.stand laws.peelings laws.solvable laws.found laws.media_adds laws.parity_adds laws.keeps laws.within laws.join
+    playout seq ssrc truth arrivals sent plays replies run

@@ -5,11 +5,25 @@ use Rattle.fg_shape.specs.Playout.{Playout}
 use Rattle.fg_words.specs.declared.Word.{Word}
 use Rattle.fg_playout.specs.declared.reply.Reply.{Reply}
 use Rattle.fg_playout.specs.declared.reply.Outcome.TheVariants.{Repaired}
+use Rattle.fg_peel.specs.Laws.{SolutionsAreTrue, TruthIsSolvable}
+use Rattle.fg_playout.specs.Laws.{FactsAreKept, LiveStandUnderSerials, MediaAdds, ParityAdds, RunsStayWithin, SolutionsArePeelings, TakingsJoin}
 use Rattle.fg_playout.specs.Play.{Play, nothing_shown}
 use Rattle.fg_playout.specs.Run.{Arrival, IsRun}
 use Rattle.fg_results.specs.Flow.{all_shown}
 use Rattle.fg_drill.specs.Repaired.{ArrivalsPeel, is_shown}
 use Rattle.fg_drill.specs.True.{AreInFull, AreSentTrue}
+
+-- What the laws rest on: it holds of every run, and of the equations on its desks.
+pub record RunsAreLawful : Type 0 where
+  pub stand : LiveStandUnderSerials
+  pub peelings : SolutionsArePeelings
+  pub solvable : TruthIsSolvable
+  pub found : SolutionsAreTrue
+  pub media_adds : MediaAdds
+  pub parity_adds : ParityAdds
+  pub keeps : FactsAreKept
+  pub within : RunsStayWithin
+  pub join : TakingsJoin
 
 -- Every play is repaired.
 abbrev pub TrueRunsAreRepaired : Type 0

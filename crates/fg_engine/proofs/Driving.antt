@@ -16,7 +16,7 @@ use Rattle.fg_results.proofs.CountLemmas.{by_record_counts_in_any_way}
 use Rattle.fg_engine.specs.declared.engine.Engine.{Engine}
 use Rattle.fg_engine.specs.declared.records.Begun.{Begun}
 use Rattle.fg_engine.specs.Driver.{PartCounts, HasBegun, HasTakenAll}
-use Rattle.fg_engine.specs.Engine.{HasWalked, IsAtStart, HasRead, TookAll, LanesStop, told_finish}
+use Rattle.fg_engine.specs.Engine.{HasWalked, IsAtStart, HasRead, TookAll, LanesStop, StandsAtFault, told_finish}
 
 -- What a taking asks to begin at.
 abbrev pub Begins : Type 1
@@ -37,18 +37,27 @@ stops_taken :
 stops_taken At growth plan first before after (Ok tail) at stops = tt
 stops_taken At growth plan first before after (Err fault) at stops = stops first before at
 
+fault_taken :
+    (At : Begins) (plan : Plan) (first left : Option (List ℕ)) (before after : Option Lanes) (taken : Result Tail Fault) → At first before
+    → IfErr taken (λ fault. (first : Option (List ℕ)) (before : Option Lanes) → At first before → StandsAtFault plan fault first left before after)
+    → IfErr taken (λ fault. StandsAtFault plan fault first left before after)
+fault_taken At plan first left before after (Ok tail) at reads = tt
+fault_taken At plan first left before after (Err fault) at reads = reads first before at
+
 pub taken_all :
     {D : Type 0} → (At : Begins) (growth : Growth) (plan : Plan) (first now left : Option (List ℕ)) (begun : Begun D) (engine : Engine D) (reader : ReaderState)
     (before made after : Option Lanes) (taken : Result Tail Fault) → HasBegun plan first now begun before made → At first before
     → IfOk taken (λ tail. (first : Option (List ℕ)) (before : Option Lanes) → At first before → TookAll plan first engine tail before after)
     → IfErr taken (λ fault. (first : Option (List ℕ)) (before : Option Lanes) → At first before → LanesStop growth plan (finish_after fault) first before after)
+    → IfErr taken (λ fault. (first : Option (List ℕ)) (before : Option Lanes) → At first before → StandsAtFault plan fault first left before after)
     → ((first : Option (List ℕ)) → HasRead plan.max begun.reader first now → HasRead plan.max reader first left)
     → IfOk taken (λ tail. HasReached (told_finish tail) reader left)
     → HasTakenAll growth plan first left (record begun { engine = engine; reader = reader }) before after taken
-taken_all At growth plan first now left begun engine reader before made after taken h at whole stops far reaches = record {
+taken_all At growth plan first now left begun engine reader before made after taken h at whole stops reads far reaches = record {
   magic = h.magic;
   whole = whole_taken At plan first engine before after taken at whole;
   stops = stops_taken At growth plan first before after taken at stops;
+  at_read = fault_taken At plan first left before after taken at reads;
   far = far first h.far;
   reaches = reaches;
 }

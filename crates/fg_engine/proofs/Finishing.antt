@@ -18,7 +18,7 @@ use Rattle.fg_engine.specs.declared.engine.Engine.{Engine}
 use Rattle.fg_results.specs.Contract.{IsRepair}
 use Rattle.fg_results.specs.Existence.{ResultsExist}
 use Rattle.fg_results.specs.Laws.{OneFlowResult, StopsLeaveParts}
-use Rattle.fg_engine.specs.Engine.{LanesStop, LanesWhole, TellsTail, sums_of, told_finish, answer_of}
+use Rattle.fg_engine.specs.Engine.{LanesStop, LanesWhole, StandsAtFault, TellsTail, sums_of, told_finish, answer_of}
 use Rattle.fg_results.specs.Lanes.{PutsAll}
 use Rattle.fg_results.specs.Stops.{Growth}
 use Rattle.fg_results.specs.Repair.{Gain, Finishes, lanes_of, tail_of, report_text}
@@ -122,22 +122,24 @@ pub stopped :
     → IfSome first (λ bytes. IsReadFor plan.max (answer_of result) bytes left)
     → IfSome first (λ bytes. (place : ℕ) → IsTrace bytes plan.max [] (NotTrace place) → (lanes' ≡ lanes) × (out ≡ out))
     → IfErr result (λ fault. LanesStop growth plan (finish_after fault) first (told lanes) (told lanes'))
+    → IfErr result (λ fault. StandsAtFault plan fault first left (told lanes) (told lanes'))
     → IsRepair growth plan (answer_of result) first left told lanes lanes' written out out
-stopped law growth plan fits (Ok x) is first left told lanes lanes' written out reads refused h = absurd cc
-stopped law growth plan fits (Err fault) is first left told lanes lanes' written out reads refused h =
+stopped law growth plan fits (Ok x) is first left told lanes lanes' written out reads refused h at_read = absurd cc
+stopped law growth plan fits (Err fault) is first left told lanes lanes' written out reads refused h at_read =
     stopped_repair growth plan (finish_after fault) first left told lanes lanes' written out out reads refused law fits.playout.window.0
-    (fault_is fault) h.others refl h.stops
+    (fault_is fault) h.others refl h.stops (λ read. at_read (read_only fault read))
 
 -- Before any lane was made.
 pub stopped_first :
     {O K : Type 0} → StopsLeaveParts → (growth : Growth) (plan : Plan) → PlanFits plan → (result : Result Finish Fault) → IsErr result
     → (first left : Option (List ℕ)) (told : O → Option Lanes) (lanes : O) (written : K → Option (List ℕ)) (out : K)
     → IfSome first (λ bytes. IsReadFor plan.max (answer_of result) bytes left)
+    → IfErr result (λ fault. StandsAtFault plan fault first left (told lanes) (told lanes))
     → IsRepair growth plan (answer_of result) first left told lanes lanes written out out
-stopped_first law growth plan fits (Ok x) is first left told lanes written out reads = absurd cc
-stopped_first law growth plan fits (Err fault) is first left told lanes written out reads =
+stopped_first law growth plan fits (Ok x) is first left told lanes written out reads at_read = absurd cc
+stopped_first law growth plan fits (Err fault) is first left told lanes written out reads at_read =
     stopped law growth plan fits (Err fault) is first left told lanes lanes written out reads (none_made plan.max first lanes out)
-    (none_stops growth plan (finish_after fault) first (told lanes))
+    (none_stops growth plan (finish_after fault) first (told lanes)) at_read
 
 -- While the report was written.
 pub stopped_in_report :

@@ -14,6 +14,7 @@ pub mod Lanes
 pub mod Reaching
 pub mod Reading
 pub mod Results
+pub mod Rounds
 pub mod Shelving
 pub mod Showing
 pub mod Skipping

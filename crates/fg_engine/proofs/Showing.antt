@@ -104,21 +104,6 @@ module _ (Are : List Play → State → Type 0) (old : State) (sum : FlowSum) (b
             ∙ plays_more sum old.mark so.plays (play ∷ []);
       }
 
-  pub breaks_off :
-      (between new : State) (so_far : FlowSum) (middle after : Option Lanes) (play : Play)
-      → HaveShown Are old sum before between so_far middle
-      → ((plays : List Play) → Are plays between → Are (plays ++ play ∷ []) new) → so_far.port ≡ sum.port
-      → GrowsPart middle so_far.port (lane_of (play ∷ [])) after → BreakOff Are sum.port before after
-  breaks_off between new so_far middle after play so join port part = record {
-    plays = so.plays ++ play ∷ [];
-    now = new;
-    are = join so.plays so.are;
-    part =
-        subst (λ (bytes : List ℕ). GrowsPart before sum.port bytes after) (sym (lane_more so.plays (play ∷ [])))
-        (grows_part_join before middle after sum.port (lane_of so.plays) (lane_of (play ∷ [])) so.grows
-        (subst (λ (at : ℕ). GrowsPart middle at (lane_of (play ∷ [])) after) port part));
-  }
-
 -- The counts stay within what was played.
 pub within_one_more :
     (count : ℕ) (between new : State) (so_far next : FlowSum) (play : Play) → CountsWithin so_far between.mark
@@ -161,6 +146,22 @@ one_play_more Are old sum before count between on new so_far next middle after p
       playout = keeps_playout count on play new is ∙ playout ∙ h.playout;
       faults = faults;
     }
+
+-- A fault while one more was shown.
+pub breaks_off :
+    {Are : List Play → State → Type 0} {old between new : State} {sum so_far : FlowSum} {before middle after : Option Lanes} {play : Play}
+    {Player Still Faults : Type 0} → HavePlayedOn Are old sum before between so_far middle Player Still Faults
+    → ((plays : List Play) → Are plays between → Are (plays ++ play ∷ []) new) → GrowsPart middle so_far.port (lane_of (play ∷ [])) after
+    → BreakOff Are sum.port before after
+breaks_off {new} {sum} {before} {middle} {after} {play} h join part = record {
+  plays = h.so.plays ++ play ∷ [];
+  now = new;
+  are = join h.so.plays h.so.are;
+  part =
+      subst (λ (bytes : List ℕ). GrowsPart before sum.port bytes after) (sym (lane_more h.so.plays (play ∷ [])))
+      (grows_part_join before middle after sum.port (lane_of h.so.plays) (lane_of (play ∷ [])) h.so.grows
+      (subst (λ (at : ℕ). GrowsPart middle at (lane_of (play ∷ [])) after) h.port part));
+}
 
 -- A play that is due comes after those before it.
 pub due_after :

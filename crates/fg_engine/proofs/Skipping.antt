@@ -1,14 +1,12 @@
 -- Windows that are skipped show nothing, and are counted as if they were played one by one.
-use Rattle.std.proofs.Common.{◌≡◌, ◌≢◌, ◌+◌, ◌-◌, ◌*◌, ◌<◌, ◌≤◌, ◌^◌, ◌++◌, min, ℕ, zero, suc, Bool, true, false, cond, not, List, [], ◌∷◌, length, replicate, Option, refl, sym, ap, subst, ◌∙◌, arith, length-append}
+use Rattle.std.proofs.Common.{◌≡◌, ◌≢◌, ◌+◌, ◌-◌, ◌*◌, ◌≤◌, ◌++◌, min, ℕ, zero, suc, Bool, true, false, cond, not, List, [], ◌∷◌, length, replicate, Option, refl, sym, ap, subst, ◌∙◌, arith, length-append}
 use Rattle.std.specs.List.{count_by, flat_map}
 use Rattle.std.proofs.lemmas.List.{append-nil, length-replicate, replicate_more, replicate-append-replicate}
 use Rattle.std.proofs.lemmas.List.Folds.{sum_by-replicate}
 use Rattle.fg_io.specs.Outlet.{Lanes}
-use Rattle.fg_shape.specs.Playout.{Playout}
 use Rattle.fg_playout.specs.State.{State}
 use Rattle.fg_playout.specs.Play.{Play, Shown, IsPlay, nothing_shown}
 use Rattle.fg_playout.specs.Held.{at_time}
-use Rattle.fg_playout.specs.Room.{farthest_limit}
 use Rattle.fg_playout.specs.Laws.{HavePlayed, AreFlushSteps, AreHeldSteps}
 use Rattle.fg_playout.specs.Empty.{empty_plays}
 use Rattle.fg_report.specs.Gaps.{with_gap}
@@ -16,7 +14,7 @@ use Rattle.fg_report.proofs.GapLemmas.{touching}
 use Rattle.fg_report.specs.declared.flow_sum.FlowSum.{FlowSum}
 use Rattle.fg_results.specs.Flow.{all_shown, shown_payload, shows_word, is_inconsistent, gaps_from, lane_of}
 use Rattle.fg_results.proofs.ShownLemmas.{all_shown_more, lane_more}
-use Rattle.fg_engine.specs.Steps.{with_plays, CountsWithin, Grows, HaveShown, BreakOff}
+use Rattle.fg_engine.specs.Steps.{with_plays, CountsWithin, Grows}
 use Rattle.fg_engine.proofs.Counting.{gaps_more, plays_more, shown_within}
 use Rattle.fg_engine.proofs.Showing.{HavePlayedOn, counts_none, keeps_playout}
 
@@ -103,7 +101,7 @@ counts_skipped sum first windows window positions is some =
 pub none_skipped : (sum : FlowSum) (first windows window : ℕ) → windows ≡ 0 → sum ≡ with_plays sum first (empty_plays windows window first)
 none_skipped sum first windows window none = counts_none sum first ∙ ap (λ (n : ℕ). with_plays sum first (empty_plays n window first)) (sym none)
 
-some_each : (count window : ℕ) → 1 ≤ window → count ≤ count * window
+pub some_each : (count window : ℕ) → 1 ≤ window → count ≤ count * window
 some_each zero window some = omega arith
 some_each (suc count) window some =
     let rest = some_each count window some in let next = next_window count window in omega (arith, rest, next, some)
@@ -172,34 +170,6 @@ skipped_on old new windows moves = (let mark = moves.0 in let long = many_empty 
 
 -- A loop over plays goes on with windows that are skipped.
 
--- the position behind a play is the mark
-pub behind : (n : ℕ) (on new : State) (play : Play) (count : ℕ) → IsPlay n on play new → count ≡ length play.shown → play.first + count ≡ new.mark
-behind n on new play count is same =
-    let first = is.first in let mark = is.mark in let long = is.length_is in omega (arith, first, mark, long, same)
-
--- a window after a play is the window before it
-pub some_window : (n : ℕ) (on new : State) (play : Play) → IsPlay n on play new → 1 ≤ on.playout.window → 1 ≤ new.playout.window
-some_window n on new play is some = subst (λ (p : Playout). 1 ≤ p.window) (sym (keeps_playout n on play new is)) some
-
--- the loop ends
-pub farther :
-    (n : ℕ) (from on to new : State) (play : Play) (plays : List Play) → on.mark ≡ from.mark → IsPlay n on play to → 1 ≤ n → Moves to plays new
-    → from.mark < farthest_limit → farthest_limit - new.mark < farthest_limit - from.mark
-farther n from on to new play plays at is some moves below =
-    let first = is.mark in let more = moves.0 in omega (arith, at, first, some, more, below)
-
-pub each_has_positions : (windows window positions : ℕ) → 1 ≤ window → positions ≡ windows * window → windows ≤ positions
-each_has_positions windows window positions some is = (let each = some_each windows window some in omega (arith, each, is))
-
-pub skip_fits :
-    (between new : State) (windows positions first : ℕ) → first ≡ between.mark → positions ≡ windows * between.playout.window
-    → Moves between (empty_plays windows between.playout.window between.mark) new → new.mark < farthest_limit
-    → first + positions ≤ 2 ^ 62
-skip_fits between new windows positions first at is moves below =
-    let long = many_empty windows between.playout.window between.mark in
-    let mark = moves.0 in
-    omega (arith, long, mark, at, is, below)
-
 pub skip_on :
     {Player Still Faults : Type 0} (Are : List Play → State → Type 0) (old : State) (sum : FlowSum) (before : Option Lanes)
     (between new : State) (so_far next : FlowSum) (middle : Option Lanes) (windows positions first : ℕ)
@@ -238,14 +208,3 @@ skip_on Are old sum before between new so_far next middle windows positions firs
       playout = moves.1 ∙ h.playout;
       faults = h.faults;
     }
-
--- A fault where all was shown so far.
-pub broken :
-    (Are : List Play → State → Type 0) (old new : State) (sum sum' : FlowSum) (before after : Option Lanes)
-    → HaveShown Are old sum before new sum' after → BreakOff Are sum.port before after
-broken Are old new sum sum' before after so = record {
-  plays = so.plays;
-  now = new;
-  are = so.are;
-  part = (lane_of so.plays, ([], sym (append-nil (lane_of so.plays))), so.grows);
-}

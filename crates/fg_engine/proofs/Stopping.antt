@@ -7,11 +7,10 @@ use Rattle.fg_io.specs.Outlet.{Lanes, lane_of, lane_bytes}
 use Rattle.fg_flows.specs.declared.Plan.{Plan}
 use Rattle.fg_flows.specs.Plan.{playout_of}
 use Rattle.fg_trace.specs.declared.step.Finish.{Finish}
-use Rattle.fg_trace.specs.declared.step.Finish.TheVariants as finish
 use Rattle.fg_trace.specs.Trace.{Record}
 use Rattle.fg_engine.specs.Engine.{GrowAll, AreThere, BreaksAfter, MakesFirst}
 use Rattle.fg_results.specs.Lanes.{PutsAll}
-use Rattle.fg_results.specs.Stops.{Growth, LeavesWhole, MayStopAt, Stops, HasShown, LiesBetween, Stage, Making, Taking, made_at, HasGained, HasGainedPart}
+use Rattle.fg_results.specs.Stops.{Growth, LanesShow, LeavesWhole, MayStopAt, Stops, HasShown, LiesBetween, Stage, Making, Taking, made_at, HasGained, HasGainedPart}
 use Rattle.fg_results.proofs.StopLemmas.{may_make, may_take}
 use Rattle.fg_engine.proofs.Flushing.{some_is}
 
@@ -47,6 +46,17 @@ stops_at growth plan answer records stage broken gained before after may quiet e
       (λ flow piece. HasGained plan records stage flow piece ⊎ ((broken ≡ Some flow) × HasGainedPart plan records stage flow piece))
       gained exact;
   puts = each_put (made_at plan stage) gained before after grow there;
+}
+
+-- Lanes that have gained what each flow has shown
+pub lanes_show :
+    (plan : Plan) (records : List Record) (gained : ℕ → List ℕ) (before after : Option Lanes)
+    → ((flow : ℕ) → Contains plan.table flow → HasShown (playout_of plan) flow records (gained flow))
+    → GrowAll before plan.table gained after → AreThere plan.table after → LanesShow plan records before after
+lanes_show plan records gained before after shown grow there = record {
+  pieces = map gained plan.table;
+  shown = each_piece plan.table (λ flow piece. HasShown (playout_of plan) flow records piece) gained shown;
+  puts = each_put plan.table gained before after grow there;
 }
 
 -- While lanes are made

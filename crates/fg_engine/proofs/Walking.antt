@@ -8,18 +8,20 @@ use Rattle.fg_trace.specs.declared.step.Finish.{Finish}
 use Rattle.fg_trace.specs.declared.step.Finish.TheVariants as finish
 use Rattle.fg_trace.specs.declared.step.Step.TheVariants.{Datagram}
 use Rattle.fg_trace.specs.declared.step.TraceFault.{TraceFault}
-use Rattle.fg_trace.specs.Laws.{WalksTheFront}
+use Rattle.fg_trace.specs.Laws.{AnsweredIsLongest, WalksTheFront}
 use Rattle.fg_trace.proofs.Opening.{stands_still}
 use Rattle.fg_trace.specs.Reader.{Answer, ReaderState, StandsAfter, Walks}
+use Rattle.fg_trace.specs.Reading.{HoldsNext}
 use Rattle.fg_trace.specs.Trace.{Record, Ending, IsTrace}
 use Rattle.fg_results.proofs.FlowRecords.{few_records}
 use Rattle.fg_engine.specs.declared.engine.Engine.{Engine}
 use Rattle.fg_engine.specs.Engine.{LanesGrow, GrowAll, IsRunning, HasCome, BreaksAfter, LanesStop, HasWalked, TookAll, TellsTail}
 use Rattle.fg_results.specs.Lanes.{OthersStay}
-use Rattle.fg_results.specs.Stops.{Growth, ByRecord, LeavesWhole, StopsIn, Taking}
+use Rattle.fg_results.specs.Stops.{Growth, ByRecord, LeavesWhole, StandsAtRead, StopsIn, Taking}
+use Rattle.fg_results.proofs.AtRead.{shown_at_read}
 use Rattle.fg_engine.proofs.Lanes.{told_map}
 use Rattle.fg_engine.proofs.Standing.{shown_at}
-use Rattle.fg_engine.proofs.Stopping.{Follows, taking_stops}
+use Rattle.fg_engine.proofs.Stopping.{Follows, lanes_show, taking_stops}
 
 pub running : {D : Type 0} → (plan : Plan) → PlanFits plan → (first now : Option (List ℕ)) (reader : ReaderState) (engine : Engine D) (before after : Option Lanes) → reader.max ≡ plan.max → HasWalked plan first now reader engine before after → IsRunning plan engine
 running plan fits first now reader engine before after max h = record {
@@ -80,6 +82,14 @@ pub stop_at_fault :
     → HasWalked plan first left reader engine before at → LanesStop growth plan answer first before at
 stop_at_fault law growth plan answer first left now reader next engine before at why max walks h =
     broken_stop law growth plan answer first now next h.records h.records None before at max (stands_still next first now h.records why (walks h.records h.stands)) (λ quiet. refl) (inl (refl, refl)) (come_breaks plan h.records engine before at h.come)
+
+pub stands_at_read :
+    {D : Type 0} → AnsweredIsLongest → (plan : Plan) (first left now : Option (List ℕ)) (reader next : ReaderState) (engine : Engine D) (before at : Option Lanes) (why : TraceFault)
+    → next.max ≡ plan.max → ((records : List Record) → StandsAfter reader first left records → Walks (Err why) next first now records) → (HoldsNext next → ⊥)
+    → HasWalked plan first left reader engine before at → IfSome first (λ bytes. StandsAtRead plan bytes now before at)
+stands_at_read law plan first left now reader next engine before at why max walks none h =
+    shown_at_read law plan first now next h.records before at max (stands_still next first now h.records why (walks h.records h.stands)) none
+    (lanes_show plan h.records h.come.gained before at (shown_at plan h.records engine h.come.gained h.come.stands) h.come.grow h.come.there)
 
 -- The end
 

@@ -11,7 +11,7 @@ use Rattle.fg_report.specs.declared.tail.Tail.{Tail}
 use Rattle.fg_results.specs.Counted.{CountsBeside}
 use Rattle.fg_results.specs.Stops.{Growth, ByRecord, ByBatch}
 use Rattle.fg_engine.specs.declared.records.Begun.{Begun}
-use Rattle.fg_engine.specs.Engine.{IsAtStart, HasRead, TookAll, LanesStop, told_finish}
+use Rattle.fg_engine.specs.Engine.{IsAtStart, HasRead, TookAll, LanesStop, StandsAtFault, told_finish}
 
 -- What a part of a repair has counted whose lanes grow so.
 abbrev pub PartCounts : {A : Type 0} → Growth → Result A Fault → List (ℕ × ℕ) → List (ℕ × ℕ) → Type 0
@@ -39,5 +39,6 @@ pub record HasTakenAll {D : Type 0}
   pub magic : HasMagic plan first
   pub whole : IfOk taken (λ tail. TookAll plan first begun.engine tail before after)
   pub stops : IfErr taken (λ fault. LanesStop growth plan (finish_after fault) first before after)
+  pub at_read : IfErr taken (λ fault. StandsAtFault plan fault first left before after)
   pub far : HasRead plan.max begun.reader first left
   pub reaches : IfOk taken (λ tail. HasReached (told_finish tail) begun.reader left)

@@ -14,12 +14,13 @@ use Rattle.fg_report.specs.declared.tail.Tail.{Tail}
 use Rattle.fg_report.specs.declared.tail.Tail.TheVariants as tail
 use Rattle.fg_engine.specs.declared.engine.Engine.{Engine}
 use Rattle.fg_io.specs.declared.fault.Fault.{Fault}
+use Rattle.fg_io.specs.declared.fault.Fault.TheVariants.{Read}
 use Rattle.fg_results.specs.Flow.{FlowResult, IsFlowResult}
 use Rattle.fg_results.specs.Lanes.{OthersStay, PutsAll}
 use Rattle.fg_results.specs.Repair.{AreResults, lanes_of, others_of, tail_of}
 use Rattle.fg_engine.specs.View.{FlowView}
 use Rattle.fg_engine.specs.Steps.{HasTaken}
-use Rattle.fg_results.specs.Stops.{HasShown, LiesBetween, Flushing, HasGained, HasGainedPart, Growth, StopsIn}
+use Rattle.fg_results.specs.Stops.{HasShown, LiesBetween, Flushing, HasGained, HasGainedPart, Growth, StandsAtRead, StopsIn}
 
 -- The lanes
 
@@ -92,6 +93,10 @@ pub record LanesStop (growth : Growth) (plan : Plan) (answer : Finish) (first : 
   pub others : WhereTold (OthersStay plan.table) before after
   pub stops : StopsIn growth plan answer first before after
 
+-- If the fault is of reading, the lanes have what the records show that were whole in what was read of the input before it.
+abbrev pub StandsAtFault : Plan → Fault → Option (List ℕ) → Option (List ℕ) → Option Lanes → Option Lanes → Type 0
+StandsAtFault plan fault first now before after = fault ≡ Read → IfSome first (λ bytes. StandsAtRead plan bytes now before after)
+
 -- The reader stands after the records that the engine has taken.
 pub record HasWalked {D : Type 0}
     (plan : Plan) (first now : Option (List ℕ)) (reader : ReaderState) (engine : Engine D) (before after : Option Lanes) : Type 0 where
@@ -111,6 +116,10 @@ pub record HasRead (max : ℕ) (reader : ReaderState) (first now : Option (List 
   pub stands : StandsAfter reader first now records
   pub bounded : reader.place + length reader.held ≤ reader.max + 1
   pub limit : reader.max ≡ max
+
+-- From one reader to another, each with what its source has left then: whichever trace the one has read of, so has the other.
+abbrev pub ReadsOn : ℕ → ReaderState → Option (List ℕ) → ReaderState → Option (List ℕ) → Type 0
+ReadsOn max old left new now = (first : Option (List ℕ)) → HasRead max old first left → HasRead max new first now
 
 -- The trace is one, and ends so.
 abbrev pub TellsTail : Ending → Tail → Type 0

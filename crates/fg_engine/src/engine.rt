@@ -11,7 +11,7 @@ ghost use Rattle.fg_flows.specs.Plan.{PlanFits, playout_of};
 ghost use Rattle.fg_playout.specs.State.{opening};
 ghost use Rattle.fg_results.specs.Stops.{ByRecord};
 ghost use Rattle.fg_engine.specs.View.{FlowView};
-ghost use Rattle.fg_engine.specs.Engine.{EngineStands, FlowStands, IsRunning, HasCome, BreaksAfter, LanesStop, HasWalked, HasRead, TookAll, told_finish, IsFlushing, AreReady, HasEnded, BreaksAtFlush, LanesWhole, GrowAll, AreThere, MakesFirst};
+ghost use Rattle.fg_engine.specs.Engine.{EngineStands, FlowStands, IsRunning, HasCome, BreaksAfter, LanesStop, StandsAtFault, HasWalked, ReadsOn, TookAll, told_finish, IsFlushing, AreReady, HasEnded, BreaksAtFlush, LanesWhole, GrowAll, AreThere, MakesFirst};
 
 use crate::flow::Flow;
 use crate::player::LaneWriter;
@@ -20,7 +20,7 @@ use fg_flows::laws::one_flow_has_a_port;
 use fg_flows::{Plan, Table};
 use fg_io::{Fault, Outlet, Source, put};
 use fg_report::Tail;
-use fg_trace::laws::{one_trace, walks_the_front};
+use fg_trace::laws::{one_trace, walks_the_front, whole_records_are_answered};
 use fg_trace::{Reader, Step, TraceFault};
 use std::alloc::{AllocError, Global};
 
@@ -130,8 +130,10 @@ impl<D: WindowState> Engine<D> {
         ensures stops { IfErr result (λ fault. (first : Option (List ℕ)) (before : Option Lanes)
             → HasWalked plan.now first (S.left input.old) reader.old self.old before (O.lanes lanes.old)
             → LanesStop ByRecord plan.now (finish_after fault) first before (O.lanes lanes.new)) }
-        ensures far { (first : Option (List ℕ)) → HasRead plan.now.max reader.old first (S.left input.old)
-            → HasRead plan.now.max reader.new first (S.left input.new) }
+        ensures at_read { IfErr result (λ fault. (first : Option (List ℕ)) (before : Option Lanes)
+            → HasWalked plan.now first (S.left input.old) reader.old self.old before (O.lanes lanes.old)
+            → StandsAtFault plan.now fault first (S.left input.new) before (O.lanes lanes.new)) }
+        ensures far { ReadsOn plan.now.max reader.old (S.left input.old) reader.new (S.left input.new) }
         ensures reaches { IfOk result (λ end. IfSome end (λ tail.
             HasReached (told_finish tail) reader.new (S.left input.new))) }
         ensures open { IfOk result (λ end. IfNone end (reader.new.kept ≡ None)) }
@@ -143,6 +145,7 @@ impl<D: WindowState> Engine<D> {
         ensures fixed { S.fixed input.new ≡ S.fixed input.old }
     {
         walks_the_front();
+        whole_records_are_answered();
         match reader.next(input) {
             Ok(Step::Datagram { time, port, .. }) => {
                 self.take(alloc, plan, port, time, reader.payload(), lanes)?;
@@ -176,8 +179,10 @@ impl<D: WindowState> Engine<D> {
         ensures stops { IfErr result (λ fault. (first : Option (List ℕ)) (before : Option Lanes)
             → HasWalked plan.now first (S.left input.old) reader.old self.old before (O.lanes lanes.old)
             → LanesStop ByRecord plan.now (finish_after fault) first before (O.lanes lanes.new)) }
-        ensures far { (first : Option (List ℕ)) → HasRead plan.now.max reader.old first (S.left input.old)
-            → HasRead plan.now.max reader.new first (S.left input.new) }
+        ensures at_read { IfErr result (λ fault. (first : Option (List ℕ)) (before : Option Lanes)
+            → HasWalked plan.now first (S.left input.old) reader.old self.old before (O.lanes lanes.old)
+            → StandsAtFault plan.now fault first (S.left input.new) before (O.lanes lanes.new)) }
+        ensures far { ReadsOn plan.now.max reader.old (S.left input.old) reader.new (S.left input.new) }
         ensures reaches { IfOk result (λ tail. HasReached (told_finish tail) reader.new (S.left input.new)) }
         ensures faults { Counts result ((S.faults input.old, S.faults input.new) ∷ [])
             ((O.faults lanes.old, O.faults lanes.new) ∷ []) }

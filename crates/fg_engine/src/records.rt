@@ -22,7 +22,7 @@ use fg_io::laws::parts_of_writes;
 use fg_io::{Fault, Outlet, Sink, Source};
 use fg_report::{FlowSum, ReportFault, Tail, write_report};
 use fg_results::laws::{one_flow_result, results_exist, stops_leave_parts};
-use fg_trace::laws::{one_trace, read_as_far_as_needed};
+use fg_trace::laws::{one_trace, read_as_far_as_needed, whole_records_are_answered};
 use fg_trace::{Finish, Reader, TraceFault};
 use std::alloc::{AllocError, Global};
 
@@ -122,11 +122,12 @@ pub fn begin<D: WindowState, S: Source, K: Sink, O: Outlet>(
     ensures fixed { S.fixed input.new ≡ S.fixed input.old }
 {
     // What is no trace has a result for each flow too. Where lanes stop, they have gained parts of the results. And what a
-    // reader has read is as far as each answer needs.
+    // reader has read is as far as each answer needs. Where it looks for the magic, that is what it holds.
     results_exist();
     stops_leave_parts();
     one_trace();
     read_as_far_as_needed();
+    whole_records_are_answered();
     let Ok(mut reader) = Reader::new(alloc, plan.max) else {
         return Err(Finish::Memory);
     };

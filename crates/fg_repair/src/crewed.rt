@@ -92,19 +92,16 @@ fn repair_with<
     } = made;
     let posts = posts.as_slice();
     match open_tallies(alloc, posts, &mut hosts) {
-        Ok(flows) => repair_beside(
-            rt,
-            alloc,
-            plan,
-            posts,
-            &FlowTallies { flows },
-            hosts,
-            &mut owns,
-            input,
-            out,
-            lanes,
-            gate,
-        ),
+        Ok(flows) => {
+            let places = FlowTallies { flows };
+            let helping = Helping {
+                posts,
+                places: &places,
+                gate,
+                alloc,
+            };
+            repair_beside(rt, plan, &helping, hosts, &mut owns, input, out, lanes)
+        }
         Err(AllocError) => give_up(plan, input, out, lanes),
     }
 }
@@ -119,34 +116,35 @@ fn repair_beside<
     G: Gate,
 >(
     rt: &W,
-    alloc: Global,
     plan: &Plan,
-    posts: &[Post],
-    places: &P,
+    helping: &Helping<'_, G, P>,
     hosts: Vec<Host>,
     owns: &mut [Vec<Remembered>],
     input: &mut S,
     out: &mut K,
     lanes: &mut O,
-    gate: &G,
 ) -> Finish
     requires fits { PlanFits plan.now }
-    requires begins { CanBegin plan.now posts.now hosts.items }
+    requires begins { CanBegin plan.now helping.now.posts.now hosts.items }
     ensures repairs { IsRepair ByBatch plan.now result (S.left input.old) (S.left input.new) O.lanes lanes.old lanes.new
         K.written out.old out.new }
     ensures faults { RepairCounts ByBatch result ((S.faults input.old, S.faults input.new) ∷ [])
         ((K.faults out.old, K.faults out.new) ∷ (O.faults lanes.old, O.faults lanes.new) ∷ []) }
     ensures fixed { S.fixed input.new ≡ S.fixed input.old }
 {
-    let helping = Helping {
-        posts,
-        places,
-        gate,
-        alloc,
-    };
     let mut hosts = hosts;
     match repair_with_crew(
-        rt, alloc, plan, posts, &mut hosts, owns, &helping, input, out, lanes, gate,
+        rt,
+        helping.alloc,
+        plan,
+        helping.posts,
+        &mut hosts,
+        owns,
+        helping,
+        input,
+        out,
+        lanes,
+        helping.gate,
     ) {
         Ok(finish) => finish,
         Err(AllocError) => give_up(plan, input, out, lanes),

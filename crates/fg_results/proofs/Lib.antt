@@ -1,4 +1,5 @@
 pub mod ArrivalLemmas
+pub mod AtRead
 pub mod CountLemmas
 pub mod Existing
 pub mod Fronts

@@ -17,7 +17,7 @@ use Rattle.fg_results.specs.Flow.{FlowResult}
 use Rattle.fg_results.specs.Lanes.{OthersStay, PutsAll}
 use Rattle.fg_results.specs.Laws.{OneFlowResult, StopsLeaveParts}
 use Rattle.fg_results.specs.Repair.{AreResults, Finishes, OutputsPart, lanes_of as lanes_of_results, report_text}
-use Rattle.fg_results.specs.Stops.{Growth, ByRecord, Stops, StopsIn}
+use Rattle.fg_results.specs.Stops.{Growth, ByRecord, StandsAtRead, Stops, StopsIn}
 use Rattle.fg_results.proofs.Fronts.{one_of_each}
 use Rattle.fg_results.proofs.StopLemmas.{stops_whole}
 
@@ -133,14 +133,17 @@ module _ {O K : Type 0}
         refused = refused;
         part = λ fault. absurd (none fault);
         stops = λ fault. absurd (none fault);
+        at_read = λ is. absurd (none (subst IsFault (sym is) tt));
         no_report = λ is. absurd (none (subst IsFault (sym is) tt));
       }
 
   faulted :
       IsFault answer → OutputsPart plan input (lanes_of lanes) (lanes_of lanes') written out out'
-      → StopsIn growth plan answer input (lanes_of lanes) (lanes_of lanes') → (answer ≡ finish.ReadFault → out' ≡ out)
+      → StopsIn growth plan answer input (lanes_of lanes) (lanes_of lanes')
+      → (answer ≡ finish.ReadFault → IfSome input (λ bytes. StandsAtRead plan bytes input' (lanes_of lanes) (lanes_of lanes')))
+      → (answer ≡ finish.ReadFault → out' ≡ out)
       → IsRepair growth plan answer input input' lanes_of lanes lanes' written out out'
-  faulted fault part stops no_report = record {
+  faulted fault part stops at_read no_report = record {
     whole = inl fault;
     exactly = answers_fault plan answer input fault;
     all_read = λ all. absurd (not_all_read answer fault all);
@@ -148,6 +151,7 @@ module _ {O K : Type 0}
     refused = refused;
     part = λ _. part;
     stops = λ _. stops;
+    at_read = at_read;
     no_report = no_report;
   }
 
@@ -155,10 +159,11 @@ module _ {O K : Type 0}
   pub stopped_repair :
       StopsLeaveParts → 1 ≤ plan.window → IsFault answer → WhereTold (OthersStay plan.table) (lanes_of lanes) (lanes_of lanes')
       → out' ≡ out → StopsIn growth plan answer input (lanes_of lanes) (lanes_of lanes')
+      → (answer ≡ finish.ReadFault → IfSome input (λ bytes. StandsAtRead plan bytes input' (lanes_of lanes) (lanes_of lanes')))
       → IsRepair growth plan answer input input' lanes_of lanes lanes' written out out'
-  stopped_repair law some fault others quiet stops =
+  stopped_repair law some fault others quiet stops at_read =
       faulted fault (parts_before law growth plan answer input (lanes_of lanes) (lanes_of lanes') written out out' some others quiet stops)
-      stops (λ _. quiet)
+      stops at_read (λ _. quiet)
 
   -- One that comes while the report is written, after all lanes. No source is read then.
   pub stopped_report :
@@ -168,4 +173,4 @@ module _ {O K : Type 0}
   stopped_report law one fault unread h =
       faulted fault (parts_in_report law one plan input (lanes_of lanes) (lanes_of lanes') written out out' h)
       (report_stops law growth plan answer input (lanes_of lanes) (lanes_of lanes') (written out) (written out') h)
-      (λ read. absurd (unread read))
+      (λ read. absurd (unread read)) (λ read. absurd (unread read))

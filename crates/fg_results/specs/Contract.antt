@@ -10,7 +10,7 @@ use Rattle.fg_trace.specs.Reading.{IsReadFor}
 use Rattle.fg_trace.specs.Trace.{Record, Ending, NotTrace, IsTrace}
 use Rattle.fg_flows.specs.declared.Plan.{Plan}
 use Rattle.fg_results.specs.Repair.{Finishes, OutputsPart}
-use Rattle.fg_results.specs.Stops.{Growth, StopsIn}
+use Rattle.fg_results.specs.Stops.{Growth, StandsAtRead, StopsIn}
 
 -- The call that answers so is a repair by this plan, whose lanes grow so. `input` are the bytes of the source before it, `input'` those that are
 -- left after it, `lanes_of` tells an outlet's lanes, and `written` what a sink has.
@@ -32,5 +32,7 @@ pub record IsRepair {O K : Type 0}
   pub part : IsFault answer → OutputsPart plan input (lanes_of lanes) (lanes_of lanes') written out out'
   -- The first fault ends the call: each lane has gained exactly what was shown up to there, but for the one that it broke.
   pub stops : IsFault answer → StopsIn growth plan answer input (lanes_of lanes) (lanes_of lanes')
+  -- After a failed read each lane has exactly what the records show that were whole in what was read before it.
+  pub at_read : answer ≡ finish.ReadFault → IfSome input (λ bytes. StandsAtRead plan bytes input' (lanes_of lanes) (lanes_of lanes'))
   -- After a read fault no report was begun.
   pub no_report : answer ≡ finish.ReadFault → out' ≡ out

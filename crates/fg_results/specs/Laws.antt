@@ -1,15 +1,15 @@
 -- Laws that show the definition of a repair to be right.
-use Rattle.std.specs.Prelude.{◌≡◌, ◌≤◌, ◌++◌, ℕ, Option, List}
+use Rattle.std.specs.Prelude.{◌≡◌, ◌≤◌, ◌++◌, ℕ, Option, Some, List}
 use Rattle.fg_io.specs.Outlet.{Lanes}
 use Rattle.fg_io.specs.Prefix.{IsPrefix}
 use Rattle.fg_trace.specs.declared.step.Finish.{Finish}
 use Rattle.fg_flows.specs.declared.Plan.{Plan}
-use Rattle.fg_trace.specs.Trace.{Record, Ending, IsTrace}
+use Rattle.fg_trace.specs.Trace.{Record, Ending, IsLongest, IsTrace}
 use Rattle.fg_shape.specs.Playout.{Playout}
 use Rattle.fg_results.specs.Flow.{FlowResult, IsFlowResult}
 use Rattle.fg_results.specs.Lanes.{PutsAllPart}
 use Rattle.fg_results.specs.Repair.{AreResults, lanes_of}
-use Rattle.fg_results.specs.Stops.{Growth, Stage, Stops, HasGained, HasShown}
+use Rattle.fg_results.specs.Stops.{Growth, Stage, Stops, HasGained, HasShown, LanesShow, StandsAtRead}
 
 -- Records give a flow one result at most.
 abbrev pub OneFlowResult : Type 0
@@ -44,3 +44,10 @@ StopsLeaveParts =
     (before after : Option Lanes)
     → 1 ≤ plan.window → AreResults plan records results → Stops growth plan answer records before after
     → PutsAllPart before plan.table (lanes_of results) after
+
+-- After a failed read the lanes show the records that stand whole in what was read, whichever way these are told.
+abbrev pub WholeRecordsAreShown : Type 0
+WholeRecordsAreShown =
+    (plan : Plan) (bytes read rest : List ℕ) (records : List Record) (before after : Option Lanes)
+    → StandsAtRead plan bytes (Some rest) before after → bytes ≡ read ++ rest → IsLongest read plan.max records
+    → LanesShow plan records before after

@@ -1,11 +1,11 @@
 -- Where a fault stops a repair. This project's own.
-use Rattle.std.specs.Prelude.{◌≡◌, ◌⊎◌, ◌+◌, ◌≤◌, ◌==◌, ⊤, ℕ, List, [], Option, None, Some, IfSome, if◌then◌else◌, take}
+use Rattle.std.specs.Prelude.{◌≡◌, ◌⊎◌, ◌+◌, ◌<◌, ◌≤◌, ◌==◌, ⊤, ℕ, List, [], ◌++◌, Option, None, Some, IfSome, if◌then◌else◌, length, take}
 use Rattle.std.specs.List.{AllZip, Contains}
 use Rattle.fg_io.specs.Prefix.{IsPrefix}
 use Rattle.fg_io.specs.Outlet.{Lanes}
 use Rattle.fg_trace.specs.declared.step.Finish.{Finish}
 use Rattle.fg_trace.specs.declared.step.Finish.TheVariants as finish
-use Rattle.fg_trace.specs.Trace.{Record, Ending, IsTrace}
+use Rattle.fg_trace.specs.Trace.{Record, Ending, IsLongest, IsTrace, magic}
 use Rattle.fg_flows.specs.declared.Plan.{Plan}
 use Rattle.fg_flows.specs.Plan.{playout_of}
 use Rattle.fg_shape.specs.Playout.{Playout}
@@ -132,3 +132,17 @@ abbrev pub StopsIn : Growth → Plan → Finish → Option (List ℕ) → Option
 StopsIn growth plan answer input before after =
     IfSome input (λ bytes. (records : List Record) (end : Ending)
     → IsTrace bytes plan.max records end → Stops growth plan answer records before after)
+
+-- Each flow's lane has gained exactly what these records show. All other lanes are as they were.
+pub record LanesShow (plan : Plan) (records : List Record) (before after : Option Lanes) : Type 0 where
+  pub pieces : List (List ℕ)
+  pub shown : AllZip (λ flow piece. HasShown (playout_of plan) flow records piece) plan.table pieces
+  pub puts : PutsAll before plan.table pieces after
+
+-- What a failed read leaves, after which `now` is left of these bytes: the magic is not whole in what was read, and no lane was made; or
+-- these records stand whole there, and no further one does, and the lanes have gained exactly what they show.
+abbrev pub StandsAtRead : Plan → List ℕ → Option (List ℕ) → Option Lanes → Option Lanes → Type 0
+StandsAtRead plan bytes now before after =
+    (read rest : List ℕ) → now ≡ Some rest → bytes ≡ read ++ rest
+    → ((length read < length magic) × (after ≡ before))
+    ⊎ ((records : List Record) × IsLongest read plan.max records × LanesShow plan records before after)

@@ -1,13 +1,13 @@
 //! The laws that show the definition of a repair to be right. Each is the contract of a function that does nothing, or only
 //! calls laws of the crates below.
 ghost use Rattle.fg_results.specs.Existence.{FlowResultExists, ResultsExist};
-ghost use Rattle.fg_results.specs.Laws.{OneFlowResult, OneResult, OneGained, ShownIsFront, StopsLeaveParts};
+ghost use Rattle.fg_results.specs.Laws.{OneFlowResult, OneResult, OneGained, ShownIsFront, StopsLeaveParts, WholeRecordsAreShown};
 ghost use Rattle.fg_results.specs.Picked.{NamedFlowsArePicked, PickedFlowResult, PickedResults};
 
 use fg_fechead::laws::{parity_datagrams_are_decided, parity_datagrams_read_one_way};
 use fg_playout::laws::{one_run, one_taking, runs_exist, taken_plays_come_first};
 use fg_rtp::laws::{media_datagrams_are_decided, media_datagrams_read_one_way};
-use fg_trace::laws::one_trace;
+use fg_trace::laws::{one_trace, whole_records_are_answered};
 
 /// The records of a trace give a flow at most one result.
 pub fn one_flow_result()
@@ -62,6 +62,13 @@ pub fn stops_leave_parts()
     shown_is_front();
     one_flow_result();
     results_exist();
+}
+
+/// After a failed read each lane has gained exactly what the records show that stand whole in what was read.
+pub fn whole_records_are_shown()
+    ensures { WholeRecordsAreShown }
+{
+    whole_records_are_answered();
 }
 
 /// What is picked of records gives a flow, of which all is picked, the results that all records give it. So a trace can be cut

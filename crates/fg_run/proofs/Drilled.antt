@@ -174,6 +174,7 @@ drill_answered exact back settings plan losses max answer can fits table lose mo
       complete = complete_told _ _ _ (why_of_drill answer) _ (IsStreamAnswer settings.packets max) due (λ e. counts.read (read_of answer e)) (λ e. counts.write (write_of answer e));
       part = λ fault. part (drill_fault_of answer fault);
       stops = λ fault. stops settings plan losses max answer _ _ _ (stopped (drill_fault_of answer fault));
+      at_read = λ e. tt;
       no_report = λ last e. absurd last;
       counts = counts_ahead tells answer (failed (growth_of plan) answer) counts;
       nothing_read = λ h. absurd h;

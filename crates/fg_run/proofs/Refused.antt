@@ -31,6 +31,7 @@ refusal_answered fault = record {
   complete = refused_complete _ fault _ _ _;
   part = λ h. absurd h;
   stops = λ h. absurd h;
+  at_read = λ e. tt;
   no_report = λ last e. refl;
   counts = untouched_counts (λ e. let a = e in cc) (λ e. let a = e in cc);
   nothing_read = λ h. refl;

@@ -64,6 +64,7 @@ repair_answered law plan answer r counts =
       complete = complete_told _ _ _ (why_of_finish answer) _ (IsTraceAnswer plan.max) due (λ e. counts.read (finish_tells.read_of answer e)) (λ e. counts.write (finish_tells.write_of answer e));
       part = λ fault. r.part (finish_tells.fault_of answer fault);
       stops = finish_stops plan answer _ _ _ r.stops;
+      at_read = λ e. r.at_read (finish_tells.read_of answer e);
       no_report = λ last e. r.no_report (finish_tells.read_of answer e);
       counts = counts_ahead finish_tells answer (failed (growth_of plan) answer) counts;
       nothing_read = λ h. absurd h;

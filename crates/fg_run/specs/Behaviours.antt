@@ -1,5 +1,5 @@
 -- What the program owes for each request: this project's own.
-use Rattle.std.specs.Prelude.{◌≡◌, Some, ⊤}
+use Rattle.std.specs.Prelude.{◌≡◌, ⊤}
 use Rattle.fg_cli.specs.declared.Order.TheVariants.{Repair, Encode, Drill, Inspect, Sample, FromCapture, ToCapture, Monitor, Prove, Check, ChooseMatrix, Survey, Pick}
 use Rattle.fg_cli.specs.declared.WordFault.{WordFault}
 use Rattle.fg_commands.specs.declared.ended.Why.TheVariants as why
@@ -13,7 +13,7 @@ use Rattle.fg_commands.specs.Inspection.{inspection}
 use Rattle.fg_commands.specs.Monitoring.{monitoring}
 use Rattle.fg_commands.specs.Picking.{picking}
 use Rattle.fg_commands.specs.Planning.{planning}
-use Rattle.fg_commands.specs.Printer.{printer}
+use Rattle.fg_commands.specs.Printer.{printer, silent, unread}
 use Rattle.fg_commands.specs.Proving.{proving}
 use Rattle.fg_commands.specs.Surveying.{surveying}
 use Rattle.fg_commands.specs.ToCapture.{to_capture}
@@ -25,20 +25,9 @@ use Rattle.fg_run.specs.Sampling.{sampling}
 
 -- Words that break a rule are refused: nothing is read, written or made.
 abbrev pub refusal : WordFault → Behaviour
-refusal fault = record {
-  is_answer = λ bytes answer. answer ≡ why.Words fault;
-  gains = λ answer input lanes lanes' written written'. (answer ≡ why.Words fault) × (lanes' ≡ lanes) × (written' ≡ written);
+refusal fault = record (unread (why.Words fault) silent) {
   part = λ {K} input lanes lanes' written out out'. (lanes' ≡ lanes) × (out' ≡ out);
-  stops = λ answer input lanes lanes'. lanes' ≡ lanes;
-  comes_back = λ answer input lanes lanes' written written'. ⊤;
-  reads = λ answer bytes now. now ≡ Some bytes;
-  reads_all = λ answer. ⊥;
-  may_have_failed_to_read = λ answer. answer ≡ why.ReadFault;
-  is_no_input = λ bytes. ⊥;
-  reads_nothing = ⊤;
   writes_nothing = ⊤;
-  makes_no_lane = ⊤;
-  writes_last = ⊥;
 }
 
 abbrev pub behaviour_of : Request → Behaviour

@@ -1,5 +1,5 @@
 -- What `drill` is for: this project's own.
-use Rattle.std.specs.Prelude.{◌≡◌, ◌⊎◌, ℕ, List, Some, Option, IfSome, Ok, Err}
+use Rattle.std.specs.Prelude.{◌≡◌, ◌⊎◌, ℕ, List, Some, Option, IfSome, Ok, Err, ⊤}
 use Rattle.fg_io.specs.Outlet.{Lanes}
 use Rattle.fg_shape.specs.declared.encoding.Losses.{Losses}
 use Rattle.fg_shape.specs.declared.encoding.Settings.{Settings}
@@ -45,6 +45,7 @@ drilling settings plan losses max = record {
   stops = λ answer input lanes lanes'.
       IfSome input (λ bytes. (payloads : List (List ℕ)) (end : StreamEnding) → IsCut settings.packets max bytes payloads end
       → StopsLanes plan answer (records_sent settings losses payloads) lanes lanes');
+  at_read = λ input now lanes lanes'. ⊤;
   comes_back = λ answer input lanes lanes' written written'.
       IfSome input (λ bytes. IsFault answer ⊎ DrillComesBack settings plan losses max answer bytes lanes lanes');
   reads = ReadsStream max;

@@ -17,6 +17,7 @@ sampling seed datagrams loss plan = record {
   part = λ {K} input lanes lanes' written out out'.
       SamplesPart seed datagrams loss plan lanes lanes' (written out) (written out');
   stops = λ answer input lanes lanes'. StopsLanes plan answer (sample_sent seed datagrams loss) lanes lanes';
+  at_read = λ input now lanes lanes'. ⊤;
   comes_back = λ answer input lanes lanes' written written'.
       IsFault answer ⊎ SampleComesBack seed datagrams loss plan lanes lanes';
   reads = λ answer bytes now. now ≡ Some bytes;

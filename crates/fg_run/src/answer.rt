@@ -43,45 +43,35 @@ pub fn answer<
 {
     match request {
         Request::Asked(question) => answer_question(alloc, question, out),
-        Request::Ordered(Order::Repair(plan)) => repair(rt, alloc, &plan, input, out, lanes, gate),
-        Request::Ordered(Order::Encode { settings, max }) => {
-            run_encode(alloc, &settings, max, input, out).why
-        }
-        Request::Ordered(
+        Request::Refused(fault) => Why::Words(fault),
+        Request::Ordered(order) => match order {
+            Order::Repair(plan) => repair(rt, alloc, &plan, input, out, lanes, gate),
+            Order::Encode { settings, max } => run_encode(alloc, &settings, max, input, out).why,
             Order::Drill {
                 settings,
                 plan,
                 losses,
                 max,
-            },
-        ) => run_drill(
-            rt, alloc, settings, &plan, losses, max, input, out, lanes, gate,
-        ),
-        Request::Ordered(Order::Inspect { table, max }) => {
-            run_inspect(alloc, &table, max, input, out).why
-        }
-        Request::Ordered(
+            } => run_drill(
+                rt, alloc, settings, &plan, losses, max, input, out, lanes, gate,
+            ),
+            Order::Inspect { table, max } => run_inspect(alloc, &table, max, input, out).why,
             Order::Sample {
                 seed,
                 datagrams,
                 loss,
                 plan,
-            },
-        ) => sample(rt, alloc, seed, datagrams, loss, &plan, out, lanes, gate).into(),
-        Request::Ordered(Order::FromCapture { max }) => run_fromcap(alloc, max, input, out).why,
-        Request::Ordered(Order::ToCapture { max }) => run_tocap(alloc, max, input, out).why,
-        Request::Ordered(Order::Monitor { max }) => run_monitor(alloc, max, input, out).why,
-        Request::Ordered(Order::Prove(plan)) => run_prove(alloc, &plan, input, out).why,
-        Request::Ordered(Order::Check { max }) => run_check(alloc, max, input, out).why,
-        Request::Ordered(Order::ChooseMatrix { burst, most, rows }) => {
-            run_plan(alloc, burst, most, rows, out).why
-        }
-        Request::Ordered(Order::Survey { max, json }) => {
-            run_survey(alloc, max, json, input, out).why
-        }
-        Request::Ordered(Order::Pick { selection, max }) => {
-            run_pick(alloc, &selection, max, input, out).why
-        }
-        Request::Refused(fault) => Why::Words(fault),
+            } => sample(rt, alloc, seed, datagrams, loss, &plan, out, lanes, gate).into(),
+            Order::FromCapture { max } => run_fromcap(alloc, max, input, out).why,
+            Order::ToCapture { max } => run_tocap(alloc, max, input, out).why,
+            Order::Monitor { max } => run_monitor(alloc, max, input, out).why,
+            Order::Prove(plan) => run_prove(alloc, &plan, input, out).why,
+            Order::Check { max } => run_check(alloc, max, input, out).why,
+            Order::ChooseMatrix { burst, most, rows } => {
+                run_plan(alloc, burst, most, rows, out).why
+            }
+            Order::Survey { max, json } => run_survey(alloc, max, json, input, out).why,
+            Order::Pick { selection, max } => run_pick(alloc, &selection, max, input, out).why,
+        },
     }
 }

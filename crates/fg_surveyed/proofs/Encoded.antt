@@ -9,22 +9,25 @@ use Rattle.fg_shape.specs.declared.kind.Kind.TheVariants as kind
 use Rattle.fg_shape.specs.Laws.{LayoutsAreRead}
 use Rattle.fg_rtp.specs.MediaDatagram.{IsMediaDatagram}
 use Rattle.fg_rtp.specs.Laws.{WrittenIsRead as MediaWrittenIsRead}
+use Rattle.fg_fechead.specs.declared.Parity.{Parity as ParityRead}
 use Rattle.fg_fechead.specs.Laws.{WrittenIsRead as ParityWrittenIsRead}
+use Rattle.fg_fechead.specs.ParityDatagram.{IsParityDatagram}
 use Rattle.fg_trace.specs.Trace.{Record}
 use Rattle.fg_playout.specs.Admission.{Parity as Admitted}
 use Rattle.fg_survey.specs.declared.reading.Reading.TheVariants.{Media, Parity}
 use Rattle.fg_survey.specs.Heard.{Heard, IsHeard}
-use Rattle.fg_survey.specs.Reading.{NoMedia}
+use Rattle.fg_survey.specs.Reading.{IsParity, NoMedia}
 use Rattle.fg_encode.specs.Encoding.{column_record, media_record, records_at, row_record, sequence_of, word_at}
 use Rattle.fg_encode.specs.Ends.{column_bases, columns_ending, row_bases, rows_ending}
 use Rattle.fg_encode.specs.Payloads.{ArePayloads}
 use Rattle.fg_encode.proofs.ListLemmas.{flat_more}
 use Rattle.fg_thin.specs.Thinned.{media_number, thinned, without}
 use Rattle.fg_thin.proofs.WithoutLemmas.{without-append}
-use Rattle.fg_results.specs.Flow.{IsReadAsParity}
+use Rattle.fg_results.specs.Flow.{IsReadAsParity, parity_of}
 use Rattle.fg_drill.specs.Covered.{is_gone}
 use Rattle.fg_drill.specs.Sent.{source_sent}
 use Rattle.fg_drill.proofs.AllSent.{zip_append}
+use Rattle.fg_drill.proofs.CoveredSent.{parity_count, parity_records}
 use Rattle.fg_drill.proofs.Reading.{column_arrival, column_can_arrive, media_arrival, media_can_arrive, on_column, on_media, on_row, row_arrival, row_can_arrive}
 use Rattle.fg_drill.proofs.Turns.{next_number}
 use Rattle.fg_surveyed.specs.Told.{encoder}
@@ -41,6 +44,20 @@ zip_cond : (b : Bool) (x : Heard) (r : Record) (xs : List Heard) (rs : List Reco
     → AllZip IsHeard (cond b xs (x ∷ xs)) (cond b rs (r ∷ rs))
 zip_cond true x r xs rs is all = all
 zip_cond false x r xs rs is all = (is, all)
+
+-- What is read as parity, and is no media datagram, is heard as that parity.
+parity_reading :
+    (bytes : List ℕ) (parity : Admitted) → NoMedia bytes
+    → (read : ParityRead) × IsParityDatagram bytes read × (parity ≡ parity_of read)
+    → IsParity bytes parity.base parity.offset parity.count
+parity_reading bytes parity none is = record {
+  no_media = none;
+  parity = is.0;
+  datagram = is.1;
+  base_is = ap (λ (p : Admitted). p.base) is.2;
+  offset_is = ap (λ (p : Admitted). p.offset) is.2;
+  number_is = ap (λ (p : Admitted). p.count) is.2;
+}
 
 -- Without those that are lost, of which the first has this number.
 abbrev pub left_of : (ℕ → Bool) → ℕ → List Heard → List Heard
@@ -128,9 +145,6 @@ module _ (settings : Settings) (payloads : List (List ℕ)) where
   abbrev pub sides : ℕ → List Heard
   sides slot = map (column_heard slot) (columns_ending settings.layout slot) ++ map (row_heard slot) (rows_ending settings.layout slot)
 
-  abbrev parities : ℕ → List Record
-  parities slot = map (column_record settings payloads slot) (columns_ending settings.layout slot) ++ map (row_record settings payloads slot) (rows_ending settings.layout slot)
-
   pub media_is : (slot : ℕ) → IsMediaOf (encoder settings) (sequence_of settings slot) (media_heard slot)
   media_is slot = record { ts = (word_at settings payloads slot).ts; reading = refl; port = refl }
 
@@ -182,17 +196,6 @@ module _ (settings : Settings) (payloads : List (List ℕ)) where
 
   -- Numbers of records
 
-  parity_count : (slot : ℕ) → length (parities slot) ≡ length (columns_ending settings.layout slot) + length (rows_ending settings.layout slot)
-  parity_count slot =
-      let columns : List ℕ = columns_ending settings.layout slot in
-      let rows : List ℕ = rows_ending settings.layout slot in
-      omega (
-        arith,
-        length-append (map (column_record settings payloads slot) columns) (map (row_record settings payloads slot) rows),
-        length-map columns (column_record settings payloads slot),
-        length-map rows (row_record settings payloads slot),
-      )
-
   abbrev sent : ℕ → List Record
   sent n = flat_map (records_at settings payloads) (range_with_len 0 n)
 
@@ -205,7 +208,7 @@ module _ (settings : Settings) (payloads : List (List ℕ)) where
       let more = ap (λ (rs : List Record). length rs) (sent_more n) in
       let both = length-append (sent n) (records_at settings payloads n) in
       let before = sent_count n in
-      let here = parity_count n in
+      let here = parity_count settings payloads n in
       let step : media_number settings.layout (n + 1) ≡ media_number settings.layout n + 1 + length (columns_ending settings.layout n) + length (rows_ending settings.layout n) = next_number settings.layout n in
       let same : n + 1 ≡ suc n = omega arith in
       let number = ap (media_number settings.layout) same in
@@ -226,19 +229,7 @@ module _ (settings : Settings) (payloads : List (List ℕ)) where
         let bytes : List ℕ = (column_record settings payloads slot base).datagram in
         let read : IsReadAsParity kind.Column bytes (column_arrival settings payloads most are slot base) =
         on_column settings.port there.0 bytes (column_arrival settings payloads most are slot base) there.1 there.2 in
-        record {
-          time = refl;
-          port = refl;
-          datagram = refl;
-          reading = record {
-            no_media = no_media bytes _ refl;
-            parity = read.1.0;
-            datagram = read.1.1;
-            base_is = ap (λ (p : Admitted). p.base) read.1.2;
-            offset_is = ap (λ (p : Admitted). p.offset) read.1.2;
-            number_is = ap (λ (p : Admitted). p.count) read.1.2;
-          };
-        }
+        record { time = refl; port = refl; datagram = refl; reading = parity_reading bytes _ (no_media bytes _ refl) read.1 }
 
     row_is_heard : (slot base : ℕ) → base < length payloads → IsHeard (row_heard slot base) (row_record settings payloads slot base)
     row_is_heard slot base below =
@@ -246,19 +237,7 @@ module _ (settings : Settings) (payloads : List (List ℕ)) where
         let bytes : List ℕ = (row_record settings payloads slot base).datagram in
         let read : IsReadAsParity kind.Row bytes (row_arrival settings payloads most are slot base) =
         on_row settings.port there.0 bytes (row_arrival settings payloads most are slot base) there.1 there.2 in
-        record {
-          time = refl;
-          port = refl;
-          datagram = refl;
-          reading = record {
-            no_media = no_media bytes _ refl;
-            parity = read.1.0;
-            datagram = read.1.1;
-            base_is = ap (λ (p : Admitted). p.base) read.1.2;
-            offset_is = ap (λ (p : Admitted). p.offset) read.1.2;
-            number_is = ap (λ (p : Admitted). p.count) read.1.2;
-          };
-        }
+        record { time = refl; port = refl; datagram = refl; reading = parity_reading bytes _ (no_media bytes _ refl) read.1 }
 
     columns_heard : (slot : ℕ) → slot < length payloads
         → AllZip IsHeard (map (column_heard slot) (columns_ending settings.layout slot)) (map (column_record settings payloads slot) (columns_ending settings.layout slot))
@@ -278,7 +257,7 @@ module _ (settings : Settings) (payloads : List (List ℕ)) where
         (filter p (row_bases settings.layout (slot + 1))) (passing p (row_bases settings.layout (slot + 1)))
     some_rows_heard slot false below = tt
 
-    sides_heard : (slot : ℕ) → slot < length payloads → AllZip IsHeard (sides slot) (parities slot)
+    sides_heard : (slot : ℕ) → slot < length payloads → AllZip IsHeard (sides slot) (parity_records settings payloads slot)
     sides_heard slot below =
         zip_append IsHeard (map (column_heard slot) (columns_ending settings.layout slot)) (map (row_heard slot) (rows_ending settings.layout slot))
         (map (column_record settings payloads slot) (columns_ending settings.layout slot)) (map (row_record settings payloads slot) (rows_ending settings.layout slot))
@@ -295,7 +274,7 @@ module _ (settings : Settings) (payloads : List (List ℕ)) where
           let number = media_number settings.layout n in
           let media : Record = media_record settings payloads n in
           let before : List Record = reverse (without lost 0 (sent n)) in
-          let rest : List Record = without lost (number + 1) (parities n) in
+          let rest : List Record = without lost (number + 1) (parity_records settings payloads n) in
           let below : n < length payloads = omega (arith, within) in
           let at : 0 + length (sent n) ≡ number = omega (arith, sent_count n) in
           let same : reverse (without lost 0 (sent (suc n))) ≡ reverse rest ++ cond (lost number) before (media ∷ before) =
@@ -306,7 +285,7 @@ module _ (settings : Settings) (payloads : List (List ℕ)) where
           ∙ back_of (lost number) media rest before in
           subst (λ (rs : List Record). AllZip IsHeard (heard_of lost (suc n)) rs) (sym same)
           (zip_append IsHeard (sides_left lost n) (cond (lost number) (heard_of lost n) (media_heard n ∷ heard_of lost n)) (reverse rest) (cond (lost number) before (media ∷ before))
-          (zip_reverse (left_of lost (number + 1) (sides n)) rest (zip_left lost (number + 1) (sides n) (parities n) (sides_heard n below)))
+          (zip_reverse (left_of lost (number + 1) (sides n)) rest (zip_left lost (number + 1) (sides n) (parity_records settings payloads n) (sides_heard n below)))
           (zip_cond (lost number) (media_heard n) media (heard_of lost n) before (media_is_heard n below) (slots_heard n (omega (arith, within)))))
 
       pub all_heard : AllZip IsHeard (heard_of lost (length payloads)) (reverse (thinned settings lost payloads))

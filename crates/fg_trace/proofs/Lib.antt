@@ -2,6 +2,7 @@
 pub mod Endings
 pub mod Fields
 pub mod Fronts
+pub mod Longest
 pub mod Next
 pub mod Opening
 pub mod Reached

@@ -14,7 +14,7 @@ use Rattle.fg_trace.proofs.Fronts.{traces, begins_front, split_spelling}
 use Rattle.fg_trace.proofs.Walking.{trace_more}
 
 -- no list is longer where no record stands next
-longest_here : (bytes : List ℕ) (max : ℕ) (records : List Record) (rest : List ℕ) → AllByRecursion Fits records → length (trace_of records) ≤ max → bytes ≡ trace_of records ++ rest
+pub longest_here : (bytes : List ℕ) (max : ℕ) (records : List Record) (rest : List ℕ) → AllByRecursion Fits records → length (trace_of records) ≤ max → bytes ≡ trace_of records ++ rest
     → ((r : Record) (after : List ℕ) → StandsFirst rest r after → max < length (trace_of records) + length (spelling r)) → IsLongest bytes max records
 longest_here bytes max records rest fit within spelled none =
     let begun : Begins bytes max records = record { fit = fit; within = within; rest = rest; spelled = spelled } in

@@ -1,12 +1,12 @@
 -- Laws that show the definition of the trace, and of where a reader stands, to be right.
-use Rattle.std.specs.Prelude.{◌≡◌, ◌+◌, ◌≤◌, ℕ, Option, Some, IfSome, Ok, List, length, take}
+use Rattle.std.specs.Prelude.{◌≡◌, ◌+◌, ◌<◌, ◌≤◌, ◌++◌, ℕ, Option, Some, IfSome, Ok, List, length, take}
 use Rattle.std.specs.List.{AllByRecursion}
 use Rattle.fg_trace.specs.declared.step.Finish.{Finish}
 use Rattle.fg_trace.specs.declared.step.Step.TheVariants.{End}
-use Rattle.fg_trace.specs.Trace.{Record, Fits, Ending, Ended, IsTrace, trace_of}
+use Rattle.fg_trace.specs.Trace.{Record, Fits, Ending, Ended, IsTrace, IsLongest, magic, trace_of}
 use Rattle.fg_trace.specs.Finish.{IsFault}
 use Rattle.fg_trace.specs.Reader.{Answer, ReaderState, StandsBefore, StandsAfter, IsEnding, Walks}
-use Rattle.fg_trace.specs.Reading.{HasReached, IsReadFor}
+use Rattle.fg_trace.specs.Reading.{HasReached, HoldsNext, IsReadFor}
 
 -- Bytes have at most one list of records, and one ending.
 abbrev pub OneTrace : Type 0
@@ -58,3 +58,20 @@ abbrev pub AfterIsReadFor : Type 0
 AfterIsReadFor = (answer : Finish) (reader : ReaderState) (first now : Option (List ℕ)) (records : List Record)
     → StandsAfter reader first now records → reader.place + length reader.held ≤ reader.max + 1
     → HasReached answer reader now → IfSome first (λ bytes. IsReadFor reader.max answer bytes now)
+
+-- At the front of bytes stands one longest list of records at most.
+abbrev pub OneLongest : Type 0
+OneLongest = (bytes : List ℕ) (max : ℕ) (one other : List Record)
+    → IsLongest bytes max one → IsLongest bytes max other → one ≡ other
+
+-- A reader that holds no next record whole has answered all that stand whole in what was read of its source.
+abbrev pub AnsweredIsLongest : Type 0
+AnsweredIsLongest = (reader : ReaderState) (bytes read rest : List ℕ) (records : List Record)
+    → StandsAfter reader (Some bytes) (Some rest) records → (¬ HoldsNext reader) → bytes ≡ read ++ rest
+    → IsLongest read reader.max records
+
+-- Of its source a reader that looks for the magic has read no more than it holds.
+abbrev pub UnopenedIsShort : Type 0
+UnopenedIsShort = (reader : ReaderState) (bytes read rest : List ℕ)
+    → StandsBefore reader (Some bytes) (Some rest) → length reader.held < length magic → bytes ≡ read ++ rest
+    → length read < length magic

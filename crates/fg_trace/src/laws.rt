@@ -1,5 +1,5 @@
 //! Laws of the definition of the trace and of where a reader stands, each the contract of a function with an empty body.
-ghost use Rattle.fg_trace.specs.Laws.{OneTrace, SpelledIsRead, WalksTheFront, EndsOnce, SpelledIsWalked, WalksOn, UnreadIsReadFor, BeforeIsReadFor, AfterIsReadFor};
+ghost use Rattle.fg_trace.specs.Laws.{OneTrace, SpelledIsRead, WalksTheFront, EndsOnce, SpelledIsWalked, WalksOn, UnreadIsReadFor, BeforeIsReadFor, AfterIsReadFor, OneLongest, AnsweredIsLongest, UnopenedIsShort};
 
 /// Bytes have at most one list of records, and one ending.
 pub fn one_trace()
@@ -36,4 +36,12 @@ pub fn read_as_far_as_needed()
     ensures unread { UnreadIsReadFor }
     ensures before { BeforeIsReadFor }
     ensures after { AfterIsReadFor }
+{}
+
+/// What was read of an input has one longest list of records, which a reader that holds no next one has answered. Before the
+/// magic was found, fewer bytes than it has were read.
+pub fn whole_records_are_answered()
+    ensures one { OneLongest }
+    ensures answered { AnsweredIsLongest }
+    ensures unopened { UnopenedIsShort }
 {}

@@ -4,7 +4,7 @@ ghost use Rattle.std.specs.Io.KnownBytes.{IsAtEnd};
 ghost use Rattle.fg_io.specs.Faults.{Answers, CountsFaults};
 ghost use Rattle.fg_io.specs.InputBuffer as buffer;
 ghost use Rattle.fg_io.specs.InputBuffer.{TakesMore};
-ghost use Rattle.fg_trace.specs.Trace.{Record};
+ghost use Rattle.fg_trace.specs.Trace.{Record, magic};
 ghost use Rattle.fg_trace.specs.Reader.{StandsBefore, StandsAfter, Opens, Walks, payload_size, record_size, kept_answer, ending_at, ReadsToEnd, start_answer, IsDecided, IsOfStart, IsOfNext, new_reader};
 ghost use Rattle.fg_trace.specs.Reading.{HoldsNext, most_held};
 ghost use Rattle.fg_trace.specs.Walk.{Finds, Has, HoldsRecord, IsRecord, Lacks};
@@ -87,6 +87,10 @@ impl Reader {
         // The byte that differs was read, or there is none.
         ensures differs { IsNone self.old.kept → (place : ℕ) → result ≡ Err (TraceFault.NotTrace place)
             → (place < length self.new.held) ⊎ IsAtEnd (S.left from.new) }
+
+        // After a failed read the magic is not held.
+        ensures short { IsNone self.old.kept → result ≡ Err TraceFault.ReadFault
+            → length self.new.held < length magic }
         ensures fault { IsNone self.old.kept → IfErr result IsOfStart }
         ensures faults { CountsFaults (Answers result TraceFault.ReadFault) ⊥
             ((S.faults from.old, S.faults from.new) ∷ []) [] }

@@ -3,13 +3,10 @@ ghost use Rattle.fg_drill.specs.Covered.{BurstsAreCovered, CoveredDrillsComeBack
 
 use crate::laws::repaired::thinned_comes_back;
 use crate::laws::sent::{few_arrive, sent_records_are_true, sent_words_are_media};
+use crate::laws::true_runs::runs_are_lawful;
 use fg_encode::laws::{cuts_are_payloads, ends_are_the_layouts};
 use fg_fechead::laws::what_is_written_is_read as parity_written_is_read;
-use fg_peel::laws::true_words_solve;
-use fg_playout::laws::{
-    admissions_add, facts_are_kept, live_equations, mark_makes_no_difference, runs_exist,
-    runs_join, runs_stay_within,
-};
+use fg_playout::laws::runs_exist;
 use fg_rtp::laws::what_is_written_is_read as media_written_is_read;
 use fg_shape::laws::layouts_are_read;
 use fg_thin::laws::few::losses_are_few;
@@ -27,13 +24,7 @@ pub fn covered_losses_peel()
     layouts_are_read();
     ends_are_the_layouts();
     runs_exist();
-    live_equations();
-    mark_makes_no_difference();
-    true_words_solve();
-    admissions_add();
-    facts_are_kept();
-    runs_stay_within();
-    runs_join();
+    runs_are_lawful();
 }
 
 /// So the whole stream comes back of it.

@@ -1,6 +1,6 @@
 //! Laws of true datagrams: where all that arrives is right, so is all that is shown.
 
-ghost use Rattle.fg_drill.specs.TrueLaws.{NothingElseIsShown, PeeledSlotsAreShown, TrueRunsAreRepaired, TrueRunsShowTheTruth};
+ghost use Rattle.fg_drill.specs.TrueLaws.{NothingElseIsShown, PeeledSlotsAreShown, RunsAreLawful, TrueRunsAreRepaired, TrueRunsShowTheTruth};
 
 use fg_peel::laws::true_words_solve;
 use fg_playout::laws::{
@@ -8,12 +8,9 @@ use fg_playout::laws::{
     runs_join, runs_only_add, runs_stay_within,
 };
 
-/// In a run of true datagrams each play is repaired, each word shown is the true one of its slot, and
-/// nothing else is shown.
-pub fn true_runs_are_repaired()
-    ensures repaired { TrueRunsAreRepaired }
-    ensures truth { TrueRunsShowTheTruth }
-    ensures nothing_else { NothingElseIsShown }
+/// What holds of every run and of its desks' equations. The laws of true datagrams rest on it.
+pub(crate) fn runs_are_lawful()
+    ensures { RunsAreLawful }
 {
     live_equations();
     mark_makes_no_difference();
@@ -22,6 +19,16 @@ pub fn true_runs_are_repaired()
     facts_are_kept();
     runs_stay_within();
     runs_join();
+}
+
+/// In a run of true datagrams each play is repaired, each word shown is the true one of its slot, and
+/// nothing else is shown.
+pub fn true_runs_are_repaired()
+    ensures repaired { TrueRunsAreRepaired }
+    ensures truth { TrueRunsShowTheTruth }
+    ensures nothing_else { NothingElseIsShown }
+{
+    runs_are_lawful();
     runs_only_add();
 }
 

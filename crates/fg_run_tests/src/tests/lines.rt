@@ -1,8 +1,9 @@
 //! The lines on the error sink, and sinks that are short.
 use super::*;
+use WordFault::{BadWord, Depth, Flows, Layout, Missing, NoCommand};
 
-/// Each end, and the line that tells it.
-const LINES: [(Why, &str); 28] = [
+/// Each end but a fault of words, and the line that tells it.
+const LINES: [(Why, &str); 11] = [
     (Why::Done, ""),
     (Why::ReadFault, "read fault\n"),
     (Why::WriteFault, "write fault\n"),
@@ -23,76 +24,44 @@ const LINES: [(Why, &str); 28] = [
     ),
     (Why::Unproved(7), "unproved case 7\n"),
     (Why::NotCase(29), "not a case at line 29\n"),
-    (Why::Words(WordFault::NoCommand), "words: no command\n"),
-    (Why::Words(WordFault::BadWord(12)), "words: bad word 12\n"),
-    (
-        Why::Words(WordFault::Missing(Name::Flow)),
-        "words: missing flow\n",
-    ),
-    (
-        Why::Words(WordFault::Missing(Name::Columns)),
-        "words: missing columns\n",
-    ),
-    (
-        Why::Words(WordFault::Missing(Name::Rows)),
-        "words: missing rows\n",
-    ),
-    (
-        Why::Words(WordFault::Missing(Name::Seed)),
-        "words: missing seed\n",
-    ),
-    (
-        Why::Words(WordFault::Missing(Name::Burst)),
-        "words: missing burst\n",
-    ),
-    (
-        Why::Words(WordFault::Missing(Name::Most)),
-        "words: missing most\n",
-    ),
-    (
-        Why::Words(WordFault::Depth(3)),
-        "words: depth below window at word 3\n",
-    ),
-    (
-        Why::Words(WordFault::Layout(LayoutFault::Columns)),
-        "words: layout 1\n",
-    ),
-    (
-        Why::Words(WordFault::Layout(LayoutFault::Rows)),
-        "words: layout 2\n",
-    ),
-    (
-        Why::Words(WordFault::Layout(LayoutFault::Product)),
-        "words: layout 3\n",
-    ),
-    (
-        Why::Words(WordFault::Layout(LayoutFault::RowsNeedFour)),
-        "words: layout 4\n",
-    ),
-    (
-        Why::Words(WordFault::Flows(FlowFault::NoFlow)),
-        "words: flows 1\n",
-    ),
-    (
-        Why::Words(WordFault::Flows(FlowFault::TooMany)),
-        "words: flows 2\n",
-    ),
-    (
-        Why::Words(WordFault::Flows(FlowFault::Port(5))),
-        "words: flows 3 at 5\n",
-    ),
-    (
-        Why::Words(WordFault::Flows(FlowFault::Clash(63))),
-        "words: flows 4 at 63\n",
-    ),
 ];
+
+/// Each fault of words, and the line that tells it.
+const WORDS: [(WordFault, &str); 17] = [
+    (NoCommand, "words: no command\n"),
+    (BadWord(12), "words: bad word 12\n"),
+    (Missing(Name::Flow), "words: missing flow\n"),
+    (Missing(Name::Columns), "words: missing columns\n"),
+    (Missing(Name::Rows), "words: missing rows\n"),
+    (Missing(Name::Seed), "words: missing seed\n"),
+    (Missing(Name::Burst), "words: missing burst\n"),
+    (Missing(Name::Most), "words: missing most\n"),
+    (Depth(3), "words: depth below window at word 3\n"),
+    (Layout(LayoutFault::Columns), "words: layout 1\n"),
+    (Layout(LayoutFault::Rows), "words: layout 2\n"),
+    (Layout(LayoutFault::Product), "words: layout 3\n"),
+    (Layout(LayoutFault::RowsNeedFour), "words: layout 4\n"),
+    (Flows(FlowFault::NoFlow), "words: flows 1\n"),
+    (Flows(FlowFault::TooMany), "words: flows 2\n"),
+    (Flows(FlowFault::Port(5)), "words: flows 3 at 5\n"),
+    (Flows(FlowFault::Clash(63)), "words: flows 4 at 63\n"),
+];
+
+/// Checks that this line tells an end.
+fn has_line(rt: &impl Abort, alloc: Global, why: Why, line: &str) -> Result<(), AllocError> {
+    let mut err = MemSink::new(alloc, 100, &[])?;
+    let _ = tell_end(&mut err, why);
+    assert_eq!(rt; err.bytes(), line.as_bytes());
+    Ok(())
+}
 
 #[test]
 fn each_end_has_its_line(rt: HostRuntime) -> Result<(), Fail> {
     for (why, line) in LINES {
-        let mut err = MemSink::new(rt.alloc(), 100, &[])?;
-        let _ = tell_end(&mut err, why);
-        assert_eq!(rt; err.bytes(), line.as_bytes());
+        has_line(&rt, rt.alloc(), why, line)?;
+    }
+    for (fault, line) in WORDS {
+        has_line(&rt, rt.alloc(), Why::Words(fault), line)?;
     }
     Ok(())
 }
@@ -152,7 +121,7 @@ const ERROR_SINK_THAT_FAILS_AT_ONCE: Short<'static> = Short {
     },
     wanted: Wanted {
         status: 1,
-        why: Why::Words(WordFault::Missing(Name::Flow)),
+        why: Why::Words(Missing(Name::Flow)),
         ..DONE
     },
 };

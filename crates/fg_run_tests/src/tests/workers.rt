@@ -45,13 +45,6 @@ impl<'a, W: Wait> Counts<'a, W> {
         }
     }
 
-    /// Whether this is the first worker that has an equation to settle.
-    fn is_first(&self, worker: u32) -> bool {
-        self.first
-            .compare_exchange(0, u64::from(worker), Ordering::SeqCst, Ordering::SeqCst)
-            .is_ok()
-    }
-
     /// Counts a word of the worker that was taken.
     fn count_word(&self, worker: u32) {
         self.all.fetch_add(1, Ordering::SeqCst);
@@ -71,6 +64,17 @@ impl<'a, W: Wait> Counts<'a, W> {
         self.failed.fetch_add(1, Ordering::SeqCst);
     }
 
+    /// Holds the first worker that has an equation to settle until the count is this or more.
+    fn hold_first(&self, worker: u32, count: &AtomicU64, least: u64) {
+        let is_first = self
+            .first
+            .compare_exchange(0, u64::from(worker), Ordering::SeqCst, Ordering::SeqCst)
+            .is_ok();
+        if is_first {
+            self.hold(count, least);
+        }
+    }
+
     /// Naps for so many microseconds.
     fn nap(&self, micros: u64) {
         self.clock
@@ -86,11 +90,7 @@ struct Settling<'a, W: Wait>(Counts<'a, W>);
 impl<W: Wait + Sync> Gate for Settling<'_, W> {
     fn at(&self, worker: u32, point: u32) {
         match point {
-            FOLDED => {
-                if self.0.is_first(worker) {
-                    self.0.hold(&self.0.others, 1);
-                }
-            }
+            FOLDED => self.0.hold_first(worker, &self.0.others, 1),
             TAKEN => self.0.count_word(worker),
             PLAYS => self.0.hold(&self.0.all, 1),
             _ => {}
@@ -105,11 +105,7 @@ struct Outlasting<'a, W: Wait>(Counts<'a, W>);
 impl<W: Wait + Sync> Gate for Outlasting<'_, W> {
     fn at(&self, worker: u32, point: u32) {
         match point {
-            FOLDED => {
-                if self.0.is_first(worker) {
-                    self.0.hold(&self.0.plays, 2);
-                }
-            }
+            FOLDED => self.0.hold_first(worker, &self.0.plays, 2),
             PLAYS => {
                 self.0.hold(&self.0.first, 1);
                 self.0.plays.fetch_add(1, Ordering::SeqCst);

@@ -14,7 +14,7 @@ end-requires-clause-taken g c =
       g.S.Source.left took.new.input,
       before,
       taken_all (λ first before. IsAtStart plan first _ c.in-Ok.begun.reader c.in-Ok.begun.engine before _) ByBatch plan first _ _ c.in-Ok.begun took.new.engine took.result.0 before _ _ took.result.1
-          c.in-Ok.ensures.begun c.in-Ok.ensures.begun.start took.ensures.whole took.ensures.stops took.ensures.far took.ensures.reaches,
+          c.in-Ok.ensures.begun c.in-Ok.ensures.begun.start took.ensures.whole took.ensures.stops took.ensures.at_read took.ensures.far took.ensures.reaches,
     )
 
 pub returns-in-Ok-clause-repairs : goal.returns-in-Ok-clause-repairs
@@ -25,7 +25,7 @@ returns-in-Ok-clause-repairs g c =
     let before = g.O.Outlet.lanes c.args.lanes.now in
     c.end.ensures.repairs ByBatch first _ c.args.lanes.now
     (taken_all (λ first before. IsAtStart plan first _ c.in-Ok.begun.reader c.in-Ok.begun.engine before _) ByBatch plan first _ _ c.in-Ok.begun took.new.engine took.result.0 before _ _ took.result.1
-    c.in-Ok.ensures.begun c.in-Ok.ensures.begun.start took.ensures.whole took.ensures.stops took.ensures.far took.ensures.reaches)
+    c.in-Ok.ensures.begun c.in-Ok.ensures.begun.start took.ensures.whole took.ensures.stops took.ensures.at_read took.ensures.far took.ensures.reaches)
 
 pub returns-in-Ok-clause-faults : goal.returns-in-Ok-clause-faults
 returns-in-Ok-clause-faults g c =

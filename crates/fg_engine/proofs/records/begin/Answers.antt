@@ -7,6 +7,7 @@ use Rattle.fg_trace.specs.Finish.{finish_after}
 use Rattle.fg_trace.specs.Reader.{ReaderState, Opens}
 use Rattle.fg_trace.proofs.Opening.{never_refused}
 use Rattle.fg_results.specs.Contract.{IsRepair}
+use Rattle.fg_results.proofs.AtRead.{unmade_at_read}
 use Rattle.fg_results.proofs.RepairLemmas.{whole_repair}
 use Rattle.fg_engine.specs.Engine.{HasRead}
 use Rattle.fg_engine.proofs.Reaching.{fault_is, read_for, fault_reached, none_read, fault_read, none_made}
@@ -17,7 +18,7 @@ pub returns-in_default-clause-ends : goal.returns-in_default-clause-ends
 returns-in_default-clause-ends g c = λ growth.
     let left = g.S.Source.left c.args.input.now in
     stopped_first c.stops_leave_parts.ensures growth c.args.plan.now c.requires.fits (Err Memory) refl left left g.O.Outlet.lanes c.args.lanes.now g.K.Sink.written c.args.out.now
-    (c.read_as_far_as_needed.ensures.unread _ finish.Memory _ (fault_is (Err Memory) refl))
+    (c.read_as_far_as_needed.ensures.unread _ finish.Memory _ (fault_is (Err Memory) refl)) (λ read. absurd cc)
 
 pub returns-in-Ok-make_ready-clause-begun : goal.returns-in-Ok-make_ready-clause-begun
 returns-in-Ok-make_ready-clause-begun g c =
@@ -41,7 +42,8 @@ returns-in-Ok-start-clause-ends g c = λ growth.
     (sym c.into.ensures)
     (stopped c.stops_leave_parts.ensures growth c.args.plan.now c.requires.fits (Err fault) refl left now g.O.Outlet.lanes c.args.lanes.now c.make_ready.new.lanes g.K.Sink.written c.args.out.now
     (read_for c.read_as_far_as_needed.ensures.after _ (finish_after fault) reader left now read (fault_reached (Err fault) reader now refl))
-    (never_refused _ left now reader c.args.plan.now.max opens) (c.in-Err.ensures.stops growth left))
+    (never_refused _ left now reader c.args.plan.now.max opens) (c.in-Err.ensures.stops growth left)
+    (λ read. absurd (c.in-Err.ensures.faults.read read)))
 
 pub returns-in-Err-NotTrace-clause-ends : goal.returns-in-Err-NotTrace-clause-ends
 returns-in-Err-NotTrace-clause-ends g c = λ growth.
@@ -69,3 +71,4 @@ returns-in-Err-ReadFault-clause-ends g c = λ growth.
     let opens : Opens (Err fault.ReadFault) reader left now = subst (λ t. Opens t reader left now) is (c.start.ensures.opens left (c.in-Ok.ensures.opening left)) in
     stopped_first c.stops_leave_parts.ensures growth c.args.plan.now c.requires.fits (Err Read) refl left now g.O.Outlet.lanes c.args.lanes.now g.K.Sink.written c.args.out.now
     (fault_read c.read_as_far_as_needed.ensures.before c.args.plan.now.max left now reader max c.start.ensures.bounded opens)
+    (λ read. unmade_at_read c.whole_records_are_answered.ensures.unopened c.args.plan.now left now reader (g.O.Outlet.lanes c.args.lanes.now) opens (c.start.ensures.short (rw c.in-Ok.ensures.new refl) is))

@@ -8,7 +8,7 @@ use Rattle.fg_trace.specs.Finish.{finish_after}
 use Rattle.fg_trace.specs.Reading.{HasReached}
 use Rattle.fg_results.proofs.RepairLemmas.{whole_repair}
 use Rattle.fg_results.proofs.CountLemmas.{read_only}
-use Rattle.fg_engine.specs.Engine.{LanesStop, TookAll, told_finish, answer_of}
+use Rattle.fg_engine.specs.Engine.{LanesStop, StandsAtFault, TookAll, told_finish, answer_of}
 use Rattle.fg_engine.proofs.Results.{same_cause, passed_on}
 use Rattle.fg_engine.proofs.Reaching.{told_ends, read_for, fault_reached, reached_end, magic_refuses}
 use Rattle.fg_engine.proofs.Finishing.{stopped, stopped_in_report, finished}
@@ -20,11 +20,13 @@ returns-in_err-tail-clause-repairs g c = λ growth first left before h.
     let result = c.from_residual.result in
     let told = g.O.Outlet.lanes in
     let P : Fault → Type 0 = λ fault. LanesStop growth c.args.plan.now (finish_after fault) first (told before) (told c.args.lanes.now) in
+    let Q : Fault → Type 0 = λ fault. StandsAtFault c.args.plan.now fault first left (told before) (told c.args.lanes.now) in
     let was : c.args.taken ≡ Err c.in_err-tail.field-0.0 = c.in_err-tail.was in
     stopped c.stops_leave_parts.ensures growth c.args.plan.now c.requires.fits result c.from_residual.ensures.0 first left told before c.args.lanes.now g.K.Sink.written c.args.out.now
     (read_for c.read_as_far_as_needed.ensures.after _ (answer_of result) _ first left h.far (fault_reached result _ _ c.from_residual.ensures.0))
     (magic_refuses _ c.args.plan.now first h.magic)
     (passed_on P result c.in_err-tail.field-0.0 c.from_residual.ensures.1 (subst (λ (t : Result Tail Fault). IfErr t P) was h.stops))
+    (passed_on Q result c.in_err-tail.field-0.0 c.from_residual.ensures.1 (subst (λ (t : Result Tail Fault). IfErr t Q) was h.at_read))
 
 pub flush-requires : goal.flush-requires
 flush-requires g c =
@@ -55,6 +57,8 @@ returns-in_err-flush-clause-repairs g c = λ growth first left before h.
     result fault c.from_residual-in_err-flush.ensures.1
     (flush_stops c.one_trace.ensures growth c.args.plan.now (finish_after fault) (λ read. c.in_err-flush.ensures.faults.read (read_only fault read))
     first engine c.in_ok-tail.tail (told before) now _ took (c.in_err-flush.ensures.breaks c.args.plan.now took.records (told before) c.requires.fits flushing)))
+    (passed_on (λ (fault : Fault). StandsAtFault c.args.plan.now fault first left (told before) (told c.flush.new.lanes))
+    result fault c.from_residual-in_err-flush.ensures.1 (λ read. absurd (c.in_err-flush.ensures.faults.read read)))
 
 pub returns-in_err-report-clause-repairs : goal.returns-in_err-report-clause-repairs
 returns-in_err-report-clause-repairs g c = λ growth first left before h.

@@ -10,10 +10,10 @@ pub returns-clause-by_record : goal.returns-clause-by_record
 returns-clause-by_record g c =
     let left = g.S.Source.left c.args.input.now in
     stopped_first c.stops_leave_parts.ensures ByRecord c.args.plan.now c.requires (Err Memory) refl left left g.O.Outlet.lanes c.args.lanes.now g.K.Sink.written c.args.out.now
-    (c.read_as_far_as_needed.ensures.unread _ finish.Memory _ (fault_is (Err Memory) refl))
+    (c.read_as_far_as_needed.ensures.unread _ finish.Memory _ (fault_is (Err Memory) refl)) (λ read. absurd cc)
 
 pub returns-clause-by_batch : goal.returns-clause-by_batch
 returns-clause-by_batch g c =
     let left = g.S.Source.left c.args.input.now in
     stopped_first c.stops_leave_parts.ensures ByBatch c.args.plan.now c.requires (Err Memory) refl left left g.O.Outlet.lanes c.args.lanes.now g.K.Sink.written c.args.out.now
-    (c.read_as_far_as_needed.ensures.unread _ finish.Memory _ (fault_is (Err Memory) refl))
+    (c.read_as_far_as_needed.ensures.unread _ finish.Memory _ (fault_is (Err Memory) refl)) (λ read. absurd cc)

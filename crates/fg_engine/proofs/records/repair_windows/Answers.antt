@@ -20,7 +20,7 @@ end-requires-clause-taken g c =
       g.S.Source.left took.new.input,
       before,
       taken_all (λ first before. HasWalked c.args.plan.now first _ c.in-Ok.begun.reader c.in-Ok.begun.engine before _) ByRecord c.args.plan.now first _ _ c.in-Ok.begun
-          took.new.self took.new.reader before _ _ took.result c.in-Ok.ensures.begun (walked_none _ first _ _ _ before _ c.in-Ok.ensures.begun.start) took.ensures.whole took.ensures.stops took.ensures.far took.ensures.reaches,
+          took.new.self took.new.reader before _ _ took.result c.in-Ok.ensures.begun (walked_none _ first _ _ _ before _ c.in-Ok.ensures.begun.start) took.ensures.whole took.ensures.stops took.ensures.at_read took.ensures.far took.ensures.reaches,
     )
 
 pub returns-in-Ok-clause-repairs : goal.returns-in-Ok-clause-repairs
@@ -30,7 +30,7 @@ returns-in-Ok-clause-repairs g c =
     let before = g.O.Outlet.lanes c.args.lanes.now in
     c.end.ensures.repairs ByRecord first _ c.args.lanes.now
     (taken_all (λ first before. HasWalked c.args.plan.now first _ c.in-Ok.begun.reader c.in-Ok.begun.engine before _) ByRecord c.args.plan.now first _ _ c.in-Ok.begun
-    took.new.self took.new.reader before _ _ took.result c.in-Ok.ensures.begun (walked_none _ first _ _ _ before _ c.in-Ok.ensures.begun.start) took.ensures.whole took.ensures.stops took.ensures.far took.ensures.reaches)
+    took.new.self took.new.reader before _ _ took.result c.in-Ok.ensures.begun (walked_none _ first _ _ _ before _ c.in-Ok.ensures.begun.start) took.ensures.whole took.ensures.stops took.ensures.at_read took.ensures.far took.ensures.reaches)
 
 pub returns-in-Ok-clause-faults : goal.returns-in-Ok-clause-faults
 returns-in-Ok-clause-faults g c =

@@ -11,12 +11,4 @@ returns c = proof.covered_losses_peel
     c.layouts_are_read.ensures
     c.ends_are_the_layouts.ensures.columns
     c.runs_exist.ensures
-    c.live_equations.ensures
-    c.mark_makes_no_difference.ensures.solutions
-    c.true_words_solve.ensures.exists
-    c.true_words_solve.ensures.found
-    c.admissions_add.ensures.media
-    c.admissions_add.ensures.parity
-    c.facts_are_kept.ensures
-    c.runs_stay_within.ensures.taking
-    c.runs_join.ensures.takings
+    c.runs_are_lawful.ensures

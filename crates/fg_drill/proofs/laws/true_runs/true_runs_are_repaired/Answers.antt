@@ -3,16 +3,7 @@ use Rattle.fg_drill.proofs.TrueShown.{runs_are_repaired, runs_show_the_truth, no
 use Rattle.fg_drill.proofs.laws.true_runs.true_runs_are_repaired.Goals as goal
 
 are_true : goal.After-runs_only_add → TrueRunsAreTrue
-are_true c = true_runs_are_true
-    c.live_equations.ensures
-    c.mark_makes_no_difference.ensures.solutions
-    c.true_words_solve.ensures.exists
-    c.true_words_solve.ensures.found
-    c.admissions_add.ensures.media
-    c.admissions_add.ensures.parity
-    c.facts_are_kept.ensures
-    c.runs_stay_within.ensures.taking
-    c.runs_join.ensures.takings
+are_true c = true_runs_are_true c.runs_are_lawful.ensures
 
 pub returns-clause-repaired : goal.returns-clause-repaired
 returns-clause-repaired c = runs_are_repaired (are_true c)

@@ -7,9 +7,9 @@ use Rattle.fg_io.specs.declared.fault.Fault.{Fault}
 use Rattle.fg_trace.specs.Finish.{finish_after}
 use Rattle.fg_results.specs.Stops.{ByRecord}
 use Rattle.fg_results.proofs.CountLemmas.{read_only}
-use Rattle.fg_engine.specs.Engine.{HasWalked, LanesStop}
+use Rattle.fg_engine.specs.Engine.{HasWalked, LanesStop, StandsAtFault}
 use Rattle.fg_engine.proofs.Results.{passed_on}
-use Rattle.fg_engine.proofs.Walking.{running, stop_at_record, stop_at_fault, took_all}
+use Rattle.fg_engine.proofs.Walking.{running, stands_at_read, stop_at_record, stop_at_fault, took_all}
 use Rattle.fg_engine.proofs.engine.Engine.take_next.Goals as goal
 
 pub take-requires-clause-running : goal.take-requires-clause-running
@@ -48,3 +48,16 @@ pub returns-in-Err-ReadFault-clause-stops : goal.returns-in-Err-ReadFault-clause
 returns-in-Err-ReadFault-clause-stops g c = λ first before h.
     stop_at_fault c.walks_the_front.ensures ByRecord c.args.plan.now _ first _ _ c.args.reader.now c.next.new.self c.args.self.now before _ c.in-Err-ReadFault.field-0
     (c.next.ensures.max ∙ c.requires.max) (c.in-Err-ReadFault.ensures.walks first) h
+
+pub returns-in_err-take-in-Ok-Datagram-clause-at_read : goal.returns-in_err-take-in-Ok-Datagram-clause-at_read
+returns-in_err-take-in-Ok-Datagram-clause-at_read g c =
+    passed_on (λ (fault : Fault). (first : Option (List ℕ)) (before : Option Lanes) → HasWalked c.args.plan.now first (g.S.Source.left c.args.input.now) c.args.reader.now c.args.self.now before (g.O.Outlet.lanes c.args.lanes.now)
+    → StandsAtFault c.args.plan.now fault first (g.S.Source.left c.next.new.from) before (g.O.Outlet.lanes c.take.new.lanes))
+    c.from_residual.result c.in_err-take-in-Ok-Datagram.field-0.0 c.from_residual.ensures.1
+    (λ first before h read. absurd (c.in_err-take-in-Ok-Datagram.ensures.faults.read read))
+
+pub returns-in-Err-ReadFault-clause-at_read : goal.returns-in-Err-ReadFault-clause-at_read
+returns-in-Err-ReadFault-clause-at_read g c = λ first before h read.
+    stands_at_read c.whole_records_are_answered.ensures.answered c.args.plan.now first _ _ c.args.reader.now c.next.new.self c.args.self.now before _ c.in-Err-ReadFault.field-0
+    (c.next.ensures.max ∙ c.requires.max) (c.in-Err-ReadFault.ensures.walks first)
+    (c.next.ensures.short (c.in-Err-ReadFault.is ∙ ap Err c.in-Err-ReadFault.field-0-is)) h

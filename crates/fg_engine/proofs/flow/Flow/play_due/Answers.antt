@@ -1,14 +1,24 @@
-use Rattle.std.proofs.Common.{◌+◌, ◌++◌, List, [], ◌∷◌, inr, refl, sym, subst, ◌∙◌}
-use Rattle.fg_playout.specs.Play.{Play}
-use Rattle.fg_playout.specs.Admission.{IsDue}
-use Rattle.fg_playout.specs.Run.{ArePlaysDue}
-use Rattle.fg_playout.specs.Laws.{HavePlayed}
-use Rattle.fg_playout.specs.Empty.{empty_plays}
-use Rattle.fg_engine.specs.Steps.{CountsWithin, played_as}
+use Rattle.std.proofs.Common.{List, refl, sym, subst, ◌∙◌}
 use Rattle.fg_io.proofs.FaultLemmas.{on_err}
-use Rattle.fg_engine.proofs.Showing.{retold, one_play_more, breaks_off, due_after, fails, keeps_playout}
-use Rattle.fg_engine.proofs.Skipping.{behind, broken, due_moves, each_has_positions, farther, skip_fits, skip_on, some_window}
+use Rattle.fg_playout.specs.Admission.{IsDue}
+use Rattle.fg_playout.specs.Laws.{HavePlayed}
+use Rattle.fg_playout.specs.Play.{Play}
+use Rattle.fg_playout.specs.Run.{ArePlaysDue}
+use Rattle.fg_engine.proofs.Rounds.{IsRound, broken, counts_behind, due_round, each_has_positions, farther, goes_on, keeps, positions_fit}
+use Rattle.fg_engine.proofs.Showing.{retold, breaks_off, due_after, fails}
 use Rattle.fg_engine.proofs.flow.Flow.play_due.Goals as goal
+use Rattle.fg_engine.proofs.flow.Flow.play_due.Goals.{After-skip_due-skipped}
+
+-- One round of the loop.
+round :
+    (g : _) (c : After-skip_due-skipped g)
+    → IsRound (HavePlayed c.args.self.now.state c.args.seq c.args.ssrc) (g.D.WindowState.state c.loop-self.self-inside.window)
+    c.play-played.result (g.D.WindowState.shows c.play-played.new.self c.play-played.result) (g.D.WindowState.state c.play-played.new.self)
+    c.skip_due-skipped.result (g.D.WindowState.state c.skip_due-skipped.new.self)
+round g c =
+    due_round c.play-played.result c.skip_due-skipped.result c.play-played.ensures.count c.skip_due-skipped.ensures.positions c.args.seq
+    c.args.ssrc c.runs_join.ensures.plays c.requires.within c.requires.stale c.loop-self.invariant (c.loop-self-test.ensures.0 refl)
+    c.play-played.ensures.play c.skip_due-skipped.ensures.plays
 
 pub put_play-requires-clause-player : goal.put_play-requires-clause-player
 put_play-requires-clause-player g c =
@@ -17,127 +27,42 @@ put_play-requires-clause-player g c =
 
 pub count_skipped-requires-clause-within : goal.count_skipped-requires-clause-within
 count_skipped-requires-clause-within g c =
-    let old = c.args.self.now in
-    let now = c.loop-self in
-    let from = g.D.WindowState.state now.self-inside.window in
-    let to = g.D.WindowState.state c.play-played.new.self in
-    let play = played_as c.play-played.result (g.D.WindowState.shows c.play-played.new.self c.play-played.result) in
-    let join = due_after old.state from to c.args.seq c.args.ssrc play c.runs_join.ensures.plays (c.loop-self-test.ensures.0 refl) c.play-played.ensures.play in
-    let holds = (c.requires.within c.args.seq c.args.ssrc now.invariant.so.plays from (inr (c.requires.stale, now.invariant.so.are))).0 in
-    let on = one_play_more (HavePlayed old.state c.args.seq c.args.ssrc) old.state old.sum (g.P.Player.lanes c.args.lanes.now) from.playout.window from from to
-    now.self-inside.sum c.put_play.new.sum (g.P.Player.lanes now.lanes) (g.P.Player.lanes c.put_play.new.to) play now.invariant refl refl
-    join c.play-played.ensures.play holds.window.0 c.in_ok-put_play.ensures.counts c.in_ok-put_play.ensures.puts c.in_ok-put_play.ensures.port
-    (c.put_play.ensures.player ∙ now.invariant.player)
-    (subst (g.P.Player.takes c.put_play.new.to) now.invariant.port c.put_play.ensures.still)
-    (c.in_ok-put_play.ensures.faults.no_write (λ e. e) ∙ now.invariant.faults) in
-    let at = behind from.playout.window from to play c.play-played.result.count c.play-played.ensures.play c.play-played.ensures.count in
-    subst (CountsWithin c.put_play.new.sum) (sym at) on.counts
+    let r = (goal.at.count_skipped-requires-clause-within g c).After-skip_due-skipped in
+    counts_behind (round g r) c.loop-self.invariant c.in_ok-put_play.ensures.counts
 
 pub count_skipped-requires-clause-some : goal.count_skipped-requires-clause-some
 count_skipped-requires-clause-some g c =
-    let old = c.args.self.now in
-    let now = c.loop-self in
-    let from = g.D.WindowState.state now.self-inside.window in
-    let to = g.D.WindowState.state c.play-played.new.self in
-    let play = played_as c.play-played.result (g.D.WindowState.shows c.play-played.new.self c.play-played.result) in
-    let holds = (c.requires.within c.args.seq c.args.ssrc now.invariant.so.plays from (inr (c.requires.stale, now.invariant.so.are))).0 in
-    let some = some_window from.playout.window from to play c.play-played.ensures.play holds.window.0 in
-    let skipped = c.skip_due-skipped.result in
-    each_has_positions skipped.windows to.playout.window skipped.positions some c.skip_due-skipped.ensures.positions
+    each_has_positions (round g (goal.at.count_skipped-requires-clause-some g c).After-skip_due-skipped)
 
 pub count_skipped-requires-clause-limit : goal.count_skipped-requires-clause-limit
 count_skipped-requires-clause-limit g c =
-    let old = c.args.self.now in
-    let now = c.loop-self in
-    let from = g.D.WindowState.state now.self-inside.window in
-    let to = g.D.WindowState.state c.play-played.new.self in
-    let new = g.D.WindowState.state c.skip_due-skipped.new.self in
-    let play = played_as c.play-played.result (g.D.WindowState.shows c.play-played.new.self c.play-played.result) in
-    let skipped = c.skip_due-skipped.result in
-    let plays = empty_plays skipped.windows to.playout.window to.mark in
-    let join = due_after old.state from to c.args.seq c.args.ssrc play c.runs_join.ensures.plays (c.loop-self-test.ensures.0 refl) c.play-played.ensures.play in
-    let are = c.runs_join.ensures.plays old.state to new c.args.seq c.args.ssrc (now.invariant.so.plays ++ play ∷ []) plays (join now.invariant.so.plays now.invariant.so.are) c.skip_due-skipped.ensures.plays in
-    let room = (c.requires.within c.args.seq c.args.ssrc ((now.invariant.so.plays ++ play ∷ []) ++ plays) new (inr (c.requires.stale, are))).1 in
-    skip_fits to new skipped.windows skipped.positions (c.play-played.result.first + c.play-played.result.count)
-    (behind from.playout.window from to play c.play-played.result.count c.play-played.ensures.play c.play-played.ensures.count)
-    c.skip_due-skipped.ensures.positions (due_moves to new c.args.seq c.args.ssrc plays c.skip_due-skipped.ensures.plays) room.mark
+    positions_fit (round g (goal.at.count_skipped-requires-clause-limit g c).After-skip_due-skipped)
 
 pub loop-self-preserved : goal.loop-self-preserved
 loop-self-preserved g c =
-    let old = c.args.self.now in
-    let now = c.loop-self in
-    let from = g.D.WindowState.state now.self-inside.window in
-    let to = g.D.WindowState.state c.play-played.new.self in
-    let play = played_as c.play-played.result (g.D.WindowState.shows c.play-played.new.self c.play-played.result) in
-    let join = due_after old.state from to c.args.seq c.args.ssrc play c.runs_join.ensures.plays (c.loop-self-test.ensures.0 refl) c.play-played.ensures.play in
-    let holds = (c.requires.within c.args.seq c.args.ssrc now.invariant.so.plays from (inr (c.requires.stale, now.invariant.so.are))).0 in
-    let on = one_play_more (HavePlayed old.state c.args.seq c.args.ssrc) old.state old.sum (g.P.Player.lanes c.args.lanes.now) from.playout.window from from to
-    now.self-inside.sum c.put_play.new.sum (g.P.Player.lanes now.lanes) (g.P.Player.lanes c.put_play.new.to) play now.invariant refl refl
-    join c.play-played.ensures.play holds.window.0 c.in_ok-put_play.ensures.counts c.in_ok-put_play.ensures.puts c.in_ok-put_play.ensures.port
-    (c.put_play.ensures.player ∙ now.invariant.player)
-    (subst (g.P.Player.takes c.put_play.new.to) now.invariant.port c.put_play.ensures.still)
-    (c.in_ok-put_play.ensures.faults.no_write (λ e. e) ∙ now.invariant.faults) in
-    let new = g.D.WindowState.state c.skip_due-skipped.new.self in
-    let skipped = c.skip_due-skipped.result in
-    let plays = empty_plays skipped.windows to.playout.window to.mark in
-    skip_on (HavePlayed old.state c.args.seq c.args.ssrc) old.state old.sum (g.P.Player.lanes c.args.lanes.now) to new
-    c.put_play.new.sum c.count_skipped.new.sum (g.P.Player.lanes c.put_play.new.to) skipped.windows skipped.positions (c.play-played.result.first + c.play-played.result.count)
-    on (λ (earlier : List Play) are. c.runs_join.ensures.plays old.state to new c.args.seq c.args.ssrc earlier plays are c.skip_due-skipped.ensures.plays)
-    (due_moves to new c.args.seq c.args.ssrc plays c.skip_due-skipped.ensures.plays)
-    (some_window from.playout.window from to play c.play-played.ensures.play holds.window.0)
-    (behind from.playout.window from to play c.play-played.result.count c.play-played.ensures.play c.play-played.ensures.count)
-    c.skip_due-skipped.ensures.positions c.in_ok-count_skipped.ensures.counts c.in_ok-count_skipped.ensures.port
+    let r = (goal.at.loop-self-preserved g c).After-skip_due-skipped in
+    goes_on (round g r) c.loop-self.invariant c.in_ok-put_play.ensures.counts c.in_ok-put_play.ensures.puts c.in_ok-put_play.ensures.port
+    (c.put_play.ensures.player ∙ c.loop-self.invariant.player)
+    (subst (g.P.Player.takes c.put_play.new.to) c.loop-self.invariant.port c.put_play.ensures.still)
+    (c.in_ok-put_play.ensures.faults.no_write (λ e. e) ∙ c.loop-self.invariant.faults)
+    c.in_ok-count_skipped.ensures.counts c.in_ok-count_skipped.ensures.port
 
 pub loop-self-smaller : goal.loop-self-smaller
-loop-self-smaller g c =
-    let now = c.loop-self in
-    let from = g.D.WindowState.state now.self-inside.window in
-    let to = g.D.WindowState.state c.play-played.new.self in
-    let new = g.D.WindowState.state c.skip_due-skipped.new.self in
-    let play = played_as c.play-played.result (g.D.WindowState.shows c.play-played.new.self c.play-played.result) in
-    let stays = c.requires.within c.args.seq c.args.ssrc now.invariant.so.plays from (inr (c.requires.stale, now.invariant.so.are)) in
-    let plays = empty_plays c.skip_due-skipped.result.windows to.playout.window to.mark in
-    farther from.playout.window from from to new play plays refl c.play-played.ensures.play stays.0.window.0
-    (due_moves to new c.args.seq c.args.ssrc plays c.skip_due-skipped.ensures.plays) stays.1.mark
+loop-self-smaller g c = farther (round g (goal.at.loop-self-smaller g c).After-skip_due-skipped)
 
 pub returns-in_err-count_skipped-clause-breaks : goal.returns-in_err-count_skipped-clause-breaks
 returns-in_err-count_skipped-clause-breaks g c =
-    let old = c.args.self.now in
-    let now = c.loop-self in
-    let from = g.D.WindowState.state now.self-inside.window in
-    let to = g.D.WindowState.state c.play-played.new.self in
-    let play = played_as c.play-played.result (g.D.WindowState.shows c.play-played.new.self c.play-played.result) in
-    let join = due_after old.state from to c.args.seq c.args.ssrc play c.runs_join.ensures.plays (c.loop-self-test.ensures.0 refl) c.play-played.ensures.play in
-    let holds = (c.requires.within c.args.seq c.args.ssrc now.invariant.so.plays from (inr (c.requires.stale, now.invariant.so.are))).0 in
-    let on = one_play_more (HavePlayed old.state c.args.seq c.args.ssrc) old.state old.sum (g.P.Player.lanes c.args.lanes.now) from.playout.window from from to
-    now.self-inside.sum c.put_play.new.sum (g.P.Player.lanes now.lanes) (g.P.Player.lanes c.put_play.new.to) play now.invariant refl refl
-    join c.play-played.ensures.play holds.window.0 c.in_ok-put_play.ensures.counts c.in_ok-put_play.ensures.puts c.in_ok-put_play.ensures.port
-    (c.put_play.ensures.player ∙ now.invariant.player)
-    (subst (g.P.Player.takes c.put_play.new.to) now.invariant.port c.put_play.ensures.still)
-    (c.in_ok-put_play.ensures.faults.no_write (λ e. e) ∙ now.invariant.faults) in
-    on_err _ _ (broken (HavePlayed old.state c.args.seq c.args.ssrc) old.state to old.sum c.put_play.new.sum (g.P.Player.lanes c.args.lanes.now) (g.P.Player.lanes c.put_play.new.to) on.so)
+    let r = (goal.at.returns-in_err-count_skipped-clause-breaks g c).After-skip_due-skipped in
+    on_err _ _ (broken (round g r) c.loop-self.invariant c.in_ok-put_play.ensures.counts c.in_ok-put_play.ensures.puts)
 
 pub returns-in_err-count_skipped-clause-playout : goal.returns-in_err-count_skipped-clause-playout
 returns-in_err-count_skipped-clause-playout g c =
-    let now = c.loop-self in
-    let from = g.D.WindowState.state now.self-inside.window in
-    let to = g.D.WindowState.state c.play-played.new.self in
-    let new = g.D.WindowState.state c.skip_due-skipped.new.self in
-    let play = played_as c.play-played.result (g.D.WindowState.shows c.play-played.new.self c.play-played.result) in
-    let plays = empty_plays c.skip_due-skipped.result.windows to.playout.window to.mark in
-    (due_moves to new c.args.seq c.args.ssrc plays c.skip_due-skipped.ensures.plays).1 ∙ keeps_playout from.playout.window from play to c.play-played.ensures.play ∙ now.invariant.playout
+    keeps (round g (goal.at.returns-in_err-count_skipped-clause-playout g c).After-skip_due-skipped) c.loop-self.invariant
 
 pub returns-in_err-put_play-clause-breaks : goal.returns-in_err-put_play-clause-breaks
 returns-in_err-put_play-clause-breaks g c =
-    let old = c.args.self.now in
-    let now = c.loop-self in
-    let from = g.D.WindowState.state now.self-inside.window in
-    let to = g.D.WindowState.state c.play-played.new.self in
-    let play = played_as c.play-played.result (g.D.WindowState.shows c.play-played.new.self c.play-played.result) in
-    let join = due_after old.state from to c.args.seq c.args.ssrc play c.runs_join.ensures.plays (c.loop-self-test.ensures.0 refl) c.play-played.ensures.play in
-    on_err _ _ (breaks_off (HavePlayed old.state c.args.seq c.args.ssrc) old.state old.sum (g.P.Player.lanes c.args.lanes.now)
-    from to now.self-inside.sum (g.P.Player.lanes now.lanes) (g.P.Player.lanes c.put_play.new.to) play
-    now.invariant.so join now.invariant.port c.in_err-put_play.ensures.part)
+    let join = due_after _ _ _ c.args.seq c.args.ssrc _ c.runs_join.ensures.plays (c.loop-self-test.ensures.0 refl) c.play-played.ensures.play in
+    on_err _ _ (breaks_off c.loop-self.invariant join c.in_err-put_play.ensures.part)
 
 pub returns-clause-plays : goal.returns-clause-plays
 returns-clause-plays g c =
