@@ -1,13 +1,14 @@
 -- What a filter or a printer does is what a request for it is answered with.
-use Rattle.std.proofs.Common.{◌≡◌, ◌⊎◌, inl, inr, ℕ, List, [], ◌∷◌, Option, None, Some, IfSome, refl, sym, subst, arith}
+use Rattle.std.proofs.Common.{◌≡◌, ◌⊎◌, inl, inr, ℕ, List, [], ◌∷◌, Option, None, Some, IfSome, refl, sym, ap, ◌∙◌, subst, arith}
 use Rattle.fg_io.specs.Faults.{CountsFaults}
 use Rattle.fg_io.specs.Outlet.{Lanes}
 use Rattle.fg_results.specs.Counted.{CountsAhead}
+use Rattle.fg_commands.specs.declared.ended.Ended.{Ended}
 use Rattle.fg_commands.specs.declared.ended.Why.{Why}
 use Rattle.fg_commands.specs.declared.ended.Why.TheVariants as why
 use Rattle.fg_commands.specs.Answered.{RequestAnswered}
-use Rattle.fg_commands.specs.Ended.{IsFault}
-use Rattle.fg_commands.specs.Filter.{Filter, FilterAnswered, also_back, at_the_end, filter}
+use Rattle.fg_commands.specs.Ended.{IsFault, status_of}
+use Rattle.fg_commands.specs.Filter.{Filter, FilterAnswered, FilterEnded, also_back, at_the_end, filter}
 use Rattle.fg_commands.specs.Printer.{Printer, PrinterAnswered, printer}
 use Rattle.fg_commands.proofs.Completing.{complete_told}
 use Rattle.fg_commands.proofs.Lawful.{Lawful, none_wrong}
@@ -61,6 +62,7 @@ filter_answered does answer h = record {
   complete = complete_told _ _ _ answer _ does.is_answer h.exactly h.faults.read (λ e. inl (h.faults.write e));
   part = λ fault. (refl, h.part fault);
   stops = λ fault. refl;
+  at_read = λ e. tt;
   no_report = h.no_report;
   counts = no_lane h.faults;
   nothing_read = λ no. absurd no;
@@ -121,6 +123,17 @@ last_answered does answer h none = record {
   faults = h.faults;
 }
 
+-- one that has ended with its answer
+pub ended_so : {S K : Type 0} {does : Filter} {left : S → Option (List ℕ)} {input_faults : S → ℕ} {input input' : S}
+    {written : K → Option (List ℕ)} {out_faults : K → ℕ} {out out' : K}
+    → (ended : Ended) (told answer : Why) → ended.status ≡ status_of told → ended.why ≡ told → told ≡ answer
+    → FilterAnswered does answer left input_faults input input' written out_faults out out'
+    → FilterEnded does ended left input_faults input input' written out_faults out out'
+ended_so ended told answer status why so h = record {
+  status = status ∙ ap status_of (sym why);
+  answered = rw (why, so) h;
+}
+
 -- a command that can only be done
 pub done_told : {P : Type 0} (input : Option (List ℕ)) (answer : Why) → IsFault answer ⊎ ((answer ≡ why.Done) × P)
     → IfSome input (λ bytes. (due : Why) → due ≡ why.Done → IsFault answer ⊎ (answer ≡ due))
@@ -142,6 +155,7 @@ printer_answered does answer h =
       complete = complete_told _ _ _ answer _ (λ bytes due. due ≡ why.Done) due (λ e. absurd (h.faults.read e)) (λ e. inl (h.faults.write e));
       part = λ fault. (refl, h.part fault);
       stops = λ fault. refl;
+      at_read = λ e. tt;
       no_report = λ last e. absurd last;
       counts = no_lane (no_input h.faults);
       nothing_read = λ so. refl;

@@ -57,6 +57,7 @@ not_begun does law left input_faults input lanes_of lane_faults lanes written ou
   complete = told (left input) _ (λ bytes due h a b c. inr refl);
   part = λ fault. law.part (left input) (lanes_of lanes) written out;
   stops = λ fault. law.stops (left input) (lanes_of lanes);
+  at_read = λ e. let a = e in cc;
   no_report = λ last e. refl;
   counts = untouched_counts (λ e. let a = e in cc) (λ e. let a = e in cc);
   nothing_read = λ h. refl;

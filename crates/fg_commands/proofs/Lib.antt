@@ -1,3 +1,5 @@
+pub mod Came
+pub mod Captured
 pub mod Completing
 pub mod Encoded
 pub mod Filters

@@ -1,5 +1,5 @@
 -- Where nothing was picked, what is written is a part, as it was, and nothing need come back.
-use Rattle.std.proofs.Common.{◌≡◌, ℕ, List, Option, None, Some, IfSome, refl}
+use Rattle.std.proofs.Common.{ℕ, List, Option, None, Some, IfSome, refl}
 use Rattle.fg_io.specs.Laws.{NoneIsPart}
 use Rattle.fg_flows.specs.declared.selection.Selection.{Selection}
 use Rattle.fg_trace.specs.declared.step.Finish.{Finish}

@@ -126,7 +126,7 @@ finish_tells = tells_by why_of_finish IsFinishFault finish.ReadFault finish.Writ
     (record { fails = (tt, tt, tt); reads = refl; writes = refl; remembers = refl }) finishes
 
 -- A command that a fault ends, or that ends in another way, which is told as no fault.
-is_fault : (f : Fault) → IsFault (why_of_fault f)
+pub is_fault : (f : Fault) → IsFault (why_of_fault f)
 is_fault fault.Read = tt
 is_fault fault.Write = tt
 is_fault fault.Memory = tt

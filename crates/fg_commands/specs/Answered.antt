@@ -37,6 +37,8 @@ pub record RequestAnswered {S O K : Type 0}
   -- call. After a read fault a request that writes last has written nothing.
   pub part : IsFault answer → request.part (left input) (lanes_of lanes) (lanes_of lanes') written out out'
   pub stops : IsFault answer → request.stops answer (left input) (lanes_of lanes) (lanes_of lanes')
+  -- After a failed read of a trace the lanes have what the records show that stand whole in what was read.
+  pub at_read : answer ≡ why.ReadFault → request.at_read (left input) (left input') (lanes_of lanes) (lanes_of lanes')
   pub no_report : request.writes_last → answer ≡ why.ReadFault → out' ≡ out
   -- A fault of the outside is answered only where it was counted in this call. With every other answer no fault of writing was,
   -- and none of reading but where the request may have read on. No count falls.

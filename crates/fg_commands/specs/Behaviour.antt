@@ -14,6 +14,8 @@ pub record Behaviour : Type 1 where
   pub part : {K : Type 0} → Option (List ℕ) → Option Lanes → Option Lanes → (K → Option (List ℕ)) → K → K → Type 0
   -- Where a fault, or want of memory, stops what the request does to the lanes.
   pub stops : Why → Option (List ℕ) → Option Lanes → Option Lanes → Type 0
+  -- And what a failed read leaves of them, where so much is left of the input.
+  pub at_read : Option (List ℕ) → Option (List ℕ) → Option Lanes → Option Lanes → Type 0
   -- What comes back of what is repaired or written.
   pub comes_back : Why → Option (List ℕ) → Option Lanes → Option Lanes → Option (List ℕ) → Option (List ℕ) → Type 0
   -- How far the input has been read with this answer, of which this is left.

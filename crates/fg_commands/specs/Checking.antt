@@ -1,5 +1,5 @@
 -- What `check` is for: this project's own.
-use Rattle.std.specs.Prelude.{◌≡◌, ◌⊎◌, ℕ, List, Option, None, Some, ⊤}
+use Rattle.std.specs.Prelude.{◌≡◌, ℕ, List, Option}
 use Rattle.fg_proof.specs.declared.case.Case.{Case}
 use Rattle.fg_proof.specs.declared.judging.Answer.{Answer}
 use Rattle.fg_check.specs.declared.walk.Checked.{Checked}
@@ -8,9 +8,8 @@ use Rattle.fg_check.specs.Reading.{IsCheckReadFor}
 use Rattle.fg_check.specs.Text.{AreAnswers}
 use Rattle.fg_commands.specs.declared.ended.Why.{Why}
 use Rattle.fg_commands.specs.declared.ended.Why.TheVariants as why
-use Rattle.fg_commands.specs.Ended.{IsFault}
-use Rattle.fg_commands.specs.Endings.{why_of_checked}
-use Rattle.fg_commands.specs.Filter.{Filter}
+use Rattle.fg_commands.specs.Endings.{IsDoneOr, ReadsAs, why_of_checked}
+use Rattle.fg_commands.specs.Filter.{Filter, of_ends}
 
 -- The answer is that to the text of cases in these bytes.
 pub record IsCasesAnswer (max : ℕ) (bytes : List ℕ) (answer : Why) : Type 0 where
@@ -25,24 +24,13 @@ pub record IsCasesAnswer (max : ℕ) (bytes : List ℕ) (answer : Why) : Type 0 
 
 -- After this answer nothing of a text of cases is left to read.
 abbrev pub EndsCases : Why → Type 0
-EndsCases answer = (answer ≡ why.Done) ⊎ ((i : ℕ) × (answer ≡ why.Unproved i))
+EndsCases = IsDoneOr why.Unproved
 
 -- The text of cases in these bytes was read as far as the answer needs; and after a fault at most a byte past the limit. This is
 -- left.
 abbrev pub ReadsCases : ℕ → Why → List ℕ → Option (List ℕ) → Type 0
-ReadsCases max answer bytes now =
-    (IsFault answer × IsCheckReadFor max None bytes now)
-    ⊎ ((checked : Checked) × (answer ≡ why_of_checked checked) × IsCheckReadFor max (Some checked) bytes now)
+ReadsCases max = ReadsAs why_of_checked (IsCheckReadFor max)
 
 -- The cases in the text are judged, and the answer is that to it.
 abbrev pub checking : ℕ → Filter
-checking max = record {
-  is_answer = IsCasesAnswer max;
-  gains = λ answer input written written'. (checked : Checked) × (answer ≡ why_of_checked checked) × Checks max checked input written written';
-  part = ChecksPart max;
-  comes_back = λ answer input written written'. ⊤;
-  reads = ReadsCases max;
-  reads_all = EndsCases;
-  is_no_input = λ bytes. ⊥;
-  writes_last = ⊥;
-}
+checking max = of_ends why_of_checked (IsCasesAnswer max) (Checks max) (ChecksPart max) (ReadsCases max) EndsCases (λ bytes. ⊥)

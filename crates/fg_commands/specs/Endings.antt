@@ -1,5 +1,5 @@
 -- The answers to endings: this project's own.
-use Rattle.std.specs.Prelude.{None, Some, Result, Ok, Err}
+use Rattle.std.specs.Prelude.{◌≡◌, ◌⊎◌, ℕ, List, Option, None, Some, Result, Ok, Err}
 use Rattle.fg_io.specs.declared.fault.Fault.{Fault}
 use Rattle.fg_io.specs.declared.fault.Fault.TheVariants as fault
 use Rattle.fg_trace.specs.declared.step.Finish.{Finish}
@@ -9,12 +9,13 @@ use Rattle.fg_encode.specs.declared.stream.StreamFault.TheVariants.{NotTransport
 use Rattle.fg_encode.specs.Stream.{StreamEnding}
 use Rattle.fg_check.specs.declared.walk.Checked.{Checked}
 use Rattle.fg_check.specs.declared.walk.Checked.TheVariants as checked
-use Rattle.fg_pcap.specs.declared.finish.CaptureFinish.{CaptureFinish}
-use Rattle.fg_pcap.specs.declared.finish.CaptureFinish.TheVariants as capture
-use Rattle.fg_pcap.specs.declared.writer.SpellingFinish.{SpellingFinish}
-use Rattle.fg_pcap.specs.declared.writer.SpellingFinish.TheVariants as spelling
+use Rattle.fg_pcap.specs.declared.ending.CaptureEnding.{CaptureEnding}
+use Rattle.fg_pcap.specs.declared.ending.CaptureEnding.TheVariants as capture
+use Rattle.fg_pcap.specs.declared.writer.SpellingEnding.{SpellingEnding}
+use Rattle.fg_pcap.specs.declared.writer.SpellingEnding.TheVariants as spelling
 use Rattle.fg_commands.specs.declared.ended.Why.{Why}
 use Rattle.fg_commands.specs.declared.ended.Why.TheVariants as why
+use Rattle.fg_commands.specs.Ended.{IsFault}
 
 -- The answer to a trace that ends so.
 abbrev pub why_of_ending : Ending → Why
@@ -57,23 +58,27 @@ abbrev pub why_of_came : {E : Type 0} → (E → Why) → Result E Fault → Why
 why_of_came why_of (Ok ending) = why_of ending
 why_of_came why_of (Err fault) = why_of_fault fault
 
--- The answer of a capture that is made into a trace and ends so.
-abbrev pub why_of_capture : CaptureFinish → Why
-why_of_capture capture.Done = why.Done
-why_of_capture capture.ReadFault = why.ReadFault
-why_of_capture capture.WriteFault = why.WriteFault
+-- The answer to a capture that ends so.
+abbrev pub why_of_capture : CaptureEnding → Why
+why_of_capture capture.Ended = why.Done
 why_of_capture (capture.NotCapture n) = why.NotCapture n
 why_of_capture (capture.Cut n) = why.Cut n
 why_of_capture (capture.TooLong n) = why.TooLong n
-why_of_capture capture.Memory = why.Memory
 
--- The answer of a trace that is written as a capture and ends so.
-abbrev pub why_of_spelling : SpellingFinish → Why
+-- The answer to a trace that is written as a capture and ends so.
+abbrev pub why_of_spelling : SpellingEnding → Why
 why_of_spelling spelling.Done = why.Done
-why_of_spelling spelling.ReadFault = why.ReadFault
-why_of_spelling spelling.WriteFault = why.WriteFault
 why_of_spelling (spelling.NotTrace n) = why.NotTrace n
 why_of_spelling (spelling.Unfit k) = why.Unfit k
 why_of_spelling (spelling.Cut n) = why.Cut n
 why_of_spelling (spelling.TooLong n) = why.TooLong n
-why_of_spelling spelling.Memory = why.Memory
+
+-- With this answer, of which `read` tells how far it needs, an input of these bytes was read so far that this is left: as far as
+-- its ending needs, where that is answered, and else as far as a fault leaves.
+abbrev pub ReadsAs : {E : Type 0} → (E → Why) → (Option E → List ℕ → Option (List ℕ) → Type 0) → Why → List ℕ → Option (List ℕ) → Type 0
+ReadsAs {E} why_of read answer bytes now =
+    (IsFault answer × read None bytes now) ⊎ ((end : E) × (answer ≡ why_of end) × read (Some end) bytes now)
+
+-- All was done, or it is another of these answers.
+abbrev pub IsDoneOr : (ℕ → Why) → Why → Type 0
+IsDoneOr other answer = (answer ≡ why.Done) ⊎ ((n : ℕ) × (answer ≡ other n))

@@ -11,13 +11,18 @@ pub record Printer : Type 1 where
   pub gains : Option (List ℕ) → Option (List ℕ) → Type 0
   pub part : Option (List ℕ) → Option (List ℕ) → Type 0
 
--- Its behaviour.
-abbrev pub printer : Printer → Behaviour
-printer does = record {
-  is_answer = λ bytes answer. answer ≡ why.Done;
-  gains = λ answer input lanes lanes' written written'. (answer ≡ why.Done) × (lanes' ≡ lanes) × does.gains written written';
+-- What prints nothing.
+abbrev pub silent : Printer
+silent = record { gains = λ written written'. written' ≡ written; part = λ written written'. written' ≡ written }
+
+-- The behaviour of what reads nothing and makes no lane, and ends with this answer where nothing fails.
+abbrev pub unread : Why → Printer → Behaviour
+unread done does = record {
+  is_answer = λ bytes answer. answer ≡ done;
+  gains = λ answer input lanes lanes' written written'. (answer ≡ done) × (lanes' ≡ lanes) × does.gains written written';
   part = λ {K} input lanes lanes' written out out'. (lanes' ≡ lanes) × does.part (written out) (written out');
   stops = λ answer input lanes lanes'. lanes' ≡ lanes;
+  at_read = λ input now lanes lanes'. ⊤;
   comes_back = λ answer input lanes lanes' written written'. ⊤;
   reads = λ answer bytes now. now ≡ Some bytes;
   reads_all = λ answer. ⊥;
@@ -28,6 +33,10 @@ printer does = record {
   makes_no_lane = ⊤;
   writes_last = ⊥;
 }
+
+-- A printer ends as done.
+abbrev pub printer : Printer → Behaviour
+printer = unread why.Done
 
 -- A call that ends with this answer has done what the printer is for. `out` is the sink before it and `out'` after it, of which
 -- `written` tells what it has, and `out_faults` how many faults it has counted.

@@ -1,12 +1,11 @@
 -- The answers to streams, and how far one is read for each. This project's own.
-use Rattle.std.specs.Prelude.{◌≡◌, ◌⊎◌, ℕ, List, Option, None, Some}
+use Rattle.std.specs.Prelude.{◌≡◌, ℕ, List, Option}
 use Rattle.fg_ts.specs.declared.TsFault.TheVariants as packets
 use Rattle.fg_encode.specs.Reading.{IsStreamReadFor}
 use Rattle.fg_encode.specs.Stream.{StreamEnding, IsCut}
 use Rattle.fg_commands.specs.declared.ended.Why.{Why}
 use Rattle.fg_commands.specs.declared.ended.Why.TheVariants as why
-use Rattle.fg_commands.specs.Ended.{IsFault}
-use Rattle.fg_commands.specs.Endings.{why_of_stream}
+use Rattle.fg_commands.specs.Endings.{IsDoneOr, ReadsAs, why_of_stream}
 
 -- The answer is that to the stream of these bytes, with so many packets in a payload, under this limit on their number.
 abbrev pub IsStreamAnswer : ℕ → ℕ → List ℕ → Why → Type 0
@@ -16,11 +15,9 @@ IsStreamAnswer packets max bytes answer =
 
 -- After this answer nothing of a stream is left to read.
 abbrev pub EndsStream : Why → Type 0
-EndsStream answer = (answer ≡ why.Done) ⊎ ((n : ℕ) × (answer ≡ why.NotTransport (packets.Ragged n)))
+EndsStream = IsDoneOr (λ n. why.NotTransport (packets.Ragged n))
 
 -- The stream in these bytes was read as far as its ending needs, where that is answered; and after a fault at most a byte past
 -- the limit. This is left.
 abbrev pub ReadsStream : ℕ → Why → List ℕ → Option (List ℕ) → Type 0
-ReadsStream max answer bytes now =
-    (IsFault answer × IsStreamReadFor max None bytes now)
-    ⊎ ((end : StreamEnding) × (answer ≡ why_of_stream end) × IsStreamReadFor max (Some end) bytes now)
+ReadsStream max = ReadsAs why_of_stream (IsStreamReadFor max)

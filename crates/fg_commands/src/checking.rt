@@ -1,10 +1,9 @@
 //! The judgement of a text of cases.
-ghost use Rattle.std.specs.Prelude.{◌≡◌, ◌≤◌, ◌^◌};
+ghost use Rattle.std.specs.Prelude.{◌≤◌, ◌^◌};
 ghost use Rattle.fg_commands.specs.Checking.{checking};
-ghost use Rattle.fg_commands.specs.Ended.{status_of};
-ghost use Rattle.fg_commands.specs.Filter.{FilterAnswered};
+ghost use Rattle.fg_commands.specs.Filter.{FilterEnded};
 
-use crate::ended::{Ended, why_of_judged};
+use crate::ended::Ended;
 use fg_check::check_cases;
 use fg_check::laws::{one_check, one_text, one_told};
 use fg_io::{Sink, Source};
@@ -15,14 +14,12 @@ use std::alloc::Global;
 /// `NotCase` and `TooLong` tell where the text stops fitting. The cases before are judged. After a fault `out` has gained a
 /// prefix of the lines.
 pub fn run_check<S: Source, K: Sink>(alloc: Global, max: u64, input: &mut S, out: &mut K) -> Ended
-    requires least { 8 ≤ max }
-    requires limit { max ≤ 2 ^ 40 }
-    ensures status { result.status ≡ status_of result.why }
-    ensures answered { FilterAnswered (checking max) result.why S.left S.faults input.old input.new
+    requires max { (8 ≤ max) × (max ≤ 2 ^ 40) }
+    ensures { FilterEnded (checking max) result S.left S.faults input.old input.new
         K.written K.faults out.old out.new }
 {
     one_check();
     one_text();
     one_told();
-    Ended::of(why_of_judged(check_cases(alloc, max, input, out)))
+    Ended::by(check_cases(alloc, max, input, out))
 }

@@ -1,13 +1,13 @@
 //! How a call of the program ends.
-ghost use Rattle.std.specs.Prelude.{◌≡◌};
+ghost use Rattle.std.specs.Prelude.{◌≡◌, IfErr, IfOk};
 ghost use Rattle.fg_commands.specs.Ended.{status_of};
-ghost use Rattle.fg_commands.specs.Endings.{why_of_came, why_of_capture, why_of_checked, why_of_fault, why_of_finish, why_of_spelling, why_of_stream};
+ghost use Rattle.fg_commands.specs.Endings.{why_of_capture, why_of_checked, why_of_fault, why_of_finish, why_of_spelling, why_of_stream};
 
 use fg_check::Checked;
 use fg_cli::WordFault;
 use fg_encode::stream::StreamFault;
 use fg_io::Fault;
-use fg_pcap::{CaptureFinish, SpellingFinish};
+use fg_pcap::{CaptureEnding, SpellingEnding};
 use fg_trace::Finish;
 use fg_ts::TsFault;
 
@@ -67,6 +67,18 @@ impl Ended {
         Ended {
             status: why.status(),
             why,
+        }
+    }
+
+    /// A call that came to an ending that is answered, or that a fault ended.
+    pub(crate) fn by<E: Into<Why>>(came: Result<E, Fault>) -> Ended
+        ensures status { result.status ≡ status_of result.why }
+        ensures came { IfOk came (λ ending. E.converts ending result.why) }
+        ensures failed { IfErr came (λ fault. result.why ≡ why_of_fault fault) }
+    {
+        match came {
+            Ok(ending) => Ended::of(ending.into()),
+            Err(fault) => Ended::of(fault.into()),
         }
     }
 }
@@ -135,60 +147,45 @@ impl From<Fault> for Why {
     }
 }
 
-/// The answer of a command that reads a stream and ends so.
-pub(crate) fn why_of_streamed(answer: Result<Option<StreamFault>, Fault>) -> Why
-    ensures { result ≡ why_of_came why_of_stream answer }
-{
-    match answer {
-        Ok(ending) => ending.into(),
-        Err(fault) => fault.into(),
-    }
-}
+/// A capture that is made into a trace ends so, once all before its ending is done.
+impl From<CaptureEnding> for Why {
+    ghost from_gives = { λ ending why. why ≡ why_of_capture ending };
 
-/// A capture that is made into a trace ends so.
-impl From<CaptureFinish> for Why {
-    ghost from_gives = { λ finish why. why ≡ why_of_capture finish };
-
-    fn from(finish: CaptureFinish) -> Why {
-        match finish {
-            CaptureFinish::Done => Why::Done,
-            CaptureFinish::ReadFault => Why::ReadFault,
-            CaptureFinish::WriteFault => Why::WriteFault,
-            CaptureFinish::NotCapture(byte) => Why::NotCapture(byte),
-            CaptureFinish::Cut(byte) => Why::Cut(byte),
-            CaptureFinish::TooLong(byte) => Why::TooLong(byte),
-            CaptureFinish::Memory => Why::Memory,
+    fn from(ending: CaptureEnding) -> Why {
+        match ending {
+            CaptureEnding::Ended => Why::Done,
+            CaptureEnding::NotCapture(byte) => Why::NotCapture(byte),
+            CaptureEnding::Cut(byte) => Why::Cut(byte),
+            CaptureEnding::TooLong(byte) => Why::TooLong(byte),
         }
     }
 }
 
-/// A trace that is written as a capture ends so.
-impl From<SpellingFinish> for Why {
-    ghost from_gives = { λ finish why. why ≡ why_of_spelling finish };
+/// A trace that is written as a capture ends so, once all before its ending is done.
+impl From<SpellingEnding> for Why {
+    ghost from_gives = { λ ending why. why ≡ why_of_spelling ending };
 
-    fn from(finish: SpellingFinish) -> Why {
-        match finish {
-            SpellingFinish::Done => Why::Done,
-            SpellingFinish::ReadFault => Why::ReadFault,
-            SpellingFinish::WriteFault => Why::WriteFault,
-            SpellingFinish::NotTrace(byte) => Why::NotTrace(byte),
-            SpellingFinish::Unfit(number) => Why::Unfit(number),
-            SpellingFinish::Cut(byte) => Why::Cut(byte),
-            SpellingFinish::TooLong(byte) => Why::TooLong(byte),
-            SpellingFinish::Memory => Why::Memory,
+    fn from(ending: SpellingEnding) -> Why {
+        match ending {
+            SpellingEnding::Done => Why::Done,
+            SpellingEnding::NotTrace(byte) => Why::NotTrace(byte),
+            SpellingEnding::Unfit(number) => Why::Unfit(number),
+            SpellingEnding::Cut(byte) => Why::Cut(byte),
+            SpellingEnding::TooLong(byte) => Why::TooLong(byte),
         }
     }
 }
 
-/// A text of cases that is judged so, or at a fault, ends so.
-pub(crate) fn why_of_judged(judged: Result<Checked, Fault>) -> Why
-    ensures { result ≡ why_of_came why_of_checked judged }
-{
-    match judged {
-        Ok(Checked::Done) => Why::Done,
-        Ok(Checked::Unproved(number)) => Why::Unproved(number),
-        Ok(Checked::NotCase(line)) => Why::NotCase(line),
-        Ok(Checked::TooLong(byte)) => Why::TooLong(byte),
-        Err(fault) => fault.into(),
+/// A text of cases that is judged so.
+impl From<Checked> for Why {
+    ghost from_gives = { λ judged why. why ≡ why_of_checked judged };
+
+    fn from(judged: Checked) -> Why {
+        match judged {
+            Checked::Done => Why::Done,
+            Checked::Unproved(number) => Why::Unproved(number),
+            Checked::NotCase(line) => Why::NotCase(line),
+            Checked::TooLong(byte) => Why::TooLong(byte),
+        }
     }
 }

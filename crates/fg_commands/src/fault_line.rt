@@ -3,7 +3,7 @@ ghost use Rattle.std.specs.Prelude.{◌≡◌, ◌++◌, ◌∷◌, [], IfErr, O
 ghost use Rattle.std.specs.Fmt.{decimal};
 ghost use Rattle.fg_io.specs.Faults.{Counts};
 ghost use Rattle.fg_io.specs.Sink.{Gains, GainsPart};
-ghost use Rattle.fg_commands.specs.Ended.{fault_line, flows_line, words_line, name_text as text_of_name, layout_number as number_of_rule};
+ghost use Rattle.fg_commands.specs.Ended.{fault_line, words_line, name_text as text_of_name, layout_number as number_of_rule};
 
 use crate::ended::Why;
 use fg_cli::{Name, WordFault};
@@ -63,23 +63,14 @@ fn write_words_line<E: Sink>(err: &mut E, fault: WordFault) -> Result<(), Fault>
         WordFault::Missing(name) => write_line(err, b"words: missing ", name_text(name)),
         WordFault::Depth(i) => write_number(err, b"words: depth below window at word ", i as u64),
         WordFault::Layout(fault) => write_number(err, b"words: layout ", layout_number(fault)),
-        WordFault::Flows(fault) => write_flows_line(err, fault),
-    }
-}
-
-/// Writes the line for words whose flows break this rule first.
-fn write_flows_line<E: Sink>(err: &mut E, fault: FlowFault) -> Result<(), Fault>
-    ensures whole { OnOk result (Gains (E.written err.old) (flows_line fault) (E.written err.new)) }
-    ensures part { OnErr result (GainsPart (E.written err.old) (flows_line fault)
-        (E.written err.new)) }
-    ensures fault { IfErr result (λ fault. fault ≡ Fault.Write) }
-    ensures faults { Counts result [] ((E.faults err.old, E.faults err.new) ∷ []) }
-{
-    match fault {
-        FlowFault::NoFlow => write_all(err, b"words: flows 1\n"),
-        FlowFault::TooMany => write_all(err, b"words: flows 2\n"),
-        FlowFault::Port(i) => write_number(err, b"words: flows 3 at ", i as u64),
-        FlowFault::Clash(i) => write_number(err, b"words: flows 4 at ", i as u64),
+        WordFault::Flows(FlowFault::NoFlow) => write_all(err, b"words: flows 1\n"),
+        WordFault::Flows(FlowFault::TooMany) => write_all(err, b"words: flows 2\n"),
+        WordFault::Flows(FlowFault::Port(i)) => {
+            write_number(err, b"words: flows 3 at ", i as u64)
+        }
+        WordFault::Flows(FlowFault::Clash(i)) => {
+            write_number(err, b"words: flows 4 at ", i as u64)
+        }
     }
 }
 

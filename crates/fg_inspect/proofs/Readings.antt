@@ -1,13 +1,16 @@
 -- A datagram on a port is read in one way.
-use Rattle.std.proofs.Common.{◌≡◌, ℕ, List, refl, sym, ap, ◌∙◌, subst}
+use Rattle.std.proofs.Common.{◌≡◌, ◌⊎◌, inl, inr, ℕ, List, [], ◌∷◌, refl, sym, ap, ◌∙◌, subst}
 use Rattle.fg_rtp.specs.declared.media.MediaFault.{MediaFault}
 use Rattle.fg_rtp.specs.declared.media.MediaFault.TheVariants as media
 use Rattle.fg_rtp.specs.Laws as rtp
+use Rattle.fg_rtp.specs.MediaDatagram as media_datagram
 use Rattle.fg_rtp.specs.MediaDatagram.{FirstFault as FirstMediaFault}
 use Rattle.fg_fechead.specs.declared.FecFault.{FecFault}
 use Rattle.fg_fechead.specs.declared.FecFault.TheVariants as fec
 use Rattle.fg_fechead.specs.declared.Parity.{Parity as ParityRead}
 use Rattle.fg_fechead.specs.Laws as fechead
+use Rattle.fg_fechead.specs.FecHeader.{IsExtended, IsPlainXor, HasShape}
+use Rattle.fg_fechead.specs.ParityDatagram as parity_datagram
 use Rattle.fg_fechead.specs.ParityDatagram.{FirstFault as FirstFecFault}
 use Rattle.fg_shape.specs.declared.kind.Kind.{Kind}
 use Rattle.fg_shape.specs.declared.kind.Kind.TheVariants as kind
@@ -18,83 +21,57 @@ use Rattle.fg_inspect.specs.declared.reading.Reading.TheVariants.{Media, NoMedia
 use Rattle.fg_inspect.specs.Laws.{OneReading}
 use Rattle.fg_inspect.specs.Reading.{IsMedia, IsParity, IsReadAsMedia, IsReadAsParity, IsReadAs, Carries, IsReading}
 
--- The first broken rule is one: a later fault's rules have those before it kept.
+-- The first broken rule is one
 
-one_media_fault : (bytes : List ℕ) (f g : MediaFault) → FirstMediaFault f bytes → FirstMediaFault g bytes → f ≡ g
-one_media_fault bytes media.Short media.Short h k = refl
-one_media_fault bytes media.Short media.Version h k = absurd (h k.0)
-one_media_fault bytes media.Short media.Flags h k = absurd (h k.0)
-one_media_fault bytes media.Short media.PayloadType h k = absurd (h k.0)
-one_media_fault bytes media.Short media.Size h k = absurd (h k.0)
-one_media_fault bytes media.Short media.NoSync h k = absurd (h k.0)
-one_media_fault bytes media.Version media.Short h k = absurd (k h.0)
-one_media_fault bytes media.Version media.Version h k = refl
-one_media_fault bytes media.Version media.Flags h k = absurd (h.1 k.1)
-one_media_fault bytes media.Version media.PayloadType h k = absurd (h.1 k.1)
-one_media_fault bytes media.Version media.Size h k = absurd (h.1 k.1)
-one_media_fault bytes media.Version media.NoSync h k = absurd (h.1 k.1)
-one_media_fault bytes media.Flags media.Short h k = absurd (k h.0)
-one_media_fault bytes media.Flags media.Version h k = absurd (k.1 h.1)
-one_media_fault bytes media.Flags media.Flags h k = refl
-one_media_fault bytes media.Flags media.PayloadType h k = absurd (h.2 k.2)
-one_media_fault bytes media.Flags media.Size h k = absurd (h.2 k.2)
-one_media_fault bytes media.Flags media.NoSync h k = absurd (h.2 k.2)
-one_media_fault bytes media.PayloadType media.Short h k = absurd (k h.0)
-one_media_fault bytes media.PayloadType media.Version h k = absurd (k.1 h.1)
-one_media_fault bytes media.PayloadType media.Flags h k = absurd (k.2 h.2)
-one_media_fault bytes media.PayloadType media.PayloadType h k = refl
-one_media_fault bytes media.PayloadType media.Size h k = absurd (h.3 k.3)
-one_media_fault bytes media.PayloadType media.NoSync h k = absurd (h.3 k.3)
-one_media_fault bytes media.Size media.Short h k = absurd (k h.0)
-one_media_fault bytes media.Size media.Version h k = absurd (k.1 h.1)
-one_media_fault bytes media.Size media.Flags h k = absurd (k.2 h.2)
-one_media_fault bytes media.Size media.PayloadType h k = absurd (k.3 h.3)
-one_media_fault bytes media.Size media.Size h k = refl
-one_media_fault bytes media.Size media.NoSync h k = absurd (h.4 k.4)
-one_media_fault bytes media.NoSync media.Short h k = absurd (k h.0)
-one_media_fault bytes media.NoSync media.Version h k = absurd (k.1 h.1)
-one_media_fault bytes media.NoSync media.Flags h k = absurd (k.2 h.2)
-one_media_fault bytes media.NoSync media.PayloadType h k = absurd (k.3 h.3)
-one_media_fault bytes media.NoSync media.Size h k = absurd (k.4 h.4)
-one_media_fault bytes media.NoSync media.NoSync h k = refl
+-- the fault is of these, its rule is broken, and those of the faults before it are kept
+abbrev First : {F : Type 0} → (F → Type 0) → List F → F → Type 0
+First rule [] fault = ⊥
+First rule (x ∷ faults) fault = ((fault ≡ x) × (¬ rule x)) ⊎ (rule x × First rule faults fault)
 
-one_fec_fault : (bytes : List ℕ) (f g : FecFault) → FirstFecFault f bytes → FirstFecFault g bytes → f ≡ g
-one_fec_fault bytes fec.Short fec.Short h k = refl
-one_fec_fault bytes fec.Short fec.Version h k = absurd (h k.0)
-one_fec_fault bytes fec.Short fec.NoExtension h k = absurd (h k.0)
-one_fec_fault bytes fec.Short fec.OtherFec h k = absurd (h k.0)
-one_fec_fault bytes fec.Short fec.Shape h k = absurd (h k.0)
-one_fec_fault bytes fec.Short fec.Size h k = absurd (h k.0)
-one_fec_fault bytes fec.Version fec.Short h k = absurd (k h.0)
-one_fec_fault bytes fec.Version fec.Version h k = refl
-one_fec_fault bytes fec.Version fec.NoExtension h k = absurd (h.1 k.1)
-one_fec_fault bytes fec.Version fec.OtherFec h k = absurd (h.1 k.1)
-one_fec_fault bytes fec.Version fec.Shape h k = absurd (h.1 k.1)
-one_fec_fault bytes fec.Version fec.Size h k = absurd (h.1 k.1)
-one_fec_fault bytes fec.NoExtension fec.Short h k = absurd (k h.0)
-one_fec_fault bytes fec.NoExtension fec.Version h k = absurd (k.1 h.1)
-one_fec_fault bytes fec.NoExtension fec.NoExtension h k = refl
-one_fec_fault bytes fec.NoExtension fec.OtherFec h k = absurd (h.2 k.2)
-one_fec_fault bytes fec.NoExtension fec.Shape h k = absurd (h.2 k.2)
-one_fec_fault bytes fec.NoExtension fec.Size h k = absurd (h.2 k.2)
-one_fec_fault bytes fec.OtherFec fec.Short h k = absurd (k h.0)
-one_fec_fault bytes fec.OtherFec fec.Version h k = absurd (k.1 h.1)
-one_fec_fault bytes fec.OtherFec fec.NoExtension h k = absurd (k.2 h.2)
-one_fec_fault bytes fec.OtherFec fec.OtherFec h k = refl
-one_fec_fault bytes fec.OtherFec fec.Shape h k = absurd (h.3 k.3)
-one_fec_fault bytes fec.OtherFec fec.Size h k = absurd (h.3 k.3)
-one_fec_fault bytes fec.Shape fec.Short h k = absurd (k h.0)
-one_fec_fault bytes fec.Shape fec.Version h k = absurd (k.1 h.1)
-one_fec_fault bytes fec.Shape fec.NoExtension h k = absurd (k.2 h.2)
-one_fec_fault bytes fec.Shape fec.OtherFec h k = absurd (k.3 h.3)
-one_fec_fault bytes fec.Shape fec.Shape h k = refl
-one_fec_fault bytes fec.Shape fec.Size h k = absurd (h.4 k.4)
-one_fec_fault bytes fec.Size fec.Short h k = absurd (k h.0)
-one_fec_fault bytes fec.Size fec.Version h k = absurd (k.1 h.1)
-one_fec_fault bytes fec.Size fec.NoExtension h k = absurd (k.2 h.2)
-one_fec_fault bytes fec.Size fec.OtherFec h k = absurd (k.3 h.3)
-one_fec_fault bytes fec.Size fec.Shape h k = absurd (k.4 h.4)
-one_fec_fault bytes fec.Size fec.Size h k = refl
+one_first : {F : Type 0} (rule : F → Type 0) (faults : List F) (f g : F) → First rule faults f → First rule faults g → f ≡ g
+one_first rule [] f g h k = absurd h
+one_first rule (x ∷ faults) f g (inl h) (inl k) = h.0 ∙ sym k.0
+one_first rule (x ∷ faults) f g (inl h) (inr k) = absurd (h.1 k.0)
+one_first rule (x ∷ faults) f g (inr h) (inl k) = absurd (k.1 h.0)
+one_first rule (x ∷ faults) f g (inr h) (inr k) = one_first rule faults f g h.1 k.1
+
+abbrev media_faults : List MediaFault
+media_faults = media.Short ∷ media.Version ∷ media.Flags ∷ media.PayloadType ∷ media.Size ∷ media.NoSync ∷ []
+
+abbrev fec_faults : List FecFault
+fec_faults = fec.Short ∷ fec.Version ∷ fec.NoExtension ∷ fec.OtherFec ∷ fec.Shape ∷ fec.Size ∷ []
+
+abbrev media_rule : List ℕ → MediaFault → Type 0
+media_rule bytes media.Short = media_datagram.HasHeader bytes
+media_rule bytes media.Version = media_datagram.IsVersionTwo bytes
+media_rule bytes media.Flags = media_datagram.IsPlain bytes
+media_rule bytes media.PayloadType = media_datagram.IsTransport bytes
+media_rule bytes media.Size = media_datagram.HasPackets bytes
+media_rule bytes media.NoSync = media_datagram.IsSynced bytes
+
+abbrev fec_rule : List ℕ → FecFault → Type 0
+fec_rule bytes fec.Short = parity_datagram.HasHeaders bytes
+fec_rule bytes fec.Version = parity_datagram.IsVersionTwo bytes
+fec_rule bytes fec.NoExtension = IsExtended (parity_datagram.header_in bytes)
+fec_rule bytes fec.OtherFec = IsPlainXor (parity_datagram.header_in bytes)
+fec_rule bytes fec.Shape = HasShape (parity_datagram.header_in bytes)
+fec_rule bytes fec.Size = parity_datagram.HasPayload bytes
+
+media_first : (bytes : List ℕ) (f : MediaFault) → FirstMediaFault f bytes → First (media_rule bytes) media_faults f
+media_first bytes media.Short h = inl (refl, h)
+media_first bytes media.Version h = inr (h.0, inl (refl, h.1))
+media_first bytes media.Flags h = inr (h.0, inr (h.1, inl (refl, h.2)))
+media_first bytes media.PayloadType h = inr (h.0, inr (h.1, inr (h.2, inl (refl, h.3))))
+media_first bytes media.Size h = inr (h.0, inr (h.1, inr (h.2, inr (h.3, inl (refl, h.4)))))
+media_first bytes media.NoSync h = inr (h.0, inr (h.1, inr (h.2, inr (h.3, inr (h.4, inl (refl, h.5))))))
+
+fec_first : (bytes : List ℕ) (f : FecFault) → FirstFecFault f bytes → First (fec_rule bytes) fec_faults f
+fec_first bytes fec.Short h = inl (refl, h)
+fec_first bytes fec.Version h = inr (h.0, inl (refl, h.1))
+fec_first bytes fec.NoExtension h = inr (h.0, inr (h.1, inl (refl, h.2)))
+fec_first bytes fec.OtherFec h = inr (h.0, inr (h.1, inr (h.2, inl (refl, h.3))))
+fec_first bytes fec.Shape h = inr (h.0, inr (h.1, inr (h.2, inr (h.3, inl (refl, h.4)))))
+fec_first bytes fec.Size h = inr (h.0, inr (h.1, inr (h.2, inr (h.3, inr (h.4, inl (refl, h.5))))))
 
 -- Readings by kind
 
@@ -110,7 +87,7 @@ read_as_media law bytes (Media s l) (Parity by base offset na) h k = absurd k
 read_as_media law bytes (Media s l) (NoParity by f) h k = absurd k
 read_as_media law bytes (Media s l) Other h k = absurd k
 read_as_media law bytes (NoMedia f) (Media s l) h k = absurd (h.none s k.ssrc k.word k.datagram)
-read_as_media law bytes (NoMedia f) (NoMedia g) h k = ap NoMedia (one_media_fault bytes f g h.first k.first)
+read_as_media law bytes (NoMedia f) (NoMedia g) h k = ap NoMedia (one_first (media_rule bytes) media_faults f g (media_first bytes f h.first) (media_first bytes g k.first))
 read_as_media law bytes (NoMedia f) (Parity by base offset na) h k = absurd k
 read_as_media law bytes (NoMedia f) (NoParity by g) h k = absurd k
 read_as_media law bytes (NoMedia f) Other h k = absurd k
@@ -136,7 +113,7 @@ read_as_parity law kind bytes (Parity by base offset na) (NoMedia f) h k = absur
 read_as_parity law kind bytes (Parity by base offset na) Other h k = absurd k
 read_as_parity law kind bytes (NoParity by f) (Parity by' base offset na) h k = absurd (h.1.none k.1.parity k.1.datagram)
 read_as_parity law kind bytes (NoParity by f) (NoParity by' g) h k =
-    ap (λ t. NoParity t f) (h.0 ∙ sym k.0) ∙ ap (λ t. NoParity by' t) (one_fec_fault bytes f g h.1.first k.1.first)
+    ap (λ t. NoParity t f) (h.0 ∙ sym k.0) ∙ ap (λ t. NoParity by' t) (one_first (fec_rule bytes) fec_faults f g (fec_first bytes f h.1.first) (fec_first bytes g k.1.first))
 read_as_parity law kind bytes (NoParity by f) (Media s l) h k = absurd k
 read_as_parity law kind bytes (NoParity by f) (NoMedia g) h k = absurd k
 read_as_parity law kind bytes (NoParity by f) Other h k = absurd k

@@ -1,17 +1,14 @@
 -- How far the writing of the text has come.
-use Rattle.std.proofs.Common.{◌≡◌, ℕ, ◌+◌, Option, None, Some, Result, Ok, Err, IfOk, List, refl, [], ◌∷◌, ◌++◌, length, sym, ap, ◌∙◌, subst, arith, length-append}
-use Rattle.std.specs.Prelude.{OnErr}
-use Rattle.fg_io.specs.declared.fault.Fault.{Fault}
+use Rattle.std.proofs.Common.{◌≡◌, ℕ, ◌+◌, Option, None, Some, List, refl, [], ◌∷◌, ◌++◌, length, sym, ap, ◌∙◌, subst, arith, length-append}
 use Rattle.fg_io.specs.Sink.{Gains, GainsPart}
 use Rattle.fg_io.specs.Sent.{Sent}
 use Rattle.fg_io.proofs.SentLemmas.{Sent-cut, Sent-part, Sent-start, Sent-then, Sent-whole}
 use Rattle.fg_io.proofs.SinkLemmas.{Gains-nil, GainsPart-front}
-use Rattle.fg_trace.specs.declared.step.Finish.{Finish}
 use Rattle.fg_trace.specs.Trace.{Record, Ending}
-use Rattle.fg_walk.specs.Walk.{Walked, WalkedPart}
+use Rattle.fg_walk.specs.Walk.{WalkedPart}
 use Rattle.fg_inspect.specs.declared.lines.Lines.{Lines}
 use Rattle.fg_inspect.specs.declared.reading.Reading.{Reading}
-use Rattle.fg_inspect.specs.Inspect.{Tells, TellsPart}
+use Rattle.fg_inspect.specs.Inspect.{TellsPart}
 use Rattle.fg_inspect.specs.Laws.{OneText, TextOfFront}
 use Rattle.fg_inspect.specs.Reading.{IsReading}
 use Rattle.fg_inspect.specs.Steps.{HasGained, HasPart, HasTold, IsNew}
@@ -88,26 +85,6 @@ none_is_part flows records written text is = ([], (text, refl), Gains-nil writte
 
 -- What a call comes to
 
-pub tells : (flows : List ℕ) (max : ℕ) (input before after : Option (List ℕ)) (came : Result Finish Fault) → IfOk came (λ finish. Walked HasGained flows max finish input before after) → IfOk came (λ finish. Tells flows max finish input before after)
-tells flows max input before after (Ok finish) h = record {
-  records = h.records;
-  end = h.end;
-  text = h.told.text;
-  answer_is = h.answer_is;
-  of_input = h.of_input;
-  is_text = h.told.is_text;
-  gained = h.told.gained;
-}
-tells flows max input before after (Err fault) h = tt
-
-part_of : (flows : List ℕ) (max : ℕ) (input before after : Option (List ℕ)) → WalkedPart HasPart flows max input before after → TellsPart flows max input before after
+pub part_of : (flows : List ℕ) (max : ℕ) (input before after : Option (List ℕ)) → WalkedPart HasPart flows max input before after → TellsPart flows max input before after
 part_of flows max None before after h = tt
 part_of flows max (Some bytes) before after h = λ records end text trace is. h records end trace text is
-
-pub tells_part : (flows : List ℕ) (max : ℕ) (input before after : Option (List ℕ)) (came : Result Finish Fault) → OnErr came (WalkedPart HasPart flows max input before after) → OnErr came (TellsPart flows max input before after)
-tells_part flows max input before after (Ok finish) h = tt
-tells_part flows max input before after (Err fault) h = part_of flows max input before after h
-
-pub tells_none : (flows : List ℕ) (max : ℕ) (input written : Option (List ℕ)) → TellsPart flows max input written written
-tells_none flows max None written = tt
-tells_none flows max (Some bytes) written = λ records end text trace is. none_is_part flows records written text is

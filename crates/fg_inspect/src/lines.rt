@@ -140,8 +140,7 @@ fn push_line(
 impl Lines {
     /// No lines, with the memory to make and to hold them.
     pub(crate) fn new(alloc: Global) -> Result<Lines, AllocError>
-        ensures held { IfOk result (λ lines. lines.held ≡ []) }
-        ensures number { IfOk result (λ lines. lines.number ≡ 0) }
+        ensures { IfOk result (λ lines. (lines.held ≡ []) × (lines.number ≡ 0)) }
     {
         Ok(Lines {
             line: Vec::with_capacity(alloc, LINE)?,

@@ -1,11 +1,10 @@
 //! Walking a trace, and telling its records.
-ghost use Rattle.std.specs.Prelude.{◌≡◌, ◌⊎◌, ◌≤◌, ◌^◌, ℕ, List, [], ◌∷◌, IfOk, IfSome, OnErr};
+ghost use Rattle.std.specs.Prelude.{◌≡◌, ◌⊎◌, ◌≤◌, ◌^◌, ℕ, List, [], ◌∷◌, IfSome};
 ghost use Rattle.std.specs.Io.KnownBytes.{IsAtEnd};
-ghost use Rattle.fg_io.specs.Faults.{Counts, CountsFaults};
+ghost use Rattle.fg_io.specs.Faults.{CountsFaults};
 ghost use Rattle.fg_trace.specs.Trace.{Record, Ending, NotTrace as NoMagic, IsTrace};
 ghost use Rattle.fg_trace.specs.Finish.{IsFault, ReadsAll, finish_of};
 ghost use Rattle.fg_trace.specs.Reading.{IsReadFor};
-ghost use Rattle.fg_trace.specs.Reached.{IsReadTo};
 ghost use Rattle.fg_inspect.specs.Inspect.{Tells, TellsPart};
 
 use crate::laws::one_text;
@@ -57,42 +56,18 @@ pub fn inspect<S: Source, K: Sink>(
     ensures faults { CountsFaults (result ≡ Finish.ReadFault) (result ≡ Finish.WriteFault)
         ((S.faults input.old, S.faults input.new) ∷ []) ((K.faults out.old, K.faults out.new) ∷ []) }
 {
-    one_trace();
-    match tell_trace(alloc, table, max, input, out) {
-        Ok(finish) => finish,
-        Err(Fault::Read) => Finish::ReadFault,
-        Err(Fault::Write) => Finish::WriteFault,
-        Err(Fault::Memory) => Finish::Memory,
-    }
-}
-
-/// Tells the records of a trace, and answers how it ends.
-fn tell_trace<S: Source, K: Sink>(
-    alloc: Global,
-    table: &Table,
-    max: u64,
-    input: &mut S,
-    out: &mut K,
-) -> Result<Finish, Fault>
-    requires least { 8 ≤ max }
-    requires limit { max ≤ 2 ^ 40 }
-    ensures whole { IfOk result (λ finish. Tells table.now max finish (S.left input.old)
-        (K.written out.old) (K.written out.new)) }
-    ensures part { OnErr result (TellsPart table.now max (S.left input.old)
-        (K.written out.old) (K.written out.new)) }
-    ensures refused { IfSome (S.left input.old) (λ bytes. (place : ℕ)
-        → IsTrace bytes max [] (NoMagic place) → out.new ≡ out.old) }
-    ensures all_read { IfOk result (λ finish. ReadsAll finish → IsAtEnd (S.left input.new)) }
-    ensures reached { IsReadTo max result (S.left input.old) (S.left input.new) }
-    ensures faults { Counts result ((S.faults input.old, S.faults input.new) ∷ [])
-        ((K.faults out.old, K.faults out.new) ∷ []) }
-{
-    read_as_far_as_needed();
     // A table has no port twice.
     let _flows = table.count();
-    let lines = Lines::new(alloc)?;
+    one_trace();
+    read_as_far_as_needed();
+    let Ok(lines) = Lines::new(alloc) else {
+        return Finish::Memory;
+    };
     let mut work = Inspection { table, lines };
-    walk(alloc, max, &mut work, input, out)
+    match walk(alloc, max, &mut work, input, out) {
+        Ok(finish) => finish,
+        Err(fault) => Finish::from(fault),
+    }
 }
 
 /// An inspection under way: the flows, and the lines that are made.
@@ -115,7 +90,7 @@ impl<'a> Telling for Inspection<'a> {
     ghost has_told = { λ work records before after.
         HasTold work.table.now records work.lines before after };
 
-    ghost whole = { HasGained };
+    ghost whole = { λ work. HasGained work.table.now };
 
     ghost part = { HasPart };
 

@@ -4,7 +4,7 @@ ghost use Rattle.std.specs.Prelude.{◌≤◌};
 use fg_flows::Table;
 use fg_inspect::*;
 use fg_io::{MemSink, MemSource, SafeSource, Source};
-use fg_trace::Finish;
+use fg_trace::{Finish, record_header};
 use std::alloc::{AllocError, Global};
 use std::process::Abort;
 use std::test::Fail;
@@ -47,28 +47,23 @@ fn add(
     datagram: &[u8],
     size: u16,
 ) -> Result<(), AllocError> {
-    trace.extend_from_slice(&time.to_be_bytes())?;
-    trace.extend_from_slice(&port.to_be_bytes())?;
-    trace.extend_from_slice(&size.to_be_bytes())?;
+    trace.extend_from_slice(&record_header(time, port, size))?;
     trace.extend_from_slice(datagram.get(..usize::from(size)).unwrap_or(&[]))
 }
 
-/// The answer for a source, and how the text begins that a sink of so much room and these failing writes has.
+/// The answer for a source, of the flows 5000 and 6000.
 fn inspected<S: Source>(
     rt: &impl Abort,
     alloc: Global,
-    input: &mut S,
     max: u64,
-    room: usize,
-    fails: &[u64],
-) -> Result<(Finish, MemSink), AllocError>
+    input: &mut S,
+    out: &mut MemSink,
+) -> Finish
     requires least { 8 ≤ max }
     requires limit { max ≤ 1099511627776 }
 {
     let table = Table::new(alloc, &[5000, 6000]).expect(rt, "a table");
-    let mut out = MemSink::new(alloc, room, fails)?;
-    let finish = inspect(alloc, &table, max, input, &mut out);
-    Ok((finish, out))
+    inspect(alloc, &table, max, input, out)
 }
 
 /// The answer and the text for a trace.
@@ -82,7 +77,9 @@ fn told(
     requires limit { max ≤ 1099511627776 }
 {
     let mut input = SafeSource::new(alloc, trace, 1000)?;
-    inspected(rt, alloc, &mut input, max, 65_536, &[])
+    let mut out = MemSink::new(alloc, 65_536, &[])?;
+    let finish = inspected(rt, alloc, max, &mut input, &mut out);
+    Ok((finish, out))
 }
 
 const MOST: u64 = 1_099_511_627_776;
@@ -232,7 +229,8 @@ fn each_fault(rt: HostRuntime) -> Result<(), Fail> {
 #[test]
 fn a_read_fails(rt: HostRuntime) -> Result<(), Fail> {
     let mut input = MemSource::new(rt.alloc(), &three(rt.alloc())?, 1, &[1500])?;
-    let (finish, out) = inspected(&rt, rt.alloc(), &mut input, MOST, 65_536, &[])?;
+    let mut out = MemSink::new(rt.alloc(), 65_536, &[])?;
+    let finish = inspected(&rt, rt.alloc(), MOST, &mut input, &mut out);
     assert_eq!(rt; finish, Finish::ReadFault);
     assert!(rt; out.bytes().is_empty());
     Ok(())
@@ -257,7 +255,8 @@ fn a_write_fails(rt: HostRuntime) -> Result<(), Fail> {
         (32_868, [9], 32_868, 32_868),
     ] {
         let mut input = SafeSource::new(rt.alloc(), &trace, 1000)?;
-        let (finish, out) = inspected(&rt, rt.alloc(), &mut input, MOST, room, &fails)?;
+        let mut out = MemSink::new(rt.alloc(), room, &fails)?;
+        let finish = inspected(&rt, rt.alloc(), MOST, &mut input, &mut out);
         assert_eq!(rt; finish, Finish::WriteFault);
         assert!(rt; out.bytes().len() >= least && out.bytes().len() <= most);
         assert_eq!(rt;

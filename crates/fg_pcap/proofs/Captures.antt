@@ -7,22 +7,22 @@ use Rattle.fg_io.specs.Sink.{GainsPart}
 use Rattle.fg_io.proofs.SinkLemmas.{Gains-nil, GainsPart-nil, GainsPart-longer}
 use Rattle.fg_trace.specs.Trace.{Record, spelling, trace_of}
 use Rattle.fg_trace.proofs.Records.{same_front}
+use Rattle.fg_pcap.specs.declared.ending.CaptureEnding.{CaptureEnding}
+use Rattle.fg_pcap.specs.declared.ending.CaptureEnding.TheVariants.{Ended, NotCapture, Cut, TooLong}
 use Rattle.fg_pcap.specs.declared.file_header.ByteOrder.{ByteOrder}
 use Rattle.fg_pcap.specs.declared.file_header.ByteOrder.TheVariants.{HighestFirst, LowestFirst}
 use Rattle.fg_pcap.specs.declared.file_header.Format.{Format}
 use Rattle.fg_pcap.specs.declared.file_header.TimeUnit.{TimeUnit}
 use Rattle.fg_pcap.specs.declared.file_header.TimeUnit.TheVariants.{Microseconds, Nanoseconds}
-use Rattle.fg_pcap.specs.Capture.{Packet, Fits, Frame, CaptureEnding, Ended, NotCapture, Cut, TooLong, HasMagic, HasVersion, IsEthernet, IsFileHeader, BreaksAt, Begins, IsLongest, NoneFollows, KeepsTooMuch, IsEnding, IsRefused, four_bytes, magic, frame_of, packet_spelling, spelling_of, place_after}
+use Rattle.fg_pcap.specs.Capture.{Packet, Fits, Frame, HasMagic, HasVersion, IsEthernet, IsFileHeader, BreaksAt, Begins, IsLongest, NoneFollows, KeepsTooMuch, IsEnding, IsRefused, four_bytes, magic, frame_of, packet_spelling, spelling_of, place_after}
 use Rattle.fg_pcap.specs.Frame.{IsDatagramsOf, CapturedTrace}
-use Rattle.fg_pcap.specs.declared.finish.CaptureFinish.{CaptureFinish}
-use Rattle.fg_pcap.specs.FromCapture.{ComesTo, Converts, ConvertsPart, IsFault, finish_of}
+use Rattle.fg_pcap.specs.FromCapture.{ComesTo, Converts, ConvertsPart}
 use Rattle.fg_pcap.specs.Laws.{OneCapture}
-use Rattle.fg_pcap.specs.Reading.{HasPart, IsRefusal, StandsAfter}
+use Rattle.fg_pcap.specs.Reading.{HasPart, StandsAfter}
 use Rattle.fg_pcap.proofs.Datagrams.{datagrams_front, one_list}
 use Rattle.fg_pcap.proofs.Packets.{header_length, one_packet, spelled_more}
 use Rattle.fg_pcap.proofs.Standing.{stands_begin}
 use Rattle.fg_trace.proofs.Traces.{trace_more}
-use Rattle.fg_pcap.proofs.Underway.{end_of}
 
 -- The file header
 
@@ -227,15 +227,11 @@ pub nothing_written : (max : ℕ) (first written : Option (List ℕ)) → Conver
 nothing_written max None written = tt
 nothing_written max (Some bytes) written = λ trace end k. GainsPart-nil written trace
 
-pub refusal_converts : (max n : ℕ) (answer : CaptureFinish) (first written : Option (List ℕ)) → n ≡ max → (¬ IsFault answer) → IfSome first (IsRefusal n answer) → Converts max answer first written written
-refusal_converts max n answer None written same right h =
-    let end = end_of answer right in
-    record { trace = []; end = end.0; answer_is = end.1; of_input = tt; gained = Gains-nil written }
-refusal_converts max n answer (Some bytes) written same right h = record {
+pub refusal_converts : (max n : ℕ) (end : CaptureEnding) (first written : Option (List ℕ)) → n ≡ max → IfSome first (λ bytes. IsRefused bytes n end) → Converts max end first written written
+refusal_converts max n end None written same h = record { trace = []; of_input = tt; gained = Gains-nil written }
+refusal_converts max n end (Some bytes) written same h = record {
   trace = [];
-  end = h.end;
-  answer_is = h.answer_is;
-  of_input = inl (subst (λ m. IsRefused bytes m h.end) same h.refused, refl);
+  of_input = inl (subst (λ m. IsRefused bytes m end) same h, refl);
   gained = Gains-nil written;
 }
 
@@ -245,9 +241,9 @@ never_refused_after P format input (Some bytes) now max same h = λ end k.
     let begun = stands_begin format input bytes now [] h in
     absurd (never_refused bytes input.max format.order format.unit [] (input.held ++ begun.0) end begun.2 (subst (λ m. IsRefused bytes m end) (sym same) k))
 
--- The answer is the one that the input's ending has
+-- The answer is the input's ending
 
-pub exactly : OneCapture → (max : ℕ) (answer : CaptureFinish) (first before after : Option (List ℕ)) → Converts max answer first before after
-    → IfSome first (λ bytes. (trace : List ℕ) (end : CaptureEnding) → ComesTo bytes max trace end → IsFault answer ⊎ (answer ≡ finish_of end))
-exactly law max answer None before after h = tt
-exactly law max answer (Some bytes) before after h = λ trace end k. inr (h.answer_is ∙ ap finish_of (law bytes max h.trace trace h.end end h.of_input k).1)
+pub exactly : OneCapture → (max : ℕ) (end : CaptureEnding) (first before after : Option (List ℕ)) → Converts max end first before after
+    → IfSome first (λ bytes. (trace : List ℕ) (due : CaptureEnding) → ComesTo bytes max trace due → end ≡ due)
+exactly law max end None before after h = tt
+exactly law max end (Some bytes) before after h = λ trace due k. (law bytes max h.trace trace end due h.of_input k).1

@@ -9,8 +9,8 @@ use Rattle.fg_trace.specs.Trace as trace
 use Rattle.fg_trace.specs.Trace.{Record, Fits, Ending, DiffersAt, StandsFirst, Begins, IsLongest, IsTrace, magic}
 use Rattle.fg_trace.proofs.Records.{one_record}
 use Rattle.fg_trace.proofs.Traces.{after_magic_same}
-use Rattle.fg_pcap.specs.declared.writer.SpellingFinish.{SpellingFinish}
-use Rattle.fg_pcap.specs.declared.writer.SpellingFinish.TheVariants.{Done, ReadFault, WriteFault, NotTrace, Unfit, Cut, TooLong, Memory}
+use Rattle.fg_pcap.specs.declared.writer.SpellingEnding.{SpellingEnding}
+use Rattle.fg_pcap.specs.declared.writer.SpellingEnding.TheVariants.{Done, NotTrace, Unfit, Cut, TooLong}
 use Rattle.fg_pcap.specs.Laws.{OneSpelling}
 use Rattle.fg_pcap.specs.Spelling.{FitsCapture, capture_of, file_header, spelling}
 use Rattle.fg_pcap.specs.ToCapture.{StopsAt, IsSpelled, text_of}
@@ -99,26 +99,23 @@ trace_has bytes max all rs (trace.NotTrace n) h k = absurd (never_refused bytes 
 
 -- The answers by what they say of the trace
 
-abbrev pub answer_for : Ending → SpellingFinish
+abbrev pub answer_for : Ending → SpellingEnding
 answer_for trace.Ended = Done
 answer_for (trace.NotTrace n) = NotTrace n
 answer_for (trace.Cut n) = Cut n
 answer_for (trace.TooLong n) = TooLong n
 
 -- all records fit; or the first that doesn't is known
-abbrev Stops : SpellingFinish → List ℕ → ℕ → List Record → Type 0
+abbrev Stops : SpellingEnding → List ℕ → ℕ → List Record → Type 0
 Stops answer bytes max rs =
     ((end : Ending) × (answer ≡ answer_for end) × IsTrace bytes max rs end) ⊎ ((k : ℕ) × (answer ≡ Unfit k) × StopsAt bytes max rs k)
 
-stops : (answer : SpellingFinish) (bytes : List ℕ) (max : ℕ) (rs : List Record) → IsSpelled answer bytes max rs → Stops answer bytes max rs
+stops : (answer : SpellingEnding) (bytes : List ℕ) (max : ℕ) (rs : List Record) → IsSpelled answer bytes max rs → Stops answer bytes max rs
 stops Done bytes max rs h = inl (trace.Ended, refl, h.stops)
 stops (NotTrace n) bytes max rs h = inl (trace.NotTrace n, refl, h.stops)
 stops (Cut n) bytes max rs h = inl (trace.Cut n, refl, h.stops)
 stops (TooLong n) bytes max rs h = inl (trace.TooLong n, refl, h.stops)
 stops (Unfit k) bytes max rs h = inr (k, refl, h.stops)
-stops ReadFault bytes max rs h = absurd h.stops
-stops WriteFault bytes max rs h = absurd h.stops
-stops Memory bytes max rs h = absurd h.stops
 
 -- One list, and one answer
 
@@ -132,7 +129,7 @@ same_stop : (bytes : List ℕ) (max : ℕ) (a b : List Record) (j k : ℕ) → A
 same_stop bytes max a b j k fa fb h g (inl c) = one_unfit a b h.next g.next c.0 fa fb h.unfit g.unfit (c.1 ∙ append_assoc a (h.next ∷ []) c.0)
 same_stop bytes max a b j k fa fb h g (inr c) = sym (one_unfit b a g.next h.next c.0 fb fa g.unfit h.unfit (c.1 ∙ append_assoc b (g.next ∷ []) c.0))
 
-one : OneTrace → (bytes : List ℕ) (max : ℕ) (a b : List Record) (answer answer' : SpellingFinish) → AllByRecursion FitsCapture a → AllByRecursion FitsCapture b → Stops answer bytes max a → Stops answer' bytes max b → (a ≡ b) × (answer ≡ answer')
+one : OneTrace → (bytes : List ℕ) (max : ℕ) (a b : List Record) (answer answer' : SpellingEnding) → AllByRecursion FitsCapture a → AllByRecursion FitsCapture b → Stops answer bytes max a → Stops answer' bytes max b → (a ≡ b) × (answer ≡ answer')
 one law bytes max a b answer answer' fa fb (inl h) (inl g) =
     let same = law bytes max a b h.0 g.0 h.2 g.2 in
     (same.0, h.1 ∙ ap answer_for same.1 ∙ sym g.1)
@@ -165,12 +162,12 @@ text_front bytes max all rs (trace.Cut n) h k = let has = trace_has bytes max al
 text_front bytes max all rs (trace.TooLong n) h k = let has = trace_has bytes max all rs (trace.TooLong n) h k in capture_front rs has.0 all has.1
 text_front bytes max all rs (trace.NotTrace n) h k = absurd (never_refused bytes max rs n k h.1)
 
-front_of : (bytes : List ℕ) (max : ℕ) (all rs : List Record) (answer : SpellingFinish) → AllByRecursion FitsCapture rs → Begins bytes max rs → Stops answer bytes max all → IsPrefix (capture_of rs) (text_of answer all)
+front_of : (bytes : List ℕ) (max : ℕ) (all rs : List Record) (answer : SpellingEnding) → AllByRecursion FitsCapture rs → Begins bytes max rs → Stops answer bytes max all → IsPrefix (capture_of rs) (text_of answer all)
 front_of bytes max all rs answer fit k (inl h) = subst (λ a. IsPrefix (capture_of rs) (text_of a all)) (sym h.1) (text_front bytes max all rs h.0 h.2 k)
 front_of bytes max all rs answer fit k (inr h) =
     let has = stop_has bytes max all rs h.0 fit h.2 (compared bytes max rs (all ++ h.2.next ∷ []) k h.2.begins) in
     subst (λ a. IsPrefix (capture_of rs) (text_of a all)) (sym h.1) (capture_front rs has.0 all has.1)
 
 -- the capture of records that fit, and that a trace begins with, is at the front of what is written of it
-pub written_front : (bytes : List ℕ) (max : ℕ) (all rs : List Record) (answer : SpellingFinish) → AllByRecursion FitsCapture rs → Begins bytes max rs → IsSpelled answer bytes max all → IsPrefix (capture_of rs) (text_of answer all)
+pub written_front : (bytes : List ℕ) (max : ℕ) (all rs : List Record) (answer : SpellingEnding) → AllByRecursion FitsCapture rs → Begins bytes max rs → IsSpelled answer bytes max all → IsPrefix (capture_of rs) (text_of answer all)
 written_front bytes max all rs answer fit k h = front_of bytes max all rs answer fit k (stops answer bytes max all h)

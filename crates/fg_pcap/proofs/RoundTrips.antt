@@ -8,7 +8,8 @@ use Rattle.fg_trace.specs.Trace as trace
 use Rattle.fg_trace.specs.Trace.{Record}
 use Rattle.fg_pcap.specs.declared.file_header.ByteOrder.TheVariants.{HighestFirst}
 use Rattle.fg_pcap.specs.declared.file_header.TimeUnit.TheVariants.{Microseconds}
-use Rattle.fg_pcap.specs.Capture.{Packet, Fits, Frame, Ended, IsFileHeader, IsCapture, NoneFollows, frame_of, header_spelling, packet_spelling, place_after, spelling_of}
+use Rattle.fg_pcap.specs.declared.ending.CaptureEnding.TheVariants.{Ended}
+use Rattle.fg_pcap.specs.Capture.{Packet, Fits, Frame, IsFileHeader, IsCapture, NoneFollows, frame_of, header_spelling, packet_spelling, place_after, spelling_of}
 use Rattle.fg_pcap.specs.Frame.{Gives, GivesDatagram, HoldsDatagram, IsDatagramsOf}
 use Rattle.fg_pcap.specs.Laws.{WrittenIsReadBack}
 use Rattle.fg_pcap.specs.Spelling.{FitsCapture, capture_of, file_header, frame_headers, headers, most_datagram, spelling}

@@ -1,5 +1,5 @@
 -- How the datagrams of frames are sent on.
-use Rattle.std.proofs.Common.{◌≡◌, inl, inr, ℕ, Option, Result, Ok, Err, OnOk, OnErr, List, [], ◌∷◌, ◌++◌, length, sym, ap, ◌∙◌, refl, subst, append_assoc, append-nil}
+use Rattle.std.proofs.Common.{◌≡◌, inl, inr, ℕ, Option, List, [], ◌∷◌, ◌++◌, length, sym, ap, ◌∙◌, refl, subst, append_assoc, append-nil}
 use Rattle.std.specs.List.{flat_map}
 use Rattle.fg_io.specs.Sent.{Sent}
 use Rattle.fg_io.specs.Sink.{GainsPart}

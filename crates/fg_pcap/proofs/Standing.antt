@@ -6,12 +6,12 @@ use Rattle.fg_io.specs.InputBuffer.{InputState, TakesMore}
 use Rattle.fg_io.specs.Source.{Gives}
 use Rattle.fg_io.proofs.SourceLemmas.{Gives-trans, Gives-told, Gives-all}
 use Rattle.fg_trace.proofs.Records.{same_front}
+use Rattle.fg_pcap.specs.declared.ending.CaptureEnding.TheVariants.{NotCapture, TooLong}
 use Rattle.fg_pcap.specs.declared.file_header.ByteOrder.{ByteOrder}
 use Rattle.fg_pcap.specs.declared.file_header.Format.{Format}
-use Rattle.fg_pcap.specs.declared.finish.CaptureFinish.TheVariants as finish
 use Rattle.fg_pcap.specs.declared.packet_header.PacketHeader.{PacketHeader}
-use Rattle.fg_pcap.specs.Capture.{Packet, Fits, NotCapture, TooLong, IsFileHeader, BreaksAt, Begins, packet_spelling, header_spelling, spelling_of}
-use Rattle.fg_pcap.specs.Reading.{HasRead, StandsAfter, HoldsPacket, IsRefusal}
+use Rattle.fg_pcap.specs.Capture.{Packet, Fits, IsFileHeader, IsRefused, BreaksAt, Begins, packet_spelling, header_spelling, spelling_of}
+use Rattle.fg_pcap.specs.Reading.{HasRead, StandsAfter, HoldsPacket}
 use Rattle.fg_pcap.proofs.Packets.{header_length, length_packet, packet_by_header, spelled_more, all_fit_more}
 
 -- a buffer after bytes were taken in, and after some were passed
@@ -66,36 +66,24 @@ stands_first format old filled new first now start none takes same enough within
       given = subst (λ t. Gives first t now) split (given_at_start old filled.held first now none takes);
     }
 
-pub refuses_field : (max n : ℕ) (held : List ℕ) (first now : Option (List ℕ)) → Gives first held now → 24 ≤ length held → 24 ≤ max → BreaksAt (take 24 held) n → IfSome first (IsRefusal max (finish.NotCapture n))
+pub refuses_field : (max n : ℕ) (held : List ℕ) (first now : Option (List ℕ)) → Gives first held now → 24 ≤ length held → 24 ≤ max → BreaksAt (take 24 held) n → IfSome first (λ bytes. IsRefused bytes max (NotCapture n))
 refuses_field max n held None now gives enough limit breaks = tt
 refuses_field max n held (Some bytes) now gives enough limit breaks =
     let told = Gives-told (Some bytes) now held bytes gives refl in
     let front : take 24 held ≡ take 24 bytes = sym (ap (take 24) told.2 ∙ take-append-le 24 held told.0 enough) in
-    record {
-      end = NotCapture n;
-      answer_is = refl;
-      refused = inr (limit, omega (arith, enough, ap length told.2, length-append held told.0), subst (λ t. BreaksAt t n) front breaks);
-    }
+    inr (limit, omega (arith, enough, ap length told.2, length-append held told.0), subst (λ t. BreaksAt t n) front breaks)
 
-pub refuses_short : (max n : ℕ) (held : List ℕ) (first now : Option (List ℕ)) → Gives first held now → IsAtEnd now → n ≡ length held → length held < 24 → length held ≤ max → IfSome first (IsRefusal max (finish.NotCapture n))
+pub refuses_short : (max n : ℕ) (held : List ℕ) (first now : Option (List ℕ)) → Gives first held now → IsAtEnd now → n ≡ length held → length held < 24 → length held ≤ max → IfSome first (λ bytes. IsRefused bytes max (NotCapture n))
 refuses_short max n held None now gives end is few within = tt
 refuses_short max n held (Some bytes) now gives end is few within =
     let all : bytes ≡ held = Gives-all (Some bytes) now held gives end in
-    record {
-      end = NotCapture n;
-      answer_is = refl;
-      refused = inl (is ∙ ap length (sym all), omega (arith, within, ap length all), omega (arith, few, ap length all));
-    }
+    inl (is ∙ ap length (sym all), omega (arith, within, ap length all), omega (arith, few, ap length all))
 
-pub refuses_long : (max : ℕ) (held : List ℕ) (first now : Option (List ℕ)) → Gives first held now → max < 24 → max < length held → IfSome first (IsRefusal max (finish.TooLong 0))
+pub refuses_long : (max : ℕ) (held : List ℕ) (first now : Option (List ℕ)) → Gives first held now → max < 24 → max < length held → IfSome first (λ bytes. IsRefused bytes max (TooLong 0))
 refuses_long max held None now gives less past = tt
 refuses_long max held (Some bytes) now gives less past =
     let told = Gives-told (Some bytes) now held bytes gives refl in
-    record {
-      end = TooLong 0;
-      answer_is = refl;
-      refused = (refl, less, omega (arith, past, ap length told.2, length-append held told.0));
-    }
+    (refl, less, omega (arith, past, ap length told.2, length-append held told.0))
 
 -- The records
 

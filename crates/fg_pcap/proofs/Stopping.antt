@@ -1,10 +1,10 @@
 -- Where no record follows, and what the ending is there.
 use Rattle.std.proofs.Common.{◌≡◌, ◌⊎◌, inl, inr, ℕ, ◌+◌, ◌<◌, ◌≤◌, Option, None, Some, List, [], ◌∷◌, ◌++◌, length, sym, ap, ◌∙◌, refl, subst, arith, length-append}
 use Rattle.fg_io.specs.InputBuffer.{InputState}
+use Rattle.fg_pcap.specs.declared.ending.CaptureEnding.{CaptureEnding}
+use Rattle.fg_pcap.specs.declared.ending.CaptureEnding.TheVariants.{Ended, NotCapture, Cut, TooLong}
 use Rattle.fg_pcap.specs.declared.file_header.ByteOrder.{ByteOrder}
-use Rattle.fg_pcap.specs.declared.finish.CaptureFinish.{CaptureFinish}
-use Rattle.fg_pcap.specs.declared.finish.CaptureFinish.TheVariants as finish
-use Rattle.fg_pcap.specs.Capture.{Ended, NotCapture, Cut, TooLong, NoneFollows, KeepsTooMuch, most_kept, packet_spelling}
+use Rattle.fg_pcap.specs.Capture.{NoneFollows, KeepsTooMuch, most_kept, packet_spelling}
 use Rattle.fg_pcap.specs.PacketHeader.{IsPacketHeader}
 use Rattle.fg_pcap.specs.Reading.{TellsEnd, Lacks, EndsAt, EndsHere}
 use Rattle.fg_pcap.proofs.Packets.{header_length, header_same, length_packet, header_of_packet, header_longer}
@@ -29,66 +29,55 @@ may_cut order max place bytes s f kept o h few = λ k.
     let same = (header_same order s f kept o k.seconds k.fraction k.kept k.original h.rest k.after h.kept_fits k.fits (sym h.spelled ∙ k.spelled)).2 in
     omega (arith, few, same, k.too_much)
 
--- what the answer tells
+-- what the ending tells
 empty : (bytes : List ℕ) → length bytes ≡ 0 → bytes ≡ []
 empty [] e = refl
 empty (b ∷ bytes) e = absurd (omega (arith, e))
 
-ending_told : (order : ByteOrder) (answer : CaptureFinish) (max place : ℕ) (held rest : List ℕ) → TellsEnd answer max place (length held) (Some rest) → NoneFollows order max place (held ++ rest) → ¬ KeepsTooMuch order max place (held ++ rest)
-    → EndsAt order answer max place (held ++ rest)
-ending_told order finish.Done max place held rest h none may = record {
-  end = Ended;
-  answer_is = refl;
+ending_told : (order : ByteOrder) (end : CaptureEnding) (max place : ℕ) (held rest : List ℕ) → TellsEnd end max place (length held) (Some rest) → NoneFollows order max place (held ++ rest) → ¬ KeepsTooMuch order max place (held ++ rest)
+    → EndsAt order end max place (held ++ rest)
+ending_told order Ended max place held rest h none may = record {
   ending = empty (held ++ rest) (omega (arith, h.0, ap length h.1, length-append held rest));
   none = none;
 }
-ending_told order (finish.Cut n) max place held rest h none may = record {
-  end = Cut n;
-  answer_is = refl;
+ending_told order (Cut n) max place held rest h none may = record {
   ending = (h.0, may, omega (arith, h.2, ap length h.3, length-append held rest), λ nothing. omega (arith, h.1, ap length nothing, length-append held rest));
   none = none;
 }
-ending_told order (finish.TooLong n) max place held rest h none may = record {
-  end = TooLong n;
-  answer_is = refl;
+ending_told order (TooLong n) max place held rest h none may = record {
   ending = (h.0, may, omega (arith, h.1, length-append held rest));
   none = none;
 }
-ending_told order (finish.NotCapture n) max place held rest h none may = absurd h
-ending_told order finish.ReadFault max place held rest h none may = absurd h
-ending_told order finish.WriteFault max place held rest h none may = absurd h
-ending_told order finish.Memory max place held rest h none may = absurd h
+ending_told order (NotCapture n) max place held rest h none may = absurd h
 
 why_of : (max place want : ℕ) (held rest : List ℕ) → ((max < place + want) × (max < place + length held)) ⊎ ((length held < want) × (rest ≡ [])) → (max < place + want) ⊎ (length (held ++ rest) < want)
 why_of max place want held rest (inl past) = inl past.0
 why_of max place want held rest (inr short) = inr (omega (arith, short.0, ap length short.1, length-append held rest))
 
 -- no header is held
-pub ends_before : (order : ByteOrder) (answer : CaptureFinish) (input : InputState) (left : Option (List ℕ)) → Lacks answer input left 16 → EndsHere order answer input left
-ends_before order answer input None h = tt
-ends_before order answer input (Some rest) h =
+pub ends_before : (order : ByteOrder) (end : CaptureEnding) (input : InputState) (left : Option (List ℕ)) → Lacks end input left 16 → EndsHere order end input left
+ends_before order end input None h = tt
+ends_before order end input (Some rest) h =
     let why = why_of input.max input.place 16 input.held rest h.why in
-    ending_told order answer input.max input.place input.held rest h.tells (none_short order input.max input.place (input.held ++ rest) why) (may_short order input.max input.place (input.held ++ rest) why)
+    ending_told order end input.max input.place input.held rest h.tells (none_short order input.max input.place (input.held ++ rest) why) (may_short order input.max input.place (input.held ++ rest) why)
 
 -- a header is held that was read before more was taken in, and too little behind it
-pub ends_inside : (order : ByteOrder) (answer : CaptureFinish) (held : List ℕ) (s f kept o want : ℕ) (input : InputState) (left : Option (List ℕ)) (given : List ℕ) → IsPacketHeader order held s f kept o → kept ≤ most_kept → want ≡ 16 + kept
-    → input.held ≡ held ++ given → Lacks answer input left want → EndsHere order answer input left
-ends_inside order answer held s f kept o want input None given read few is grown h = tt
-ends_inside order answer held s f kept o want input (Some rest) given read few is grown h =
+pub ends_inside : (order : ByteOrder) (end : CaptureEnding) (held : List ℕ) (s f kept o want : ℕ) (input : InputState) (left : Option (List ℕ)) (given : List ℕ) → IsPacketHeader order held s f kept o → kept ≤ most_kept → want ≡ 16 + kept
+    → input.held ≡ held ++ given → Lacks end input left want → EndsHere order end input left
+ends_inside order end held s f kept o want input None given read few is grown h = tt
+ends_inside order end held s f kept o want input (Some rest) given read few is grown h =
     let now : IsPacketHeader order input.held s f kept o = subst (λ t. IsPacketHeader order t s f kept o) (sym grown) (header_longer order held given s f kept o read) in
     let longer = header_longer order input.held rest s f kept o now in
     let why = why_of input.max input.place (16 + kept) input.held rest (subst (λ n. ((input.max < input.place + n) × (input.max < input.place + length input.held)) ⊎ ((length input.held < n) × (rest ≡ []))) is h.why) in
-    ending_told order answer input.max input.place input.held rest h.tells (none_cut order input.max input.place (input.held ++ rest) s f kept o longer why) (may_cut order input.max input.place (input.held ++ rest) s f kept o longer few)
+    ending_told order end input.max input.place input.held rest h.tells (none_cut order input.max input.place (input.held ++ rest) s f kept o longer why) (may_cut order input.max input.place (input.held ++ rest) s f kept o longer few)
 
 -- the header that is held keeps too much
 pub ends_at_header : (order : ByteOrder) (n : ℕ) (s f kept o : ℕ) (input : InputState) (left : Option (List ℕ)) → IsPacketHeader order input.held s f kept o → most_kept < kept → n ≡ input.place → input.place + 16 ≤ input.max
-    → EndsHere order (finish.NotCapture n) input left
+    → EndsHere order (NotCapture n) input left
 ends_at_header order n s f kept o input None read much is within = tt
 ends_at_header order n s f kept o input (Some rest) read much is within =
     let longer = header_longer order input.held rest s f kept o read in
     record {
-      end = NotCapture n;
-      answer_is = refl;
       ending = (
         is,
         record { seconds = s; fraction = f; kept = kept; original = o; after = longer.rest; spelled = longer.spelled; within = within; fits = longer.kept_fits; too_much = much },

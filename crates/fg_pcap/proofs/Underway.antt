@@ -1,21 +1,19 @@
 -- How far the making of a trace has come, as records are read and sent on.
-use Rattle.std.proofs.Common.{◌≡◌, inr, ℕ, ◌+◌, ◌-◌, ◌*◌, ◌^◌, Option, None, Some, IfSome, List, [], ◌∷◌, ◌++◌, map, take, drop, sym, ap, ◌∙◌, refl, subst, arith, append_assoc, append-nil}
+use Rattle.std.proofs.Common.{◌≡◌, inr, ℕ, ◌+◌, ◌-◌, ◌*◌, ◌^◌, Option, None, Some, IfSome, List, [], ◌∷◌, ◌++◌, map, take, drop, sym, ap, ◌∙◌, refl, subst, arith, append-nil}
 use Rattle.std.specs.List.{flat_map}
-use Rattle.std.proofs.lemmas.Grind.{flat_map-append}
 use Rattle.fg_io.proofs.SentLemmas.{part_sent}
 use Rattle.fg_io.specs.InputBuffer.{InputState, TakesMore}
 use Rattle.fg_io.specs.Sent.{Sent}
 use Rattle.fg_io.specs.Sink.{Gains, GainsPart}
-use Rattle.fg_io.proofs.SentLemmas.{Sent-then, Sent-part, Sent-stop, Sent-whole, Sent-cut}
+use Rattle.fg_io.proofs.SentLemmas.{Sent-then, Sent-part, Sent-whole, Sent-cut}
 use Rattle.fg_trace.proofs.Traces.{trace_more}
 use Rattle.fg_trace.specs.Trace.{Record, magic, spelling, trace_of}
+use Rattle.fg_pcap.specs.declared.ending.CaptureEnding.{CaptureEnding}
 use Rattle.fg_pcap.specs.declared.file_header.Format.{Format}
 use Rattle.fg_pcap.specs.declared.file_header.TimeUnit.{TimeUnit}
-use Rattle.fg_pcap.specs.declared.finish.CaptureFinish.{CaptureFinish}
 use Rattle.fg_pcap.specs.declared.packet_header.PacketHeader.{PacketHeader}
-use Rattle.fg_pcap.specs.declared.finish.CaptureFinish.TheVariants as finish
-use Rattle.fg_pcap.specs.Capture.{Packet, Frame, Begins, CaptureEnding, Ended, NotCapture, Cut, TooLong, frame_of, microseconds, place_after}
-use Rattle.fg_pcap.specs.FromCapture.{Converts, IsFault, finish_of}
+use Rattle.fg_pcap.specs.Capture.{Packet, Frame, Begins, frame_of, microseconds, place_after}
+use Rattle.fg_pcap.specs.FromCapture.{Converts}
 use Rattle.fg_pcap.specs.Frame.{IsDatagramsOf}
 use Rattle.fg_pcap.specs.Reading.{StandsAfter, HoldsPacket, EndsAt, EndsHere, SendsFrames, SendsPart, HasSent, HasSentAll, HasPart, IsUnderway}
 use Rattle.fg_pcap.proofs.Datagrams.{datagrams_more}
@@ -87,21 +85,21 @@ part_more format input header frame max first now held before at after limit hol
 
 -- The end
 
-ends_there : (format : Format) (input : InputState) (first now : Option (List ℕ)) (packets : List Packet) (answer : CaptureFinish) → StandsAfter format input first now packets → EndsHere format.order answer input now
-    → IfSome first (λ bytes. (rest : List ℕ) × Begins bytes input.max format.order format.unit packets rest × EndsAt format.order answer input.max (place_after format.order packets) rest)
-ends_there format input None now packets answer stands ends = tt
-ends_there format input (Some bytes) now packets answer stands ends =
+ends_there : (format : Format) (input : InputState) (first now : Option (List ℕ)) (packets : List Packet) (end : CaptureEnding) → StandsAfter format input first now packets → EndsHere format.order end input now
+    → IfSome first (λ bytes. (rest : List ℕ) × Begins bytes input.max format.order format.unit packets rest × EndsAt format.order end input.max (place_after format.order packets) rest)
+ends_there format input None now packets end stands ends = tt
+ends_there format input (Some bytes) now packets end stands ends =
     let begun = stands_begin format input bytes now packets stands in
-    let here : EndsAt format.order answer input.max input.place (input.held ++ begun.0) = subst (λ (left : Option (List ℕ)). EndsHere format.order answer input left) begun.1 ends in
-    (input.held ++ begun.0, begun.2, subst (λ n. EndsAt format.order answer input.max n (input.held ++ begun.0)) stands.place here)
+    let here : EndsAt format.order end input.max input.place (input.held ++ begun.0) = subst (λ (left : Option (List ℕ)). EndsHere format.order end input left) begun.1 ends in
+    (input.held ++ begun.0, begun.2, subst (λ n. EndsAt format.order end input.max n (input.held ++ begun.0)) stands.place here)
 
-pub sent_all : (format : Format) (input : InputState) (max : ℕ) (first now : Option (List ℕ)) (answer : CaptureFinish) (held : List ℕ) (before at : Option (List ℕ)) → input.max ≡ max → EndsHere format.order answer input now → IsUnderway format first now input held before at
-    → HasSentAll format max first answer held before at
-sent_all format input max first now answer held before at limit ends h = record {
+pub sent_all : (format : Format) (input : InputState) (max : ℕ) (first now : Option (List ℕ)) (end : CaptureEnding) (held : List ℕ) (before at : Option (List ℕ)) → input.max ≡ max → EndsHere format.order end input now → IsUnderway format first now input held before at
+    → HasSentAll format max first end held before at
+sent_all format input max first now end held before at limit ends h = record {
   packets = h.packets;
   sent = h.sent;
-  ends = subst (λ n. IfSome first (λ bytes. (rest : List ℕ) × Begins bytes n format.order format.unit h.packets rest × EndsAt format.order answer n (place_after format.order h.packets) rest)) limit
-      (ends_there format input first now h.packets answer h.stands ends);
+  ends = subst (λ n. IfSome first (λ bytes. (rest : List ℕ) × Begins bytes n format.order format.unit h.packets rest × EndsAt format.order end n (place_after format.order h.packets) rest)) limit
+      (ends_there format input first now h.packets end h.stands ends);
 }
 
 -- bytes were taken in
@@ -129,10 +127,10 @@ part_first format input first now held before after none part stands =
 
 -- What was held at the end is written, or a front of it
 
-pub part_last : (format : Format) (max : ℕ) (first : Option (List ℕ)) (answer : CaptureFinish) (held : List ℕ) (before at after : Option (List ℕ)) → HasSentAll format max first answer held before at → GainsPart at held after
+pub part_last : (format : Format) (max : ℕ) (first : Option (List ℕ)) (end : CaptureEnding) (held : List ℕ) (before at after : Option (List ℕ)) → HasSentAll format max first end held before at → GainsPart at held after
     → IfSome first (λ bytes. HasPart format max bytes before after)
-part_last format max None answer held before at after h part = tt
-part_last format max (Some bytes) answer held before at after h part = record {
+part_last format max None end held before at after h part = tt
+part_last format max (Some bytes) end held before at after h part = record {
   packets = h.packets;
   rest = h.ends.0;
   begins = h.ends.1;
@@ -141,33 +139,17 @@ part_last format max (Some bytes) answer held before at after h part = record {
   part = Sent-cut before at after (trace_of h.sent.records) held h.sent.sent part;
 }
 
--- an answer that is no fault tells an ending
-pub end_of : (answer : CaptureFinish) → (¬ IsFault answer) → (end : CaptureEnding) × (answer ≡ finish_of end)
-end_of finish.Done h = (Ended, refl)
-end_of (finish.NotCapture n) h = (NotCapture n, refl)
-end_of (finish.Cut n) h = (Cut n, refl)
-end_of (finish.TooLong n) h = (TooLong n, refl)
-end_of finish.ReadFault h = absurd (h tt)
-end_of finish.WriteFault h = absurd (h tt)
-end_of finish.Memory h = absurd (h tt)
-
-pub converts : (format : Format) (max : ℕ) (first : Option (List ℕ)) (answer : CaptureFinish) (held : List ℕ) (before at after : Option (List ℕ)) → (¬ IsFault answer) → HasSentAll format max first answer held before at → Gains at held after
-    → Converts max answer first before after
-converts format max None answer held before at after right h gained =
-    let end = end_of answer right in
-    record {
-      trace = trace_of h.sent.records;
-      end = end.0;
-      answer_is = end.1;
-      of_input = tt;
-      gained = Sent-whole before at after (trace_of h.sent.records) held h.sent.sent gained;
-    }
-converts format max (Some bytes) answer held before at after right h gained =
+pub converts : (format : Format) (max : ℕ) (first : Option (List ℕ)) (end : CaptureEnding) (held : List ℕ) (before at after : Option (List ℕ)) → HasSentAll format max first end held before at → Gains at held after
+    → Converts max end first before after
+converts format max None end held before at after h gained = record {
+  trace = trace_of h.sent.records;
+  of_input = tt;
+  gained = Sent-whole before at after (trace_of h.sent.records) held h.sent.sent gained;
+}
+converts format max (Some bytes) end held before at after h gained =
     let here = h.ends.2 in
     record {
       trace = trace_of h.sent.records;
-      end = here.end;
-      answer_is = here.answer_is;
       of_input = inr (
         h.sent.records,
         record {

@@ -2,7 +2,6 @@
 use Rattle.std.proofs.Common.{◌≡◌, ◌↔◌, ℕ, ◌+◌, ◌<◌, ◌≤◌, ◌^◌, Bool, true, false, IsTrue, Option, Some, None, IfSome, Ok, Err, List, [], ◌∷◌, ◌++◌, length, refl, sym, ap, ◌∙◌, subst, arith, append_assoc, append-nil, length-append}
 use Rattle.std.specs.List.{flat_map, AllByRecursion}
 use Rattle.std.proofs.lemmas.Grind.{flat_map-append}
-use Rattle.fg_io.specs.Faults.{CountsFaults}
 use Rattle.fg_io.specs.Sent.{Sent}
 use Rattle.fg_io.specs.Sink.{Gains, GainsPart}
 use Rattle.fg_io.proofs.SentLemmas.{Sent-cut, Sent-part, Sent-stop, Sent-then, Sent-whole}
@@ -16,12 +15,12 @@ use Rattle.fg_trace.specs.Reader.{Answer, ReaderState, StandsAfter, Walks}
 use Rattle.fg_trace.specs.Trace as trace
 use Rattle.fg_trace.specs.Trace.{Record, Begins, Ending, IsTrace, trace_of}
 use Rattle.fg_pcap.specs.declared.writer.Spelling.{Spelling}
-use Rattle.fg_pcap.specs.declared.writer.SpellingFinish.{SpellingFinish}
-use Rattle.fg_pcap.specs.declared.writer.SpellingFinish.TheVariants.{ReadFault, WriteFault, NotTrace, Unfit}
+use Rattle.fg_pcap.specs.declared.writer.SpellingEnding.{SpellingEnding}
+use Rattle.fg_pcap.specs.declared.writer.SpellingEnding.TheVariants.{NotTrace, Unfit}
 use Rattle.fg_pcap.specs.Laws.{OneSpelling}
 use Rattle.fg_pcap.specs.Spelling.{FitsCapture, capture_of, file_header, most_datagram, seconds_end, spelling}
 use Rattle.fg_pcap.specs.Steps.{Breaks, HasSpelled, IsUnderway}
-use Rattle.fg_pcap.specs.ToCapture.{IsFault, IsSpelled, Spells, SpellsPart, StopsWith, text_of}
+use Rattle.fg_pcap.specs.ToCapture.{IsSpelled, Spells, SpellsPart, StopsWith, text_of}
 use Rattle.fg_pcap.proofs.Fronts.{answer_for, written_front}
 use Rattle.fg_pcap.proofs.Reaching.{HasReached, at_limit, read_to}
 
@@ -103,7 +102,7 @@ breaks_at_record first left now reader next work before at after answer time por
     let gained : GainsPart before (capture_of (h.records ++ r ∷ [])) after = subst (λ bytes. GainsPart before bytes after) (sym (capture_more h.records r))
     (Sent-part before at after (capture_of h.records) work.held (spelling r) h.sent part) in
     subst (λ n. Breaks n first now before after) max
-    (leaves_part first now next (h.records ++ r ∷ []) before after stands (fit_more h.records r h.fit (fits time port size next.payload t s sized)) gained, read_to ReadFault next first now (h.records ++ r ∷ []) stands few tt)
+    (leaves_part first now next (h.records ++ r ∷ []) before after stands (fit_more h.records r h.fit (fits time port size next.payload t s sized)) gained, read_to None next first now (h.records ++ r ∷ []) stands few tt)
 
 pub breaks_at_fault :
     (first left now : Option (List ℕ)) (reader next : ReaderState) (work : Spelling) (before at : Option (List ℕ)) (why : TraceFault)
@@ -114,7 +113,7 @@ breaks_at_fault first left now reader next work before at why max few walks h =
     let stands = stands_still next first now h.records why (walks h.records h.stands) in
     let gained : GainsPart before (capture_of h.records) at = subst (λ bytes. GainsPart before bytes at) (append-nil (capture_of h.records)) (Sent-stop before at (capture_of h.records) work.held [] h.sent) in
     subst (λ n. Breaks n first now before at) max
-    (leaves_part first now next h.records before at stands h.fit gained, read_to ReadFault next first now h.records stands few tt)
+    (leaves_part first now next h.records before at stands h.fit gained, read_to None next first now h.records stands few tt)
 
 -- The end
 
@@ -132,10 +131,9 @@ stops_at first left now reader next work before at answer time port size fit max
     let unfit : ¬ FitsCapture r = λ f. (let told : fit ≡ true = tells.1 (f.time, subst (λ n. n ≤ most_datagram) (sym sized) f.size) in cc) in
     record {
       records = h.records;
-      no_fault = λ f. f;
       of_input = subst (λ n. IfSome first (λ bytes. IsSpelled (Unfit work.number) bytes n h.records)) max (told first r stands unfit);
       sent = h.sent;
-      read = at_limit next.max reader.max (Unfit work.number) first now max (read_to (Unfit work.number) next first now (h.records ++ r ∷ []) stands few (one_more h.records r ∙ ap (λ n. n + 1) (sym h.number), held));
+      read = at_limit next.max reader.max (Some (Unfit work.number)) first now max (read_to (Some (Unfit work.number)) next first now (h.records ++ r ∷ []) stands few (one_more h.records r ∙ ap (λ n. n + 1) (sym h.number), held));
     }
   where
     told : (first : Option (List ℕ)) (r : Record) → StandsAfter next first now (h.records ++ r ∷ []) → (¬ FitsCapture r) → IfSome first (λ bytes. IsSpelled (Unfit work.number) bytes next.max h.records)
@@ -151,31 +149,24 @@ trace_stops (trace.NotTrace n) bytes max records h = h
 trace_stops (trace.Cut n) bytes max records h = h
 trace_stops (trace.TooLong n) bytes max records h = h
 
-no_fault : (end : Ending) → ¬ IsFault (answer_for end)
-no_fault trace.Ended f = f
-no_fault (trace.NotTrace n) f = f
-no_fault (trace.Cut n) f = f
-no_fault (trace.TooLong n) f = f
-
 all_spelled : (end : Ending) (first : Option (List ℕ)) (max : ℕ) (records : List Record) → AllByRecursion FitsCapture records → IfSome first (λ bytes. IsTrace bytes max records end) → IfSome first (λ bytes. IsSpelled (answer_for end) bytes max records)
 all_spelled end None max records fit h = tt
 all_spelled end (Some bytes) max records fit h = record { fit = fit; stops = trace_stops end bytes max records h }
 
 -- the trace's ending after records that all fit
 pub spelled_all :
-    (first left now : Option (List ℕ)) (reader next : ReaderState) (work : Spelling) (before at : Option (List ℕ)) (end : Ending) (finish : SpellingFinish)
-    → next.max ≡ reader.max → next.place + length next.held ≤ next.max + 1 → finish ≡ answer_for end
+    (first left now : Option (List ℕ)) (reader next : ReaderState) (work : Spelling) (before at : Option (List ℕ)) (end : Ending) (ending : SpellingEnding)
+    → next.max ≡ reader.max → next.place + length next.held ≤ next.max + 1 → ending ≡ answer_for end
     → ((records : List Record) → HasReached (answer_for end) next now records) → ((records : List Record) → text_of (answer_for end) records ≡ capture_of records)
     → ((records : List Record) → StandsAfter reader first left records → StandsAfter next first now records × IfSome first (λ bytes. IsTrace bytes next.max records end))
-    → IsUnderway first left reader work before at → HasSpelled reader.max first now finish work before at
-spelled_all first left now reader next work before at end finish max few is reached text walks h =
+    → IsUnderway first left reader work before at → HasSpelled reader.max first now ending work before at
+spelled_all first left now reader next work before at end ending max few is reached text walks h =
     subst (λ f. HasSpelled reader.max first now f work before at) (sym is)
     (record {
       records = h.records;
-      no_fault = no_fault end;
       of_input = subst (λ n. IfSome first (λ bytes. IsSpelled (answer_for end) bytes n h.records)) max (all_spelled end first next.max h.records h.fit (walks h.records h.stands).1);
       sent = subst (λ bytes. Sent before bytes work.held at) (sym (text h.records)) h.sent;
-      read = at_limit next.max reader.max (answer_for end) first now max (read_to (answer_for end) next first now h.records (walks h.records h.stands).0 few (reached h.records));
+      read = at_limit next.max reader.max (Some (answer_for end)) first now max (read_to (Some (answer_for end)) next first now h.records (walks h.records h.stands).0 few (reached h.records));
     })
 
 -- From the first record
@@ -202,27 +193,25 @@ header_part first now reader held header before after empty is part stands =
     leaves_part first now reader [] before after stands tt (subst (λ bytes. GainsPart before bytes after) (ap (λ held. held ++ header) empty ∙ is ∙ sym (append-nil file_header)) part)
 
 -- what is held is written
-pub spells : (max : ℕ) (first now : Option (List ℕ)) (finish : SpellingFinish) (work : Spelling) (before at after : Option (List ℕ)) → HasSpelled max first now finish work before at → Gains at work.held after → Spells max finish first before after
-spells max first now finish work before at after h gained = record {
+pub spells : (max : ℕ) (first now : Option (List ℕ)) (ending : SpellingEnding) (work : Spelling) (before at after : Option (List ℕ)) → HasSpelled max first now ending work before at → Gains at work.held after → Spells max ending first before after
+spells max first now ending work before at after h gained = record {
   records = h.records;
-  no_fault = h.no_fault;
   of_input = h.of_input;
-  gained = Sent-whole before at after (text_of finish h.records) work.held h.sent gained;
+  gained = Sent-whole before at after (text_of ending h.records) work.held h.sent gained;
 }
 
-pub spells_part : OneSpelling → (max : ℕ) (first now : Option (List ℕ)) (finish : SpellingFinish) (work : Spelling) (before at after : Option (List ℕ)) → HasSpelled max first now finish work before at → GainsPart at work.held after → SpellsPart max first before after
-spells_part law max None now finish work before at after h part = tt
-spells_part law max (Some bytes) now finish work before at after h part = λ answer records is.
-    let same = law bytes max h.records records finish answer h.of_input is in
-    let texts : text_of finish h.records ≡ text_of answer records = ap (λ f. text_of f h.records) same.1 ∙ ap (λ rs. text_of answer rs) same.0 in
-    subst (λ t. GainsPart before t after) texts (Sent-cut before at after (text_of finish h.records) work.held h.sent part)
+pub spells_part : OneSpelling → (max : ℕ) (first now : Option (List ℕ)) (ending : SpellingEnding) (work : Spelling) (before at after : Option (List ℕ)) → HasSpelled max first now ending work before at → GainsPart at work.held after → SpellsPart max first before after
+spells_part law max None now ending work before at after h part = tt
+spells_part law max (Some bytes) now ending work before at after h part = λ answer records is.
+    let same = law bytes max h.records records ending answer h.of_input is in
+    let texts : text_of ending h.records ≡ text_of answer records = ap (λ f. text_of f h.records) same.1 ∙ ap (λ rs. text_of answer rs) same.0 in
+    subst (λ t. GainsPart before t after) texts (Sent-cut before at after (text_of ending h.records) work.held h.sent part)
 
 -- Nothing is written
 
 pub spells_none : (first : Option (List ℕ)) (found max place : ℕ) (written : Option (List ℕ)) → found ≡ max → IfSome first (λ bytes. IsTrace bytes found [] (trace.NotTrace place)) → Spells max (NotTrace place) first written written
 spells_none first found max place written same h = record {
   records = [];
-  no_fault = λ f. f;
   of_input = all_spelled (trace.NotTrace place) first max [] tt (subst (λ n. IfSome first (λ bytes. IsTrace bytes n [] (trace.NotTrace place))) same h);
   gained = Gains-nil written;
 }
@@ -231,19 +220,8 @@ pub none_is_part : (max : ℕ) (first written : Option (List ℕ)) → SpellsPar
 none_is_part max None written = tt
 none_is_part max (Some bytes) written = λ answer records is. GainsPart-nil written (text_of answer records)
 
--- an answer that is no fault's has counted none
-pub counts_none : (finish : SpellingFinish) (sources sinks : List (ℕ × ℕ)) → (¬ IsFault finish) → CountsFaults ⊥ ⊥ sources sinks → CountsFaults (finish ≡ ReadFault) (finish ≡ WriteFault) sources sinks
-counts_none finish sources sinks no_fault h = record {
-  read = λ e. absurd (no_fault (subst IsFault (sym e) tt));
-  write = λ e. absurd (no_fault (subst IsFault (sym e) tt));
-  no_read = λ _. h.no_read (λ f. f);
-  no_write = λ _. h.no_write (λ f. f);
-  rise = h.rise;
-  sinks_rise = h.sinks_rise;
-}
-
--- of bytes there is one answer
-pub one_answer : OneSpelling → (max : ℕ) (first : Option (List ℕ)) (finish : SpellingFinish) (before after : Option (List ℕ)) → Spells max finish first before after
-    → IfSome first (λ bytes. (answer : SpellingFinish) (records : List Record) → IsSpelled answer bytes max records → finish ≡ answer)
-one_answer law max None finish before after h = tt
-one_answer law max (Some bytes) finish before after h = λ answer records is. (law bytes max h.records records finish answer h.of_input is).1
+-- of bytes there is one ending
+pub one_ending : OneSpelling → (max : ℕ) (first : Option (List ℕ)) (ending : SpellingEnding) (before after : Option (List ℕ)) → Spells max ending first before after
+    → IfSome first (λ bytes. (due : SpellingEnding) (records : List Record) → IsSpelled due bytes max records → ending ≡ due)
+one_ending law max None ending before after h = tt
+one_ending law max (Some bytes) ending before after h = λ due records is. (law bytes max h.records records ending due h.of_input is).1

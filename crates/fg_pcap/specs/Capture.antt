@@ -6,6 +6,8 @@
 use Rattle.std.specs.Prelude.{◌≡◌, ◌≢◌, ℕ, ◌+◌, ◌*◌, ◌/◌, ◌<◌, ◌≤◌, ◌^◌, ◌⊎◌, List, [], ◌++◌, length, map, take, slice_range}
 use Rattle.std.specs.Int.{to_be_bytes, to_le_bytes, w16, w32}
 use Rattle.std.specs.List.{flat_map, AllByRecursion}
+use Rattle.fg_pcap.specs.declared.ending.CaptureEnding.{CaptureEnding}
+use Rattle.fg_pcap.specs.declared.ending.CaptureEnding.TheVariants.{Ended, NotCapture, Cut, TooLong}
 use Rattle.fg_pcap.specs.declared.file_header.ByteOrder.{ByteOrder}
 use Rattle.fg_pcap.specs.declared.file_header.ByteOrder.TheVariants.{HighestFirst, LowestFirst}
 use Rattle.fg_pcap.specs.declared.file_header.TimeUnit.{TimeUnit}
@@ -112,13 +114,6 @@ NoneFollows order max place rest =
 pub record IsLongest (bytes : List ℕ) (max : ℕ) (order : ByteOrder) (unit : TimeUnit) (packets : List Packet) (rest : List ℕ) : Type 0 where
   pub begins : Begins bytes max order unit packets rest
   pub none : NoneFollows order max (place_after order packets) rest
-
--- How a capture ends: at a record's end; where there is none, or no record that may be; inside a record; past the limit.
-pub data CaptureEnding : Type 0 where
-  Ended : CaptureEnding
-  NotCapture : ℕ → CaptureEnding
-  Cut : ℕ → CaptureEnding
-  TooLong : ℕ → CaptureEnding
 
 -- At this place, within the first `max` bytes, stands the header of a record that keeps more bytes than it may.
 pub record KeepsTooMuch (order : ByteOrder) (max place : ℕ) (rest : List ℕ) : Type 0 where

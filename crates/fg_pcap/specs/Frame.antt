@@ -4,7 +4,8 @@
 use Rattle.std.specs.Prelude.{◌≡◌, ℕ, ◌+◌, ◌*◌, ◌/◌, ◌%◌, ◌≤◌, ◌^◌, ◌⊎◌, List, [], ◌∷◌, drop, length, slice_index, slice_range}
 use Rattle.std.specs.Int.{from_be_bytes, w16}
 use Rattle.fg_trace.specs.Trace.{Record}
-use Rattle.fg_pcap.specs.Capture.{Frame, CaptureEnding, IsCapture}
+use Rattle.fg_pcap.specs.declared.ending.CaptureEnding.{CaptureEnding}
+use Rattle.fg_pcap.specs.Capture.{Frame, IsCapture}
 
 -- The number of two bytes at a place, the highest first.
 abbrev pub number_at : List ℕ → ℕ → ℕ

@@ -2,8 +2,9 @@
 use Rattle.std.specs.Prelude.{◌≡◌, ◌<◌, ◌≤◌, ◌^◌, ℕ, List, length}
 use Rattle.std.specs.List.{AllByRecursion}
 use Rattle.fg_trace.specs.Trace.{Record, Fits}
-use Rattle.fg_pcap.specs.declared.writer.SpellingFinish.{SpellingFinish}
-use Rattle.fg_pcap.specs.Capture.{CaptureEnding, Ended}
+use Rattle.fg_pcap.specs.declared.ending.CaptureEnding.{CaptureEnding}
+use Rattle.fg_pcap.specs.declared.ending.CaptureEnding.TheVariants.{Ended}
+use Rattle.fg_pcap.specs.declared.writer.SpellingEnding.{SpellingEnding}
 use Rattle.fg_pcap.specs.Checksum.{all_ones, sum_of_words, words_of}
 use Rattle.fg_pcap.specs.Frame.{CapturedTrace, GivesDatagram}
 use Rattle.fg_pcap.specs.FromCapture.{ComesTo}
@@ -25,10 +26,10 @@ OneCapture = (bytes : List ℕ) (max : ℕ) (one other : List ℕ) (end end' : C
 abbrev pub HeadersCheck : Type 0
 HeadersCheck = (total : ℕ) → total < 2 ^ 16 → sum_of_words (words_of (ipv4_header total)) ≡ all_ones
 
--- Of bytes one list of records is written, with one answer.
+-- Of bytes one list of records is written, with one ending.
 abbrev pub OneSpelling : Type 0
-OneSpelling = (bytes : List ℕ) (max : ℕ) (one other : List Record) (answer answer' : SpellingFinish)
-    → IsSpelled answer bytes max one → IsSpelled answer' bytes max other → (one ≡ other) × (answer ≡ answer')
+OneSpelling = (bytes : List ℕ) (max : ℕ) (one other : List Record) (end end' : SpellingEnding)
+    → IsSpelled end bytes max one → IsSpelled end' bytes max other → (one ≡ other) × (end ≡ end')
 
 -- The capture of records that all fit is read as the trace of those records, whatever limit it is within.
 abbrev pub WrittenIsReadBack : Type 0

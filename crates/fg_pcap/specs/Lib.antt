@@ -5,6 +5,7 @@ pub mod Frame
 pub mod FromCapture
 pub mod Laws
 pub mod PacketHeader
+pub mod ReadFor
 pub mod Reading
 pub mod Spelling
 pub mod Steps

@@ -1,23 +1,22 @@
 -- How far the reading of a capture has come. No public contract cites what stands here.
-use Rattle.std.specs.Prelude.{◌≡◌, ◌+◌, ◌<◌, ◌≤◌, ◌⊎◌, ℕ, ⊤, false, Option, IfSome, Result, Ok, Err, List, ◌++◌, length, map}
+use Rattle.std.specs.Prelude.{◌≡◌, ◌+◌, ◌<◌, ◌≤◌, ◌⊎◌, ℕ, false, Option, IfSome, List, ◌++◌, length, map}
 use Rattle.std.specs.Io.KnownBytes.{IsAtEnd}
 use Rattle.std.specs.List.{flat_map, AllByRecursion}
-use Rattle.fg_io.specs.declared.fault.Fault.{Fault}
 use Rattle.fg_io.specs.InputBuffer.{InputState}
 use Rattle.fg_io.specs.Sent.{Sent}
 use Rattle.fg_io.specs.Sink.{GainsPart}
 use Rattle.fg_io.specs.Source.{Gives}
 use Rattle.fg_trace.specs.Trace.{Record, spelling, trace_of}
+use Rattle.fg_pcap.specs.declared.ending.CaptureEnding.{CaptureEnding}
+use Rattle.fg_pcap.specs.declared.ending.CaptureEnding.TheVariants.{Ended, NotCapture, Cut, TooLong}
 use Rattle.fg_pcap.specs.declared.file_header.ByteOrder.{ByteOrder}
 use Rattle.fg_pcap.specs.declared.file_header.Format.{Format}
 use Rattle.fg_pcap.specs.declared.file_header.TimeUnit.{TimeUnit}
-use Rattle.fg_pcap.specs.declared.finish.CaptureFinish.{CaptureFinish}
-use Rattle.fg_pcap.specs.declared.finish.CaptureFinish.TheVariants as finish
 use Rattle.fg_pcap.specs.declared.capture_reader.TheConstants.{LONGEST, PIECE}
 use Rattle.fg_pcap.specs.declared.packet_header.PacketHeader.{PacketHeader}
-use Rattle.fg_pcap.specs.Capture.{Packet, Fits, Frame, CaptureEnding, IsFileHeader, Begins, IsRefused, NoneFollows, IsEnding, frame_of, spelling_of, place_after, most_kept, record_header_length}
+use Rattle.fg_pcap.specs.Capture.{Packet, Fits, Frame, IsFileHeader, Begins, NoneFollows, IsEnding, frame_of, spelling_of, place_after, most_kept, record_header_length}
 use Rattle.fg_pcap.specs.Frame.{IsDatagramsOf}
-use Rattle.fg_pcap.specs.FromCapture.{finish_of, finish_after, most_held}
+use Rattle.fg_pcap.specs.FromCapture.{most_held}
 use Rattle.fg_pcap.specs.PacketHeader.{IsPacketHeader}
 
 -- The buffer that a capture is read through, while its source isn't known to be at its end.
@@ -48,21 +47,18 @@ pub record Has (input : InputState) (want : ℕ) : Type 0 where
   pub within : input.place + want ≤ input.max
   pub going : input.ended ≡ false
 
--- The answer is the ending of so many bytes from this place on, behind which the source has no more, or that go past the limit.
-abbrev pub TellsEnd : CaptureFinish → ℕ → ℕ → ℕ → Option (List ℕ) → Type 0
-TellsEnd finish.Done max place count left = (count ≡ 0) × IsAtEnd left
-TellsEnd (finish.Cut n) max place count left = (n ≡ place) × (1 ≤ count) × (place + count ≤ max) × IsAtEnd left
-TellsEnd (finish.TooLong n) max place count left = (n ≡ place) × (max < place + count)
-TellsEnd (finish.NotCapture n) max place count left = ⊥
-TellsEnd finish.ReadFault max place count left = ⊥
-TellsEnd finish.WriteFault max place count left = ⊥
-TellsEnd finish.Memory max place count left = ⊥
+-- So end so many bytes from this place on, behind which the source has no more, or that go past the limit.
+abbrev pub TellsEnd : CaptureEnding → ℕ → ℕ → ℕ → Option (List ℕ) → Type 0
+TellsEnd Ended max place count left = (count ≡ 0) × IsAtEnd left
+TellsEnd (Cut n) max place count left = (n ≡ place) × (1 ≤ count) × (place + count ≤ max) × IsAtEnd left
+TellsEnd (TooLong n) max place count left = (n ≡ place) × (max < place + count)
+TellsEnd (NotCapture n) max place count left = ⊥
 
 -- So many aren't held: the source goes past the limit before, or it ends before.
-pub record Lacks (answer : CaptureFinish) (input : InputState) (left : Option (List ℕ)) (want : ℕ) : Type 0 where
+pub record Lacks (end : CaptureEnding) (input : InputState) (left : Option (List ℕ)) (want : ℕ) : Type 0 where
   pub why : ((input.max < input.place + want) × (input.max < input.place + length input.held))
       ⊎ ((length input.held < want) × IsAtEnd left)
-  pub tells : TellsEnd answer input.max input.place (length input.held) left
+  pub tells : TellsEnd end input.max input.place (length input.held) left
 
 -- A record with this header is held whole, within the limit.
 pub record HoldsPacket (order : ByteOrder) (input : InputState) (header : PacketHeader) : Type 0 where
@@ -71,38 +67,22 @@ pub record HoldsPacket (order : ByteOrder) (input : InputState) (header : Packet
   pub whole : record_header_length + header.kept ≤ length input.held
   pub within : input.place + (record_header_length + header.kept) ≤ input.max
 
--- No record follows at this place, where these bytes are, and this is the answer to the ending there.
-pub record EndsAt (order : ByteOrder) (answer : CaptureFinish) (max place : ℕ) (rest : List ℕ) : Type 0 where
-  pub end : CaptureEnding
-  pub answer_is : answer ≡ finish_of end
+-- No record follows at this place, where these bytes are, and this is the ending there.
+pub record EndsAt (order : ByteOrder) (end : CaptureEnding) (max place : ℕ) (rest : List ℕ) : Type 0 where
   pub ending : IsEnding order max place rest end
   pub none : NoneFollows order max place rest
 
 -- The same of what is held, and what the source has left behind it.
-abbrev pub EndsHere : ByteOrder → CaptureFinish → InputState → Option (List ℕ) → Type 0
-EndsHere order answer input left = IfSome left (λ rest. EndsAt order answer input.max input.place (input.held ++ rest))
+abbrev pub EndsHere : ByteOrder → CaptureEnding → InputState → Option (List ℕ) → Type 0
+EndsHere order end input left = IfSome left (λ rest. EndsAt order end input.max input.place (input.held ++ rest))
 
--- The input was read as far as this answer needs, whether or not its source tells its bytes.
-abbrev pub HasReached : CaptureFinish → InputState → Option (List ℕ) → Type 0
-HasReached finish.Done input left = IsAtEnd left
-HasReached (finish.Cut n) input left = IsAtEnd left
-HasReached (finish.TooLong n) input left = input.max < input.place + length input.held
-HasReached (finish.NotCapture n) input left =
+-- The input was read as far as this ending needs, whether or not its source tells its bytes.
+abbrev pub HasReached : CaptureEnding → InputState → Option (List ℕ) → Type 0
+HasReached Ended input left = IsAtEnd left
+HasReached (Cut n) input left = IsAtEnd left
+HasReached (TooLong n) input left = input.max < input.place + length input.held
+HasReached (NotCapture n) input left =
     ((n < input.place + length input.held) ⊎ IsAtEnd left) × (input.place + length input.held ≤ n + most_held)
-HasReached finish.ReadFault input left = ⊤
-HasReached finish.WriteFault input left = ⊤
-HasReached finish.Memory input left = ⊤
-
--- The answer of a reading that comes to this.
-abbrev pub answer_to : Result CaptureFinish Fault → CaptureFinish
-answer_to (Ok answer) = answer
-answer_to (Err fault) = finish_after fault
-
--- The file header of the bytes that the source had is refused, and this is the answer.
-pub record IsRefusal (max : ℕ) (answer : CaptureFinish) (bytes : List ℕ) : Type 0 where
-  pub end : CaptureEnding
-  pub answer_is : answer ≡ finish_of end
-  pub refused : IsRefused bytes max end
 
 -- The datagrams of some frames, spelled behind what is held, are sent on; or a front of them is written.
 pub record SendsFrames (frames : List Frame) (held next : List ℕ) (before after : Option (List ℕ)) : Type 0 where
@@ -128,13 +108,13 @@ pub record IsUnderway
   pub stands : StandsAfter format input first now packets
   pub sent : HasSent format.unit packets held before after
 
--- All datagrams of the capture are, and this is the answer to its ending.
+-- All datagrams of the capture are, and this is its ending.
 pub record HasSentAll
-    (format : Format) (max : ℕ) (first : Option (List ℕ)) (answer : CaptureFinish) (held : List ℕ) (before after : Option (List ℕ)) : Type 0 where
+    (format : Format) (max : ℕ) (first : Option (List ℕ)) (end : CaptureEnding) (held : List ℕ) (before after : Option (List ℕ)) : Type 0 where
   pub packets : List Packet
   pub sent : HasSent format.unit packets held before after
   pub ends : IfSome first (λ bytes. (rest : List ℕ) × Begins bytes max format.order format.unit packets rest
-      × EndsAt format.order answer max (place_after format.order packets) rest)
+      × EndsAt format.order end max (place_after format.order packets) rest)
 
 -- The sink has gained a front of the trace of some records that begin the capture.
 pub record HasPart (format : Format) (max : ℕ) (bytes : List ℕ) (before after : Option (List ℕ)) : Type 0 where

@@ -1,15 +1,15 @@
 //! Making a trace of a capture.
-ghost use Rattle.std.specs.Prelude.{◌≡◌, ◌⊎◌, ◌+◌, ◌*◌, ◌≤◌, ◌<◌, ◌^◌, ℕ, Option, Some, None, List, [], ◌∷◌, length, true, false, IfOk, IfErr, IfSome, IfNone, OnOk, OnErr};
+ghost use Rattle.std.specs.Prelude.{◌≡◌, ◌+◌, ◌≤◌, ◌<◌, ◌^◌, ℕ, Option, Some, None, List, [], ◌∷◌, length, IfOk, IfErr, IfSome, IfNone, OnOk, OnErr};
 ghost use Rattle.std.specs.Io.KnownBytes.{IsAtEnd};
-ghost use Rattle.fg_io.specs.Faults.{Counts, CountsFaults};
-ghost use Rattle.fg_io.specs.InputBuffer.{TakesMore, new_input};
-ghost use Rattle.fg_pcap.specs.Capture.{CaptureEnding, IsRefused};
-ghost use Rattle.fg_pcap.specs.FromCapture.{ComesTo, Converts, ConvertsPart, IsFault, IsReadFor, ReadsAll, finish_of, most_held};
-ghost use Rattle.fg_pcap.specs.Reading.{EndsHere, Has, HasPart, HasReached, HasRead, HasSentAll, HoldsPacket, IsReading, IsRefusal, IsUnderway, Lacks, SendsFrames, SendsPart, StandsAfter, answer_to};
+ghost use Rattle.fg_io.specs.Faults.{Counts};
+ghost use Rattle.fg_pcap.specs.Capture.{IsRefused};
+ghost use Rattle.fg_pcap.specs.FromCapture.{ComesTo, Converts, ConvertsPart, LeavesNothing, ReachesFor};
+ghost use Rattle.fg_pcap.specs.ReadFor.{IsReadFor, ending_of};
+ghost use Rattle.fg_pcap.specs.Reading.{HasPart, HasReached, HasRead, HasSentAll, IsReading, IsUnderway, SendsFrames, SendsPart, StandsAfter};
 
 use crate::capture_reader::{LONGEST, PIECE, look, open};
+use crate::ending::CaptureEnding;
 use crate::file_header::Format;
-use crate::finish::CaptureFinish;
 use crate::frame::datagram_of;
 use crate::laws::one_capture;
 use crate::packet_header::PACKET_HEADER;
@@ -20,7 +20,7 @@ use std::alloc::Global;
 /// How many bytes of the trace are gathered before they are written.
 const ROOM: usize = 262_144;
 
-/// Makes a trace of a capture: the datagrams that its frames give, in order.
+/// Makes a trace of a capture: the datagrams that its frames give, in order. It answers how the capture ends.
 ///
 /// The capture is read to its end, to where it is none, or past the limit, and `out` gains the trace in large pieces: the
 /// magic, and a record for each frame that gives a datagram, with the frame's time in microseconds, the UDP port that it was
@@ -31,70 +31,40 @@ pub fn from_capture<S: Source, K: Sink>(
     max: u64,
     input: &mut S,
     out: &mut K,
-) -> CaptureFinish
+) -> Result<CaptureEnding, Fault>
     requires least { 8 ≤ max }
     requires limit { max ≤ 2 ^ 40 }
 
-    // Every answer but a fault's or want of memory's is that of the capture's ending, and then its trace is written.
-    ensures whole { IsFault result ⊎ Converts max result (S.left input.old)
-        (K.written out.old) (K.written out.new) }
-    ensures exactly { IfSome (S.left input.old) (λ bytes. (trace : List ℕ) (end : CaptureEnding)
-        → ComesTo bytes max trace end → IsFault result ⊎ (result ≡ finish_of end)) }
-    ensures all_read { ReadsAll result → IsAtEnd (S.left input.new) }
+    // Where nothing fails the answer is the capture's ending, and its trace is written.
+    ensures whole { IfOk result (λ ending. Converts max ending (S.left input.old)
+        (K.written out.old) (K.written out.new)) }
+    ensures exactly { IfOk result (λ ending. IfSome (S.left input.old) (λ bytes. (trace : List ℕ) (end : CaptureEnding)
+        → ComesTo bytes max trace end → ending ≡ end)) }
+    ensures all_read { IfOk result (λ ending. LeavesNothing ending → IsAtEnd (S.left input.new)) }
 
     // The input is read as far as the answer needs, and at most a byte past the limit.
-    ensures reads { IfSome (S.left input.old) (λ bytes. IsReadFor max result bytes (S.left input.new)) }
+    ensures reads { IfSome (S.left input.old) (λ bytes.
+        IsReadFor (ReachesFor max) max (ending_of result) bytes (S.left input.new)) }
 
     // Where the file header is refused nothing is written, whatever the answer.
     ensures refused { IfSome (S.left input.old) (λ bytes. (end : CaptureEnding)
         → IsRefused bytes max end → out.new ≡ out.old) }
 
-    // After a fault or want of memory the trace is a part.
-    ensures part { IsFault result → ConvertsPart max (S.left input.old)
-        (K.written out.old) (K.written out.new) }
+    // After a fault the trace is a part.
+    ensures part { OnErr result (ConvertsPart max (S.left input.old)
+        (K.written out.old) (K.written out.new)) }
 
     // A fault of the outside is answered only where it was counted in this call, and with every other answer none was. No
     // count falls.
-    ensures faults { CountsFaults (result ≡ CaptureFinish.ReadFault) (result ≡ CaptureFinish.WriteFault)
-        ((S.faults input.old, S.faults input.new) ∷ []) ((K.faults out.old, K.faults out.new) ∷ []) }
-{
-    one_capture();
-    match convert(alloc, max, input, out) {
-        Ok(finish) => finish,
-        Err(Fault::Read) => CaptureFinish::ReadFault,
-        Err(Fault::Write) => CaptureFinish::WriteFault,
-        Err(Fault::Memory) => CaptureFinish::Memory,
-    }
-}
-
-/// Makes a trace of a capture, and answers how the capture ends.
-fn convert<S: Source, K: Sink>(
-    alloc: Global,
-    max: u64,
-    from: &mut S,
-    out: &mut K,
-) -> Result<CaptureFinish, Fault>
-    requires least { 8 ≤ max }
-    requires limit { max ≤ 2 ^ 40 }
-    ensures whole { IfOk result (λ finish. Converts max finish (S.left from.old)
-        (K.written out.old) (K.written out.new)) }
-    ensures part { OnErr result (ConvertsPart max (S.left from.old)
-        (K.written out.old) (K.written out.new)) }
-    ensures refused { IfSome (S.left from.old) (λ bytes. (end : CaptureEnding)
-        → IsRefused bytes max end → out.new ≡ out.old) }
-    ensures kind { IfOk result (λ finish. ¬ IsFault finish) }
-    ensures all_read { IfOk result (λ finish. ReadsAll finish → IsAtEnd (S.left from.new)) }
-    ensures reads { IfSome (S.left from.old) (λ bytes.
-        IsReadFor max (answer_to result) bytes (S.left from.new)) }
-    ensures faults { Counts result ((S.faults from.old, S.faults from.new) ∷ [])
+    ensures faults { Counts result ((S.faults input.old, S.faults input.new) ∷ [])
         ((K.faults out.old, K.faults out.new) ∷ []) }
 {
     one_capture();
-    let mut input = InputBuffer::new(alloc, max, LONGEST, PIECE)?;
-    let mut trace = OutputBuffer::new(alloc, ROOM)?;
-    match open(&mut input, from)? {
-        Ok(format) => convert_packets(format, &mut input, from, &mut trace, out),
-        Err(finish) => Ok(finish),
+    let mut buffer = InputBuffer::new(alloc, max, LONGEST, PIECE)?;
+    let trace = OutputBuffer::new(alloc, ROOM)?;
+    match open(&mut buffer, input)? {
+        Ok(format) => convert_packets(format, &mut buffer, input, trace, out),
+        Err(ending) => Ok(ending),
     }
 }
 
@@ -103,31 +73,30 @@ fn convert_packets<S: Source, K: Sink>(
     format: Format,
     input: &mut InputBuffer,
     from: &mut S,
-    trace: &mut OutputBuffer,
+    mut trace: OutputBuffer,
     out: &mut K,
-) -> Result<CaptureFinish, Fault>
+) -> Result<CaptureEnding, Fault>
     requires reading { IsReading input.old }
-    requires empty { trace.old ≡ [] }
+    requires empty { trace ≡ [] }
     requires bounded { input.old.place + length input.old.held ≤ input.old.max + 1 }
-    ensures whole { IfOk result (λ finish. (first : Option (List ℕ))
+    ensures whole { IfOk result (λ ending. (first : Option (List ℕ))
         → StandsAfter format input.old first (S.left from.old) []
-        → Converts input.old.max finish first (K.written out.old) (K.written out.new)) }
+        → Converts input.old.max ending first (K.written out.old) (K.written out.new)) }
     ensures part { OnErr result ((first : Option (List ℕ))
         → StandsAfter format input.old first (S.left from.old) []
         → IfSome first (λ bytes. HasPart format input.old.max bytes (K.written out.old) (K.written out.new))) }
-    ensures kind { IfOk result (λ finish. ¬ IsFault finish) }
     ensures read { (first : Option (List ℕ))
         → HasRead input.old first (S.left from.old) → HasRead input.new first (S.left from.new) }
     ensures max { input.new.max ≡ input.old.max }
     ensures bounded { input.new.place + length input.new.held ≤ input.new.max + 1 }
-    ensures reached { HasReached (answer_to result) input.new (S.left from.new) }
+    ensures reached { IfOk result (λ ending. HasReached ending input.new (S.left from.new)) }
     ensures faults { Counts result ((S.faults from.old, S.faults from.new) ∷ [])
         ((K.faults out.old, K.faults out.new) ∷ []) }
 {
     trace.add(&MAGIC, out)?;
-    let finish = convert_all(format, input, from, trace, out)?;
+    let ending = convert_all(format, input, from, &mut trace, out)?;
     trace.flush(out)?;
-    Ok(finish)
+    Ok(ending)
 }
 
 /// Sends the datagrams of the records that are left, of which the last may be held, and answers how the capture ends.
@@ -137,26 +106,25 @@ fn convert_all<S: Source, K: Sink>(
     from: &mut S,
     trace: &mut OutputBuffer,
     out: &mut K,
-) -> Result<CaptureFinish, Fault>
+) -> Result<CaptureEnding, Fault>
     requires reading { IsReading input.old }
-    ensures whole { IfOk result (λ finish. (first : Option (List ℕ)) (before : Option (List ℕ))
+    ensures whole { IfOk result (λ ending. (first : Option (List ℕ)) (before : Option (List ℕ))
         → IsUnderway format first (S.left from.old) input.old trace.old before (K.written out.old)
-        → HasSentAll format input.old.max first finish trace.new before (K.written out.new)) }
+        → HasSentAll format input.old.max first ending trace.new before (K.written out.new)) }
     ensures part { OnErr result ((first : Option (List ℕ)) (before : Option (List ℕ))
         → IsUnderway format first (S.left from.old) input.old trace.old before (K.written out.old)
         → IfSome first (λ bytes. HasPart format input.old.max bytes before (K.written out.new))) }
-    ensures kind { IfOk result (λ finish. ¬ IsFault finish) }
     ensures read { (first : Option (List ℕ))
         → HasRead input.old first (S.left from.old) → HasRead input.new first (S.left from.new) }
     ensures max { input.new.max ≡ input.old.max }
     ensures bounded { input.new.place + length input.new.held ≤ input.new.max + 1 }
-    ensures reached { HasReached (answer_to result) input.new (S.left from.new) }
+    ensures reached { IfOk result (λ ending. HasReached ending input.new (S.left from.new)) }
     ensures faults { Counts result ((S.faults from.old, S.faults from.new) ∷ [])
         ((K.faults out.old, K.faults out.new) ∷ []) }
 {
     loop {
-        if let Some(finish) = convert_next(format, input, from, trace, out)? {
-            return Ok(finish);
+        if let Some(ending) = convert_next(format, input, from, trace, out)? {
+            return Ok(ending);
         }
     }
 }
@@ -168,31 +136,30 @@ fn convert_next<S: Source, K: Sink>(
     from: &mut S,
     trace: &mut OutputBuffer,
     out: &mut K,
-) -> Result<Option<CaptureFinish>, Fault>
+) -> Result<Option<CaptureEnding>, Fault>
     requires reading { IsReading input.old }
     ensures more { IfOk result (λ end. IfNone end ((first : Option (List ℕ)) (before : Option (List ℕ))
         → IsUnderway format first (S.left from.old) input.old trace.old before (K.written out.old)
         → IsUnderway format first (S.left from.new) input.new trace.new before (K.written out.new))) }
-    ensures ends { IfOk result (λ end. IfSome end (λ finish. (first : Option (List ℕ)) (before : Option (List ℕ))
+    ensures ends { IfOk result (λ end. IfSome end (λ ending. (first : Option (List ℕ)) (before : Option (List ℕ))
         → IsUnderway format first (S.left from.old) input.old trace.old before (K.written out.old)
-        → HasSentAll format input.old.max first finish trace.new before (K.written out.new))) }
+        → HasSentAll format input.old.max first ending trace.new before (K.written out.new))) }
     ensures part { OnErr result ((first : Option (List ℕ)) (before : Option (List ℕ))
         → IsUnderway format first (S.left from.old) input.old trace.old before (K.written out.old)
         → IfSome first (λ bytes. HasPart format input.old.max bytes before (K.written out.new))) }
-    ensures kind { IfOk result (λ end. IfSome end (λ finish. ¬ IsFault finish)) }
     ensures reading { IfOk result (λ end. IfNone end (IsReading input.new)) }
     ensures read { (first : Option (List ℕ))
         → HasRead input.old first (S.left from.old) → HasRead input.new first (S.left from.new) }
     ensures max { input.new.max ≡ input.old.max }
     ensures place { IfOk result (λ end. IfNone end (input.old.place < input.new.place)) }
     ensures bounded { input.new.place + length input.new.held ≤ input.new.max + 1 }
-    ensures reached { IfOk result (λ end. IfSome end (λ finish. HasReached finish input.new (S.left from.new))) }
+    ensures reached { IfOk result (λ end. IfSome end (λ ending. HasReached ending input.new (S.left from.new))) }
     ensures faults { Counts result ((S.faults from.old, S.faults from.new) ∷ [])
         ((K.faults out.old, K.faults out.new) ∷ []) }
 {
     let header = match look(format.order, input, from)? {
         Ok(header) => header,
-        Err(finish) => return Ok(Some(finish)),
+        Err(ending) => return Ok(Some(ending)),
     };
     let size = PACKET_HEADER + header.kept as usize;
     send_frame(

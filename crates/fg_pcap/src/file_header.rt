@@ -70,29 +70,30 @@ fn read_magic(header: &[u8]) -> Option<Format>
     ensures none { IfNone result ((order : ByteOrder) (unit : TimeUnit)
         → ¬ HasMagic order unit header.now) }
 {
-    if has_magic(header, ByteOrder::HighestFirst, TimeUnit::Microseconds) {
+    if let Some(unit) = read_unit(header, ByteOrder::HighestFirst) {
         return Some(Format {
             order: ByteOrder::HighestFirst,
-            unit: TimeUnit::Microseconds,
+            unit,
         });
     }
-    if has_magic(header, ByteOrder::HighestFirst, TimeUnit::Nanoseconds) {
-        return Some(Format {
-            order: ByteOrder::HighestFirst,
-            unit: TimeUnit::Nanoseconds,
-        });
+    let unit = read_unit(header, ByteOrder::LowestFirst)?;
+    Some(Format {
+        order: ByteOrder::LowestFirst,
+        unit,
+    })
+}
+
+/// The unit that the magic says in this byte order, if it is one.
+fn read_unit(header: &[u8], order: ByteOrder) -> Option<TimeUnit>
+    requires { 4 ≤ length header.now }
+    ensures found { IfSome result (λ unit. HasMagic order unit header.now) }
+    ensures none { IfNone result ((unit : TimeUnit) → ¬ HasMagic order unit header.now) }
+{
+    if has_magic(header, order, TimeUnit::Microseconds) {
+        return Some(TimeUnit::Microseconds);
     }
-    if has_magic(header, ByteOrder::LowestFirst, TimeUnit::Microseconds) {
-        return Some(Format {
-            order: ByteOrder::LowestFirst,
-            unit: TimeUnit::Microseconds,
-        });
-    }
-    if has_magic(header, ByteOrder::LowestFirst, TimeUnit::Nanoseconds) {
-        return Some(Format {
-            order: ByteOrder::LowestFirst,
-            unit: TimeUnit::Nanoseconds,
-        });
+    if has_magic(header, order, TimeUnit::Nanoseconds) {
+        return Some(TimeUnit::Nanoseconds);
     }
     None
 }

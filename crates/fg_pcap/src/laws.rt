@@ -18,7 +18,7 @@ pub fn headers_check()
     ensures { HeadersCheck }
 {}
 
-/// Of bytes one list of records is written, with one answer.
+/// Of bytes one list of records is written, with one ending.
 pub fn one_spelling()
     ensures { OneSpelling }
 {

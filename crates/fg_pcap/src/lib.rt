@@ -7,8 +7,8 @@
 mod capture_reader;
 mod checksum;
 mod conversion;
+mod ending;
 mod file_header;
-mod finish;
 mod frame;
 pub mod laws;
 mod packet_header;
@@ -16,10 +16,10 @@ mod spelling;
 mod writer;
 
 pub use conversion::from_capture;
+pub use ending::CaptureEnding;
 pub use file_header::{ByteOrder, TimeUnit};
-pub use finish::CaptureFinish;
 pub use spelling::fit;
-pub use writer::{SpellingFinish, to_capture};
+pub use writer::{SpellingEnding, to_capture};
 
 #[cfg(test)]
 mod tests;

@@ -1,15 +1,16 @@
 //! Writing a trace as a capture.
-ghost use Rattle.std.specs.Prelude.{◌≡◌, ◌⊎◌, ◌+◌, ◌<◌, ◌≤◌, ◌^◌, ◌++◌, ℕ, Option, List, [], ◌∷◌, length, None, IfOk, IfSome, IfNone, OnOk, OnErr};
+ghost use Rattle.std.specs.Prelude.{◌≡◌, ◌+◌, ◌<◌, ◌≤◌, ◌^◌, ◌++◌, ℕ, Option, List, [], ◌∷◌, length, None, Some, IfOk, IfSome, IfNone, OnOk, OnErr};
 ghost use Rattle.std.specs.Io.KnownBytes.{IsAtEnd};
-ghost use Rattle.fg_io.specs.Faults.{Counts, CountsFaults};
+ghost use Rattle.fg_io.specs.Faults.{Counts};
 ghost use Rattle.fg_io.specs.Sent.{Sent};
 ghost use Rattle.fg_io.specs.Sink.{GainsPart};
 ghost use Rattle.fg_trace.specs.Reader.{StandsAfter};
 ghost use Rattle.fg_trace.specs.Trace.{Record, NotTrace as NoMagic, IsTrace};
+ghost use Rattle.fg_pcap.specs.ReadFor.{IsReadFor, ending_of};
 ghost use Rattle.fg_pcap.specs.Spelling as spelled;
 ghost use Rattle.fg_pcap.specs.Spelling.{seconds_end, most_datagram};
-ghost use Rattle.fg_pcap.specs.Steps.{Breaks, HasSpelled, IsReadTo, IsUnderway, answer_to};
-ghost use Rattle.fg_pcap.specs.ToCapture.{ComesBack, IsFault, IsReadFor, IsSpelled, ReadsAll, Spells, SpellsPart, WritesCapture};
+ghost use Rattle.fg_pcap.specs.Steps.{Breaks, HasSpelled, IsReadTo, IsUnderway};
+ghost use Rattle.fg_pcap.specs.ToCapture.{ComesBack, IsSpelled, LeavesNothing, ReachesFor, Spells, SpellsPart, WritesCapture};
 
 use crate::laws::{one_spelling, written_is_read_back};
 use crate::spelling::{FILE_HEADER_BYTES, fit, headers};
@@ -23,13 +24,9 @@ const ROOM: usize = 262_144;
 
 /// How the writing of a trace as a capture ends.
 #[derive(Clone, Copy, Debug, PartialEq, Eq)]
-pub enum SpellingFinish {
-    /// The trace was read to its end, and all was written.
+pub enum SpellingEnding {
+    /// All records of the trace are written.
     Done,
-    /// The source failed.
-    ReadFault,
-    /// The sink failed.
-    WriteFault,
     /// As [`TraceFault::NotTrace`].
     NotTrace(u64),
     /// The record with this number, counted from 0, is the first that doesn't fit a capture, as [`fit`] says.
@@ -38,8 +35,6 @@ pub enum SpellingFinish {
     Cut(u64),
     /// As [`TraceFault::TooLong`].
     TooLong(u64),
-    /// There was no memory.
-    Memory,
 }
 
 /// What is spelled of a capture and not written, and how many records it has.
@@ -49,84 +44,58 @@ struct Spelling {
     number: u64,
 }
 
-/// Writes a trace, which may have at most `max` bytes, 8 to 2^40, as a capture: a classic pcap file of UDP datagrams.
+/// Writes a trace, which may have at most `max` bytes, 8 to 2^40, as a capture: a classic pcap file of UDP datagrams. It answers
+/// how that ends.
 ///
 /// The trace is read to its end, to the first byte that differs from the magic, through the first record that doesn't fit, or
 /// past the limit, and `out` gains the capture of the records before that in large pieces. `NotTrace` writes nothing, and every
-/// other answer at least the file header. After a fault `out` has gained a prefix of what is written.
+/// other ending at least the file header. After a fault `out` has gained a prefix of what is written.
 pub fn to_capture<S: Source, K: Sink>(
     alloc: Global,
     max: u64,
     input: &mut S,
     out: &mut K,
-) -> SpellingFinish
+) -> Result<SpellingEnding, Fault>
     requires least { 8 ≤ max }
     requires limit { max ≤ 2 ^ 40 }
 
-    // With every answer but a fault's or want of memory's, the records that the input's trace has before the first that
-    // doesn't fit are written, and all where all fit.
-    ensures whole { IsFault result ⊎ Spells max result (S.left input.old)
-        (K.written out.old) (K.written out.new) }
-    ensures exactly { IfSome (S.left input.old) (λ bytes. (answer : SpellingFinish) (records : List Record)
-        → IsSpelled answer bytes max records → IsFault result ⊎ (result ≡ answer)) }
-    ensures all_read { ReadsAll result → IsAtEnd (S.left input.new) }
+    // Where nothing fails, the records that the input's trace has before the first that doesn't fit are written, and all where
+    // all fit.
+    ensures whole { IfOk result (λ ending. Spells max ending (S.left input.old)
+        (K.written out.old) (K.written out.new)) }
+    ensures exactly { IfOk result (λ ending. IfSome (S.left input.old) (λ bytes. (due : SpellingEnding) (records : List Record)
+        → IsSpelled due bytes max records → ending ≡ due)) }
+    ensures all_read { IfOk result (λ ending. LeavesNothing ending → IsAtEnd (S.left input.new)) }
 
     // What is written is a capture from which `from_capture` makes the trace of the records that were written.
-    ensures comes_back { IfSome (S.left input.old) (λ bytes. WritesCapture result
-        → ComesBack max result bytes (K.written out.old) (K.written out.new)) }
+    ensures comes_back { IfOk result (λ ending. IfSome (S.left input.old) (λ bytes. WritesCapture ending
+        → ComesBack max ending bytes (K.written out.old) (K.written out.new))) }
 
     // The input is read as far as the answer needs, and at most a byte past the limit.
-    ensures reads { IfSome (S.left input.old) (λ bytes. IsReadFor max result bytes (S.left input.new)) }
+    ensures reads { IfSome (S.left input.old) (λ bytes.
+        IsReadFor (ReachesFor max) max (ending_of result) bytes (S.left input.new)) }
 
     // What is no trace has nothing written, whatever the answer.
     ensures refused { IfSome (S.left input.old) (λ bytes. (place : ℕ)
         → IsTrace bytes max [] (NoMagic place) → out.new ≡ out.old) }
 
-    // After a fault or want of memory a prefix is written.
-    ensures part { IsFault result → SpellsPart max (S.left input.old)
-        (K.written out.old) (K.written out.new) }
+    // After a fault a prefix is written.
+    ensures part { OnErr result (SpellsPart max (S.left input.old)
+        (K.written out.old) (K.written out.new)) }
 
     // A fault of the outside is answered only where it was counted in this call, and with every other answer none was. No
     // count falls.
-    ensures faults { CountsFaults (result ≡ SpellingFinish.ReadFault) (result ≡ SpellingFinish.WriteFault)
-        ((S.faults input.old, S.faults input.new) ∷ []) ((K.faults out.old, K.faults out.new) ∷ []) }
-{
-    one_spelling();
-    written_is_read_back();
-    match spell_trace(alloc, max, input, out) {
-        Ok(finish) => finish,
-        Err(Fault::Read) => SpellingFinish::ReadFault,
-        Err(Fault::Write) => SpellingFinish::WriteFault,
-        Err(Fault::Memory) => SpellingFinish::Memory,
-    }
-}
-
-/// Writes a trace as a capture, and answers how that ends.
-fn spell_trace<S: Source, K: Sink>(
-    alloc: Global,
-    max: u64,
-    input: &mut S,
-    out: &mut K,
-) -> Result<SpellingFinish, Fault>
-    requires least { 8 ≤ max }
-    requires limit { max ≤ 2 ^ 40 }
-    ensures whole { IfOk result (λ finish. Spells max finish (S.left input.old)
-        (K.written out.old) (K.written out.new)) }
-    ensures part { OnErr result (SpellsPart max (S.left input.old)
-        (K.written out.old) (K.written out.new)) }
-    ensures refused { IfSome (S.left input.old) (λ bytes. (place : ℕ)
-        → IsTrace bytes max [] (NoMagic place) → out.new ≡ out.old) }
-    ensures all_read { IfOk result (λ finish. ReadsAll finish → IsAtEnd (S.left input.new)) }
-    ensures reached { IsReadTo max (answer_to result) (S.left input.old) (S.left input.new) }
     ensures faults { Counts result ((S.faults input.old, S.faults input.new) ∷ [])
         ((K.faults out.old, K.faults out.new) ∷ []) }
 {
+    one_spelling();
+    written_is_read_back();
     read_as_far_as_needed();
     let mut reader = Reader::new(alloc, max)?;
     let mut spelling = Spelling::new(alloc)?;
     match reader.start(input) {
         Ok(()) => spelling.spell_records(&mut reader, input, out),
-        Err(TraceFault::NotTrace(place)) => Ok(SpellingFinish::NotTrace(place)),
+        Err(TraceFault::NotTrace(place)) => Ok(SpellingEnding::NotTrace(place)),
         Err(TraceFault::ReadFault) => Err(Fault::Read),
         Err(TraceFault::Cut(_)) => unreachable!(),
         Err(TraceFault::TooLong(_)) => unreachable!(),
@@ -151,30 +120,31 @@ impl Spelling {
         reader: &mut Reader,
         input: &mut S,
         out: &mut K,
-    ) -> Result<SpellingFinish, Fault>
+    ) -> Result<SpellingEnding, Fault>
         requires held { self.old.held ≡ [] }
         requires number { self.old.number ≡ 0 }
         requires begun { (first : Option (List ℕ)) × StandsAfter reader.old first (S.left input.old) [] }
         requires open { reader.old.kept ≡ None }
         requires limit { reader.old.max ≤ 2 ^ 40 }
         requires bounded { reader.old.place + length reader.old.held ≤ reader.old.max + 1 }
-        ensures whole { IfOk result (λ finish. (first : Option (List ℕ))
+        ensures whole { IfOk result (λ ending. (first : Option (List ℕ))
             → StandsAfter reader.old first (S.left input.old) []
-            → Spells reader.old.max finish first (K.written out.old) (K.written out.new)) }
+            → Spells reader.old.max ending first (K.written out.old) (K.written out.new)) }
         ensures part { OnErr result ((first : Option (List ℕ))
             → StandsAfter reader.old first (S.left input.old) []
-            → SpellsPart reader.old.max first (K.written out.old) (K.written out.new)) }
-        ensures all_read { IfOk result (λ finish. ReadsAll finish → IsAtEnd (S.left input.new)) }
-        ensures reached { (first : Option (List ℕ)) → StandsAfter reader.old first (S.left input.old) []
-            → IsReadTo reader.old.max (answer_to result) first (S.left input.new) }
+            → Breaks reader.old.max first (S.left input.new) (K.written out.old) (K.written out.new)) }
+        ensures all_read { IfOk result (λ ending. LeavesNothing ending → IsAtEnd (S.left input.new)) }
+        ensures read { IfOk result (λ ending. (first : Option (List ℕ))
+            → StandsAfter reader.old first (S.left input.old) []
+            → IsReadTo reader.old.max (Some ending) first (S.left input.new)) }
         ensures faults { Counts result ((S.faults input.old, S.faults input.new) ∷ [])
             ((K.faults out.old, K.faults out.new) ∷ []) }
     {
         one_spelling();
         self.held.add(&FILE_HEADER_BYTES, out)?;
-        let finish = self.spell_all(reader, input, out)?;
+        let ending = self.spell_all(reader, input, out)?;
         self.held.flush(out)?;
-        Ok(finish)
+        Ok(ending)
     }
 
     /// Spells the records that are left, of whose bytes the last may be held, and answers how that ends.
@@ -183,24 +153,24 @@ impl Spelling {
         reader: &mut Reader,
         input: &mut S,
         out: &mut K,
-    ) -> Result<SpellingFinish, Fault>
+    ) -> Result<SpellingEnding, Fault>
         requires underway { (first : Option (List ℕ)) × (before : Option (List ℕ))
             × IsUnderway first (S.left input.old) reader.old self.old before (K.written out.old) }
         requires open { reader.old.kept ≡ None }
         requires limit { reader.old.max ≤ 2 ^ 40 }
-        ensures whole { IfOk result (λ finish. (first : Option (List ℕ)) (before : Option (List ℕ))
+        ensures whole { IfOk result (λ ending. (first : Option (List ℕ)) (before : Option (List ℕ))
             → IsUnderway first (S.left input.old) reader.old self.old before (K.written out.old)
-            → HasSpelled reader.old.max first (S.left input.new) finish self.new before (K.written out.new)) }
+            → HasSpelled reader.old.max first (S.left input.new) ending self.new before (K.written out.new)) }
         ensures part { OnErr result ((first : Option (List ℕ)) (before : Option (List ℕ))
             → IsUnderway first (S.left input.old) reader.old self.old before (K.written out.old)
             → Breaks reader.old.max first (S.left input.new) before (K.written out.new)) }
-        ensures all_read { IfOk result (λ finish. ReadsAll finish → IsAtEnd (S.left input.new)) }
+        ensures all_read { IfOk result (λ ending. LeavesNothing ending → IsAtEnd (S.left input.new)) }
         ensures faults { Counts result ((S.faults input.old, S.faults input.new) ∷ [])
             ((K.faults out.old, K.faults out.new) ∷ []) }
     {
         loop {
-            if let Some(finish) = self.spell_next(reader, input, out)? {
-                return Ok(finish);
+            if let Some(ending) = self.spell_next(reader, input, out)? {
+                return Ok(ending);
             }
         }
     }
@@ -211,7 +181,7 @@ impl Spelling {
         reader: &mut Reader,
         input: &mut S,
         out: &mut K,
-    ) -> Result<Option<SpellingFinish>, Fault>
+    ) -> Result<Option<SpellingEnding>, Fault>
         requires underway { (first : Option (List ℕ)) × (before : Option (List ℕ))
             × IsUnderway first (S.left input.old) reader.old self.old before (K.written out.old) }
         requires open { reader.old.kept ≡ None }
@@ -219,13 +189,13 @@ impl Spelling {
         ensures more { IfOk result (λ end. IfNone end ((first : Option (List ℕ)) (before : Option (List ℕ))
             → IsUnderway first (S.left input.old) reader.old self.old before (K.written out.old)
             → IsUnderway first (S.left input.new) reader.new self.new before (K.written out.new))) }
-        ensures ends { IfOk result (λ end. IfSome end (λ finish. (first : Option (List ℕ)) (before : Option (List ℕ))
+        ensures ends { IfOk result (λ end. IfSome end (λ ending. (first : Option (List ℕ)) (before : Option (List ℕ))
             → IsUnderway first (S.left input.old) reader.old self.old before (K.written out.old)
-            → HasSpelled reader.old.max first (S.left input.new) finish self.new before (K.written out.new))) }
+            → HasSpelled reader.old.max first (S.left input.new) ending self.new before (K.written out.new))) }
         ensures part { OnErr result ((first : Option (List ℕ)) (before : Option (List ℕ))
             → IsUnderway first (S.left input.old) reader.old self.old before (K.written out.old)
             → Breaks reader.old.max first (S.left input.new) before (K.written out.new)) }
-        ensures all_read { IfOk result (λ end. IfSome end (λ finish. ReadsAll finish → IsAtEnd (S.left input.new))) }
+        ensures all_read { IfOk result (λ end. IfSome end (λ ending. LeavesNothing ending → IsAtEnd (S.left input.new))) }
         ensures open { IfOk result (λ end. IfNone end (reader.new.kept ≡ None)) }
         ensures max { reader.new.max ≡ reader.old.max }
         ensures place { IfOk result (λ end. IfNone end (reader.old.place < reader.new.place)) }
@@ -236,14 +206,14 @@ impl Spelling {
         match reader.next(input) {
             Ok(Step::Datagram { time, port, size }) => {
                 if !fit(time, size) {
-                    return Ok(Some(SpellingFinish::Unfit(self.number)));
+                    return Ok(Some(SpellingEnding::Unfit(self.number)));
                 }
                 self.add(time, port, reader.payload(), out)?;
                 Ok(None)
             }
-            Ok(Step::End) => Ok(Some(SpellingFinish::Done)),
-            Err(TraceFault::Cut(place)) => Ok(Some(SpellingFinish::Cut(place))),
-            Err(TraceFault::TooLong(place)) => Ok(Some(SpellingFinish::TooLong(place))),
+            Ok(Step::End) => Ok(Some(SpellingEnding::Done)),
+            Err(TraceFault::Cut(place)) => Ok(Some(SpellingEnding::Cut(place))),
+            Err(TraceFault::TooLong(place)) => Ok(Some(SpellingEnding::TooLong(place))),
             Err(TraceFault::ReadFault) => Err(Fault::Read),
             Err(TraceFault::NotTrace(_)) => unreachable!(),
         }

@@ -1,12 +1,12 @@
 //! What no clause says: worked traces, and a read and a write that fail in mid-stream.
-ghost use Rattle.std.specs.Prelude.{◌≡◌, []};
+ghost use Rattle.std.specs.Prelude.{◌≡◌, ◌≤◌, [], length};
 ghost use Rattle.std.specs.List.{All};
 ghost use Rattle.fg_shape.specs.Kind.{IsFlowPort};
 
 use super::*;
 use fg_flows::{Ports, Selection, Sources};
 use fg_io::{MemSink, MemSource, SafeSource, Source};
-use fg_trace::Finish;
+use fg_trace::{Finish, record_header};
 use std::alloc::{AllocError, Global};
 use std::process::Abort;
 use std::test::Fail;
@@ -23,18 +23,12 @@ fn media(ssrc: u8, pt: u8) -> [u8; 200] {
     bytes
 }
 
-/// Adds a record with the first so many bytes of a datagram to a trace.
-fn add(
-    trace: &mut Vec<u8>,
-    time: u64,
-    port: u16,
-    datagram: &[u8],
-    size: u16,
-) -> Result<(), AllocError> {
-    trace.extend_from_slice(&time.to_be_bytes())?;
-    trace.extend_from_slice(&port.to_be_bytes())?;
-    trace.extend_from_slice(&size.to_be_bytes())?;
-    trace.extend_from_slice(datagram.get(..usize::from(size)).unwrap_or(&[]))
+/// Adds a record to a trace.
+fn add(trace: &mut Vec<u8>, time: u64, port: u16, datagram: &[u8]) -> Result<(), AllocError>
+    requires { length datagram.now ≤ 65535 }
+{
+    trace.extend_from_slice(&record_header(time, port, datagram.len() as u16))?;
+    trace.extend_from_slice(datagram)
 }
 
 /// The trace of those of six records whose numbers these are: media of the sources 7 and 9, one of them on a parity port; two
@@ -43,12 +37,12 @@ fn trace_of(alloc: Global, numbers: &[usize]) -> Result<Vec<u8>, AllocError> {
     let mut trace = Vec::from_slice(alloc, b"FECTRAC1")?;
     for number in numbers {
         match number {
-            0 => add(&mut trace, 5, 5000, &media(7, 33), 200)?,
-            1 => add(&mut trace, 6, 5002, &media(7, 96), 200)?,
-            2 => add(&mut trace, 4, 5000, &media(9, 0xa1), 200)?,
-            3 => add(&mut trace, 9, 6000, &media(7, 33), 200)?,
-            4 => add(&mut trace, 10, 5004, &media(9, 33), 200)?,
-            _ => add(&mut trace, u64::MAX, 65_535, &[], 0)?,
+            0 => add(&mut trace, 5, 5000, &media(7, 33))?,
+            1 => add(&mut trace, 6, 5002, &media(7, 96))?,
+            2 => add(&mut trace, 4, 5000, &media(9, 0xa1))?,
+            3 => add(&mut trace, 9, 6000, &media(7, 33))?,
+            4 => add(&mut trace, 10, 5004, &media(9, 33))?,
+            _ => add(&mut trace, u64::MAX, 65_535, &[])?,
         }
     }
     Ok(trace)

@@ -135,7 +135,7 @@ impl<'a> Telling for Picking<'a> {
     ghost has_told = { λ work records before after.
         HasPicked work.selection.now work.table.entries.items records work.held before after };
 
-    ghost whole = { HasGained };
+    ghost whole = { λ work. HasGained work.selection.now };
 
     ghost part = { HasPart };
 

@@ -1,5 +1,6 @@
 -- Bursts of losses, as times are added at the end.
-use Rattle.std.proofs.Common.{◌≡◌, ℕ, suc, zero, ◌+◌, ◌<◌, ◌≤◌, ◌^◌, ltb as nat_lt, Option, Some, None, List, [], ◌∷◌, ◌++◌, length, replicate, refl, sym, ap, ◌∙◌, append_assoc, append-nil, arith, length-append}
+use Rattle.std.proofs.Common.{◌≡◌, ℕ, suc, zero, ◌+◌, ◌<◌, ◌≤◌, ◌^◌, ltb as nat_lt, Bool, Option, Some, None, List, [], ◌∷◌, ◌++◌, length, replicate, refl, sym, ap, ◌∙◌, append_assoc, append-nil, arith, length-append}
+use Rattle.std.specs.Prelude.{count_by}
 use Rattle.std.proofs.lemmas.List.Sums.{count_by-le-length}
 use Rattle.fg_streams.specs.declared.bursts.Burst.{Burst}
 use Rattle.fg_streams.specs.Bursts.{burst_of, bursts_from, lasts, lengths_of, lost_at_front}
@@ -62,13 +63,6 @@ few_bursts slot (Some t ∷ xs) =
     omega (arith, rest, one, both)
 
 pub lengths_have_room : (bursts : List Burst) → length bursts < 2 ^ 60 → LengthsHaveRoom (lengths_of bursts)
-lengths_have_room bursts few = record {
-  runs = few;
-  one = let least = count_by-le-length (lasts 1 1) bursts in omega (arith, least);
-  two = let least = count_by-le-length (lasts 2 2) bursts in omega (arith, least);
-  four = let least = count_by-le-length (lasts 3 4) bursts in omega (arith, least);
-  eight = let least = count_by-le-length (lasts 5 8) bursts in omega (arith, least);
-  sixteen = let least = count_by-le-length (lasts 9 16) bursts in omega (arith, least);
-  thirty_two = let least = count_by-le-length (lasts 17 32) bursts in omega (arith, least);
-  more = let least = count_by-le-length (λ burst. nat_lt 32 burst.length) bursts in omega (arith, least);
-}
+lengths_have_room bursts few =
+    let counted : (test : Burst → Bool) → count_by test bursts < 2 ^ 60 = λ test. let least = count_by-le-length test bursts in omega (arith, least, few) in
+    (few, counted (lasts 1 1), counted (lasts 2 2), counted (lasts 3 4), counted (lasts 5 8), counted (lasts 9 16), counted (lasts 17 32), counted (λ burst. nat_lt 32 burst.length))

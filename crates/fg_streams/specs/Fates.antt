@@ -30,41 +30,30 @@ fates_of (a ∷ before) = fate_after before a ∷ fates_of before
 
 abbrev pub is_late : Fate → Bool
 is_late Late = true
-is_late Duplicate = false
-is_late (Behind by) = false
-is_late (Ahead by) = false
+is_late _ = false
 
 abbrev pub is_duplicate : Fate → Bool
-is_duplicate Late = false
 is_duplicate Duplicate = true
-is_duplicate (Behind by) = false
-is_duplicate (Ahead by) = false
+is_duplicate _ = false
 
 abbrev pub is_received : Fate → Bool
-is_received Late = false
-is_received Duplicate = false
 is_received (Behind by) = true
 is_received (Ahead by) = true
+is_received _ = false
 
 -- Received behind the top.
 abbrev pub is_reordered : Fate → Bool
-is_reordered Late = false
-is_reordered Duplicate = false
 is_reordered (Behind by) = true
-is_reordered (Ahead by) = false
+is_reordered _ = false
 
 -- The top rises by more than 1,024.
 abbrev pub is_jump : Fate → Bool
-is_jump Late = false
-is_jump Duplicate = false
-is_jump (Behind by) = false
 is_jump (Ahead by) = nat_lt 1024 by
+is_jump _ = false
 
 abbrev pub depth_of : Fate → ℕ
-depth_of Late = 0
-depth_of Duplicate = 0
 depth_of (Behind by) = by
-depth_of (Ahead by) = 0
+depth_of _ = 0
 
 -- How far behind the top the deepest of the reordered was.
 abbrev pub deepest_of : List Fate → ℕ

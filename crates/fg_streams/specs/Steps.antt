@@ -24,15 +24,10 @@ pub record CountsHaveRoom (counts : Counts) : Type 0 where
   pub reordered : counts.reordered < 2 ^ 60
   pub jumps : counts.jumps < 2 ^ 60
 
-pub record LengthsHaveRoom (lengths : Lengths) : Type 0 where
-  pub runs : lengths.runs < 2 ^ 60
-  pub one : lengths.one < 2 ^ 60
-  pub two : lengths.two < 2 ^ 60
-  pub four : lengths.four < 2 ^ 60
-  pub eight : lengths.eight < 2 ^ 60
-  pub sixteen : lengths.sixteen < 2 ^ 60
-  pub thirty_two : lengths.thirty_two < 2 ^ 60
-  pub more : lengths.more < 2 ^ 60
+abbrev pub LengthsHaveRoom : Lengths → Type 0
+LengthsHaveRoom lengths =
+    (lengths.runs < 2 ^ 60) × (lengths.one < 2 ^ 60) × (lengths.two < 2 ^ 60) × (lengths.four < 2 ^ 60) × (lengths.eight < 2 ^ 60)
+    × (lengths.sixteen < 2 ^ 60) × (lengths.thirty_two < 2 ^ 60) × (lengths.more < 2 ^ 60)
 
 -- The jitter is far from its type's end.
 pub record PaceHasRoom (pace : Pace) : Type 0 where

@@ -20,7 +20,7 @@ pub struct Burst {
 }
 
 /// How many bursts there are, and how many of each length.
-#[derive(Clone, Copy, Debug, PartialEq, Eq)]
+#[derive(Clone, Copy, Debug, Default, PartialEq, Eq)]
 pub struct Lengths {
     /// All.
     pub runs: u64,
@@ -45,16 +45,7 @@ impl Lengths {
     pub(crate) fn new() -> Lengths
         ensures { result ≡ lengths_of [] }
     {
-        Lengths {
-            runs: 0,
-            one: 0,
-            two: 0,
-            four: 0,
-            eight: 0,
-            sixteen: 0,
-            thirty_two: 0,
-            more: 0,
-        }
+        Lengths::default()
     }
 
     /// Counts a burst.

@@ -17,7 +17,7 @@ pub enum Fate {
 }
 
 /// How many datagrams had each fate.
-#[derive(Clone, Copy, Debug, PartialEq, Eq)]
+#[derive(Clone, Copy, Debug, Default, PartialEq, Eq)]
 pub struct Counts {
     /// Received.
     pub received: u64,
@@ -41,14 +41,7 @@ impl Counts {
     pub(crate) fn new() -> Counts
         ensures { result ≡ counts_of [] }
     {
-        Counts {
-            received: 0,
-            duplicate: 0,
-            late: 0,
-            reordered: 0,
-            deepest: 0,
-            jumps: 0,
-        }
+        Counts::default()
     }
 
     /// Counts a datagram.

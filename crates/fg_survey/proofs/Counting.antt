@@ -39,11 +39,9 @@ backward_bound (x ∷ heard) =
 
 pub totals_have_room : (totals : Totals) (heard : List Heard) → totals ≡ totals_of heard → AllByRecursion (λ x. size x < 2 ^ 16) heard → length heard < 2 ^ 40 → TotalsHaveRoom totals
 totals_have_room totals heard is sizes few =
-    subst TotalsHaveRoom (sym is) (record {
-      records = omega (arith, few);
-      bytes = let bound = bytes_bound heard sizes in omega (arith, bound, few);
-      backward = let bound = backward_bound heard in omega (arith, bound, few);
-    })
+    let bytes = bytes_bound heard sizes in
+    let backward = backward_bound heard in
+    subst TotalsHaveRoom (sym is) (omega (arith, few), omega (arith, bytes, few), omega (arith, backward, few))
 
 -- the rows
 
@@ -69,12 +67,11 @@ pub row_has_room : (r : Row) (port : ℕ) (heard : List Heard) → r ≡ row_of 
 row_has_room r port heard is few bytes =
     let own = length-filter (λ (x : Heard). eqb x.port port) heard in
     let many = count_by-le-length (λ (x : Heard). eqb x.port port) heard in
-    subst RowHasRoom (sym is) (record {
-      records = omega (arith, own, many, few);
-      bytes = let fewer = fewer_bytes port heard in omega (arith, fewer, bytes);
-      media = let media = count_by-le-length is_media (on_port port heard) in omega (arith, own, many, few, media);
-      parity = let parity = count_by-le-length is_parity (on_port port heard) in omega (arith, own, many, few, parity);
-    })
+    let fewer = fewer_bytes port heard in
+    let media = count_by-le-length is_media (on_port port heard) in
+    let parity = count_by-le-length is_parity (on_port port heard) in
+    subst RowHasRoom (sym is)
+    (omega (arith, own, many, few), omega (arith, fewer, bytes), omega (arith, own, many, few, media), omega (arith, own, many, few, parity))
 
 first_later : (x : Heard) (before : List Heard) → first_time (x ∷ before) ≡ cond (eqb (length before) 0) x.time (first_time before)
 first_later x [] = refl

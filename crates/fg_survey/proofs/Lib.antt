@@ -1,7 +1,6 @@
 mod Counting
 mod LaneLemmas
 mod MatrixTexts
-mod Opening
 mod Readings
 mod Sections
 mod Sheets

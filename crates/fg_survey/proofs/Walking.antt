@@ -1,94 +1,75 @@
--- How the records of a trace are taken, from where the reader stands.
-use Rattle.std.proofs.Common.{◌≡◌, ℕ, ◌<◌, ◌≤◌, ◌^◌, Bool, Option, Some, None, IfSome, Ok, List, [], ◌∷◌, ◌++◌, length, refl, ap, ◌∙◌, subst, arith}
+-- What a survey comes to, once all records are kept.
+use Rattle.std.proofs.Common.{◌≡◌, ◌≢◌, ℕ, Bool, Option, Some, None, IfSome, List, [], refl, ap, ◌∙◌, subst}
 use Rattle.fg_io.specs.Sink.{Gains, GainsPart}
+use Rattle.fg_io.proofs.SinkLemmas.{Gains-nil}
 use Rattle.fg_report.specs.declared.tail.Tail.{Tail}
-use Rattle.fg_report.specs.declared.tail.Tail.TheVariants as tail
 use Rattle.fg_trace.specs.declared.step.Finish.{Finish}
-use Rattle.fg_trace.specs.declared.step.Step.TheVariants.{Datagram}
-use Rattle.fg_trace.specs.Laws.{OneTrace}
-use Rattle.fg_trace.proofs.Reached.{stands_more}
-use Rattle.fg_trace.proofs.Opening.{few_spelled}
-use Rattle.fg_trace.specs.Reader.{Answer, ReaderState, StandsAfter, Walks}
-use Rattle.fg_trace.specs.Trace.{Record, Ending, IsTrace, trace_of}
+use Rattle.fg_trace.specs.declared.step.Finish.TheVariants as finish
 use Rattle.fg_trace.specs.Finish.{finish_of}
+use Rattle.fg_trace.specs.Laws.{OneTrace}
+use Rattle.fg_trace.specs.Trace.{Record, Ending, Ended, NotTrace, Cut, TooLong, IsTrace}
+use Rattle.fg_walk.specs.Walk.{Walked}
 use Rattle.fg_survey.specs.declared.sheet.Sheet.{Sheet}
 use Rattle.fg_survey.specs.Heard.{Heard}
 use Rattle.fg_survey.specs.Laws.{OneText}
-use Rattle.fg_survey.specs.Steps.{HasTakenAll, IsSheet, IsTailOf, IsUnderway, ending_of}
+use Rattle.fg_survey.specs.Steps.{HasKept, IsSheet, IsTailOf}
 use Rattle.fg_survey.specs.Survey.{IsText, Surveys, SurveysPart, text_of}
 use Rattle.fg_survey.specs.Text.{survey_text}
 
-pub few_taken : (first now : Option (List ℕ)) (reader : ReaderState) (sheet : Sheet) → reader.max ≤ 2 ^ 40 → (h : IsUnderway first now reader sheet) → length h.records < 2 ^ 40
-few_taken first now reader sheet limit h =
-    let within : length (trace_of h.records) ≤ reader.max = subst (λ n. n ≤ reader.max) h.stands.place h.stands.within in
-    omega (arith, limit, within, few_spelled h.records)
+-- Where nothing is written
 
-pub underway_more :
-    (first left now : Option (List ℕ)) (reader next : ReaderState) (sheet after : Sheet) (answer : Answer) (time port size : ℕ) (datagram : List ℕ)
-    → answer ≡ Ok (Datagram time port size) → ((records : List Record) → StandsAfter reader first left records → Walks answer next first now records)
-    → datagram ≡ next.payload
-    → ((records : List Record) → IsSheet sheet records → IsSheet after (records ++ (record { time = time; port = port; datagram = datagram }) ∷ []))
-    → IsUnderway first left reader sheet → IsUnderway first now next after
-underway_more first left now reader next sheet after answer time port size datagram is walks same takes h = record {
-  records = h.records ++ (record { time = time; port = port; datagram = next.payload }) ∷ [];
-  stands = stands_more reader next first left now h.records answer time port size is walks h.stands;
-  kept = subst (λ (b : List ℕ). IsSheet after (h.records ++ (record { time = time; port = port; datagram = b }) ∷ [])) same (takes h.records h.kept);
-}
+-- nothing is a part
+pub none_is_part : (json : Bool) (max : ℕ) (first written : Option (List ℕ)) → SurveysPart json max first written written
+none_is_part json max None written = tt
+none_is_part json max (Some bytes) written = λ records end text trace is. ([], (text, refl), Gains-nil written)
 
-pub taken_all :
-    (first left now : Option (List ℕ)) (reader next : ReaderState) (sheet : Sheet) (end : Tail) (answer : Finish)
-    → next.max ≡ reader.max → reader.max ≤ 2 ^ 40 → answer ≡ finish_of (ending_of end)
-    → ((records : List Record) → StandsAfter reader first left records → StandsAfter next first now records × IfSome first (λ bytes. IsTrace bytes next.max records (ending_of end)))
-    → IsUnderway first left reader sheet → HasTakenAll reader.max first answer sheet
-taken_all first left now reader next sheet end answer max limit is walks h = record {
+-- The records are kept, and this is the answer to their trace
+
+abbrev HasWalked : {A : Type 0} → (A → Sheet) → A → ℕ → Finish → Option (List ℕ) → Type 0
+HasWalked {A} sheet_of work max answer first = Walked (λ (w : A) records end before after. HasKept (sheet_of w) records) work max answer first None None
+
+-- Its text is written
+
+abbrev NoRefusal : Finish → Type 0
+NoRefusal answer = (place : ℕ) → answer ≢ finish.NotTrace place
+
+text_by : (json : Bool) (heard : List Heard) (answer : Finish) (told : Tail) (end : Ending) → answer ≡ finish_of end → NoRefusal answer → IsTailOf answer told → survey_text json heard told ≡ text_of json heard end
+text_by json heard answer told Ended is some h = ap (survey_text json heard) (subst (λ (a : Finish). IsTailOf a told) is h)
+text_by json heard answer told (Cut place) is some h = ap (survey_text json heard) (subst (λ (a : Finish). IsTailOf a told) is h)
+text_by json heard answer told (TooLong place) is some h = ap (survey_text json heard) (subst (λ (a : Finish). IsTailOf a told) is h)
+text_by json heard answer told (NotTrace place) is some h = absurd (some place is)
+
+its_text : (json : Bool) (answer : Finish) (told : Tail) (sheet : Sheet) (records : List Record) (end : Ending) → answer ≡ finish_of end → NoRefusal answer → IsTailOf answer told
+    → (kept : IsSheet sheet records) → IsText json records end (survey_text json kept.heard told)
+its_text json answer told sheet records end is some tail kept = record { heard = kept.heard; read = kept.read; text_is = text_by json kept.heard answer told end is some tail }
+
+pub surveys : {A : Type 0} (sheet_of : A → Sheet) (work : A) (json : Bool) (max : ℕ) (answer : Finish) (told : Tail) (first before after : Option (List ℕ))
+    → HasWalked sheet_of work max answer first → NoRefusal answer → IsTailOf answer told
+    → ((records : List Record) (kept : IsSheet (sheet_of work) records) → Gains before (survey_text json kept.heard told) after) → Surveys json max answer first before after
+surveys sheet_of work json max answer told first before after h some tail gained = record {
   records = h.records;
-  few = few_taken first left reader sheet limit h;
-  end = end;
-  answer_is = is;
-  of_input = subst (λ n. IfSome first (λ bytes. IsTrace bytes n h.records (ending_of end))) max (walks h.records h.stands).1;
-  kept = h.kept;
-}
-
--- The end
-
-pub tail_is : (answer : Finish) (told end : Tail) → answer ≡ finish_of (ending_of end) → IsTailOf answer told → told ≡ end
-tail_is answer told tail.Ended is h = subst (λ (a : Finish). IsTailOf a told) is h
-tail_is answer told (tail.Cut place) is h = subst (λ (a : Finish). IsTailOf a told) is h
-tail_is answer told (tail.TooLong place) is h = subst (λ (a : Finish). IsTailOf a told) is h
-
-text_by : (json : Bool) (heard : List Heard) (end : Tail) → survey_text json heard end ≡ text_of json heard (ending_of end)
-text_by json heard tail.Ended = refl
-text_by json heard (tail.Cut place) = refl
-text_by json heard (tail.TooLong place) = refl
-
-its_text : (json : Bool) (max : ℕ) (first : Option (List ℕ)) (finish : Finish) (sheet : Sheet) (told : Tail) (text : List ℕ)
-    → (h : HasTakenAll max first finish sheet) → IsTailOf finish told
-    → ((records : List Record) (kept : IsSheet sheet records) → text ≡ survey_text json kept.heard told) → IsText json h.records (ending_of h.end) text
-its_text json max first finish sheet told text h is made = record {
-  heard = h.kept.heard;
-  read = h.kept.read;
-  text_is = made h.records h.kept ∙ ap (λ (t : Tail). survey_text json h.kept.heard t) (tail_is finish told h.end h.answer_is is) ∙ text_by json h.kept.heard h.end;
-}
-
-pub surveys : (json : Bool) (max : ℕ) (first : Option (List ℕ)) (finish : Finish) (sheet : Sheet) (told : Tail) (text : List ℕ) (before after : Option (List ℕ))
-    → HasTakenAll max first finish sheet → IsTailOf finish told
-    → ((records : List Record) (kept : IsSheet sheet records) → text ≡ survey_text json kept.heard told) → Gains before text after → Surveys json max finish first before after
-surveys json max first finish sheet told text before after h is made gained = record {
-  records = h.records;
-  end = ending_of h.end;
-  text = text;
+  end = h.end;
+  text = survey_text json h.told.kept.heard told;
   answer_is = h.answer_is;
   of_input = h.of_input;
-  is_text = its_text json max first finish sheet told text h is made;
-  gained = gained;
+  is_text = its_text json answer told (sheet_of work) h.records h.end h.answer_is some tail h.told.kept;
+  gained = gained h.records h.told.kept;
 }
 
-pub surveys_part : OneTrace → OneText → (json : Bool) (max : ℕ) (first : Option (List ℕ)) (finish : Finish) (sheet : Sheet) (told : Tail) (text : List ℕ) (before after : Option (List ℕ))
-    → HasTakenAll max first finish sheet → IsTailOf finish told
-    → ((records : List Record) (kept : IsSheet sheet records) → text ≡ survey_text json kept.heard told) → GainsPart before text after → SurveysPart json max first before after
-surveys_part trace one json max None finish sheet told text before after h is made part = tt
-surveys_part trace one json max (Some bytes) finish sheet told text before after h is made part = λ records end other is_trace other_is.
-    let same = trace bytes max records h.records end (ending_of h.end) is_trace h.of_input in
-    let texts : text ≡ other = one json h.records (ending_of h.end) text other (its_text json max (Some bytes) finish sheet told text h is made)
-    (subst (λ (rs : List Record). IsText json rs (ending_of h.end) other) same.0 (subst (λ (e : Ending). IsText json records e other) same.1 other_is)) in
-    subst (λ t. GainsPart before t after) texts part
+pub surveys_part : {A : Type 0} (sheet_of : A → Sheet) (work : A) → OneTrace → OneText → (json : Bool) (max : ℕ) (answer : Finish) (told : Tail) (first before after : Option (List ℕ))
+    → HasWalked sheet_of work max answer first → NoRefusal answer → IsTailOf answer told
+    → ((records : List Record) (kept : IsSheet (sheet_of work) records) → GainsPart before (survey_text json kept.heard told) after) → SurveysPart json max first before after
+surveys_part sheet_of work trace one json max answer told None before after h some tail part = tt
+surveys_part sheet_of work trace one json max answer told (Some bytes) before after h some tail part = λ records end other is_trace other_is.
+    let same = trace bytes max h.records records h.end end h.of_input is_trace in
+    let own : IsText json h.records h.end (survey_text json h.told.kept.heard told) = its_text json answer told (sheet_of work) h.records h.end h.answer_is some tail h.told.kept in
+    let texts : survey_text json h.told.kept.heard told ≡ other =
+    one json records end (survey_text json h.told.kept.heard told) other (subst (λ (e : Ending). IsText json records e (survey_text json h.told.kept.heard told)) same.1 (subst (λ (rs : List Record). IsText json rs h.end (survey_text json h.told.kept.heard told)) same.0 own)) other_is in
+    subst (λ t. GainsPart before t after) texts (part h.records h.told.kept)
+
+-- and then the input is a trace
+pub no_refusal : {A : Type 0} (sheet_of : A → Sheet) (work : A) → OneTrace → (max : ℕ) (answer : Finish) (first : Option (List ℕ)) (P : Type 0)
+    → HasWalked sheet_of work max answer first → NoRefusal answer → IfSome first (λ bytes. (place : ℕ) → IsTrace bytes max [] (NotTrace place) → P)
+no_refusal sheet_of work trace max answer None P h some = tt
+no_refusal sheet_of work trace max answer (Some bytes) P h some = λ place none.
+    absurd (some place (h.answer_is ∙ ap finish_of (trace bytes max h.records [] h.end (NotTrace place) h.of_input none).1))

@@ -1,5 +1,5 @@
 -- What is kept of a trace, and how far a survey has come. No public contract cites what stands here.
-use Rattle.std.specs.Prelude.{◌≡◌, ◌≢◌, ℕ, ◌<◌, ◌^◌, ⊤, Option, IfSome, List, drop, get_or, length}
+use Rattle.std.specs.Prelude.{◌≡◌, ◌≢◌, ℕ, ◌<◌, ◌^◌, ⊤, List, drop, get_or, length}
 use Rattle.std.specs.List.{AllByRecursion}
 use Rattle.fg_report.specs.declared.tail.Tail.{Tail}
 use Rattle.fg_report.specs.declared.tail.Tail.TheVariants as tail
@@ -9,9 +9,7 @@ use Rattle.fg_streams.specs.Steps.{IsStreamOf, StreamState, told}
 use Rattle.fg_streams.specs.Summary.{summary_of}
 use Rattle.fg_trace.specs.declared.step.Finish.{Finish}
 use Rattle.fg_trace.specs.declared.step.Finish.TheVariants as finish
-use Rattle.fg_trace.specs.Finish.{finish_of}
-use Rattle.fg_trace.specs.Reader.{ReaderState, StandsAfter}
-use Rattle.fg_trace.specs.Trace.{Record, Ending, Ended, Cut, TooLong, IsTrace}
+use Rattle.fg_trace.specs.Trace.{Record}
 use Rattle.fg_survey.specs.declared.sheet.Sheet.{Sheet}
 use Rattle.fg_survey.specs.declared.reading.Reading.{Reading}
 use Rattle.fg_survey.specs.declared.reading.Reading.TheVariants.{Media as IsMedia, Parity, Other}
@@ -28,16 +26,11 @@ use Rattle.fg_survey.specs.Totals.{size, totals_of}
 
 -- Each count can rise.
 
-pub record TotalsHaveRoom (totals : Totals) : Type 0 where
-  pub records : totals.records < 2 ^ 60
-  pub bytes : totals.bytes < 2 ^ 60
-  pub backward : totals.backward < 2 ^ 60
+abbrev pub TotalsHaveRoom : Totals → Type 0
+TotalsHaveRoom totals = (totals.records < 2 ^ 60) × (totals.bytes < 2 ^ 60) × (totals.backward < 2 ^ 60)
 
-pub record RowHasRoom (row : Row) : Type 0 where
-  pub records : row.records < 2 ^ 60
-  pub bytes : row.bytes < 2 ^ 60
-  pub media : row.media < 2 ^ 60
-  pub parity : row.parity < 2 ^ 60
+abbrev pub RowHasRoom : Row → Type 0
+RowHasRoom row = (row.records < 2 ^ 60) × (row.bytes < 2 ^ 60) × (row.media < 2 ^ 60) × (row.parity < 2 ^ 60)
 
 -- There is a row for each port.
 pub record ArePorts (rows : List Row) (heard : List Heard) : Type 0 where
@@ -97,26 +90,10 @@ pub record IsSheet (sheet : Sheet) (records : List Record) : Type 0 where
   pub streams : KeepsStreams sheet.streams heard
   pub lanes : KeepsLanes sheet.lanes heard
 
--- The reader stands after the records that are kept.
-pub record IsUnderway (first now : Option (List ℕ)) (reader : ReaderState) (sheet : Sheet) : Type 0 where
-  pub records : List Record
-  pub stands : StandsAfter reader first now records
+-- What is kept of these records, which are few.
+pub record HasKept (sheet : Sheet) (records : List Record) : Type 0 where
   pub kept : IsSheet sheet records
-
--- The ending of a trace that ends so.
-abbrev pub ending_of : Tail → Ending
-ending_of tail.Ended = Ended
-ending_of (tail.Cut place) = Cut place
-ending_of (tail.TooLong place) = TooLong place
-
--- All records of the trace are kept, and this is the answer to its ending.
-pub record HasTakenAll (max : ℕ) (first : Option (List ℕ)) (answer : Finish) (sheet : Sheet) : Type 0 where
-  pub records : List Record
   pub few : length records < 2 ^ 40
-  pub end : Tail
-  pub answer_is : answer ≡ finish_of (ending_of end)
-  pub of_input : IfSome first (λ bytes. IsTrace bytes max records (ending_of end))
-  pub kept : IsSheet sheet records
 
 -- The trace whose records were read ended so.
 abbrev pub IsTailOf : Finish → Tail → Type 0

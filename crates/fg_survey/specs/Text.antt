@@ -1,5 +1,5 @@
 -- The text of a survey, in lines or, line for line, as JSON objects (RFC 8259). This project's own.
-use Rattle.std.specs.Prelude.{ℕ, ◌+◌, ◌-◌, ◌*◌, ◌==◌, Bool, true, false, if◌then◌else◌, List, [], ◌∷◌, ◌++◌, codes, length, max, min}
+use Rattle.std.specs.Prelude.{ℕ, ◌+◌, ◌-◌, ◌*◌, ◌==◌, Bool, true, false, if◌then◌else◌, List, [], ◌∷◌, ◌++◌, codes, length, max, min, zip}
 use Rattle.std.specs.Fmt.{decimal}
 use Rattle.std.specs.List.{flat_map, range_with_len}
 use Rattle.fg_report.specs.declared.tail.Tail.{Tail}
@@ -46,7 +46,7 @@ closing true = codes "}\n"
 abbrev pub line : Bool → List ℕ → List (List ℕ × ℕ) → List ℕ
 line json kind counts = opening json kind ++ all_named json counts ++ closing json
 
-abbrev pub port_line : Bool → List ℕ → ℕ → List (List ℕ × ℕ) → List ℕ
+unfoldable pub port_line : Bool → List ℕ → ℕ → List (List ℕ × ℕ) → List ℕ
 port_line json kind port counts = opening json kind ++ subject json port ++ all_named json counts ++ closing json
 
 -- The trace.
@@ -59,24 +59,26 @@ trace_line json totals =
     ∷ (codes "backward", totals.backward)
     ∷ [])
 
--- A port, where it has a record. Times are told from the first record's on, and one before it is 0.
-unfoldable pub row_line : Bool → ℕ → ℕ → Row → List ℕ
-row_line json start port row =
-    (if row.records == 0 then [] else port_line json (codes "port") port
-    ((codes "records", row.records)
+-- What is told of a port. Times are told from the first record's on, and one before it is 0.
+unfoldable pub row_counts : ℕ → Row → List (List ℕ × ℕ)
+row_counts start row =
+    (codes "records", row.records)
     ∷ (codes "bytes", row.bytes)
     ∷ (codes "first", row.first - start)
     ∷ (codes "last", row.last - start)
     ∷ (codes "media", row.media)
     ∷ (codes "parity", row.parity)
     ∷ (codes "other", row.records - row.media - row.parity)
-    ∷ []))
+    ∷ []
 
--- A stream.
-unfoldable pub stream_line : Bool → Sender → Summary → List ℕ
-stream_line json sender summary =
-    port_line json (codes "stream") sender.port
-    ((codes "ssrc", sender.ssrc)
+-- A port, where it has a record.
+unfoldable pub row_line : Bool → ℕ → ℕ → Row → List ℕ
+row_line json start port row = if row.records == 0 then [] else port_line json (codes "port") port (row_counts start row)
+
+-- What is told of a stream.
+unfoldable pub stream_counts : Sender → Summary → List (List ℕ × ℕ)
+stream_counts sender summary =
+    (codes "ssrc", sender.ssrc)
     ∷ (codes "first", first_in summary.span)
     ∷ (codes "expected", expected_in summary.span)
     ∷ (codes "received", summary.counts.received)
@@ -87,61 +89,53 @@ stream_line json sender summary =
     ∷ (codes "deepest", summary.counts.deepest)
     ∷ (codes "jumps", summary.counts.jumps)
     ∷ (codes "pids", summary.pids)
-    ∷ [])
+    ∷ []
 
--- Its bursts by their lengths.
-unfoldable pub bursts_line : Bool → Sender → Lengths → List ℕ
-bursts_line json sender lengths =
-    port_line json (codes "bursts") sender.port
-    ((codes "ssrc", sender.ssrc)
-    ∷ (codes "runs", lengths.runs)
-    ∷ (codes "1", lengths.one)
-    ∷ (codes "2", lengths.two)
-    ∷ (codes "4", lengths.four)
-    ∷ (codes "8", lengths.eight)
-    ∷ (codes "16", lengths.sixteen)
-    ∷ (codes "32", lengths.thirty_two)
-    ∷ (codes "more", lengths.more)
-    ∷ [])
+-- Of its bursts by their lengths.
+unfoldable pub lengths_counts : Sender → Lengths → List (List ℕ × ℕ)
+lengths_counts sender lengths =
+    zip
+    (codes "ssrc" ∷ codes "runs" ∷ codes "1" ∷ codes "2" ∷ codes "4" ∷ codes "8" ∷ codes "16" ∷ codes "32" ∷ codes "more" ∷ [])
+    (sender.ssrc ∷ lengths.runs ∷ lengths.one ∷ lengths.two ∷ lengths.four ∷ lengths.eight ∷ lengths.sixteen ∷ lengths.thirty_two
+    ∷ lengths.more ∷ [])
 
--- One of the longest.
-unfoldable pub burst_line : Bool → ℕ → Sender → Burst → List ℕ
-burst_line json start sender burst =
-    port_line json (codes "burst") sender.port
-    ((codes "ssrc", sender.ssrc)
+-- Of one of the longest.
+unfoldable pub burst_counts : ℕ → Sender → Burst → List (List ℕ × ℕ)
+burst_counts start sender burst =
+    (codes "ssrc", sender.ssrc)
     ∷ (codes "slot", burst.slot)
     ∷ (codes "length", burst.length)
     ∷ (codes "at", burst.at - start)
-    ∷ [])
+    ∷ []
 
--- Its jitter, the last and the greatest, and its longest silence.
-unfoldable pub jitter_line : Bool → ℕ → Sender → Pace → List ℕ
-jitter_line json start sender pace =
-    port_line json (codes "jitter") sender.port
-    ((codes "ssrc", sender.ssrc)
+abbrev pub burst_line : Bool → ℕ → Sender → Burst → List ℕ
+burst_line json start sender burst = port_line json (codes "burst") sender.port (burst_counts start sender burst)
+
+-- Of its jitter, the last and the greatest, and of its longest silence.
+unfoldable pub pace_counts : ℕ → Sender → Pace → List (List ℕ × ℕ)
+pace_counts start sender pace =
+    (codes "ssrc", sender.ssrc)
     ∷ (codes "last", microseconds pace.jitter)
     ∷ (codes "most", microseconds pace.most)
     ∷ (codes "silence", pace.silence.length)
     ∷ (codes "at", pace.silence.since - start)
-    ∷ [])
+    ∷ []
 
 abbrev pub stream_lines : Bool → ℕ → Sender → Summary → List ℕ
 stream_lines json start sender summary =
-    stream_line json sender summary
-    ++ bursts_line json sender summary.lengths
+    port_line json (codes "stream") sender.port (stream_counts sender summary)
+    ++ port_line json (codes "bursts") sender.port (lengths_counts sender summary.lengths)
     ++ flat_map (burst_line json start sender) summary.longest
-    ++ jitter_line json start sender summary.pace
+    ++ port_line json (codes "jitter") sender.port (pace_counts start sender summary.pace)
 
--- The matrix that a sender's parity shows.
+-- What is told of the matrix that a sender's parity shows.
+unfoldable pub matrix_counts : Matrix → List (List ℕ × ℕ)
+matrix_counts m =
+    (codes "columns", m.columns) ∷ (codes "rows", m.rows) ∷ (codes "same", m.same) ∷ (codes "other", m.other) ∷ (codes "lag", m.lag)
+    ∷ []
+
 unfoldable pub matrix_line : Bool → ℕ → Matrix → List ℕ
-matrix_line json port m =
-    port_line json (codes "matrix") port
-    ((codes "columns", m.columns)
-    ∷ (codes "rows", m.rows)
-    ∷ (codes "same", m.same)
-    ∷ (codes "other", m.other)
-    ∷ (codes "lag", m.lag)
-    ∷ [])
+matrix_line json port m = port_line json (codes "matrix") port (matrix_counts m)
 
 -- What to give to a repair.
 unfoldable pub words_line : Bool → ℕ → ℕ → ℕ → List ℕ

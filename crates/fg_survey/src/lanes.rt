@@ -278,12 +278,7 @@ impl Lanes {
     {
         match reading {
             Reading::Media { seq, ts, ssrc } => {
-                let media = Media {
-                    time,
-                    sender: Sender { port, ssrc },
-                    seq,
-                    ts,
-                };
+                let media = Media::new(time, port, seq, ts, ssrc);
                 self.take_media(alloc, streams, media)
             }
             Reading::Parity {

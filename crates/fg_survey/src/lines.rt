@@ -2,7 +2,7 @@
 ghost use Rattle.std.specs.Prelude.{◌≡◌, ◌++◌, OnOk, false, map, true};
 ghost use Rattle.std.specs.Fmt.{decimal};
 ghost use Rattle.std.specs.List.{flat_map};
-ghost use Rattle.fg_survey.specs.Text.{all_named, burst_line, bursts_line, closing, early_line, ended_line, jitter_line, line, matrix_line, more_line, named, opening, port_line, row_line, stream_line, stream_lines, subject, tail_line, trace_line, words_line};
+ghost use Rattle.fg_survey.specs.Text.{all_named, burst_counts, burst_line, closing, early_line, ended_line, lengths_counts, line, matrix_counts, matrix_line, more_line, named, opening, pace_counts, port_line, row_counts, row_line, stream_counts, stream_lines, subject, tail_line, trace_line, words_line};
 ghost use Rattle.fg_streams.specs.Steps.{told};
 
 use crate::rows::Row;
@@ -100,6 +100,7 @@ fn push_line(
 }
 
 /// Pushes a line of counts on a port.
+#[tactic(auto, unfolding(crate::specs::Text::port_line))]
 fn push_port_line(
     text: &mut Vec<u8>,
     json: bool,
@@ -138,6 +139,26 @@ pub(crate) fn push_trace_line(
     )
 }
 
+/// What is told of a port.
+#[tactic(auto, unfolding(crate::specs::Text::row_counts))]
+fn row_counts(start: u64, row: Row) -> [(&'static str, u64); 7]
+    ensures { map (λ count. (count.0.now, count.1)) result ≡ row_counts start row }
+{
+    let other = row
+        .records
+        .saturating_sub(row.media)
+        .saturating_sub(row.parity);
+    [
+        ("records", row.records),
+        ("bytes", row.bytes),
+        ("first", row.first.saturating_sub(start)),
+        ("last", row.last.saturating_sub(start)),
+        ("media", row.media),
+        ("parity", row.parity),
+        ("other", other),
+    ]
+}
+
 /// Pushes the line of a port, where it has a record.
 #[tactic(auto, unfolding(crate::specs::Text::row_line))]
 pub(crate) fn push_row_line(
@@ -152,105 +173,62 @@ pub(crate) fn push_row_line(
     if row.records == 0 {
         return Ok(());
     }
-    let other = row
-        .records
-        .saturating_sub(row.media)
-        .saturating_sub(row.parity);
-    push_port_line(
-        text,
-        json,
-        "port",
-        port,
-        &[
-            ("records", row.records),
-            ("bytes", row.bytes),
-            ("first", row.first.saturating_sub(start)),
-            ("last", row.last.saturating_sub(start)),
-            ("media", row.media),
-            ("parity", row.parity),
-            ("other", other),
-        ],
-    )
+    push_port_line(text, json, "port", port, &row_counts(start, row))
 }
 
-/// Pushes the line of a burst.
-#[tactic(auto, unfolding(crate::specs::Text::burst_line))]
-pub(crate) fn push_burst_line(
-    text: &mut Vec<u8>,
-    json: bool,
-    start: u64,
-    sender: Sender,
-    burst: Burst,
-) -> Result<(), AllocError>
-    ensures { OnOk result (text.new.items ≡ text.old.items ++ burst_line json start sender burst) }
+/// What is told of a burst.
+#[tactic(auto, unfolding(crate::specs::Text::burst_counts))]
+fn burst_counts(start: u64, sender: Sender, burst: Burst) -> [(&'static str, u64); 4]
+    ensures { map (λ count. (count.0.now, count.1)) result ≡ burst_counts start sender burst }
 {
-    push_port_line(
-        text,
-        json,
-        "burst",
-        sender.port,
-        &[
-            ("ssrc", u64::from(sender.ssrc)),
-            ("slot", burst.slot),
-            ("length", burst.length),
-            ("at", burst.at.saturating_sub(start)),
-        ],
-    )
+    [
+        ("ssrc", u64::from(sender.ssrc)),
+        ("slot", burst.slot),
+        ("length", burst.length),
+        ("at", burst.at.saturating_sub(start)),
+    ]
 }
 
-/// Pushes the line of a stream's bursts by their lengths.
-#[tactic(auto, unfolding(crate::specs::Text::bursts_line))]
-pub(crate) fn push_bursts_line(
-    text: &mut Vec<u8>,
-    json: bool,
-    sender: Sender,
-    lengths: Lengths,
-) -> Result<(), AllocError>
-    ensures { OnOk result (text.new.items ≡ text.old.items ++ bursts_line json sender lengths) }
+/// What is told of a stream's bursts by their lengths.
+#[tactic(auto, unfolding(crate::specs::Text::lengths_counts))]
+fn lengths_counts(sender: Sender, lengths: Lengths) -> [(&'static str, u64); 9]
+    ensures { map (λ count. (count.0.now, count.1)) result ≡ lengths_counts sender lengths }
 {
-    push_port_line(
-        text,
-        json,
-        "bursts",
-        sender.port,
-        &[
-            ("ssrc", u64::from(sender.ssrc)),
-            ("runs", lengths.runs),
-            ("1", lengths.one),
-            ("2", lengths.two),
-            ("4", lengths.four),
-            ("8", lengths.eight),
-            ("16", lengths.sixteen),
-            ("32", lengths.thirty_two),
-            ("more", lengths.more),
-        ],
-    )
+    let Lengths {
+        runs,
+        one,
+        two,
+        four,
+        eight,
+        sixteen,
+        thirty_two,
+        more,
+    } = lengths;
+    [
+        ("ssrc", u64::from(sender.ssrc)),
+        ("runs", runs),
+        ("1", one),
+        ("2", two),
+        ("4", four),
+        ("8", eight),
+        ("16", sixteen),
+        ("32", thirty_two),
+        ("more", more),
+    ]
 }
 
-/// Pushes the line of a stream's pace.
-#[tactic(auto, unfolding(crate::specs::Text::jitter_line))]
-pub(crate) fn push_jitter_line(
-    text: &mut Vec<u8>,
-    json: bool,
-    start: u64,
-    sender: Sender,
-    pace: Pace,
-) -> Result<(), AllocError>
-    ensures { OnOk result (text.new.items ≡ text.old.items ++ jitter_line json start sender pace) }
+/// What is told of a stream's pace.
+#[tactic(auto, unfolding(crate::specs::Text::pace_counts))]
+fn pace_counts(start: u64, sender: Sender, pace: Pace) -> [(&'static str, u64); 5]
+    ensures { map (λ count. (count.0.now, count.1)) result ≡ pace_counts start sender pace }
 {
-    push_port_line(
-        text,
-        json,
-        "jitter",
-        sender.port,
-        &[
-            ("ssrc", u64::from(sender.ssrc)),
-            ("last", microseconds(pace.jitter)),
-            ("most", microseconds(pace.most)),
-            ("silence", pace.silence.length),
-            ("at", pace.silence.since.saturating_sub(start)),
-        ],
-    )
+    [
+        ("ssrc", u64::from(sender.ssrc)),
+        ("last", microseconds(pace.jitter)),
+        ("most", microseconds(pace.most)),
+        ("silence", pace.silence.length),
+        ("at", pace.silence.since.saturating_sub(start)),
+    ]
 }
 
 /// Pushes how many media datagrams are of streams that aren't told, if there are any.
@@ -264,37 +242,26 @@ pub(crate) fn push_more_line(text: &mut Vec<u8>, json: bool, count: u64) -> Resu
     push_line(text, json, "more", &[("streams", count)])
 }
 
-/// Pushes the line of a stream.
-#[tactic(auto, unfolding(crate::specs::Text::stream_line))]
-pub(crate) fn push_stream_line(
-    text: &mut Vec<u8>,
-    json: bool,
-    sender: Sender,
-    stream: &Stream,
-) -> Result<(), AllocError>
-    ensures { OnOk result (text.new.items ≡ text.old.items ++ stream_line json sender (told stream.now)) }
+/// What is told of a stream.
+#[tactic(auto, unfolding(crate::specs::Text::stream_counts))]
+fn stream_counts(sender: Sender, stream: &Stream) -> [(&'static str, u64); 11]
+    ensures { map (λ count. (count.0.now, count.1)) result ≡ stream_counts sender (told stream.now) }
 {
     let counts = stream.counts();
     let expected = stream.expected();
-    push_port_line(
-        text,
-        json,
-        "stream",
-        sender.port,
-        &[
-            ("ssrc", u64::from(sender.ssrc)),
-            ("first", stream.first()),
-            ("expected", expected),
-            ("received", counts.received),
-            ("lost", expected.saturating_sub(counts.received)),
-            ("duplicate", counts.duplicate),
-            ("late", counts.late),
-            ("reordered", counts.reordered),
-            ("deepest", counts.deepest),
-            ("jumps", counts.jumps),
-            ("pids", stream.pids()),
-        ],
-    )
+    [
+        ("ssrc", u64::from(sender.ssrc)),
+        ("first", stream.first()),
+        ("expected", expected),
+        ("received", counts.received),
+        ("lost", expected.saturating_sub(counts.received)),
+        ("duplicate", counts.duplicate),
+        ("late", counts.late),
+        ("reordered", counts.reordered),
+        ("deepest", counts.deepest),
+        ("jumps", counts.jumps),
+        ("pids", stream.pids()),
+    ]
 }
 
 /// Pushes the lines of bursts.
@@ -309,7 +276,8 @@ fn push_burst_lines(
         ++ flat_map (burst_line json start sender) bursts.now) }
 {
     for burst in bursts {
-        push_burst_line(text, json, start, sender, *burst)?;
+        let counts = burst_counts(start, sender, *burst);
+        push_port_line(text, json, "burst", sender.port, &counts)?;
     }
     Ok(())
 }
@@ -325,10 +293,13 @@ pub(crate) fn push_stream_lines(
     ensures { OnOk result (text.new.items ≡ text.old.items
         ++ stream_lines json start sender (told stream.now)) }
 {
-    push_stream_line(text, json, sender, stream)?;
-    push_bursts_line(text, json, sender, stream.lengths())?;
+    let counts = stream_counts(sender, stream);
+    push_port_line(text, json, "stream", sender.port, &counts)?;
+    let lengths = lengths_counts(sender, stream.lengths());
+    push_port_line(text, json, "bursts", sender.port, &lengths)?;
     push_burst_lines(text, json, start, sender, stream.longest())?;
-    push_jitter_line(text, json, start, sender, stream.pace())
+    let pace = pace_counts(start, sender, stream.pace());
+    push_port_line(text, json, "jitter", sender.port, &pace)
 }
 
 /// Pushes how the trace ended, if it is one.
@@ -387,6 +358,20 @@ fn push_early_object(text: &mut Vec<u8>, end: &str, place: u64) -> Result<(), Al
     Ok(())
 }
 
+/// What is told of a matrix.
+#[tactic(auto, unfolding(crate::specs::Text::matrix_counts))]
+fn matrix_counts(matrix: Matrix) -> [(&'static str, u64); 5]
+    ensures { map (λ count. (count.0.now, count.1)) result ≡ matrix_counts matrix }
+{
+    [
+        ("columns", matrix.columns),
+        ("rows", matrix.rows),
+        ("same", matrix.same),
+        ("other", matrix.other),
+        ("lag", matrix.lag),
+    ]
+}
+
 /// Pushes the line of a matrix.
 #[tactic(auto, unfolding(crate::specs::Text::matrix_line))]
 pub(crate) fn push_matrix_line(
@@ -397,56 +382,47 @@ pub(crate) fn push_matrix_line(
 ) -> Result<(), AllocError>
     ensures { OnOk result (text.new.items ≡ text.old.items ++ matrix_line json port matrix) }
 {
-    push_port_line(
-        text,
-        json,
-        "matrix",
-        port,
-        &[
-            ("columns", matrix.columns),
-            ("rows", matrix.rows),
-            ("same", matrix.same),
-            ("other", matrix.other),
-            ("lag", matrix.lag),
-        ],
-    )
+    push_port_line(text, json, "matrix", port, &matrix_counts(matrix))
+}
+
+/// What the words for a repair say: the port of its flow, the window and the depth.
+#[derive(Clone, Copy)]
+pub(crate) struct Words {
+    pub(crate) port: u16,
+    pub(crate) window: u64,
+    pub(crate) depth: u64,
 }
 
 /// Pushes the words for a repair.
 pub(crate) fn push_words_line(
     text: &mut Vec<u8>,
     json: bool,
-    port: u16,
-    window: u64,
-    depth: u64,
+    words: Words,
 ) -> Result<(), AllocError>
-    ensures { OnOk result (text.new.items ≡ text.old.items ++ words_line json port window depth) }
+    ensures { OnOk result (text.new.items ≡ text.old.items
+        ++ words_line json words.port words.window words.depth) }
 {
     if json {
-        push_words_object(text, port, window, depth)
+        push_words_object(text, words)
     } else {
-        push_words(text, port, window, depth)
+        push_words(text, words)
     }
 }
 
 /// The same as an object.
 #[tactic(auto, unfolding(crate::specs::Text::words_line))]
-fn push_words_object(
-    text: &mut Vec<u8>,
-    port: u16,
-    window: u64,
-    depth: u64,
-) -> Result<(), AllocError>
-    ensures { OnOk result (text.new.items ≡ text.old.items ++ words_line true port window depth) }
+fn push_words_object(text: &mut Vec<u8>, words: Words) -> Result<(), AllocError>
+    ensures { OnOk result (text.new.items ≡ text.old.items
+        ++ words_line true words.port words.window words.depth) }
 {
     push_line(
         text,
         true,
         "words",
         &[
-            ("flow", u64::from(port)),
-            ("window", window),
-            ("depth", depth),
+            ("flow", u64::from(words.port)),
+            ("window", words.window),
+            ("depth", words.depth),
         ],
     )
 }
@@ -461,12 +437,13 @@ fn push_setting(text: &mut Vec<u8>, words: &str, number: u64) -> Result<(), Allo
 
 /// The same as a line.
 #[tactic(auto, unfolding(crate::specs::Text::words_line))]
-fn push_words(text: &mut Vec<u8>, port: u16, window: u64, depth: u64) -> Result<(), AllocError>
-    ensures { OnOk result (text.new.items ≡ text.old.items ++ words_line false port window depth) }
+fn push_words(text: &mut Vec<u8>, words: Words) -> Result<(), AllocError>
+    ensures { OnOk result (text.new.items ≡ text.old.items
+        ++ words_line false words.port words.window words.depth) }
 {
-    push_setting(text, "words flow=", u64::from(port))?;
-    push_setting(text, " window=", window)?;
-    push_setting(text, " depth=", depth)?;
+    push_setting(text, "words flow=", u64::from(words.port))?;
+    push_setting(text, " window=", words.window)?;
+    push_setting(text, " depth=", words.depth)?;
     text.extend_from_slice(b"\n")?;
     Ok(())
 }

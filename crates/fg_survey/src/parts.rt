@@ -12,7 +12,7 @@ ghost use Rattle.fg_survey.specs.Tallies.{IsTally};
 ghost use Rattle.fg_survey.specs.Text.{deepest_in, depth_of, matrix_text, port_matrix, rows_text, streams_text, window_of};
 
 use crate::lanes::{Lane, find_lane};
-use crate::lines::{push_matrix_line, push_row_line, push_stream_lines, push_words_line};
+use crate::lines::{Words, push_matrix_line, push_row_line, push_stream_lines, push_words_line};
 use crate::ports::PORTS;
 use crate::rows::Row;
 use crate::senders::Sender;
@@ -112,13 +112,12 @@ fn push_matrix(text: &mut Vec<u8>, json: bool, lane: &Lane, deepest: u64) -> Res
     }
     let matrix = lane.tally.matrix();
     push_matrix_line(text, json, lane.port, matrix)?;
-    push_words_line(
-        text,
-        json,
-        lane.port,
-        window(matrix),
-        depth(matrix, deepest),
-    )?;
+    let words = Words {
+        port: lane.port,
+        window: window(matrix),
+        depth: depth(matrix, deepest),
+    };
+    push_words_line(text, json, words)?;
     Ok(())
 }
 

@@ -1,6 +1,5 @@
 //! What is kept of a trace.
-ghost use Rattle.std.specs.Prelude.{◌≡◌, ◌<◌, ◌^◌, ◌∷◌, ◌++◌, [], ℕ, List, IfOk, OnOk, length};
-ghost use Rattle.fg_report.specs.declared.tail.Tail.{Tail as Tails};
+ghost use Rattle.std.specs.Prelude.{◌≡◌, ◌<◌, ◌^◌, ◌∷◌, ◌++◌, [], List, IfOk, OnOk, length};
 ghost use Rattle.fg_trace.specs.Trace.{Record};
 ghost use Rattle.fg_survey.specs.Steps.{IsSheet};
 ghost use Rattle.fg_survey.specs.Text.{survey_text};
@@ -32,7 +31,7 @@ impl Sheet {
         ensures { IfOk result (λ sheet. IsSheet sheet []) }
     {
         Ok(Sheet {
-            totals: Totals::new(),
+            totals: Totals::at(0, 0, 0),
             rows: no_rows(alloc)?,
             streams: Streams::new(alloc),
             lanes: Lanes::new(alloc)?,

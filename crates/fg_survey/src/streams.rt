@@ -1,5 +1,5 @@
 //! The streams of a trace.
-ghost use Rattle.std.specs.Prelude.{◌≡◌, ◌<◌, ◌^◌, ◌∷◌, [], ℕ, List, IfOk, OnOk, false, length};
+ghost use Rattle.std.specs.Prelude.{◌≡◌, ◌<◌, ◌^◌, ◌∷◌, [], List, IfOk, OnOk, false, length};
 ghost use Rattle.fg_survey.specs.Heard.{Heard};
 ghost use Rattle.fg_streams.specs.Steps.{IsStreamOf};
 ghost use Rattle.fg_survey.specs.Steps.{KeepsStreams, HaveEnded, IsFoundAt, arrival_of, media_heard};
@@ -35,6 +35,20 @@ pub(crate) struct Media {
     pub(crate) ts: u32,
 }
 
+impl Media {
+    /// The media datagram with these numbers that came at this time on this port.
+    pub(crate) fn new(time: u64, port: u16, seq: u16, ts: u32, ssrc: u32) -> Media
+        ensures { result ≡ record { time = time; sender = record { port = port; ssrc = ssrc }; seq = seq; ts = ts } }
+    {
+        Media {
+            time,
+            sender: Sender { port, ssrc },
+            seq,
+            ts,
+        }
+    }
+}
+
 impl Streams {
     /// No stream.
     pub(crate) fn new(alloc: Global) -> Streams
@@ -63,12 +77,7 @@ impl Streams {
     {
         match reading {
             Reading::Media { seq, ts, ssrc } => {
-                let media = Media {
-                    time,
-                    sender: Sender { port, ssrc },
-                    seq,
-                    ts,
-                };
+                let media = Media::new(time, port, seq, ts, ssrc);
                 self.take_media(alloc, media, datagram)
             }
             Reading::Parity { .. } => Ok(()),

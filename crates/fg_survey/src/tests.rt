@@ -1,9 +1,9 @@
 //! A trace with each kind of line, in both forms, and traces that end early.
-ghost use Rattle.std.specs.Prelude.{◌≤◌};
+ghost use Rattle.std.specs.Prelude.{◌≤◌, length};
 
 use super::*;
 use fg_io::{MemSink, MemSource};
-use fg_trace::Finish;
+use fg_trace::{Finish, record_header};
 use std::alloc::{AllocError, Global};
 use std::process::Abort;
 use std::test::Fail;
@@ -35,31 +35,25 @@ fn parity() -> [u8; 29] {
     bytes
 }
 
-/// Adds a record of a datagram of so many bytes to a trace.
-fn add(
-    trace: &mut Vec<u8>,
-    time: u64,
-    port: u16,
-    datagram: &[u8],
-    size: u16,
-) -> Result<(), AllocError> {
-    trace.extend_from_slice(&time.to_be_bytes())?;
-    trace.extend_from_slice(&port.to_be_bytes())?;
-    trace.extend_from_slice(&size.to_be_bytes())?;
+/// Adds a record with this datagram to a trace.
+fn add(trace: &mut Vec<u8>, time: u64, port: u16, datagram: &[u8]) -> Result<(), AllocError>
+    requires { length datagram.now ≤ 65535 }
+{
+    trace.extend_from_slice(&record_header(time, port, datagram.len() as u16))?;
     trace.extend_from_slice(datagram)
 }
 
 /// Numbers that wrap, one behind another, one twice and three lost; a parity datagram, and something other.
 fn trace(alloc: Global) -> Result<Vec<u8>, AllocError> {
     let mut trace = Vec::from_slice(alloc, b"FECTRAC1")?;
-    add(&mut trace, 1000, 5000, &media(65_534, 90, 1), 200)?;
-    add(&mut trace, 2000, 5000, &media(65_535, 180, 1), 200)?;
-    add(&mut trace, 3000, 5000, &media(1, 270, 2), 200)?;
-    add(&mut trace, 2500, 5000, &media(0, 225, 2), 200)?;
-    add(&mut trace, 4000, 5000, &media(0, 360, 3), 200)?;
-    add(&mut trace, 9000, 5002, &parity(), 29)?;
-    add(&mut trace, 10_000, 5000, &media(5, 900, 1), 200)?;
-    add(&mut trace, 11_000, 6000, b"x", 1)?;
+    add(&mut trace, 1000, 5000, &media(65_534, 90, 1))?;
+    add(&mut trace, 2000, 5000, &media(65_535, 180, 1))?;
+    add(&mut trace, 3000, 5000, &media(1, 270, 2))?;
+    add(&mut trace, 2500, 5000, &media(0, 225, 2))?;
+    add(&mut trace, 4000, 5000, &media(0, 360, 3))?;
+    add(&mut trace, 9000, 5002, &parity())?;
+    add(&mut trace, 10_000, 5000, &media(5, 900, 1))?;
+    add(&mut trace, 11_000, 6000, b"x")?;
     Ok(trace)
 }
 

@@ -22,16 +22,16 @@ pub struct Totals {
 }
 
 impl Totals {
-    /// No record.
-    pub(crate) fn new() -> Totals
-        ensures { result ≡ totals_of [] }
+    /// So many records of so many bytes, all at this time.
+    pub(crate) fn at(records: u64, bytes: u64, time: u64) -> Totals
+        ensures { result ≡ record { records = records; bytes = bytes; first = time; least = time; greatest = time; backward = 0 } }
     {
         Totals {
-            records: 0,
-            bytes: 0,
-            first: 0,
-            least: 0,
-            greatest: 0,
+            records,
+            bytes,
+            first: time,
+            least: time,
+            greatest: time,
             backward: 0,
         }
     }
@@ -57,13 +57,6 @@ impl Totals {
     fn of_one(time: u64, len: u16) -> Totals
         ensures { (x : Heard) → x.time ≡ time → size x ≡ len → result ≡ totals_of (x ∷ []) }
     {
-        Totals {
-            records: 1,
-            bytes: u64::from(len),
-            first: time,
-            least: time,
-            greatest: time,
-            backward: 0,
-        }
+        Totals::at(1, u64::from(len), time)
     }
 }

@@ -1,21 +1,23 @@
 //! Walking a trace, and telling what it holds.
-ghost use Rattle.std.specs.Prelude.{◌≡◌, ◌≢◌, ◌⊎◌, ◌+◌, ◌≤◌, ◌<◌, ◌^◌, ℕ, Option, List, [], ◌∷◌, length, None, IfOk, IfSome, IfNone, IfErr, OnErr};
+ghost use Rattle.std.specs.Prelude.{◌≡◌, ◌≢◌, ◌⊎◌, ◌≤◌, ◌<◌, ◌^◌, ℕ, List, [], ◌∷◌, length, IfOk, IfSome, IfErr, OnOk, OnErr};
 ghost use Rattle.std.specs.Io.KnownBytes.{IsAtEnd};
+ghost use Rattle.fg_io.specs.Sink.{Gains, GainsPart};
 ghost use Rattle.fg_io.specs.Faults.{Counts, CountsFaults};
-ghost use Rattle.fg_trace.specs.Reader.{StandsAfter};
 ghost use Rattle.fg_trace.specs.Trace.{Record, Ending, NotTrace as NoMagic, IsTrace};
 ghost use Rattle.fg_trace.specs.Finish.{IsFault, ReadsAll, finish_of};
-ghost use Rattle.fg_trace.specs.Reading.{HasReached, IsReadFor};
-ghost use Rattle.fg_trace.specs.Reached.{IsReadTo, Stands, answer_to};
+ghost use Rattle.fg_trace.specs.Reading.{IsReadFor};
+ghost use Rattle.fg_trace.specs.Reached.{IsReadTo};
 ghost use Rattle.fg_survey.specs.Survey.{Surveys, SurveysPart};
-ghost use Rattle.fg_survey.specs.Steps.{HasTakenAll, IsSheet, IsUnderway, IsTailOf};
+ghost use Rattle.fg_survey.specs.Steps.{IsSheet, IsTailOf};
+ghost use Rattle.fg_survey.specs.Text.{survey_text};
 
 use crate::laws::one_text;
 use crate::sheet::Sheet;
-use fg_io::{Fault, Sink, Source, write_all};
+use fg_io::{Fault, SafeSink, Sink, Source, write_all};
 use fg_report::Tail;
-use fg_trace::laws::{one_trace, read_as_far_as_needed, walks_on};
-use fg_trace::{Finish, Reader, Step, TraceFault};
+use fg_trace::Finish;
+use fg_trace::laws::{one_trace, read_as_far_as_needed};
+use fg_walk::{Telling, walk};
 use std::alloc::Global;
 
 /// Surveys a trace, and writes what it holds to `out`: its totals, each port with a record, each stream of media datagrams,
@@ -62,9 +64,7 @@ pub fn survey<S: Source, K: Sink>(
     one_trace();
     match survey_trace(alloc, max, json, input, out) {
         Ok(finish) => finish,
-        Err(Fault::Read) => Finish::ReadFault,
-        Err(Fault::Write) => Finish::WriteFault,
-        Err(Fault::Memory) => Finish::Memory,
+        Err(fault) => Finish::from(fault),
     }
 }
 
@@ -90,51 +90,86 @@ fn survey_trace<S: Source, K: Sink>(
     ensures faults { Counts result ((S.faults input.old, S.faults input.new) ∷ [])
         ((K.faults out.old, K.faults out.new) ∷ []) }
 {
-    read_as_far_as_needed();
-    let mut reader = Reader::new(alloc, max)?;
-    let mut sheet = Sheet::new(alloc)?;
-    match reader.start(input) {
-        Ok(()) => survey_records(alloc, json, &mut sheet, &mut reader, input, out),
-        Err(TraceFault::NotTrace(place)) => Ok(Finish::NotTrace(place)),
-        Err(TraceFault::ReadFault) => Err(Fault::Read),
-        Err(TraceFault::Cut(_)) => unreachable!(),
-        Err(TraceFault::TooLong(_)) => unreachable!(),
-    }
-}
-
-/// Surveys the records of a trace, whose magic the reader has found, and answers how it ends.
-fn survey_records<S: Source, K: Sink>(
-    alloc: Global,
-    json: bool,
-    sheet: &mut Sheet,
-    reader: &mut Reader,
-    input: &mut S,
-    out: &mut K,
-) -> Result<Finish, Fault>
-    requires new { IsSheet sheet.old [] }
-    requires begun { (first : Option (List ℕ)) × StandsAfter reader.old first (S.left input.old) [] }
-    requires open { reader.old.kept ≡ None }
-    requires limit { reader.old.max ≤ 2 ^ 40 }
-    ensures whole { IfOk result (λ finish. (first : Option (List ℕ))
-        → StandsAfter reader.old first (S.left input.old) []
-        → Surveys json reader.old.max finish first (K.written out.old) (K.written out.new)) }
-    ensures part { OnErr result ((first : Option (List ℕ))
-        → StandsAfter reader.old first (S.left input.old) []
-        → SurveysPart json reader.old.max first (K.written out.old) (K.written out.new)) }
-    ensures unwritten { IfErr result (λ fault. (fault ≢ Fault.Write) → out.new ≡ out.old) }
-    ensures all_read { IfOk result (λ finish. ReadsAll finish → IsAtEnd (S.left input.new)) }
-    ensures reached { (first : Option (List ℕ)) → StandsAfter reader.old first (S.left input.old) []
-        → IsReadTo reader.old.max result first (S.left input.new) }
-    ensures faults { Counts result ((S.faults input.old, S.faults input.new) ∷ [])
-        ((K.faults out.old, K.faults out.new) ∷ []) }
-{
     one_trace();
     one_text();
     read_as_far_as_needed();
-    let finish = take_all(alloc, sheet, reader, input)?;
-    let text = sheet.text(alloc, json, tail_of(finish))?;
+    let sheet = Sheet::new(alloc)?;
+    let mut work = Surveying { alloc, sheet };
+    // Nothing is written before all records are read.
+    match walk(alloc, max, &mut work, input, &mut SafeSink::new())? {
+        Finish::NotTrace(place) => Ok(Finish::NotTrace(place)),
+        finish => {
+            write_text(alloc, json, &mut work.sheet, tail_of(finish), out)?;
+            Ok(finish)
+        }
+    }
+}
+
+/// A survey under way: what is kept of the records that were read.
+#[derive(Drop)]
+struct Surveying {
+    alloc: Global,
+    sheet: Sheet,
+}
+
+impl Telling for Surveying {
+    ghost use Rattle.std.specs.Prelude.{⊤, []};
+    ghost use Rattle.fg_survey.specs.Steps.{HasKept, IsSheet};
+
+    ghost Given = { Unit {0} };
+
+    ghost given = { λ _. tt };
+
+    ghost is_new = { λ work. IsSheet work.sheet [] };
+
+    ghost has_told = { λ work records _ _. IsSheet work.sheet records };
+
+    ghost whole = { λ work records _ _ _. HasKept work.sheet records };
+
+    ghost part = { λ _ _ _ _. ⊤ };
+
+    fn begin<K: Sink>(&mut self, _out: &mut K) -> Result<(), Fault> {
+        Ok(())
+    }
+
+    fn tell<K: Sink>(
+        &mut self,
+        time: u64,
+        port: u16,
+        datagram: &[u8],
+        _out: &mut K,
+    ) -> Result<(), Fault> {
+        self.sheet
+            .take(self.alloc, time, port, datagram.len() as u16, datagram)?;
+        Ok(())
+    }
+
+    fn end<K: Sink>(&mut self, _finish: Finish, _out: &mut K) -> Result<(), Fault> {
+        Ok(())
+    }
+
+    fn stops(&self) {}
+}
+
+/// Writes the text of what is kept.
+fn write_text<K: Sink>(
+    alloc: Global,
+    json: bool,
+    sheet: &mut Sheet,
+    tail: Tail,
+    out: &mut K,
+) -> Result<(), Fault>
+    requires { (records : List Record) × IsSheet sheet.old records × (length records < 2 ^ 40) }
+    ensures whole { OnOk result ((records : List Record) (kept : IsSheet sheet.old records)
+        → Gains (K.written out.old) (survey_text json kept.heard tail) (K.written out.new)) }
+    ensures part { OnErr result ((records : List Record) (kept : IsSheet sheet.old records)
+        → GainsPart (K.written out.old) (survey_text json kept.heard tail) (K.written out.new)) }
+    ensures unwritten { IfErr result (λ fault. (fault ≢ Fault.Write) → out.new ≡ out.old) }
+    ensures faults { Counts result [] ((K.faults out.old, K.faults out.new) ∷ []) }
+{
+    let text = sheet.text(alloc, json, tail)?;
     write_all(out, &text)?;
-    Ok(finish)
+    Ok(())
 }
 
 /// How the trace ended, where its records were read.
@@ -145,75 +180,5 @@ fn tail_of(finish: Finish) -> Tail
         Finish::Cut(place) => Tail::Cut(place),
         Finish::TooLong(place) => Tail::TooLong(place),
         _ => Tail::Ended,
-    }
-}
-
-/// Takes the records that are left, and answers how the trace ends.
-fn take_all<S: Source>(
-    alloc: Global,
-    sheet: &mut Sheet,
-    reader: &mut Reader,
-    input: &mut S,
-) -> Result<Finish, Fault>
-    requires underway { (first : Option (List ℕ)) × IsUnderway first (S.left input.old) reader.old sheet.old }
-    requires open { reader.old.kept ≡ None }
-    requires limit { reader.old.max ≤ 2 ^ 40 }
-    ensures whole { IfOk result (λ finish. (first : Option (List ℕ))
-        → IsUnderway first (S.left input.old) reader.old sheet.old
-        → HasTakenAll reader.old.max first finish sheet.new) }
-    ensures all_read { IfOk result (λ finish. ReadsAll finish → IsAtEnd (S.left input.new)) }
-    ensures stands { (first : Option (List ℕ))
-        → Stands reader.old first (S.left input.old) → Stands reader.new first (S.left input.new) }
-    ensures max { reader.new.max ≡ reader.old.max }
-    ensures bounded { reader.new.place + length reader.new.held ≤ reader.new.max + 1 }
-    ensures reached { HasReached (answer_to result) reader.new (S.left input.new) }
-    ensures faults { Counts result ((S.faults input.old, S.faults input.new) ∷ []) [] }
-{
-    loop {
-        if let Some(finish) = take_next(alloc, sheet, reader, input)? {
-            return Ok(finish);
-        }
-    }
-}
-
-/// Takes the next record, where there is one; else it answers how the trace ends.
-fn take_next<S: Source>(
-    alloc: Global,
-    sheet: &mut Sheet,
-    reader: &mut Reader,
-    input: &mut S,
-) -> Result<Option<Finish>, Fault>
-    requires underway { (first : Option (List ℕ)) × IsUnderway first (S.left input.old) reader.old sheet.old }
-    requires open { reader.old.kept ≡ None }
-    requires limit { reader.old.max ≤ 2 ^ 40 }
-    ensures more { IfOk result (λ end. IfNone end ((first : Option (List ℕ))
-        → IsUnderway first (S.left input.old) reader.old sheet.old
-        → IsUnderway first (S.left input.new) reader.new sheet.new)) }
-    ensures ends { IfOk result (λ end. IfSome end (λ finish. (first : Option (List ℕ))
-        → IsUnderway first (S.left input.old) reader.old sheet.old
-        → HasTakenAll reader.old.max first finish sheet.new)) }
-    ensures all_read { IfOk result (λ end. IfSome end (λ finish. ReadsAll finish → IsAtEnd (S.left input.new))) }
-    ensures stands { (first : Option (List ℕ))
-        → Stands reader.old first (S.left input.old) → Stands reader.new first (S.left input.new) }
-    ensures bounded { reader.new.place + length reader.new.held ≤ reader.new.max + 1 }
-    ensures reached { IfOk result (λ end. IfSome end (λ finish.
-        HasReached finish reader.new (S.left input.new))) }
-    ensures open { IfOk result (λ end. IfNone end (reader.new.kept ≡ None)) }
-    ensures max { reader.new.max ≡ reader.old.max }
-    ensures place { IfOk result (λ end. IfNone end (reader.old.place < reader.new.place)) }
-    ensures within { reader.new.place ≤ reader.new.max }
-    ensures faults { Counts result ((S.faults input.old, S.faults input.new) ∷ []) [] }
-{
-    walks_on();
-    match reader.next(input) {
-        Ok(Step::Datagram { time, port, size }) => {
-            sheet.take(alloc, time, port, size, reader.payload())?;
-            Ok(None)
-        }
-        Ok(Step::End) => Ok(Some(Finish::Done)),
-        Err(TraceFault::Cut(place)) => Ok(Some(Finish::Cut(place))),
-        Err(TraceFault::TooLong(place)) => Ok(Some(Finish::TooLong(place))),
-        Err(TraceFault::ReadFault) => Err(Fault::Read),
-        Err(TraceFault::NotTrace(_)) => unreachable!(),
     }
 }

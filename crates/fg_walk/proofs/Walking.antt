@@ -19,7 +19,7 @@ abbrev Told : Type 0 → Type 1
 Told A = A → List Record → Option (List ℕ) → Option (List ℕ) → Type 0
 
 -- the records that a reader stands after are few
-pub few_told : {A : Type 0} (HasTold : Told A) (telling : A) (first now : Option (List ℕ)) (reader : ReaderState) (before after : Option (List ℕ)) → reader.max ≤ 2 ^ 40 → (h : IsUnderway HasTold telling first now reader before after) → length h.records < 2 ^ 60
+pub few_told : {A : Type 0} (HasTold : Told A) (telling : A) (first now : Option (List ℕ)) (reader : ReaderState) (before after : Option (List ℕ)) → reader.max ≤ 2 ^ 40 → (h : IsUnderway HasTold telling first now reader before after) → length h.records < 2 ^ 40
 few_told HasTold telling first now reader before after limit h =
     let within : length (trace_of h.records) ≤ reader.max = subst (λ n. n ≤ reader.max) h.stands.place h.stands.within in
     omega (arith, limit, within, few_spelled h.records)
@@ -47,8 +47,8 @@ of_told law HasTold Part telling given max (Some bytes) finish before at after h
 
 -- Where no magic is found
 
-pub walked_none : {G : Type 0} (Whole : G → List Record → Ending → Option (List ℕ) → Option (List ℕ) → Type 0) (given : G) (first : Option (List ℕ)) (found max place : ℕ) (written : Option (List ℕ)) → found ≡ max → IfSome first (λ bytes. IsTrace bytes found [] (NotTrace place)) → Whole given [] (NotTrace place) written written → Walked Whole given max (finish.NotTrace place) first written written
-walked_none Whole given first found max place written same h told = record {
+pub walked_none : {A : Type 0} (Whole : A → List Record → Ending → Option (List ℕ) → Option (List ℕ) → Type 0) (telling : A) (first : Option (List ℕ)) (found max place : ℕ) (written : Option (List ℕ)) → found ≡ max → IfSome first (λ bytes. IsTrace bytes found [] (NotTrace place)) → Whole telling [] (NotTrace place) written written → Walked Whole telling max (finish.NotTrace place) first written written
+walked_none Whole telling first found max place written same h told = record {
   records = [];
   end = NotTrace place;
   answer_is = refl;
@@ -99,11 +99,12 @@ part_at_fault law HasTold Part telling given first left now reader next before a
 
 pub told_all :
     {A : Type 0} (HasTold : Told A) (telling : A) (first left now : Option (List ℕ)) (reader next : ReaderState) (before at : Option (List ℕ)) (end : Ending) (finish : Finish)
-    → next.max ≡ reader.max → finish ≡ finish_of end
+    → next.max ≡ reader.max → reader.max ≤ 2 ^ 40 → finish ≡ finish_of end
     → ((records : List Record) → StandsAfter reader first left records → StandsAfter next first now records × IfSome first (λ bytes. IsTrace bytes next.max records end))
     → IsUnderway HasTold telling first left reader before at → HasToldAll HasTold telling reader.max first finish before at
-told_all HasTold telling first left now reader next before at end finish max is walks h = record {
+told_all HasTold telling first left now reader next before at end finish max limit is walks h = record {
   records = h.records;
+  few = few_told HasTold telling first left reader before at limit h;
   end = end;
   answer_is = is;
   of_input = subst (λ n. IfSome first (λ bytes. IsTrace bytes n h.records end)) max (walks h.records h.stands).1;
@@ -111,7 +112,7 @@ told_all HasTold telling first left now reader next before at end finish max is 
 }
 
 pub walked_whole :
-    {A G : Type 0} (HasTold : Told A) (Whole : G → List Record → Ending → Option (List ℕ) → Option (List ℕ) → Type 0) (telling : A) (given : G) (max : ℕ) (first : Option (List ℕ)) (finish : Finish) (before at after : Option (List ℕ))
-    → (h : HasToldAll HasTold telling max first finish before at) → Whole given h.records h.end before after → Walked Whole given max finish first before after
-walked_whole HasTold Whole telling given max first finish before at after h whole =
+    {A : Type 0} (HasTold : Told A) (Whole : A → List Record → Ending → Option (List ℕ) → Option (List ℕ) → Type 0) (telling ended : A) (max : ℕ) (first : Option (List ℕ)) (finish : Finish) (before at after : Option (List ℕ))
+    → (h : HasToldAll HasTold telling max first finish before at) → Whole ended h.records h.end before after → Walked Whole ended max finish first before after
+walked_whole HasTold Whole telling ended max first finish before at after h whole =
     record { records = h.records; end = h.end; answer_is = h.answer_is; of_input = h.of_input; told = whole }

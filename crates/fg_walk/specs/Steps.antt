@@ -1,5 +1,5 @@
 -- How far a walk has come. No public contract cites what stands here.
-use Rattle.std.specs.Prelude.{◌≡◌, ℕ, List, Option, IfSome}
+use Rattle.std.specs.Prelude.{◌≡◌, ◌<◌, ◌^◌, ℕ, List, Option, IfSome, length}
 use Rattle.fg_trace.specs.declared.step.Finish.{Finish}
 use Rattle.fg_trace.specs.Finish.{finish_of}
 use Rattle.fg_trace.specs.Reader.{ReaderState, StandsAfter}
@@ -18,6 +18,7 @@ pub record HasToldAll
     {A : Type 0} (HasTold : A → List Record → Option (List ℕ) → Option (List ℕ) → Type 0) (telling : A)
     (max : ℕ) (first : Option (List ℕ)) (answer : Finish) (before after : Option (List ℕ)) : Type 0 where
   pub records : List Record
+  pub few : length records < 2 ^ 40
   pub end : Ending
   pub answer_is : answer ≡ finish_of end
   pub of_input : IfSome first (λ bytes. IsTrace bytes max records end)

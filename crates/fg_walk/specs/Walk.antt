@@ -8,13 +8,13 @@ use Rattle.fg_trace.specs.Trace.{Record, Ending, IsTrace}
 -- The answer is that of the ending of the input's trace, and all that is told of its records is gained, of which `Whole` says
 -- what it is. What is no trace has no records.
 pub record Walked
-    {G : Type 0} (Whole : G → List Record → Ending → Option (List ℕ) → Option (List ℕ) → Type 0) (given : G)
+    {A : Type 0} (Whole : A → List Record → Ending → Option (List ℕ) → Option (List ℕ) → Type 0) (telling : A)
     (max : ℕ) (answer : Finish) (input before after : Option (List ℕ)) : Type 0 where
   pub records : List Record
   pub end : Ending
   pub answer_is : answer ≡ finish_of end
   pub of_input : IfSome input (λ bytes. IsTrace bytes max records end)
-  pub told : Whole given records end before after
+  pub told : Whole telling records end before after
 
 -- A part of what is told of the records of the input's trace is gained.
 abbrev pub WalkedPart : {G : Type 0} → (G → List Record → Option (List ℕ) → Option (List ℕ) → Type 0) → G → ℕ → Option (List ℕ) → Option (List ℕ) → Option (List ℕ) → Type 0

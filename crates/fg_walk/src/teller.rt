@@ -22,8 +22,8 @@ pub trait Telling {
     // written when nothing was told, and has the second.
     ghost has_told: { Self → List Record → Option (List ℕ) → Option (List ℕ) → Type 0 };
 
-    // The sink has gained all that is told of these records, where their trace ends so.
-    ghost whole: { Given → List Record → Ending → Option (List ℕ) → Option (List ℕ) → Type 0 };
+    // The sink has gained all that is told of these records, where their trace ends so. It may say too what is kept of them.
+    ghost whole: { Self → List Record → Ending → Option (List ℕ) → Option (List ℕ) → Type 0 };
 
     // It has gained a prefix of that.
     ghost part: { Given → List Record → Option (List ℕ) → Option (List ℕ) → Type 0 };
@@ -47,7 +47,7 @@ pub trait Telling {
     ) -> Result<(), Fault>
         requires size { length datagram.now < 2 ^ 16 }
         requires told { (records : List Record) × (before : Option (List ℕ))
-            × (length records < 2 ^ 60) × has_told self.old records before (K.written out.old) }
+            × (length records < 2 ^ 40) × has_told self.old records before (K.written out.old) }
         ensures told { OnOk result ((records : List Record) (before : Option (List ℕ))
             → has_told self.old records before (K.written out.old)
             → has_told self.new (records ++ (record { time = time; port = port; datagram = datagram.now }) ∷ [])
@@ -63,10 +63,10 @@ pub trait Telling {
     fn end<K: Sink>(&mut self, finish: Finish, out: &mut K) -> Result<(), Fault>
         requires begun { IsBegun finish }
         requires told { (records : List Record) × (before : Option (List ℕ))
-            × has_told self.old records before (K.written out.old) }
+            × (length records < 2 ^ 40) × has_told self.old records before (K.written out.old) }
         ensures whole { OnOk result ((records : List Record) (end : Ending) (before : Option (List ℕ))
             → finish ≡ finish_of end → has_told self.old records before (K.written out.old)
-            → whole (given self.old) records end before (K.written out.new)) }
+            → whole self.new records end before (K.written out.new)) }
         ensures part { OnErr result ((records : List Record) (before : Option (List ℕ))
             → has_told self.old records before (K.written out.old)
             → part (given self.old) records before (K.written out.new)) }
@@ -76,7 +76,7 @@ pub trait Telling {
     /// What stands where the walk ends early. It does nothing.
     fn stops(&self)
         ensures nothing { is_new self.now → (place : ℕ) (written : Option (List ℕ))
-            → whole (given self.now) [] (NoMagic place) written written }
+            → whole self.now [] (NoMagic place) written written }
         ensures none { is_new self.now → (records : List Record) (written : Option (List ℕ))
             → part (given self.now) records written written }
         ensures told { (records later : List Record) (before after : Option (List ℕ))

@@ -33,7 +33,7 @@ pub fn walk<T: Telling, S: Source, K: Sink>(
     requires new { T.is_new telling.old }
 
     // Where nothing fails the answer is that of the trace's ending, and all its records are told.
-    ensures whole { IfOk result (λ finish. Walked T.whole (T.given telling.old) max finish (S.left input.old)
+    ensures whole { IfOk result (λ finish. Walked T.whole telling.new max finish (S.left input.old)
         (K.written out.old) (K.written out.new)) }
     ensures all_read { IfOk result (λ finish. ReadsAll finish → IsAtEnd (S.left input.new)) }
 
@@ -44,6 +44,8 @@ pub fn walk<T: Telling, S: Source, K: Sink>(
     // What is no trace has nothing told, whatever the answer.
     ensures refused { IfSome (S.left input.old) (λ bytes. (place : ℕ)
         → IsTrace bytes max [] (NoMagic place) → out.new ≡ out.old) }
+
+    ensures given { T.given telling.new ≡ T.given telling.old }
 
     // The input is read as far as the answer needs, and at most a byte past the limit.
     ensures reached { IsReadTo max result (S.left input.old) (S.left input.new) }
@@ -77,11 +79,12 @@ fn walk_records<T: Telling, S: Source, K: Sink>(
     requires limit { reader.old.max ≤ 2 ^ 40 }
     ensures whole { IfOk result (λ finish. (first : Option (List ℕ))
         → StandsAfter reader.old first (S.left input.old) []
-        → Walked T.whole (T.given telling.old) reader.old.max finish first (K.written out.old) (K.written out.new)) }
+        → Walked T.whole telling.new reader.old.max finish first (K.written out.old) (K.written out.new)) }
     ensures all_read { IfOk result (λ finish. ReadsAll finish → IsAtEnd (S.left input.new)) }
     ensures part { OnErr result ((first : Option (List ℕ))
         → StandsAfter reader.old first (S.left input.old) []
         → WalkedPart T.part (T.given telling.old) reader.old.max first (K.written out.old) (K.written out.new)) }
+    ensures given { T.given telling.new ≡ T.given telling.old }
     ensures reached { (first : Option (List ℕ)) → StandsAfter reader.old first (S.left input.old) []
         → IsReadTo reader.old.max result first (S.left input.new) }
     ensures faults { Counts result ((S.faults input.old, S.faults input.new) ∷ [])

@@ -2,8 +2,8 @@
 ghost use Rattle.std.specs.Prelude.{◌≤◌, ◌<◌};
 
 use crate::frame::datagram_of;
-use crate::{CaptureFinish, from_capture};
-use fg_io::{MemSink, MemSource, SafeSource};
+use crate::{CaptureEnding, from_capture};
+use fg_io::{Fault, MemSink, MemSource, SafeSource};
 use std::alloc::{AllocError, Global};
 use std::process::Abort;
 use std::test::Fail;
@@ -144,7 +144,7 @@ fn is_taken(
     alloc: Global,
     capture: &[u8],
     max: u64,
-    finish: CaptureFinish,
+    ending: CaptureEnding,
     records: &[u8],
 ) -> Result<(), AllocError>
     requires least { 8 ≤ max }
@@ -152,7 +152,7 @@ fn is_taken(
 {
     let mut input = SafeSource::new(alloc, capture, 1000)?;
     let mut out = MemSink::new(alloc, 65_536, &[])?;
-    assert_eq!(rt; from_capture(alloc, max, &mut input, &mut out), finish);
+    assert_eq!(rt; from_capture(alloc, max, &mut input, &mut out), Ok(ending));
     assert_eq!(rt; out.bytes().get(8..).unwrap_or(&[]), records);
     Ok(())
 }
@@ -160,15 +160,15 @@ fn is_taken(
 #[test]
 fn both_orders_and_units(rt: HostRuntime) -> Result<(), Fail> {
     let alloc = rt.alloc();
-    let done = CaptureFinish::Done;
+    let ended = CaptureEnding::Ended;
     let capture = one_frame(alloc, HIGHEST, [0, 0, 0, 5], true)?;
-    is_taken(&rt, alloc, &capture, MOST, done, &record_at(5))?;
+    is_taken(&rt, alloc, &capture, MOST, ended, &record_at(5))?;
     let capture = one_frame(alloc, LOWEST, [5, 0, 0, 0], false)?;
-    is_taken(&rt, alloc, &capture, MOST, done, &record_at(5))?;
+    is_taken(&rt, alloc, &capture, MOST, ended, &record_at(5))?;
     let capture = one_frame(alloc, HIGHEST_NANO, [0, 0, 8, 0], true)?;
-    is_taken(&rt, alloc, &capture, MOST, done, &record_at(2))?;
+    is_taken(&rt, alloc, &capture, MOST, ended, &record_at(2))?;
     let capture = one_frame(alloc, LOWEST_NANO, [0, 8, 0, 0], false)?;
-    is_taken(&rt, alloc, &capture, MOST, done, &record_at(2))?;
+    is_taken(&rt, alloc, &capture, MOST, ended, &record_at(2))?;
     Ok(())
 }
 
@@ -178,14 +178,14 @@ fn is_refused(
     alloc: Global,
     capture: &[u8],
     max: u64,
-    finish: CaptureFinish,
+    ending: CaptureEnding,
 ) -> Result<(), AllocError>
     requires least { 8 ≤ max }
     requires limit { max ≤ 1099511627776 }
 {
     let mut input = SafeSource::new(alloc, capture, 7)?;
     let mut out = MemSink::new(alloc, 65_536, &[])?;
-    assert_eq!(rt; from_capture(alloc, max, &mut input, &mut out), finish);
+    assert_eq!(rt; from_capture(alloc, max, &mut input, &mut out), Ok(ending));
     assert!(rt; out.bytes().is_empty());
     Ok(())
 }
@@ -194,19 +194,19 @@ fn is_refused(
 fn file_headers_are_refused(rt: HostRuntime) -> Result<(), Fail> {
     let alloc = rt.alloc();
     let raw = file_header(alloc, HIGHEST, [0, 0, 0, 101])?;
-    is_refused(&rt, alloc, &raw, 23, CaptureFinish::TooLong(0))?;
+    is_refused(&rt, alloc, &raw, 23, CaptureEnding::TooLong(0))?;
     is_refused(
         &rt,
         alloc,
         front(&raw, 23),
         23,
-        CaptureFinish::NotCapture(23),
+        CaptureEnding::NotCapture(23),
     )?;
-    is_refused(&rt, alloc, &[], 8, CaptureFinish::NotCapture(0))?;
-    is_refused(&rt, alloc, &[0; 24], MOST, CaptureFinish::NotCapture(0))?;
-    is_refused(&rt, alloc, &raw, MOST, CaptureFinish::NotCapture(20))?;
+    is_refused(&rt, alloc, &[], 8, CaptureEnding::NotCapture(0))?;
+    is_refused(&rt, alloc, &[0; 24], MOST, CaptureEnding::NotCapture(0))?;
+    is_refused(&rt, alloc, &raw, MOST, CaptureEnding::NotCapture(20))?;
     let swapped = file_header(alloc, [0xd4, 0xc3, 0xb2, 0xa1, 0, 2, 0, 4], [1, 0, 0, 0])?;
-    is_refused(&rt, alloc, &swapped, MOST, CaptureFinish::NotCapture(4))?;
+    is_refused(&rt, alloc, &swapped, MOST, CaptureEnding::NotCapture(4))?;
     Ok(())
 }
 
@@ -214,15 +214,22 @@ fn file_headers_are_refused(rt: HostRuntime) -> Result<(), Fail> {
 fn each_ending(rt: HostRuntime) -> Result<(), Fail> {
     let alloc = rt.alloc();
     let capture = one_frame(alloc, HIGHEST, [0, 0, 0, 5], true)?;
-    is_taken(&rt, alloc, &capture, 88, CaptureFinish::Done, &record_at(5))?;
-    is_taken(&rt, alloc, &capture, 87, CaptureFinish::TooLong(24), &[])?;
-    is_taken(&rt, alloc, &capture, 24, CaptureFinish::TooLong(24), &[])?;
+    is_taken(
+        &rt,
+        alloc,
+        &capture,
+        88,
+        CaptureEnding::Ended,
+        &record_at(5),
+    )?;
+    is_taken(&rt, alloc, &capture, 87, CaptureEnding::TooLong(24), &[])?;
+    is_taken(&rt, alloc, &capture, 24, CaptureEnding::TooLong(24), &[])?;
     is_taken(
         &rt,
         alloc,
         front(&capture, 87),
         88,
-        CaptureFinish::Cut(24),
+        CaptureEnding::Cut(24),
         &[],
     )?;
     is_taken(
@@ -230,7 +237,7 @@ fn each_ending(rt: HostRuntime) -> Result<(), Fail> {
         alloc,
         front(&capture, 25),
         MOST,
-        CaptureFinish::Cut(24),
+        CaptureEnding::Cut(24),
         &[],
     )?;
     is_taken(
@@ -238,7 +245,7 @@ fn each_ending(rt: HostRuntime) -> Result<(), Fail> {
         alloc,
         front(&capture, 24),
         24,
-        CaptureFinish::Done,
+        CaptureEnding::Ended,
         &[],
     )?;
     Ok(())
@@ -250,8 +257,8 @@ fn a_limit_at_each_place(rt: HostRuntime) -> Result<(), Fail> {
     let capture = one_frame(alloc, HIGHEST, [0, 0, 0, 5], true)?;
     for max in 8..88u64 {
         let place = if max < 24 { 0 } else { 24 };
-        let finish = CaptureFinish::TooLong(place);
-        is_taken(&rt, alloc, &capture, max, finish, &[])?;
+        let ending = CaptureEnding::TooLong(place);
+        is_taken(&rt, alloc, &capture, max, ending, &[])?;
     }
     Ok(())
 }
@@ -261,8 +268,8 @@ fn an_end_at_each_place(rt: HostRuntime) -> Result<(), Fail> {
     let alloc = rt.alloc();
     let capture = one_frame(alloc, HIGHEST, [0, 0, 0, 5], true)?;
     for count in 25..88usize {
-        let finish = CaptureFinish::Cut(24);
-        is_taken(&rt, alloc, front(&capture, count), MOST, finish, &[])?;
+        let ending = CaptureEnding::Cut(24);
+        is_taken(&rt, alloc, front(&capture, count), MOST, ending, &[])?;
     }
     Ok(())
 }
@@ -276,13 +283,13 @@ fn reading_and_writing_fail(rt: HostRuntime) -> Result<(), Fail> {
     let mut out = MemSink::new(alloc, 100, &[])?;
     assert_eq!(rt;
         from_capture(alloc, MOST, &mut input, &mut out),
-        CaptureFinish::ReadFault
+        Err(Fault::Read)
     );
     let mut input = MemSource::new(alloc, &capture, 40, &[])?;
     let mut out = MemSink::new(alloc, 100, &[0])?;
     assert_eq!(rt;
         from_capture(alloc, MOST, &mut input, &mut out),
-        CaptureFinish::WriteFault
+        Err(Fault::Write)
     );
     Ok(())
 }
@@ -292,16 +299,16 @@ fn kept_lengths_at_the_limit(rt: HostRuntime) -> Result<(), Fail> {
     let alloc = rt.alloc();
     let mut capture = file_header(alloc, HIGHEST, [0, 0, 0, 1])?;
     capture.extend_from_slice(&[0, 0, 0, 0, 0, 0, 0, 0, 0, 4, 0, 0, 0, 0, 0, 0])?;
-    is_taken(&rt, alloc, &capture, MOST, CaptureFinish::Cut(24), &[])?;
+    is_taken(&rt, alloc, &capture, MOST, CaptureEnding::Cut(24), &[])?;
     capture.extend_from_slice(&vec![in alloc; 0; 262_144]?)?;
-    is_taken(&rt, alloc, &capture, MOST, CaptureFinish::Done, &[])?;
+    is_taken(&rt, alloc, &capture, MOST, CaptureEnding::Ended, &[])?;
     capture.extend_from_slice(&[0, 0, 0, 0, 0, 0, 0, 0, 0, 4, 0, 1, 0, 0, 0, 0])?;
     is_taken(
         &rt,
         alloc,
         &capture,
         MOST,
-        CaptureFinish::NotCapture(262_184),
+        CaptureEnding::NotCapture(262_184),
         &[],
     )?;
     Ok(())

@@ -2,8 +2,9 @@
 ghost use Rattle.std.specs.Prelude.{◌≤◌};
 
 use crate::spelling::headers;
-use crate::{CaptureFinish, SpellingFinish, fit, from_capture, to_capture};
-use fg_io::{MemSink, MemSource, SafeSource, Source};
+use crate::{CaptureEnding, SpellingEnding, fit, from_capture, to_capture};
+use fg_io::{Fault, MemSink, MemSource, SafeSource, Source};
+use fg_trace::record_header;
 use std::alloc::{AllocError, Global};
 use std::process::Abort;
 use std::test::Fail;
@@ -14,9 +15,7 @@ const MOST: u64 = 1_099_511_627_776;
 fn trace(alloc: Global, times: &[u64], size: u16) -> Result<Vec<u8>, AllocError> {
     let mut bytes = Vec::from_slice(alloc, b"FECTRAC1")?;
     for time in times {
-        bytes.extend_from_slice(&time.to_be_bytes())?;
-        bytes.extend_from_slice(&[0x13, 0x88])?;
-        bytes.extend_from_slice(&size.to_be_bytes())?;
+        bytes.extend_from_slice(&record_header(*time, 5000, size))?;
         let datagram = vec![in alloc; 0x47; usize::from(size)]?;
         bytes.extend_from_slice(&datagram)?;
     }
@@ -29,26 +28,43 @@ fn written<S: Source>(
     input: &mut S,
     max: u64,
     fails: &[u64],
-) -> Result<(SpellingFinish, MemSink), AllocError>
+) -> Result<(Result<SpellingEnding, Fault>, MemSink), AllocError>
     requires least { 8 ≤ max }
     requires limit { max ≤ 1099511627776 }
 {
     let mut out = MemSink::new(alloc, 65_536, fails)?;
-    let finish = to_capture(alloc, max, input, &mut out);
-    Ok((finish, out))
+    let answer = to_capture(alloc, max, input, &mut out);
+    Ok((answer, out))
 }
+
+/// The least time, in microseconds, that a capture can't tell.
+const LATE: u64 = 4_294_967_296_000_000;
+
+/// The times of a trace's records, how many bytes each datagram has, and how many bytes of the trace are gone at its end. Then the
+/// answer, and how many bytes are written.
+type Written = (&'static [u64], u16, usize, SpellingEnding, usize);
+
+static TRACES: [Written; 5] = [
+    (&[0, 0, 0], 1328, 0, SpellingEnding::Done, 4182),
+    // Without records, or where the first one doesn't fit, the file header stands alone.
+    (&[], 0, 0, SpellingEnding::Done, 24),
+    (&[LATE], 7, 0, SpellingEnding::Unfit(0), 24),
+    // What follows a record that doesn't fit isn't looked at.
+    (&[5, LATE, 6], 7, 1, SpellingEnding::Unfit(1), 24 + 58 + 7),
+    (&[5, 6], 7, 1, SpellingEnding::Cut(27), 24 + 58 + 7),
+];
 
 /// Compares the answer for a trace, and how many bytes are written.
 fn writes(
     rt: &impl Abort,
     alloc: Global,
     trace: &[u8],
-    finish: SpellingFinish,
+    ending: SpellingEnding,
     size: usize,
 ) -> Result<(), AllocError> {
     let mut input = SafeSource::new(alloc, trace, 1000)?;
     let (answer, out) = written(alloc, &mut input, MOST, &[])?;
-    assert_eq!(rt; answer, finish);
+    assert_eq!(rt; answer, Ok(ending));
     assert_eq!(rt; out.bytes().len(), size);
     Ok(())
 }
@@ -67,55 +83,21 @@ fn headers_of_seven_packets(rt: HostRuntime) {
 
 #[test]
 fn limits_of_a_capture(rt: HostRuntime) {
-    assert!(rt; fit(4_294_967_295_999_999, 65_507));
-    assert!(rt; !fit(4_294_967_296_000_000, 0));
+    assert!(rt; fit(LATE - 1, 65_507));
+    assert!(rt; !fit(LATE, 0));
     assert!(rt; !fit(0, 65_508));
 }
 
 #[test]
-fn three_in_order(rt: HostRuntime) -> Result<(), Fail> {
-    let trace = trace(rt.alloc(), &[0, 0, 0], 1328)?;
-    writes(&rt, rt.alloc(), &trace, SpellingFinish::Done, 4182)?;
-    Ok(())
-}
-
-/// A trace without records has a file header alone, and so has one whose first record doesn't fit.
-#[test]
-fn file_header_alone(rt: HostRuntime) -> Result<(), Fail> {
-    let none = trace(rt.alloc(), &[], 0)?;
-    writes(&rt, rt.alloc(), &none, SpellingFinish::Done, 24)?;
-    let late = trace(rt.alloc(), &[4_294_967_296_000_000], 7)?;
-    writes(&rt, rt.alloc(), &late, SpellingFinish::Unfit(0), 24)?;
-    Ok(())
-}
-
-/// What follows a record that doesn't fit isn't looked at.
-#[test]
-fn second_does_not_fit(rt: HostRuntime) -> Result<(), Fail> {
-    let mut trace = trace(rt.alloc(), &[5, 4_294_967_296_000_000, 6], 7)?;
-    let _last = trace.pop();
-    writes(
-        &rt,
-        rt.alloc(),
-        &trace,
-        SpellingFinish::Unfit(1),
-        24 + 58 + 7,
-    )?;
-    Ok(())
-}
-
-#[test]
-fn endings_of_a_trace(rt: HostRuntime) -> Result<(), Fail> {
-    let mut trace = trace(rt.alloc(), &[5, 6], 7)?;
-    let _last = trace.pop();
-    writes(
-        &rt,
-        rt.alloc(),
-        &trace,
-        SpellingFinish::Cut(27),
-        24 + 58 + 7,
-    )?;
-    writes(&rt, rt.alloc(), b"FECTRACK", SpellingFinish::NotTrace(7), 0)?;
+fn captures_of_traces(rt: HostRuntime) -> Result<(), Fail> {
+    for (times, datagram, gone, ending, size) in &TRACES {
+        let trace = trace(rt.alloc(), times, *datagram)?;
+        let front = trace
+            .get(..trace.len().saturating_sub(*gone))
+            .unwrap_or(&[]);
+        writes(&rt, rt.alloc(), front, *ending, *size)?;
+    }
+    writes(&rt, rt.alloc(), b"FECTRACK", SpellingEnding::NotTrace(7), 0)?;
     Ok(())
 }
 
@@ -124,8 +106,8 @@ fn endings_of_a_trace(rt: HostRuntime) -> Result<(), Fail> {
 fn past_the_limit(rt: HostRuntime) -> Result<(), Fail> {
     let trace = trace(rt.alloc(), &[5, 6], 7)?;
     let mut input = SafeSource::new(rt.alloc(), &trace, 1000)?;
-    let (finish, out) = written(rt.alloc(), &mut input, 45, &[])?;
-    assert_eq!(rt; finish, SpellingFinish::TooLong(27));
+    let (answer, out) = written(rt.alloc(), &mut input, 45, &[])?;
+    assert_eq!(rt; answer, Ok(SpellingEnding::TooLong(27)));
     assert_eq!(rt; out.bytes().len(), 24 + 58 + 7);
     Ok(())
 }
@@ -134,11 +116,11 @@ fn past_the_limit(rt: HostRuntime) -> Result<(), Fail> {
 fn faults(rt: HostRuntime) -> Result<(), Fail> {
     let trace = trace(rt.alloc(), &[5, 6], 7)?;
     let mut broken = MemSource::new(rt.alloc(), &trace, 1000, &[0])?;
-    let (finish, _) = written(rt.alloc(), &mut broken, MOST, &[])?;
-    assert_eq!(rt; finish, SpellingFinish::ReadFault);
+    let (answer, _) = written(rt.alloc(), &mut broken, MOST, &[])?;
+    assert_eq!(rt; answer, Err(Fault::Read));
     let mut input = SafeSource::new(rt.alloc(), &trace, 1000)?;
-    let (finish, out) = written(rt.alloc(), &mut input, MOST, &[0])?;
-    assert_eq!(rt; finish, SpellingFinish::WriteFault);
+    let (answer, out) = written(rt.alloc(), &mut input, MOST, &[0])?;
+    assert_eq!(rt; answer, Err(Fault::Write));
     assert_eq!(rt; out.bytes().len(), 0);
     Ok(())
 }
@@ -151,8 +133,8 @@ fn there_and_back(rt: HostRuntime) -> Result<(), Fail> {
     let (_, capture) = written(rt.alloc(), &mut input, MOST, &[])?;
     let mut back = MemSink::new(rt.alloc(), 65_536, &[])?;
     let mut input = SafeSource::new(rt.alloc(), capture.bytes(), 1000)?;
-    let finish = from_capture(rt.alloc(), MOST, &mut input, &mut back);
-    assert_eq!(rt; finish, CaptureFinish::Done);
+    let answer = from_capture(rt.alloc(), MOST, &mut input, &mut back);
+    assert_eq!(rt; answer, Ok(CaptureEnding::Ended));
     assert_eq!(rt; back.bytes(), trace.as_slice());
     Ok(())
 }

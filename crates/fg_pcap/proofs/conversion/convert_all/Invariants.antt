@@ -2,8 +2,8 @@ use Rattle.std.proofs.Common.{◌≡◌, ◌-◌, ℕ, Option, List}
 use Rattle.fg_pcap.specs.Reading.{HasRead, IsReading, IsUnderway}
 use Rattle.fg_pcap.proofs.conversion.convert_all.Given as goal
 
-abbrev pub invariant-loop-finish : goal.invariant-loop-finish
-invariant-loop-finish g l = record {
+abbrev pub invariant-loop-ending : goal.invariant-loop-ending
+invariant-loop-ending g l = record {
   underway : (first : Option (List ℕ)) (before : Option (List ℕ))
       → IsUnderway l.format first (g.S.Source.left l.fn.from) l.fn.input l.fn.trace before (g.K.Sink.written l.fn.out)
       → IsUnderway l.format first (g.S.Source.left l.from) l.input l.trace before (g.K.Sink.written l.out);
@@ -14,5 +14,5 @@ invariant-loop-finish g l = record {
   writes : g.K.Sink.faults l.out ≡ g.K.Sink.faults l.fn.out;
 }
 
-abbrev pub decreases-loop-finish : goal.decreases-loop-finish
-decreases-loop-finish g l = l.input.max - l.input.place
+abbrev pub decreases-loop-ending : goal.decreases-loop-ending
+decreases-loop-ending g l = l.input.max - l.input.place

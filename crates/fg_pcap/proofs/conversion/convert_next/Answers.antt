@@ -19,7 +19,7 @@ returns-in_err-header-clause-read g c = λ first h. read_more c.args.input.now c
 
 pub returns-in-Err-clause-ends : goal.returns-in-Err-clause-ends
 returns-in-Err-clause-ends g c = λ first before h.
-    sent_all c.args.format c.look.new.input c.args.input.now.max first _ c.in-Err.finish c.args.trace.now before _ (ap (λ (t : InputState). t.max) c.look.ensures.same) (rw c.in-Err.is at c.in_ok-header.ensures.ends)
+    sent_all c.args.format c.look.new.input c.args.input.now.max first _ c.in-Err.ending c.args.trace.now before _ (ap (λ (t : InputState). t.max) c.look.ensures.same) (rw c.in-Err.is at c.in_ok-header.ensures.ends)
     (underway_taking c.args.format c.args.input.now c.look.new.input first _ _ c.args.trace.now before _ c.look.ensures.takes c.look.ensures.same h)
 
 pub returns-in-Err-clause-read : goal.returns-in-Err-clause-read

@@ -1,4 +1,7 @@
 use Rattle.fg_io.proofs.FaultLemmas.{on_err}
+use Rattle.fg_pick.specs.declared.walk.Picking.{Picking}
+use Rattle.fg_pick.specs.Steps.{HasGained}
+use Rattle.fg_walk.proofs.Given.{walked_by}
 use Rattle.fg_pick.proofs.Walking.{picks, picks_none, picks_part, refused}
 use Rattle.fg_pick.proofs.walk.pick_trace.Goals as goal
 
@@ -12,7 +15,9 @@ pub walk-requires-clause-new : goal.walk-requires-clause-new
 walk-requires-clause-new g c = record { table = c.in_ok-table.ensures; empty = c.in_ok-held.ensures }
 
 pub returns-clause-whole : goal.returns-clause-whole
-returns-clause-whole g c = picks c.args.selection.now c.args.max _ _ _ c.walk.result c.walk.ensures.whole
+returns-clause-whole g c =
+    let told = walked_by HasGained (λ (w : Picking). w.selection.now) c.walk.new.telling c.args.selection.now c.args.max _ _ _ c.walk.result c.walk.ensures.given c.walk.ensures.whole in
+    picks c.args.selection.now c.args.max _ _ _ c.walk.result told
 
 pub returns-clause-part : goal.returns-clause-part
 returns-clause-part g c = picks_part c.args.selection.now c.args.max _ _ _ c.walk.result (refused g.K.Sink.written _ _ c.args.max _ c.walk.ensures.refused) c.walk.ensures.part

@@ -1,67 +1,22 @@
-use Rattle.std.proofs.Common.{◌≡◌, ◌∙◌, Result, Ok, Err, IsNone, ap, refl, subst, sym}
-use Rattle.fg_trace.specs.declared.step.Finish.{Finish}
-use Rattle.fg_trace.specs.declared.step.Finish.TheVariants as finish
-use Rattle.fg_trace.specs.declared.step.TraceFault.{TraceFault}
-use Rattle.fg_trace.specs.declared.step.TraceFault.TheVariants as fault
-use Rattle.fg_trace.specs.Reader.{ReaderState, Opens}
 use Rattle.fg_io.proofs.FaultLemmas.{on_err}
-use Rattle.fg_survey.specs.Survey.{Surveys, SurveysPart}
-use Rattle.fg_trace.specs.Reached.{IsReadTo}
-use Rattle.fg_trace.proofs.Opening.{never_refused}
-use Rattle.fg_survey.proofs.Opening.{none_is_part, surveys_none}
-use Rattle.fg_trace.proofs.Reached.{differs_at, failed_at}
+use Rattle.fg_survey.specs.declared.walk.Surveying.{Surveying}
+use Rattle.fg_survey.proofs.Walking.{no_refusal, none_is_part, surveys, surveys_part}
 use Rattle.fg_survey.proofs.walk.survey_trace.Goals as goal
 
-pub survey_records-requires-clause-begun : goal.survey_records-requires-clause-begun
-survey_records-requires-clause-begun g c =
-    let left = g.S.Source.left c.args.input.now in
-    (left, c.in-Ok.ensures.opens left (c.in_ok-reader.ensures.opening left))
-
-pub returns-in-Ok-clause-refused : goal.returns-in-Ok-clause-refused
-returns-in-Ok-clause-refused g c =
-    let left = g.S.Source.left c.args.input.now in
-    never_refused _ left _ c.start.new.self c.args.max (c.in-Ok.ensures.opens left (c.in_ok-reader.ensures.opening left))
-
-pub returns-in-Err-NotTrace-clause-whole : goal.returns-in-Err-NotTrace-clause-whole
-returns-in-Err-NotTrace-clause-whole g c =
-    let left = g.S.Source.left c.args.input.now in
-    let max : c.start.new.self.max ≡ c.args.max = c.start.ensures.max ∙ ap (λ (t : ReaderState). t.max) c.in_ok-reader.ensures.new in
-    let opens : Opens (Err (fault.NotTrace c.in-Err-NotTrace.place)) c.start.new.self left (g.S.Source.left c.start.new.from) = subst (λ (a : Result (Unit {0}) TraceFault). Opens a c.start.new.self left (g.S.Source.left c.start.new.from)) (c.in-Err-NotTrace.is ∙ ap Err c.in-Err-NotTrace.field-0-is) (c.start.ensures.opens left (c.in_ok-reader.ensures.opening left)) in
-    let written = g.K.Sink.written c.args.out.now in
-    subst (λ f. Surveys c.args.json c.args.max f left written written) (sym (ap finish.NotTrace c.in-Err-NotTrace.place-is))
-    (surveys_none c.args.json left c.start.new.self.max c.args.max c.in-Err-NotTrace.place written max opens.1)
-
-pub returns-in-Err-NotTrace-clause-reached : goal.returns-in-Err-NotTrace-clause-reached
-returns-in-Err-NotTrace-clause-reached g c =
-    let left = g.S.Source.left c.args.input.now in
-    let max : c.start.new.self.max ≡ c.args.max = c.start.ensures.max ∙ ap (λ (t : ReaderState). t.max) c.in_ok-reader.ensures.new in
-    let unkept : IsNone c.in_ok-reader.reader.kept = subst (λ (t : ReaderState). IsNone t.kept) (sym c.in_ok-reader.ensures.new) refl in
-    let opens : Opens (Err (fault.NotTrace c.in-Err-NotTrace.place)) c.start.new.self left (g.S.Source.left c.start.new.from) = subst (λ (a : Result (Unit {0}) TraceFault). Opens a c.start.new.self left (g.S.Source.left c.start.new.from)) (c.in-Err-NotTrace.is ∙ ap Err c.in-Err-NotTrace.field-0-is) (c.start.ensures.opens left (c.in_ok-reader.ensures.opening left)) in
-    subst (λ (f : Finish). IsReadTo c.args.max (Ok f) left (g.S.Source.left c.start.new.from)) (sym (ap finish.NotTrace c.in-Err-NotTrace.place-is))
-    (differs_at c.read_as_far_as_needed.ensures.before c.args.max c.start.new.self left _ c.in-Err-NotTrace.place max opens c.start.ensures.bounded c.start.ensures.few
-    (c.start.ensures.differs unkept c.in-Err-NotTrace.place (c.in-Err-NotTrace.is ∙ ap Err c.in-Err-NotTrace.field-0-is)))
-
-pub returns-in-Err-ReadFault-clause-part : goal.returns-in-Err-ReadFault-clause-part
-returns-in-Err-ReadFault-clause-part g c = none_is_part c.args.json c.args.max _ _
-
-pub returns-in-Err-ReadFault-clause-reached : goal.returns-in-Err-ReadFault-clause-reached
-returns-in-Err-ReadFault-clause-reached g c =
-    let left = g.S.Source.left c.args.input.now in
-    let max : c.start.new.self.max ≡ c.args.max = c.start.ensures.max ∙ ap (λ (t : ReaderState). t.max) c.in_ok-reader.ensures.new in
-    let opens : Opens (Err fault.ReadFault) c.start.new.self left (g.S.Source.left c.start.new.from) = subst (λ (a : Result (Unit {0}) TraceFault). Opens a c.start.new.self left (g.S.Source.left c.start.new.from)) (c.in-Err-ReadFault.is ∙ ap Err c.in-Err-ReadFault.field-0-is) (c.start.ensures.opens left (c.in_ok-reader.ensures.opening left)) in
-    failed_at c.read_as_far_as_needed.ensures.before c.args.max c.start.new.self left _ max opens c.start.ensures.bounded
-
-pub unreachable-requires : goal.unreachable-requires
-unreachable-requires g c =
-    let left = g.S.Source.left c.args.input.now in
-    subst (λ (a : Result (Unit {0}) TraceFault). Opens a c.start.new.self left (g.S.Source.left c.start.new.from)) (c.in-Err-Cut.is ∙ ap Err c.in-Err-Cut.field-0-is) (c.start.ensures.opens left (c.in_ok-reader.ensures.opening left))
-
-pub unreachable-requires-in-Err-TooLong : goal.unreachable-requires-in-Err-TooLong
-unreachable-requires-in-Err-TooLong g c =
-    let left = g.S.Source.left c.args.input.now in
-    subst (λ (a : Result (Unit {0}) TraceFault). Opens a c.start.new.self left (g.S.Source.left c.start.new.from)) (c.in-Err-TooLong.is ∙ ap Err c.in-Err-TooLong.field-0-is) (c.start.ensures.opens left (c.in_ok-reader.ensures.opening left))
-
 pub returns-in_err-sheet-clause-part : goal.returns-in_err-sheet-clause-part
-returns-in_err-sheet-clause-part g c =
-    let part : SurveysPart c.args.json c.args.max (g.S.Source.left c.args.input.now) (g.K.Sink.written c.args.out.now) (g.K.Sink.written c.args.out.now) = none_is_part c.args.json c.args.max (g.S.Source.left c.args.input.now) (g.K.Sink.written c.args.out.now) in
-    on_err _ _ part
+returns-in_err-sheet-clause-part g c = on_err _ _ (none_is_part c.args.json c.args.max _ (g.K.Sink.written c.args.out.now))
+
+pub returns-in_err-finish-clause-part : goal.returns-in_err-finish-clause-part
+returns-in_err-finish-clause-part g c = on_err _ _ (none_is_part c.args.json c.args.max _ (g.K.Sink.written c.args.out.now))
+
+pub returns-in_err-write_text-in_default-clause-part : goal.returns-in_err-write_text-in_default-clause-part
+returns-in_err-write_text-in_default-clause-part g c =
+    on_err _ _ (surveys_part (λ (w : Surveying). w.sheet) c.walk.new.telling c.one_trace.ensures c.one_text.ensures c.args.json c.args.max c.in_ok-finish.finish c.tail_of.result _ _ _ c.in_ok-finish.ensures.whole c.in_default.not-NotTrace c.tail_of.ensures c.in_err-write_text-in_default.ensures.part)
+
+pub returns-clause-whole : goal.returns-clause-whole
+returns-clause-whole g c =
+    surveys (λ (w : Surveying). w.sheet) c.walk.new.telling c.args.json c.args.max c.in_ok-finish.finish c.tail_of.result _ _ _ c.in_ok-finish.ensures.whole c.in_default.not-NotTrace c.tail_of.ensures c.in_ok-write_text-in_default.ensures.whole
+
+pub returns-clause-refused : goal.returns-clause-refused
+returns-clause-refused g c =
+    no_refusal (λ (w : Surveying). w.sheet) c.walk.new.telling c.one_trace.ensures c.args.max c.in_ok-finish.finish _ _ c.in_ok-finish.ensures.whole c.in_default.not-NotTrace

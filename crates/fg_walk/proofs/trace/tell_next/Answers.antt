@@ -32,17 +32,17 @@ returns-in_ok-tell-in-Ok-Datagram-clause-more g c = λ first before h.
 
 pub returns-in-Ok-End-clause-ends : goal.returns-in-Ok-End-clause-ends
 returns-in-Ok-End-clause-ends g c = λ first before h.
-    told_all g.T.Telling.has_told c.args.telling.now first _ _ c.args.reader.now c.next.new.self before _ Ended _ c.next.ensures.max refl
+    told_all g.T.Telling.has_told c.args.telling.now first _ _ c.args.reader.now c.next.new.self before _ Ended _ c.next.ensures.max c.requires.limit refl
     (λ records k. subst (λ (a : Answer). Walks a c.next.new.self first (g.S.Source.left c.next.new.from) records) (c.in-Ok-End.is ∙ ap Ok c.in-Ok-End.field-0-is) (c.next.ensures.walks first records k)) h
 
 pub returns-in-Err-Cut-clause-ends : goal.returns-in-Err-Cut-clause-ends
 returns-in-Err-Cut-clause-ends g c = λ first before h.
-    told_all g.T.Telling.has_told c.args.telling.now first _ _ c.args.reader.now c.next.new.self before _ (Cut c.in-Err-Cut.place) _ c.next.ensures.max (ap finish.Cut c.in-Err-Cut.place-is)
+    told_all g.T.Telling.has_told c.args.telling.now first _ _ c.args.reader.now c.next.new.self before _ (Cut c.in-Err-Cut.place) _ c.next.ensures.max c.requires.limit (ap finish.Cut c.in-Err-Cut.place-is)
     (λ records k. subst (λ (a : Answer). Walks a c.next.new.self first (g.S.Source.left c.next.new.from) records) (c.in-Err-Cut.is ∙ ap Err c.in-Err-Cut.field-0-is) (c.next.ensures.walks first records k)) h
 
 pub returns-in-Err-TooLong-clause-ends : goal.returns-in-Err-TooLong-clause-ends
 returns-in-Err-TooLong-clause-ends g c = λ first before h.
-    told_all g.T.Telling.has_told c.args.telling.now first _ _ c.args.reader.now c.next.new.self before _ (TooLong c.in-Err-TooLong.place) _ c.next.ensures.max (ap finish.TooLong c.in-Err-TooLong.place-is)
+    told_all g.T.Telling.has_told c.args.telling.now first _ _ c.args.reader.now c.next.new.self before _ (TooLong c.in-Err-TooLong.place) _ c.next.ensures.max c.requires.limit (ap finish.TooLong c.in-Err-TooLong.place-is)
     (λ records k. subst (λ (a : Answer). Walks a c.next.new.self first (g.S.Source.left c.next.new.from) records) (c.in-Err-TooLong.is ∙ ap Err c.in-Err-TooLong.field-0-is) (c.next.ensures.walks first records k)) h
 
 pub returns-in-Err-ReadFault-clause-part : goal.returns-in-Err-ReadFault-clause-part

@@ -1,10 +1,8 @@
-use Rattle.std.proofs.Common.{◌≡◌, ◌∙◌, Result, Ok, Err, IsNone, ap, refl, subst, sym}
+use Rattle.std.proofs.Common.{◌≡◌, ◌∙◌, Ok, Err, IsNone, ap, refl, subst, sym}
 use Rattle.fg_io.proofs.FaultLemmas.{on_err}
 use Rattle.fg_trace.specs.declared.step.Finish.{Finish}
 use Rattle.fg_trace.specs.declared.step.Finish.TheVariants as finish
-use Rattle.fg_trace.specs.declared.step.TraceFault.{TraceFault}
-use Rattle.fg_trace.specs.declared.step.TraceFault.TheVariants as fault
-use Rattle.fg_trace.specs.Reader.{ReaderState, Opens}
+use Rattle.fg_trace.specs.Reader.{ReaderState}
 use Rattle.fg_trace.specs.Reached.{IsReadTo}
 use Rattle.fg_trace.proofs.Opening.{never_refused}
 use Rattle.fg_trace.proofs.Reached.{differs_at, failed_at}
@@ -33,17 +31,17 @@ pub returns-in-Err-NotTrace-clause-whole : goal.returns-in-Err-NotTrace-clause-w
 returns-in-Err-NotTrace-clause-whole g c =
     let left = g.S.Source.left c.args.input.now in
     let max : c.start.new.self.max ≡ c.args.max = c.start.ensures.max ∙ ap (λ (t : ReaderState). t.max) c.in_ok-reader.ensures.new in
-    let opens : Opens (Err (fault.NotTrace c.in-Err-NotTrace.place)) c.start.new.self left (g.S.Source.left c.start.new.from) = subst (λ (a : Result (Unit {0}) TraceFault). Opens a c.start.new.self left (g.S.Source.left c.start.new.from)) (c.in-Err-NotTrace.is ∙ ap Err c.in-Err-NotTrace.field-0-is) (c.start.ensures.opens left (c.in_ok-reader.ensures.opening left)) in
+    let opens = rw c.in-Err-NotTrace.field-0-is at (c.in-Err-NotTrace.ensures.opens left (c.in_ok-reader.ensures.opening left)) in
     let written = g.K.Sink.written c.args.out.now in
-    subst (λ (f : Finish). Walked g.T.Telling.whole (g.T.Telling.given c.args.telling.now) c.args.max f left written written) (sym (ap finish.NotTrace c.in-Err-NotTrace.place-is))
-    (walked_none g.T.Telling.whole (g.T.Telling.given c.args.telling.now) left c.start.new.self.max c.args.max c.in-Err-NotTrace.place written max opens.1 (c.stops.ensures.nothing c.requires.new c.in-Err-NotTrace.place written))
+    subst (λ (f : Finish). Walked g.T.Telling.whole c.args.telling.now c.args.max f left written written) (sym (ap finish.NotTrace c.in-Err-NotTrace.place-is))
+    (walked_none g.T.Telling.whole c.args.telling.now left c.start.new.self.max c.args.max c.in-Err-NotTrace.place written max opens.1 (c.stops.ensures.nothing c.requires.new c.in-Err-NotTrace.place written))
 
 pub returns-in-Err-NotTrace-clause-reached : goal.returns-in-Err-NotTrace-clause-reached
 returns-in-Err-NotTrace-clause-reached g c =
     let left = g.S.Source.left c.args.input.now in
     let max : c.start.new.self.max ≡ c.args.max = c.start.ensures.max ∙ ap (λ (t : ReaderState). t.max) c.in_ok-reader.ensures.new in
     let unkept : IsNone c.in_ok-reader.reader.kept = subst (λ (t : ReaderState). IsNone t.kept) (sym c.in_ok-reader.ensures.new) refl in
-    let opens : Opens (Err (fault.NotTrace c.in-Err-NotTrace.place)) c.start.new.self left (g.S.Source.left c.start.new.from) = subst (λ (a : Result (Unit {0}) TraceFault). Opens a c.start.new.self left (g.S.Source.left c.start.new.from)) (c.in-Err-NotTrace.is ∙ ap Err c.in-Err-NotTrace.field-0-is) (c.start.ensures.opens left (c.in_ok-reader.ensures.opening left)) in
+    let opens = rw c.in-Err-NotTrace.field-0-is at (c.in-Err-NotTrace.ensures.opens left (c.in_ok-reader.ensures.opening left)) in
     subst (λ (f : Finish). IsReadTo c.args.max (Ok f) left (g.S.Source.left c.start.new.from)) (sym (ap finish.NotTrace c.in-Err-NotTrace.place-is))
     (differs_at c.read_as_far_as_needed.ensures.before c.args.max c.start.new.self left _ c.in-Err-NotTrace.place max opens c.start.ensures.bounded c.start.ensures.few
     (c.start.ensures.differs unkept c.in-Err-NotTrace.place (c.in-Err-NotTrace.is ∙ ap Err c.in-Err-NotTrace.field-0-is)))
@@ -55,15 +53,15 @@ pub returns-in-Err-ReadFault-clause-reached : goal.returns-in-Err-ReadFault-clau
 returns-in-Err-ReadFault-clause-reached g c =
     let left = g.S.Source.left c.args.input.now in
     let max : c.start.new.self.max ≡ c.args.max = c.start.ensures.max ∙ ap (λ (t : ReaderState). t.max) c.in_ok-reader.ensures.new in
-    let opens : Opens (Err fault.ReadFault) c.start.new.self left (g.S.Source.left c.start.new.from) = subst (λ (a : Result (Unit {0}) TraceFault). Opens a c.start.new.self left (g.S.Source.left c.start.new.from)) (c.in-Err-ReadFault.is ∙ ap Err c.in-Err-ReadFault.field-0-is) (c.start.ensures.opens left (c.in_ok-reader.ensures.opening left)) in
+    let opens = rw c.in-Err-ReadFault.field-0-is at (c.in-Err-ReadFault.ensures.opens left (c.in_ok-reader.ensures.opening left)) in
     failed_at c.read_as_far_as_needed.ensures.before c.args.max c.start.new.self left _ max opens c.start.ensures.bounded
 
 pub unreachable-requires : goal.unreachable-requires
 unreachable-requires g c =
     let left = g.S.Source.left c.args.input.now in
-    subst (λ (a : Result (Unit {0}) TraceFault). Opens a c.start.new.self left (g.S.Source.left c.start.new.from)) (c.in-Err-Cut.is ∙ ap Err c.in-Err-Cut.field-0-is) (c.start.ensures.opens left (c.in_ok-reader.ensures.opening left))
+    rw c.in-Err-Cut.field-0-is at (c.in-Err-Cut.ensures.opens left (c.in_ok-reader.ensures.opening left))
 
 pub unreachable-requires-in-Err-TooLong : goal.unreachable-requires-in-Err-TooLong
 unreachable-requires-in-Err-TooLong g c =
     let left = g.S.Source.left c.args.input.now in
-    subst (λ (a : Result (Unit {0}) TraceFault). Opens a c.start.new.self left (g.S.Source.left c.start.new.from)) (c.in-Err-TooLong.is ∙ ap Err c.in-Err-TooLong.field-0-is) (c.start.ensures.opens left (c.in_ok-reader.ensures.opening left))
+    rw c.in-Err-TooLong.field-0-is at (c.in-Err-TooLong.ensures.opens left (c.in_ok-reader.ensures.opening left))

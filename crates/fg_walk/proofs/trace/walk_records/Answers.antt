@@ -37,7 +37,7 @@ pub end-requires-clause-told : goal.end-requires-clause-told
 end-requires-clause-told g c =
     let written = g.K.Sink.written c.args.out.now in
     let all = c.in_ok-finish.ensures.whole c.requires.begun.0 written (begun g.T.Telling.has_told c.begin.new.self c.requires.begun.0 _ c.args.reader.now _ _ c.requires.begun.1 c.in_ok-begin.ensures.told) in
-    (all.records, written, all.told)
+    (all.records, written, all.few, all.told)
 
 pub returns-in_err-end-clause-part : goal.returns-in_err-end-clause-part
 returns-in_err-end-clause-part g c =
@@ -57,8 +57,8 @@ pub returns-clause-whole : goal.returns-clause-whole
 returns-clause-whole g c = λ first stands.
     let written = g.K.Sink.written c.args.out.now in
     let all = c.in_ok-finish.ensures.whole first written (begun g.T.Telling.has_told c.begin.new.self first _ c.args.reader.now _ _ stands c.in_ok-begin.ensures.told) in
-    walked_whole g.T.Telling.has_told g.T.Telling.whole c.tell_all.new.telling (g.T.Telling.given c.args.telling.now) c.args.reader.now.max first c.in_ok-finish.finish written _ _ all
-    (subst (λ given. g.T.Telling.whole given all.records all.end written (g.K.Sink.written c.end.new.out)) (c.tell_all.ensures.given ∙ c.begin.ensures.given) (c.in_ok-end.ensures.whole all.records all.end written all.answer_is all.told))
+    walked_whole g.T.Telling.has_told g.T.Telling.whole c.tell_all.new.telling c.end.new.self c.args.reader.now.max first c.in_ok-finish.finish written _ _ all
+    (c.in_ok-end.ensures.whole all.records all.end written all.answer_is all.told)
 
 pub returns-clause-reached : goal.returns-clause-reached
 returns-clause-reached g c = λ first stands.

@@ -6,7 +6,7 @@ use Rattle.fg_pcap.specs.Spelling.{spelling}
 use Rattle.fg_trace.specs.declared.step.Step.{Step}
 use Rattle.fg_trace.specs.Reader.{Answer, ReadsToEnd, Walks, payload_size}
 use Rattle.fg_trace.specs.Trace.{Ended, Cut, TooLong}
-use Rattle.fg_pcap.specs.declared.writer.SpellingFinish.TheVariants as finish
+use Rattle.fg_pcap.specs.declared.writer.SpellingEnding.TheVariants as ending
 use Rattle.fg_pcap.specs.Steps.{Breaks, IsUnderway}
 use Rattle.fg_pcap.proofs.Writing.{few_spelt, underway_more, breaks_at_record, breaks_at_fault, stops_at, spelled_all}
 use Rattle.fg_pcap.proofs.writer.Spelling.spell_next.Goals as goal
@@ -47,13 +47,13 @@ returns-in-Ok-End-clause-ends g c = λ first before h.
 
 pub returns-in-Err-Cut-clause-ends : goal.returns-in-Err-Cut-clause-ends
 returns-in-Err-Cut-clause-ends g c = λ first before h.
-    spelled_all first _ _ c.args.reader.now c.next.new.self c.args.self.now before _ (Cut c.in-Err-Cut.place) _ c.next.ensures.max c.next.ensures.bounded (ap finish.Cut c.in-Err-Cut.place-is)
+    spelled_all first _ _ c.args.reader.now c.next.new.self c.args.self.now before _ (Cut c.in-Err-Cut.place) _ c.next.ensures.max c.next.ensures.bounded (ap ending.Cut c.in-Err-Cut.place-is)
     (λ records. c.next.ensures.at_end (subst IsNone (sym c.requires.open) refl) (subst ReadsToEnd (sym (c.in-Err-Cut.is ∙ ap Err c.in-Err-Cut.field-0-is)) tt)) (λ records. refl)
     (λ records k. subst (λ (a : Answer). Walks a c.next.new.self first (g.S.Source.left c.next.new.from) records) (c.in-Err-Cut.is ∙ ap Err c.in-Err-Cut.field-0-is) (c.next.ensures.walks first records k)) h
 
 pub returns-in-Err-TooLong-clause-ends : goal.returns-in-Err-TooLong-clause-ends
 returns-in-Err-TooLong-clause-ends g c = λ first before h.
-    spelled_all first _ _ c.args.reader.now c.next.new.self c.args.self.now before _ (TooLong c.in-Err-TooLong.place) _ c.next.ensures.max c.next.ensures.bounded (ap finish.TooLong c.in-Err-TooLong.place-is)
+    spelled_all first _ _ c.args.reader.now c.next.new.self c.args.self.now before _ (TooLong c.in-Err-TooLong.place) _ c.next.ensures.max c.next.ensures.bounded (ap ending.TooLong c.in-Err-TooLong.place-is)
     (λ records. c.next.ensures.past c.in-Err-TooLong.place (c.in-Err-TooLong.is ∙ ap Err c.in-Err-TooLong.field-0-is)) (λ records. refl)
     (λ records k. subst (λ (a : Answer). Walks a c.next.new.self first (g.S.Source.left c.next.new.from) records) (c.in-Err-TooLong.is ∙ ap Err c.in-Err-TooLong.field-0-is) (c.next.ensures.walks first records k)) h
 

@@ -6,8 +6,8 @@ returns c = record {
   heard = [];
   read = tt;
   sizes = tt;
-  totals = c.new.ensures;
+  totals = c.at.ensures;
   rows = c.in_ok-no_rows.ensures;
-  streams = c.new-2.ensures;
+  streams = c.new.ensures;
   lanes = c.in_ok-new.ensures;
 }

@@ -1,7 +1,0 @@
-use Rattle.fg_commands.proofs.Traces.{trace_answered}
-use Rattle.fg_commands.proofs.inspection.run_inspect.Goals as goal
-
-pub returns-clause-answered : goal.returns-clause-answered
-returns-clause-answered g c =
-    let e = c.inspect.ensures in
-    rw (c.of.ensures.why, c.into.ensures) (trace_answered c.args.max _ _ c.inspect.result e.whole e.exactly e.all_read e.reads e.refused e.part e.faults)
