@@ -144,7 +144,7 @@ QUOTES = (
         (r"where `rows` is #; `depth`", r"m.rows == # then"),
         (r"of P's streams, and #$", r"deepest \+ #\)"),
         (r"runs N # N # N # N # N # N # N more",
-         r'codes "#", lengths…codes "#", lengths…codes "#", lengths…codes "#", lengths…codes "#", lengths…codes "#", lengths')]),
+         r'codes "runs" ∷ codes "#" ∷ codes "#" ∷ codes "#" ∷ codes "#" ∷ codes "#" ∷ codes "#" ∷ codes "more"')]),
     ("bench/survey/run.sh", [(r"allows # instructions a record", r"instructions a record, at most #")]),
     ("crates/fg_survey/specs/Senders.antt", [(r"where there are more than # streams: the", r"senders_limit = #")]),
     ("crates/fg_proof/specs/Text.antt", [

@@ -57,8 +57,7 @@ fn push_line(text: &mut Vec<u8>, number: u64, answer: Answer) -> Result<(), Allo
     push_named(text, "case ", number)?;
     text.push(b' ')?;
     push_verdict(text, answer)?;
-    text.push(b'\n')?;
-    Ok(())
+    text.extend_from_slice(b"\n")
 }
 
 impl Lines {

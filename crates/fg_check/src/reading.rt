@@ -1,7 +1,7 @@
 //! Reading a line of the text of a case.
-ghost use Rattle.std.specs.Prelude.{◌≡◌, ◌≢◌, ◌<◌, ℕ, ◌∷◌, [], IfSome, IfNone, IsTrue, ◌↔◌, MatchOption};
+ghost use Rattle.std.specs.Prelude.{◌≡◌, ◌≢◌, ◌<◌, ◌++◌, ℕ, List, ◌∷◌, [], IsTrue, ◌↔◌, MatchOption};
 ghost use Rattle.std.specs.List.{Contains};
-ghost use Rattle.fg_proof.specs.Text.{number_limit, Known, Open, Rule, Head, End, Line};
+ghost use Rattle.fg_proof.specs.Text.{Known, Open, Rule, Head, End, Line};
 ghost use Rattle.fg_check.specs.Line.{AreNumbers, BeginsPlain, IsFirstPlace, IsLine, line_of};
 
 use fg_shape::Shape;
@@ -50,7 +50,7 @@ fn read_head(text: &[u8]) -> Option<TextLine>
     ensures { MatchOption result ((port mark count : ℕ) → ¬ IsLine text.now (Head port mark count))
         (λ line. IsLine text.now (line_of line)) }
 {
-    let (port, mark, count) = three_numbers(text.strip_prefix(b"case ")?)?;
+    let (port, mark, count) = three_numbers(behind(b"case ", text)?)?;
     if port > u64::from(u16::MAX) || count > u64::from(u32::MAX) {
         return None;
     }
@@ -62,7 +62,7 @@ fn read_known(text: &[u8]) -> Option<TextLine>
     ensures { MatchOption result ((run : ℕ × ℕ) → ¬ IsLine text.now (Known run))
         (λ line. IsLine text.now (line_of line)) }
 {
-    let (first, count) = two_numbers(text.strip_prefix(b"known ")?)?;
+    let (first, count) = two_numbers(behind(b"known ", text)?)?;
     Some(TextLine::Known(first, count))
 }
 
@@ -71,7 +71,7 @@ fn read_rule(text: &[u8]) -> Option<TextLine>
     ensures { MatchOption result ((rule : ℕ × Shape) → ¬ IsLine text.now (Rule rule))
         (λ line. IsLine text.now (line_of line)) }
 {
-    let (base, offset, na) = three_numbers(text.strip_prefix(b"line ")?)?;
+    let (base, offset, na) = three_numbers(behind(b"line ", text)?)?;
     if offset > u64::from(u8::MAX) || na > u64::from(u8::MAX) {
         return None;
     }
@@ -87,7 +87,7 @@ fn read_open(text: &[u8]) -> Option<TextLine>
     ensures { MatchOption result ((run : ℕ × ℕ) → ¬ IsLine text.now (Open run))
         (λ line. IsLine text.now (line_of line)) }
 {
-    let (first, count) = two_numbers(text.strip_prefix(b"open ")?)?;
+    let (first, count) = two_numbers(behind(b"open ", text)?)?;
     Some(TextLine::Open(first, count))
 }
 
@@ -101,6 +101,15 @@ fn read_end(text: &[u8]) -> Option<TextLine>
     } else {
         None
     }
+}
+
+/// What stands behind this word, where the text begins with it.
+#[inline]
+fn behind<'a>(word: &[u8], text: &'a [u8]) -> Option<&'a [u8]>
+    ensures { MatchOption result ((rest : List ℕ) → text.now ≢ word.now ++ rest)
+        (λ rest. text.now ≡ word.now ++ rest.now) }
+{
+    text.strip_prefix(word)
 }
 
 /// Three numbers, with a blank between each and the next.

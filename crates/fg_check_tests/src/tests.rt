@@ -56,99 +56,6 @@ fn are_refused(rt: &impl Abort, alloc: Global, texts: &[(u64, &str)]) -> Result<
     Ok(())
 }
 
-// Four columns of 4 and three rows of 4 give no hole of 5, 6, 9 and 10; the last equation is whole.
-const WORKED: &str = "case 5000 0 16
-known 0 5
-known 7 2
-known 11 5
-line 0 1 4
-line 4 1 4
-line 8 1 4
-line 0 4 4
-line 1 4 4
-line 2 4 4
-line 3 4 4
-line 12 1 4
-open 5 2
-open 9 2
-end
-";
-
-// The same, but position 10 is no hole.
-const ALONE: &str = "case 5000 0 16
-known 0 5
-known 7 2
-known 11 5
-line 0 1 4
-line 4 1 4
-line 8 1 4
-line 0 4 4
-line 1 4 4
-line 2 4 4
-line 3 4 4
-line 12 1 4
-open 5 2
-open 9 1
-end
-";
-
-// The same as the first, but a known position is told as a hole.
-const KNOWN: &str = "case 5000 0 16
-known 0 5
-known 7 2
-known 11 5
-line 0 1 4
-line 4 1 4
-line 8 1 4
-line 0 4 4
-line 1 4 4
-line 2 4 4
-line 3 4 4
-line 12 1 4
-open 4 3
-open 9 2
-end
-";
-
-// Nothing is known, and there is no equation.
-const SMALL: &str = "case 1 7 2\nopen 7 1\nend\n";
-
-// The window has no hole.
-const NO_GAP: &str = "case 1 7 2\nend\n";
-
-#[test]
-fn worked_cases(rt: HostRuntime) -> Result<(), Fail> {
-    let alloc = rt.alloc();
-    is_told(&rt, alloc, "", 8, Checked::Done, "")?;
-    is_told(&rt, alloc, WORKED, MOST, Checked::Done, "case 0 yes\n")?;
-    is_told(
-        &rt,
-        alloc,
-        ALONE,
-        MOST,
-        Checked::Unproved(0),
-        "case 0 alone 2\n",
-    )?;
-    is_told(
-        &rt,
-        alloc,
-        KNOWN,
-        MOST,
-        Checked::Unproved(0),
-        "case 0 known 4\n",
-    )?;
-    is_told(&rt, alloc, SMALL, MOST, Checked::Done, "case 0 yes\n")?;
-    is_told(
-        &rt,
-        alloc,
-        NO_GAP,
-        MOST,
-        Checked::Unproved(0),
-        "case 0 disorder\n",
-    )?;
-    Ok(())
-}
-
 /// These texts, one after another.
 fn joined(alloc: Global, texts: &[&str]) -> Result<String, AllocError> {
     let mut all = String::new(alloc);
@@ -158,11 +65,71 @@ fn joined(alloc: Global, texts: &[&str]) -> Result<String, AllocError> {
     Ok(all)
 }
 
+/// A block whose four columns of 4 and three rows of 4 give no hole of 5, 6, 9 and 10, with these lines for its holes. The last
+/// equation is whole.
+fn block(alloc: Global, holes: &str) -> Result<String, AllocError> {
+    let mut text = String::from_str(alloc, "case 5000 0 16\nknown 0 5\nknown 7 2\nknown 11 5\n")?;
+    for (base, offset) in [
+        (0, 1),
+        (4, 1),
+        (8, 1),
+        (0, 4),
+        (1, 4),
+        (2, 4),
+        (3, 4),
+        (12, 1),
+    ] {
+        text.push_str(&format!(in alloc; "line {base} {offset} 4\n")?)?;
+    }
+    text.push_str(holes)?;
+    text.push_str("end\n")?;
+    Ok(text)
+}
+
+const HOLES: &str = "open 5 2\nopen 9 2\n";
+
+// Position 10 is no hole.
+const ALONE: &str = "open 5 2\nopen 9 1\n";
+
+// A known position is told as a hole.
+const KNOWN: &str = "open 4 3\nopen 9 2\n";
+
+// Nothing is known, and there is no equation.
+const SMALL: &str = "case 1 7 2\nopen 7 1\nend\n";
+
+// The window has no hole.
+const NO_GAP: &str = "case 1 7 2\nend\n";
+
+/// Checks the block with these lines for its holes.
+fn is_block_told(
+    rt: &impl Abort,
+    alloc: Global,
+    holes: &str,
+    told: Checked,
+    text: &str,
+) -> Result<(), AllocError> {
+    is_told(rt, alloc, &block(alloc, holes)?, MOST, told, text)
+}
+
+#[test]
+fn worked_cases(rt: HostRuntime) -> Result<(), Fail> {
+    let alloc = rt.alloc();
+    let unproved = Checked::Unproved(0);
+    is_told(&rt, alloc, "", 8, Checked::Done, "")?;
+    is_told(&rt, alloc, SMALL, MOST, Checked::Done, "case 0 yes\n")?;
+    is_told(&rt, alloc, NO_GAP, MOST, unproved, "case 0 disorder\n")?;
+    is_block_told(&rt, alloc, HOLES, Checked::Done, "case 0 yes\n")?;
+    is_block_told(&rt, alloc, ALONE, unproved, "case 0 alone 2\n")?;
+    is_block_told(&rt, alloc, KNOWN, unproved, "case 0 known 4\n")?;
+    Ok(())
+}
+
 // The first case that isn't proved is told, unless a line doesn't fit.
 #[test]
 fn several_cases(rt: HostRuntime) -> Result<(), Fail> {
     let alloc = rt.alloc();
-    let two = joined(alloc, &[SMALL, NO_GAP, SMALL, ALONE])?;
+    let alone = block(alloc, ALONE)?;
+    let two = joined(alloc, &[SMALL, NO_GAP, SMALL, &alone])?;
     let lines = "case 0 yes\ncase 1 disorder\ncase 2 yes\ncase 3 alone 2\n";
     is_told(&rt, alloc, &two, MOST, Checked::Unproved(1), lines)?;
     let broken = joined(

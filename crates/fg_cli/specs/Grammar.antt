@@ -104,38 +104,29 @@ commands =
     command.Repair ∷ command.Encode ∷ command.Drill ∷ command.Inspect ∷ command.Sample ∷ command.FromCapture ∷ command.ToCapture
     ∷ command.Monitor ∷ command.Prove ∷ command.Check ∷ command.ChooseMatrix ∷ command.Survey ∷ command.Pick ∷ []
 
--- The word of a command.
+-- A command's word, and what the help says of it.
+abbrev pub command_told : Command → List ℕ × List ℕ
+command_told command.Repair = (codes "repair", codes "writes each flow of a trace, repaired, to PORT.ts")
+command_told command.Encode = (codes "encode", codes "encodes a transport stream with parity")
+command_told command.Drill = (codes "drill", codes "encodes a stream, drops records, and repairs it")
+command_told command.Inspect = (codes "inspect", codes "writes a line for each record of a trace")
+command_told command.Sample = (codes "sample", codes "makes a stream, drops records, and repairs it")
+command_told command.FromCapture = (codes "fromcap", codes "writes the trace of the datagrams in a capture")
+command_told command.ToCapture = (codes "tocap", codes "writes a capture of the records of a trace")
+command_told command.Monitor = (codes "monitor", codes "writes a line for each break in a stream's continuity")
+command_told command.Prove = (codes "prove", codes "writes a case for each window that shows a gap")
+command_told command.Check = (codes "check", codes "judges cases of gaps, a line for each")
+command_told command.ChooseMatrix = (codes "plan", codes "writes the least matrix that brings a burst back")
+command_told command.Survey = (codes "survey", codes "tells what a trace holds: ports, streams, losses, matrix")
+command_told command.Pick = (codes "pick", codes "writes the trace of some of a trace's records")
+
 abbrev pub command_text : Command → List ℕ
-command_text command.Repair = codes "repair"
-command_text command.Encode = codes "encode"
-command_text command.Drill = codes "drill"
-command_text command.Inspect = codes "inspect"
-command_text command.Sample = codes "sample"
-command_text command.FromCapture = codes "fromcap"
-command_text command.ToCapture = codes "tocap"
-command_text command.Monitor = codes "monitor"
-command_text command.Prove = codes "prove"
-command_text command.Check = codes "check"
-command_text command.ChooseMatrix = codes "plan"
-command_text command.Survey = codes "survey"
-command_text command.Pick = codes "pick"
+command_text command = (command_told command).0
 
--- What the help says of a command, and of a name.
 abbrev pub command_about : Command → List ℕ
-command_about command.Repair = codes "writes each flow of a trace, repaired, to PORT.ts"
-command_about command.Encode = codes "encodes a transport stream with parity"
-command_about command.Drill = codes "encodes a stream, drops records, and repairs it"
-command_about command.Inspect = codes "writes a line for each record of a trace"
-command_about command.Sample = codes "makes a stream, drops records, and repairs it"
-command_about command.FromCapture = codes "writes the trace of the datagrams in a capture"
-command_about command.ToCapture = codes "writes a capture of the records of a trace"
-command_about command.Monitor = codes "writes a line for each break in a stream's continuity"
-command_about command.Prove = codes "writes a case for each window that shows a gap"
-command_about command.Check = codes "judges cases of gaps, a line for each"
-command_about command.ChooseMatrix = codes "writes the least matrix that brings a burst back"
-command_about command.Survey = codes "tells what a trace holds: ports, streams, losses, matrix"
-command_about command.Pick = codes "writes the trace of some of a trace's records"
+command_about command = (command_told command).1
 
+-- What the help says of a name.
 abbrev pub about : Key → List ℕ
 about key.Flow = codes "media port P, with P+2 and P+4"
 about key.Window = codes "positions that are played at once"

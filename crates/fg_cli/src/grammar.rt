@@ -1,5 +1,5 @@
 //! The commands, and the names that may stand after them: one row for each name.
-ghost use Rattle.std.specs.Prelude.{◌≡◌, ◌<◌, ◌^◌, ◌≤◌, ◌↔◌, IfNone, IfSome, IsTrue};
+ghost use Rattle.std.specs.Prelude.{◌≡◌, ◌<◌, ◌↔◌, IfNone, IfSome, IsTrue};
 ghost use Rattle.fg_cli.specs.Grammar.{Knows, Number, Either, about, command_about, command_text, commands, keys_of, most_of, named, needed, optional, row, told_after, told_row};
 ghost use Rattle.fg_cli.specs.Reading.{BeginsPlain, Reads, range_seen, row_seen};
 
@@ -111,25 +111,41 @@ impl Command {
         ]
     }
 
+    /// The word that names the command, and what the help says of it.
+    fn words(self) -> (&'static str, &'static str)
+        ensures { (result.0.now ≡ command_text self) × (result.1.now ≡ command_about self) }
+    {
+        match self {
+            Command::Repair => (
+                "repair",
+                "writes each flow of a trace, repaired, to PORT.ts",
+            ),
+            Command::Encode => ("encode", "encodes a transport stream with parity"),
+            Command::Drill => ("drill", "encodes a stream, drops records, and repairs it"),
+            Command::Inspect => ("inspect", "writes a line for each record of a trace"),
+            Command::Sample => ("sample", "makes a stream, drops records, and repairs it"),
+            Command::FromCapture => ("fromcap", "writes the trace of the datagrams in a capture"),
+            Command::ToCapture => ("tocap", "writes a capture of the records of a trace"),
+            Command::Monitor => (
+                "monitor",
+                "writes a line for each break in a stream's continuity",
+            ),
+            Command::Prove => ("prove", "writes a case for each window that shows a gap"),
+            Command::Check => ("check", "judges cases of gaps, a line for each"),
+            Command::ChooseMatrix => ("plan", "writes the least matrix that brings a burst back"),
+            Command::Survey => (
+                "survey",
+                "tells what a trace holds: ports, streams, losses, matrix",
+            ),
+            Command::Pick => ("pick", "writes the trace of some of a trace's records"),
+        }
+    }
+
     /// The word that names the command.
     pub fn word(self) -> &'static str
         ensures { result.now ≡ command_text self }
     {
-        match self {
-            Command::Repair => "repair",
-            Command::Encode => "encode",
-            Command::Drill => "drill",
-            Command::Inspect => "inspect",
-            Command::Sample => "sample",
-            Command::FromCapture => "fromcap",
-            Command::ToCapture => "tocap",
-            Command::Monitor => "monitor",
-            Command::Prove => "prove",
-            Command::Check => "check",
-            Command::ChooseMatrix => "plan",
-            Command::Survey => "survey",
-            Command::Pick => "pick",
-        }
+        self.words().0
     }
 
     /// The command that the word names.
@@ -183,21 +199,7 @@ impl Command {
     pub fn about(self) -> &'static str
         ensures { result.now ≡ command_about self }
     {
-        match self {
-            Command::Repair => "writes each flow of a trace, repaired, to PORT.ts",
-            Command::Encode => "encodes a transport stream with parity",
-            Command::Drill => "encodes a stream, drops records, and repairs it",
-            Command::Inspect => "writes a line for each record of a trace",
-            Command::Sample => "makes a stream, drops records, and repairs it",
-            Command::FromCapture => "writes the trace of the datagrams in a capture",
-            Command::ToCapture => "writes a capture of the records of a trace",
-            Command::Monitor => "writes a line for each break in a stream's continuity",
-            Command::Prove => "writes a case for each window that shows a gap",
-            Command::Check => "judges cases of gaps, a line for each",
-            Command::ChooseMatrix => "writes the least matrix that brings a burst back",
-            Command::Survey => "tells what a trace holds: ports, streams, losses, matrix",
-            Command::Pick => "writes the trace of some of a trace's records",
-        }
+        self.words().1
     }
 
     /// The names that may stand after the command, in the order in which missing ones are told.

@@ -65,17 +65,18 @@ fn whole_order(alloc: Global, command: Command, settings: &[Setting]) -> Result<
     requires { CanBeOrdered command settings.now }
     ensures { Orders command settings.now result }
 {
+    let max = max_of(settings);
     match command {
         Command::Repair => repair(alloc, settings),
         Command::Encode => encode(settings),
         Command::Drill => drill(alloc, settings),
         Command::Inspect => inspect(alloc, settings),
         Command::Sample => sample(alloc, settings),
-        Command::FromCapture => from_capture(settings),
-        Command::ToCapture => to_capture(settings),
-        Command::Monitor => monitor(settings),
+        Command::FromCapture => Ok(Order::FromCapture { max }),
+        Command::ToCapture => Ok(Order::ToCapture { max }),
+        Command::Monitor => Ok(Order::Monitor { max }),
         Command::Prove => prove(alloc, settings),
-        Command::Check => check(settings),
+        Command::Check => Ok(Order::Check { max }),
         Command::ChooseMatrix => choose_matrix(settings),
         Command::Survey => survey(settings),
         Command::Pick => pick(alloc, settings),
@@ -87,9 +88,7 @@ fn repair(alloc: Global, settings: &[Setting]) -> Result<Order, ReadWords>
     requires { CanBeOrdered command.Repair settings.now }
     ensures { Orders command.Repair settings.now result }
 {
-    let table = flows(alloc, settings)?;
-    let max = max_of(settings);
-    Ok(Order::Repair(plan(table, settings, max)))
+    Ok(Order::Repair(named_plan(alloc, settings)?))
 }
 
 /// What `encode` orders.
@@ -148,50 +147,12 @@ fn sample(alloc: Global, settings: &[Setting]) -> Result<Order, ReadWords>
     })
 }
 
-/// What `fromcap` orders.
-fn from_capture(settings: &[Setting]) -> Result<Order, ReadWords>
-    requires { CanBeOrdered command.FromCapture settings.now }
-    ensures { Orders command.FromCapture settings.now result }
-{
-    let max = max_of(settings);
-    Ok(Order::FromCapture { max })
-}
-
-/// What `tocap` orders.
-fn to_capture(settings: &[Setting]) -> Result<Order, ReadWords>
-    requires { CanBeOrdered command.ToCapture settings.now }
-    ensures { Orders command.ToCapture settings.now result }
-{
-    let max = max_of(settings);
-    Ok(Order::ToCapture { max })
-}
-
-/// What `monitor` orders.
-fn monitor(settings: &[Setting]) -> Result<Order, ReadWords>
-    requires { CanBeOrdered command.Monitor settings.now }
-    ensures { Orders command.Monitor settings.now result }
-{
-    let max = max_of(settings);
-    Ok(Order::Monitor { max })
-}
-
 /// What `prove` orders.
 fn prove(alloc: Global, settings: &[Setting]) -> Result<Order, ReadWords>
     requires { CanBeOrdered command.Prove settings.now }
     ensures { Orders command.Prove settings.now result }
 {
-    let table = flows(alloc, settings)?;
-    let max = max_of(settings);
-    Ok(Order::Prove(plan(table, settings, max)))
-}
-
-/// What `check` orders.
-fn check(settings: &[Setting]) -> Result<Order, ReadWords>
-    requires { CanBeOrdered command.Check settings.now }
-    ensures { Orders command.Check settings.now result }
-{
-    let max = max_of(settings);
-    Ok(Order::Check { max })
+    Ok(Order::Prove(named_plan(alloc, settings)?))
 }
 
 /// What `plan` orders.
@@ -233,6 +194,21 @@ fn max_of(settings: &[Setting]) -> u64
     ensures fits { MaxFits result }
 {
     number(settings, Key::Max)
+}
+
+/// The plan of a repair of the flows that are named.
+fn named_plan(alloc: Global, settings: &[Setting]) -> Result<Plan, TableFault>
+    requires bounded { AreBounded settings.now }
+    requires ranges { InRanges settings.now }
+    requires deep { ¬ DepthIsBelow settings.now }
+    ensures plan { IfOk result
+        (IsPlan settings.now (values_of key.Flow settings.now) (number_of key.Max settings.now)) }
+    ensures fits { IfOk result PlanFits }
+    ensures max { IfOk result (λ plan. MaxFits plan.max) }
+    ensures faults { IfErr result (IsTableFault (values_of key.Flow settings.now)) }
+{
+    let table = flows(alloc, settings)?;
+    Ok(plan(table, settings, max_of(settings)))
 }
 
 /// The plan of a repair of these flows.

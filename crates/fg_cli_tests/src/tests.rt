@@ -26,28 +26,25 @@ fn order(alloc: Global, line: &str) -> Result<Order, ReadWords> {
     read_words(alloc, &words_of(alloc, line)?)
 }
 
-/// The first rule that the words break.
-fn fault_of(alloc: Global, words: &[String]) -> Option<WordFault> {
+/// The first rule that the words break; `None` where they order something.
+fn fault_of(alloc: Global, words: &[String]) -> Result<Option<WordFault>, AllocError> {
     match read_words(alloc, words) {
-        Err(ReadWords::Words(fault)) => Some(fault),
-        _ => None,
+        Ok(_) => Ok(None),
+        Err(ReadWords::Words(fault)) => Ok(Some(fault)),
+        Err(ReadWords::Memory) => Err(AllocError),
     }
 }
 
 /// Checks that the line has this fault first.
 fn refuse(rt: &impl Abort, alloc: Global, line: &str, fault: WordFault) -> Result<(), AllocError> {
     let words = words_of(alloc, line)?;
-    assert_eq!(rt; fault_of(alloc, &words), Some(fault), "{line}");
+    assert_eq!(rt; fault_of(alloc, &words)?, Some(fault), "{line}");
     Ok(())
 }
 
-/// Checks that none of the words may stand after the command.
-fn refuse_each(
-    rt: &impl Abort,
-    alloc: Global,
-    command: &str,
-    words: &str,
-) -> Result<(), AllocError> {
+/// Checks that none of the line's words may stand after the first of them, which is a command.
+fn refuse_each(rt: &impl Abort, alloc: Global, line: &str) -> Result<(), AllocError> {
+    let (command, words) = line.split_once(' ').unwrap_or((line, ""));
     for word in words.split(' ') {
         let line = format!(in alloc; "{command} {word}")?;
         refuse(rt, alloc, &line, BadWord(1))?;
@@ -75,7 +72,7 @@ fn worked_examples(rt: HostRuntime) -> Result<(), Fail> {
     ] {
         refuse(&rt, rt.alloc(), line, fault)?;
     }
-    assert_eq!(rt; fault_of(rt.alloc(), &[]), Some(WordFault::NoCommand));
+    assert_eq!(rt; fault_of(rt.alloc(), &[])?, Some(WordFault::NoCommand));
     Ok(())
 }
 
@@ -108,64 +105,45 @@ fn least_and_greatest(rt: HostRuntime) {
 }
 
 #[test]
-fn below_and_above(rt: HostRuntime) -> Result<(), Fail> {
-    for (command, words) in [
-        (
-            "repair",
-            "flow=0 flow=65532 window=0 window=101 depth=0 depth=1001 hold=0 hold=3600000001 workers=17 max=7 max=1099511627777",
-        ),
-        (
-            "encode",
-            "columns=256 rows=256 fec=rows layout=blocks packets=0 packets=8 rate=0 rate=10000000001 port=0 port=65532",
-        ),
-        ("encode", "seq=65536 ssrc=4294967296 stamp=4294967296 max=7"),
-        (
-            "drill",
-            "hold=0 hold=3600000001 drop=0 drop=10000000000000 every=0 every=1 every=10000000000000",
-        ),
-        (
-            "sample",
-            "seed=10000000000000 datagrams=0 datagrams=20001 loss=21 workers=17",
-        ),
-        ("monitor", "max=7 max=1099511627777"),
-        ("plan", "burst=0 burst=21 most=0 most=101"),
-        (
-            "pick",
-            "flow=0 flow=65532 port=65536 ssrc=4294967296 without=4294967296 from=18446744073709551616",
-        ),
+fn words_that_may_not_stand(rt: HostRuntime) -> Result<(), Fail> {
+    for line in [
+        // Numbers below and above the range, and kinds that there aren't.
+        "repair flow=0 flow=65532 window=0 window=101 depth=0 depth=1001 hold=0 hold=3600000001 workers=17 max=7 max=1099511627777",
+        "encode columns=256 rows=256 fec=rows layout=blocks packets=0 packets=8 rate=0 rate=10000000001 port=0 port=65532",
+        "encode seq=65536 ssrc=4294967296 stamp=4294967296 max=7",
+        "drill hold=0 hold=3600000001 drop=0 drop=10000000000000 every=0 every=1 every=10000000000000",
+        "sample seed=10000000000000 datagrams=0 datagrams=20001 loss=21 workers=17",
+        "monitor max=7 max=1099511627777",
+        "plan burst=0 burst=21 most=0 most=101",
+        "pick flow=0 flow=65532 port=65536 ssrc=4294967296 without=4294967296 from=18446744073709551616",
+        // Forms of a word, and names of other commands.
+        "repair flow=05000 workers=00 flow=+5000 workers=-0 flow= flow=5000\t flow=5e3 flow=0x10",
+        "repair flow=99999999999999999999999999 flow =5000 flow==5000 flow=5000= Flow=5000 seed=1 port=5000",
+        "encode flow=5000 window=5 hold=5 fec=Both layout=",
+        "inspect window=5 hold=5",
+        "sample depth=5 hold=5",
+        "fromcap flow=5000",
+        "tocap port=5000",
+        "prove workers=4",
+        "check flow=5000",
+        "plan max=8",
+        "survey flow=5000 format=xml format=",
+        "pick format=json seq=5 until=-1 window=5",
     ] {
-        refuse_each(&rt, rt.alloc(), command, words)?;
+        refuse_each(&rt, rt.alloc(), line)?;
     }
     Ok(())
 }
 
 #[test]
-fn forms_of_words(rt: HostRuntime) -> Result<(), Fail> {
-    for (command, words) in [
-        (
-            "repair",
-            "flow=05000 workers=00 flow=+5000 workers=-0 flow= flow=5000\t flow=5e3 flow=0x10",
-        ),
-        (
-            "repair",
-            "flow=99999999999999999999999999 flow =5000 flow==5000 flow=5000= Flow=5000 seed=1 port=5000",
-        ),
-        ("encode", "flow=5000 window=5 hold=5 fec=Both layout="),
-        ("inspect", "window=5 hold=5"),
-        ("sample", "depth=5 hold=5"),
-        ("fromcap", "flow=5000"),
-        ("tocap", "port=5000"),
-        ("prove", "workers=4"),
-        ("check", "flow=5000"),
-        ("plan", "max=8"),
-        ("survey", "flow=5000 format=xml format="),
-        ("pick", "format=json seq=5 until=-1 window=5"),
+fn forms_of_commands(rt: HostRuntime) -> Result<(), Fail> {
+    for (line, word) in [
+        ("repair  flow=5000", 1),
+        ("Repair flow=5000", 0),
+        ("flow=5000", 0),
+        ("repair= flow=5000", 0),
     ] {
-        refuse_each(&rt, rt.alloc(), command, words)?;
-    }
-    refuse(&rt, rt.alloc(), "repair  flow=5000", BadWord(1))?;
-    for line in ["Repair flow=5000", "flow=5000", "repair= flow=5000"] {
-        refuse(&rt, rt.alloc(), line, BadWord(0))?;
+        refuse(&rt, rt.alloc(), line, BadWord(word))?;
     }
     Ok(())
 }
@@ -236,62 +214,39 @@ fn several_faults(rt: HostRuntime) -> Result<(), Fail> {
     Ok(())
 }
 
-/// The words, and so many of the form `name=n`, where n begins so and rises by the step.
+/// The words, and so many of the form `name=n`, where n begins at 5000 and rises by the step.
 fn with_many(
     alloc: Global,
     line: &str,
     name: &str,
     count: u32,
-    from: u32,
     step: u32,
 ) -> Result<Vec<String>, AllocError>
     requires count { count ≤ 1001 }
-    requires from { from ≤ 5000 }
     requires step { step ≤ 6 }
 {
     let mut words = words_of(alloc, line)?;
     for i in 0..count {
-        let number = from + step * i;
+        let number = 5000 + step * i;
         words.push(format!(in alloc; "{name}={number}")?)?;
     }
     Ok(words)
 }
 
+// The most that may stand there, and one more.
 #[test]
-fn sixty_four_flows(rt: HostRuntime) -> Result<(), Fail> {
-    let words = with_many(rt.alloc(), "repair", "flow", 64, 5000, 6)?;
-    assert!(rt; read_words(rt.alloc(), &words).is_ok());
-    Ok(())
-}
-
-#[test]
-fn sixty_five_flows(rt: HostRuntime) -> Result<(), Fail> {
-    let words = with_many(rt.alloc(), "repair", "flow", 65, 5000, 6)?;
-    assert_eq!(rt;
-        fault_of(rt.alloc(), &words),
-        Some(Flows(FlowFault::TooMany))
-    );
-    Ok(())
-}
-
-#[test]
-fn a_thousand_drops(rt: HostRuntime) -> Result<(), Fail> {
-    let words = with_many(rt.alloc(), "drill columns=4 rows=4", "drop", 1000, 1, 3)?;
-    assert!(rt; read_words(rt.alloc(), &words).is_ok());
-    Ok(())
-}
-
-#[test]
-fn a_thousand_and_one_drops(rt: HostRuntime) -> Result<(), Fail> {
-    let words = with_many(rt.alloc(), "drill columns=4 rows=4", "drop", 1001, 1, 3)?;
-    assert_eq!(rt; fault_of(rt.alloc(), &words), Some(BadWord(1003)));
-    Ok(())
-}
-
-#[test]
-fn seventeen_sources(rt: HostRuntime) -> Result<(), Fail> {
-    let words = with_many(rt.alloc(), "pick port=7", "ssrc", 17, 5000, 0)?;
-    assert_eq!(rt; fault_of(rt.alloc(), &words), Some(BadWord(18)));
+fn counts_of_a_name(rt: HostRuntime) -> Result<(), Fail> {
+    let drill = "drill columns=4 rows=4";
+    for (line, name, count, step, fault) in [
+        ("repair", "flow", 64, 6, None),
+        ("repair", "flow", 65, 6, Some(Flows(FlowFault::TooMany))),
+        (drill, "drop", 1000, 3, None),
+        (drill, "drop", 1001, 3, Some(BadWord(1003))),
+        ("pick port=7", "ssrc", 17, 0, Some(BadWord(18))),
+    ] {
+        let words = with_many(rt.alloc(), line, name, count, step)?;
+        assert_eq!(rt; fault_of(rt.alloc(), &words)?, fault, "{count} {name}");
+    }
     Ok(())
 }
 

@@ -1,5 +1,5 @@
 -- What a closure tells of the desk that was found.
-use Rattle.std.proofs.Common.{◌≡◌, ◌⊎◌, ◌↔◌, ◌+◌, ◌-◌, ◌*◌, ◌^◌, ◌<◌, ◌≤◌, ℕ, Bool, true, false, List, ◌++◌, length, take, drop, get_or, max, Option, Some, None, IsSome, inl, inr, refl, sym, ap, subst, ◌∙◌, ⊎_elim, arith}
+use Rattle.std.proofs.Common.{◌≡◌, ◌⊎◌, ◌↔◌, ◌+◌, ◌-◌, ◌*◌, ◌^◌, ◌<◌, ◌≤◌, ℕ, Bool, true, false, List, ◌++◌, length, take, drop, get_or, max, Option, Some, None, IsSome, inl, inr, refl, sym, ap, subst, ◌∙◌, ⊎_elim, arith, below_more}
 use Rattle.std.proofs.lemmas.Bool.{cases_lt}
 use Rattle.std.proofs.lemmas.List.{take-append-le, get_or_default}
 use Rattle.std.proofs.Math.Seq.{take-length}
@@ -175,15 +175,11 @@ pub reach_on : (closure : Closure) (count place end more last : ℕ) (line : Lin
 reach_on closure count place end more last line here last_is is reach =
     let window = reach.window in record {
       window = omega (arith, is, window);
-      above = λ other line' below at. ⊎_elim
-          (λ less. (let low = reach.above other line' less at in omega (arith, is, low)))
-          (λ not_less. (
-          let same : other ≡ place = omega (arith, below, not_less) in
-          let one : line ≡ line' = same_Some line line' (sym here ∙ ap (λ p. get_or closure.lines.items p None) (sym same) ∙ at) in
-          let last_too : last_of line ≡ last_of line' = ap last_of one in
-          omega (arith, is, last_is, last_too)
-          ))
-          (cases_lt other place);
+      above = λ other line' below at.
+          below_more (λ (p : ℕ). (l : LineSlots) → get_or closure.lines.items p None ≡ Some l → last_of l < more) place
+          (λ p less l at'. let low = reach.above p l less at' in omega (arith, is, low))
+          (λ l at'. let same = ap last_of (same_Some line l (sym here ∙ at')) in omega (arith, is, last_is, same))
+          other below line' at;
       told = ⊎_elim
           (λ grows. inr (place, line, here, omega (arith, is, grows, last_is)))
           (λ stays. (let e : more ≡ end = omega (arith, is, stays) in ⊎_elim

@@ -1,5 +1,6 @@
 -- The lines of a desk in the order of admission.
-use Rattle.std.proofs.Common.{◌≡◌, ◌≢◌, ◌⊎◌, ◌+◌, ◌<◌, ◌≤◌, ◌&&◌, ℕ, zero, suc, Bool, true, false, T, List, [], ◌∷◌, ◌++◌, map, take, length, get_or, add-one, Option, Some, None, Ordering, Less, Equal, Greater, inl, inr, refl, sym, ap, subst, ◌∙◌, ⊎_elim, arith, swap}
+use Rattle.std.proofs.Common.{◌≡◌, ◌≢◌, ◌⊎◌, ◌+◌, ◌<◌, ◌≤◌, ◌&&◌, ℕ, zero, suc, Bool, true, false, T, List, [], ◌∷◌, ◌++◌, map, take, length, get_or, add-one, Option, Some, None, Ordering, Equal, Greater, inl, inr, refl, sym, ap, subst, ◌∙◌, ⊎_elim, arith, swap}
+use Rattle.std.proofs.lemmas.Cmp.{by_ranked}
 use Rattle.std.proofs.lemmas.Bool.{cases_eq}
 use Rattle.std.proofs.lemmas.Option.{none-some, same_Some}
 use Rattle.std.proofs.lemmas.List.Edits.{swapped_from_swap, length-swap}
@@ -9,7 +10,7 @@ use Rattle.std.proofs.Math.Seq.{take-suc}
 use Rattle.std.specs.List.{Contains, filter_map}
 use Rattle.std.specs.List.Sorted.{IsPermutation, IsNonDecreasingBy}
 use Rattle.std.specs.Ordering.{nat_cmp, is_lt}
-use Rattle.std.specs.Cmp.{ranked}
+use Rattle.std.specs.Cmp.{ranks}
 use Rattle.std.specs.FinMap.{get, entries, entries_sorted}
 use Rattle.std.specs.FinMap.Entries.{is_sorted, below_all}
 use Rattle.fg_shape.specs.declared.Shape.{Shape}
@@ -179,12 +180,9 @@ both_true true b h = (tt, h)
 both_true false b h = absurd h
 
 less : (x y : ℕ) → T (is_lt (nat_cmp x y)) → x < y
-less x y h = go (nat_cmp x y) refl h
-  where
-    go : (r : Ordering) → r ≡ nat_cmp x y → T (is_lt r) → x < y
-    go Less e t = ranked x y Less e
-    go Equal e t = absurd t
-    go Greater e t = absurd t
+less x y h =
+    let other : (o : Ordering) → nat_cmp x y ≡ o → T (is_lt o) = λ o is. subst (λ (r : Ordering). T (is_lt r)) is h in
+    by_ranked (x < y) (x ≡ y) (y < x) (nat_cmp x y) (ranks x y) (λ is low. low) (λ is same. absurd (other Equal is)) (λ is high. absurd (other Greater is))
 
 below_each : (x : ℕ) (es : List (ℕ × Live)) → T (below_all nat_cmp x es) → (e : ℕ × Live) → Contains es e → x < e.0
 below_each x [] below e c = absurd (Contains-nil e c)

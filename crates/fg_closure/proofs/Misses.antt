@@ -1,6 +1,5 @@
 -- Looking through a line's slots for those without a flag.
 use Rattle.std.proofs.Common.{◌≡◌, ◌≢◌, ◌+◌, ◌-◌, ◌*◌, ◌^◌, ◌<◌, ◌≤◌, ℕ, Bool, true, false, List, length, get_or, Option, Some, None, is_some, Contains, sym, ap, ◌∙◌, ⊎_elim, arith, mul-le-mul_right}
-use Rattle.std.proofs.lemmas.List.{get_or_default}
 use Rattle.std.proofs.lemmas.List.Elements.{Contains-get_or}
 use Rattle.std.proofs.lemmas.Bool.{cases_eq}
 use Rattle.fg_shape.proofs.ShapeLemmas.{length-slots_of, get_or-slots_of, slots_apart, number_of_slot}
@@ -26,23 +25,21 @@ MissesBelow P xs j (Some position) =
 pub misses_none : (P : ℕ → Type 0) (xs : List ℕ) → MissesBelow P xs 0 None
 misses_none P xs k below = absurd (omega arith)
 
+-- What holds at each number below j, and at j, holds below j + 1.
+one_more : (Q : ℕ → Type 0) (j : ℕ) → Q j → ((k : ℕ) → k < j → Q k) → (k : ℕ) → k < j + 1 → Q k
+one_more Q j here below k less = ⊎_elim (λ same. rw same here) (λ other. below k (omega (arith, other))) (cases_eq k j)
+
 -- one more slot that is with it
 pub misses_same :
     (P : ℕ → Type 0) (xs : List ℕ) (j : ℕ) (found : Option ℕ) → P (get_or xs j 0)
     → MissesBelow P xs j found → MissesBelow P xs (j + 1) found
-misses_same P xs j None has below = λ k less. ⊎_elim
-    (λ same. rw same has)
-    (λ other. below k (omega (arith, other)))
-    (cases_eq k j)
+misses_same P xs j None has below = one_more (λ k. P (get_or xs k 0)) j has below
 misses_same P xs j (Some position) has below = (
   below.0,
   omega (arith, below.1),
   below.2,
   below.3,
-  λ k less other. ⊎_elim
-      (λ same. rw same has)
-      (λ before. below.4 k (omega (arith, before)) other)
-      (cases_eq k j),
+  one_more (λ k. k ≢ below.0 → P (get_or xs k 0)) j (λ _. has) below.4,
 )
 
 -- the first slot that is without

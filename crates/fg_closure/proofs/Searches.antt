@@ -8,8 +8,8 @@ use Rattle.std.specs.FinMap.{get, entries}
 use Rattle.fg_peel.specs.declared.span.Missing.{Missing}
 use Rattle.fg_peel.specs.declared.span.Missing.TheVariants.{Nothing, One, Several}
 use Rattle.fg_peel.specs.Equation.{Equation, slots}
-use Rattle.fg_peel.proofs.Lists.{Contains-map, Contains-from_map}
-use Rattle.fg_peel.proofs.Maps.{get_of_entry, entry_of_get}
+use Rattle.fg_peel.proofs.Lists.{Contains-from_map}
+use Rattle.fg_peel.proofs.Maps.{get_of_entry}
 use Rattle.fg_playout.proofs.Equations.{live_at}
 use Rattle.fg_playout.specs.State.{State, Live, known, live_equations}
 use Rattle.fg_playout.specs.Solution.{InClosure, given, derived}

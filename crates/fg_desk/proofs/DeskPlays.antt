@@ -67,16 +67,7 @@ pub sound_from :
     (parts : Parts) → AreLimited parts → Holds (state_of parts) → AreMedia (get parts.buffer.cached)
     → ComeByPeeling parts (buffer_known parts.buffer) → ComeByPeeling parts (buffer_words parts.buffer) → SettledComeOut parts
     → HaveRoom parts → StandBeside parts → AreSound parts
-sound_from parts limits facts cached solved peeled settled rooms beside = record {
-  facts = facts;
-  limits = limits;
-  cached = cached;
-  solved = solved;
-  peeled = peeled;
-  settled = settled;
-  rooms = rooms;
-  beside = beside;
-}
+sound_from parts limits facts cached solved peeled settled rooms beside = search
 
 -- Without solved and found words a desk is sound.
 pub sound_without_found :

@@ -1,9 +1,9 @@
 -- A tray that is filled after a play in place shows that play.
-use Rattle.std.proofs.Common.{◌≡◌, ◌+◌, ◌≤◌, ℕ, length, sym, ap, ◌∙◌, arith}
+use Rattle.std.proofs.Common.{◌≡◌, ◌+◌, ◌≤◌, ℕ, List, length, sym, ap, subst, ◌∙◌, arith}
 use Rattle.std.proofs.lemmas.List.FromFn.{length-map-range_with_len}
 use Rattle.fg_playout.specs.declared.reply.Outcome.{Outcome}
 use Rattle.fg_playout.specs.State.{State, known}
-use Rattle.fg_playout.specs.Play.{IsPlay}
+use Rattle.fg_playout.specs.Play.{Play, Shown, IsPlay}
 use Rattle.fg_desk.specs.declared.desk.Desk.TheInside.{Inside}
 use Rattle.fg_desk.specs.Contents.{Contents, Holding, kept_shown, kept_from}
 use Rattle.fg_desk.specs.Inside.{contents_of}
@@ -19,7 +19,7 @@ module _
   played_is : length (kept_from new first played) ≡ played
   played_is = length-map-range_with_len (kept_shown (known new.state) new.repaired) first played
 
-  pub shown_after : tray.shown ≡ kept_from new first played
+  shown_after : tray.shown ≡ kept_from new first played
   shown_after =
       let mark = ap (λ (s : Contents). s.state.mark) view in
       let moved = is.mark in
@@ -33,3 +33,9 @@ module _
 
   pub count_shown : played ≡ length tray.shown
   count_shown = sym (ap length shown_after ∙ played_is)
+
+  -- What is true of the play as the desk keeps it is true of it as the tray shows it.
+  pub shown_play :
+      (Is : Play → Type 0) → Is (record { first = first; shown = kept_from new first played; outcome = outcome })
+      → Is (record { first = first; shown = tray.shown; outcome = outcome })
+  shown_play Is kept = subst (λ (xs : List Shown). Is (record { first = first; shown = xs; outcome = outcome })) (sym shown_after) kept

@@ -159,29 +159,6 @@ fn folder_keeps_lanes(rt: HostRuntime) -> Result<(), Fail> {
     Ok(())
 }
 
-/// Puts to a lane while a folder has its file's name, and again when a file has it. Whether each was taken, and what
-/// the file holds.
-fn lane_after_a_folder(rt: &HostRuntime) -> io::Result<(bool, bool, Vec<u8>)> {
-    fs::create_dir(rt, "65533.ts")?;
-    let mut outlet = FolderOutlet::new(rt);
-    let first = outlet.put(65533, b"abc").is_ok();
-    fs::remove_dir(rt, "65533.ts")?;
-    fs::write(rt, "65533.ts", "old")?;
-    let second = outlet.put(65533, b"de").is_ok();
-    Ok((first, second, fs::read(rt, "65533.ts")?))
-}
-
-#[test]
-fn folder_makes_a_lane_after_a_fault(rt: HostRuntime) -> Result<(), Fail> {
-    let lane = lane_after_a_folder(&rt);
-    let _ = fs::remove_dir(&rt, "65533.ts");
-    let _ = fs::remove_file(&rt, "65533.ts");
-    let (first, second, bytes) = lane?;
-    assert!(rt; !first && second);
-    assert_eq!(rt; bytes.as_slice(), b"de".as_slice());
-    Ok(())
-}
-
 /// Puts the piece to each of the lanes. Whether all was taken.
 fn put_to_each<O: Outlet>(outlet: &mut O, ports: Range<u16>, piece: &[u8]) -> bool {
     let mut taken = true;
@@ -274,23 +251,47 @@ fn folder_keeps_64_files_open(rt: HostRuntime) -> Result<(), Fail> {
     Ok(())
 }
 
-/// Puts to a lane whose file is full, and again where another has its name. Whether each was taken, and what that holds.
-fn lane_after_a_full_file(rt: &HostRuntime) -> io::Result<(bool, bool, Vec<u8>)> {
-    symlink(rt, "/dev/full", "65532.ts")?;
-    let mut outlet = FolderOutlet::new(rt);
-    let first = outlet.put(65532, b"abc").is_ok();
-    fs::remove_file(rt, "65532.ts")?;
-    fs::write(rt, "65532.ts", "ab")?;
-    let second = outlet.put(65532, b"c").is_ok();
-    Ok((first, second, fs::read(rt, "65532.ts")?))
+/// Removes a folder or a file.
+fn remove(rt: &HostRuntime, name: &str) -> io::Result<()> {
+    match fs::remove_dir(rt, name) {
+        Ok(()) => Ok(()),
+        Err(_) => fs::remove_file(rt, name),
+    }
 }
 
+/// Puts to a lane while something else has its file's name, and puts this piece when a file of these bytes has it. What the file
+/// holds, where the second put alone was taken.
+fn lane_after_a_fault(
+    rt: &HostRuntime,
+    port: u16,
+    bytes: &str,
+    piece: &[u8],
+) -> io::Result<Option<Vec<u8>>> {
+    let name = lane_name(rt.alloc(), port)?;
+    let mut outlet = FolderOutlet::new(rt);
+    let first = outlet.put(port, b"abc").is_ok();
+    remove(rt, name.as_str())?;
+    fs::write(rt, name.as_str(), bytes)?;
+    let second = outlet.put(port, piece).is_ok();
+    let held = fs::read(rt, name.as_str())?;
+    remove(rt, name.as_str())?;
+    Ok((!first && second).then_some(held))
+}
+
+// A folder has the name of the lane's file.
+#[test]
+fn folder_makes_a_lane_after_a_fault(rt: HostRuntime) -> Result<(), Fail> {
+    fs::create_dir(&rt, "65533.ts")?;
+    let held = lane_after_a_fault(&rt, 65533, "old", b"de")?;
+    assert_eq!(rt; held.as_deref(), Some(b"de".as_slice()));
+    Ok(())
+}
+
+// The lane's file is full.
 #[test]
 fn folder_opens_a_file_that_failed_at_its_end(rt: HostRuntime) -> Result<(), Fail> {
-    let lane = lane_after_a_full_file(&rt);
-    let _ = fs::remove_file(&rt, "65532.ts");
-    let (first, second, bytes) = lane?;
-    assert!(rt; !first && second);
-    assert_eq!(rt; bytes.as_slice(), b"abc".as_slice());
+    symlink(&rt, "/dev/full", "65532.ts")?;
+    let held = lane_after_a_fault(&rt, 65532, "ab", b"c")?;
+    assert_eq!(rt; held.as_deref(), Some(b"abc".as_slice()));
     Ok(())
 }

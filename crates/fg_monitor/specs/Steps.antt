@@ -1,5 +1,5 @@
 -- How far a monitoring has come. No public contract cites what stands here.
-use Rattle.std.specs.Prelude.{◌≡◌, ◌⊎◌, ◌+◌, ◌%◌, ◌≤◌, ◌^◌, ℕ, ⊤, Option, None, Some, IfSome, IsTrue, List, count_by}
+use Rattle.std.specs.Prelude.{◌≡◌, ◌⊎◌, ◌+◌, ◌%◌, ◌≤◌, ◌^◌, ℕ, ⊤, Option, None, Some, IfSome, MatchOption, IsTrue, List, count_by}
 use Rattle.std.specs.Option.{is_some}
 use Rattle.std.specs.List.{flat_map}
 use Rattle.std.specs.Io.KnownBytes.{IsAtEnd}
@@ -10,8 +10,8 @@ use Rattle.fg_ts.specs.Fields.{AnnouncesBreak, HasPayload, counter_of, pid_of}
 use Rattle.fg_ts.specs.Packets.{packet_length}
 use Rattle.fg_encode.specs.EncodeSteps.{IsReadTo}
 use Rattle.fg_encode.specs.Stream.{IsCut, LeavesNothing, StreamEnding}
-use Rattle.fg_encode.specs.StreamReader.{StreamState, StandsAfter}
-use Rattle.fg_encode.specs.StreamSteps.{reader_at}
+use Rattle.fg_encode.specs.StreamReader.{EndsHere, StreamState, StandsAfter}
+use Rattle.fg_encode.specs.StreamSteps.{Accepts, reader_at}
 use Rattle.fg_monitor.specs.declared.continuity.Break.{Break}
 use Rattle.fg_monitor.specs.declared.continuity.Last.{Last}
 use Rattle.fg_monitor.specs.declared.lines.Lines.{Lines}
@@ -52,6 +52,10 @@ IsBreakOf number (Some last) packet (Some told) =
 abbrev pub reader_of : InputState → StreamState
 reader_of input = reader_at input 1 None
 
+-- So the stream ends here, before another packet; none where that is whole.
+abbrev pub IsEndingHere : Option StreamEnding → InputState → Type 0
+IsEndingHere ending input = MatchOption ending (Accepts (reader_of input)) (λ end. EndsHere end 1 input.max input.place input.held input.ended)
+
 -- What there is to tell of these packets is told: the sink has gained a front of it since then, and the rest is held.
 pub record HasTold
     (packets : List (List ℕ)) (lines : Lines) (before after : Option (List ℕ)) : Type 0 where
@@ -74,6 +78,10 @@ pub record IsUnderway (first now : Option (List ℕ)) (walk : Walk) (before afte
   pub buffer : IsBuffer walk.input
   pub seen : HasSeen walk.monitor packets
   pub told : HasTold packets walk.lines before after
+
+-- So it is from wherever a walk is under way.
+abbrev pub FromUnderway : Option (List ℕ) → Walk → Option (List ℕ) → (Option (List ℕ) → Option (List ℕ) → Type 0) → Type 0
+FromUnderway now walk after IsSo = (first before : Option (List ℕ)) → IsUnderway first now walk before after → IsSo first before
 
 -- All packets of the stream were, and this is its ending, for which it was read.
 pub record HasWalked

@@ -57,15 +57,13 @@ fn push_last_line(text: &mut Vec<u8>, packets: u64, faults: u64) -> Result<(), A
 {
     push_named(text, "packets ", packets)?;
     push_named(text, " faults ", faults)?;
-    text.push(b'\n')?;
-    Ok(())
+    text.extend_from_slice(b"\n")
 }
 
 impl Lines {
     /// No lines, with the memory to make and to hold them.
     pub(crate) fn new(alloc: Global) -> Result<Lines, AllocError>
-        ensures held { IfOk result (λ lines. lines.held ≡ []) }
-        ensures faults { IfOk result (λ lines. lines.faults ≡ 0) }
+        ensures { IfOk result (λ lines. (lines.held ≡ []) × (lines.faults ≡ 0)) }
     {
         Ok(Lines {
             line: Vec::with_capacity(alloc, LINE)?,

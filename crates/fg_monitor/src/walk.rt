@@ -1,5 +1,5 @@
 //! Walking a stream, and telling its faults.
-ghost use Rattle.std.specs.Prelude.{◌≡◌, ◌+◌, ◌≤◌, ◌<◌, ◌^◌, ℕ, Option, List, [], ◌∷◌, length, take, None, Some, IfOk, IfSome, IfNone, MatchOption, OnErr};
+ghost use Rattle.std.specs.Prelude.{◌≡◌, ◌+◌, ◌≤◌, ◌<◌, ◌^◌, ℕ, Option, List, [], ◌∷◌, length, take, None, Some, IfOk, IfSome, IfNone, OnErr};
 ghost use Rattle.std.specs.Io.KnownBytes.{IsAtEnd};
 ghost use Rattle.fg_io.specs.Faults.{Counts};
 ghost use Rattle.fg_io.specs.InputBuffer.{IsAhead};
@@ -7,10 +7,8 @@ ghost use Rattle.fg_ts.specs.Packets.{packet_length};
 ghost use Rattle.fg_encode.specs.Encode.{ending_of};
 ghost use Rattle.fg_encode.specs.Reading.{IsStreamReadFor};
 ghost use Rattle.fg_encode.specs.Stream.{LeavesNothing};
-ghost use Rattle.fg_encode.specs.StreamReader.{EndsHere};
-ghost use Rattle.fg_encode.specs.StreamSteps.{Accepts};
 ghost use Rattle.fg_monitor.specs.Monitored.{Monitors, MonitorsPart};
-ghost use Rattle.fg_monitor.specs.Steps.{Breaks, HasWalked, IsUnderway, reader_of};
+ghost use Rattle.fg_monitor.specs.Steps.{Breaks, FromUnderway, HasWalked, IsEndingHere, IsUnderway};
 
 use crate::continuity::Monitor;
 use crate::laws::{one_text, one_to_tell};
@@ -94,12 +92,10 @@ impl Walk {
     ) -> Result<Option<StreamFault>, Fault>
         requires { (first : Option (List ℕ)) × (before : Option (List ℕ))
             × IsUnderway first (S.left input.old) self.old before (K.written out.old) }
-        ensures whole { IfOk result (λ ending. (first before : Option (List ℕ))
-            → IsUnderway first (S.left input.old) self.old before (K.written out.old)
-            → HasWalked first (S.left input.new) ending self.new before (K.written out.new)) }
-        ensures part { OnErr result ((first before : Option (List ℕ))
-            → IsUnderway first (S.left input.old) self.old before (K.written out.old)
-            → Breaks self.old.input.max first (S.left input.new) before (K.written out.new)) }
+        ensures whole { IfOk result (λ ending. FromUnderway (S.left input.old) self.old (K.written out.old)
+            (λ first before. HasWalked first (S.left input.new) ending self.new before (K.written out.new))) }
+        ensures part { OnErr result (FromUnderway (S.left input.old) self.old (K.written out.old)
+            (λ first before. Breaks self.old.input.max first (S.left input.new) before (K.written out.new))) }
         ensures max { self.new.input.max ≡ self.old.input.max }
         ensures faults { Counts result ((S.faults input.old, S.faults input.new) ∷ [])
             ((K.faults out.old, K.faults out.new) ∷ []) }
@@ -120,15 +116,12 @@ impl Walk {
     ) -> Result<Option<Option<StreamFault>>, Fault>
         requires { (first : Option (List ℕ)) × (before : Option (List ℕ))
             × IsUnderway first (S.left input.old) self.old before (K.written out.old) }
-        ensures more { IfOk result (λ end. IfNone end ((first before : Option (List ℕ))
-            → IsUnderway first (S.left input.old) self.old before (K.written out.old)
-            → IsUnderway first (S.left input.new) self.new before (K.written out.new))) }
-        ensures ends { IfOk result (λ end. IfSome end (λ ending. (first before : Option (List ℕ))
-            → IsUnderway first (S.left input.old) self.old before (K.written out.old)
-            → HasWalked first (S.left input.new) ending self.new before (K.written out.new))) }
-        ensures part { OnErr result ((first before : Option (List ℕ))
-            → IsUnderway first (S.left input.old) self.old before (K.written out.old)
-            → Breaks self.old.input.max first (S.left input.new) before (K.written out.new)) }
+        ensures more { IfOk result (λ end. IfNone end (FromUnderway (S.left input.old) self.old (K.written out.old)
+            (λ first before. IsUnderway first (S.left input.new) self.new before (K.written out.new)))) }
+        ensures ends { IfOk result (λ end. IfSome end (λ ending. FromUnderway (S.left input.old) self.old (K.written out.old)
+            (λ first before. HasWalked first (S.left input.new) ending self.new before (K.written out.new)))) }
+        ensures part { OnErr result (FromUnderway (S.left input.old) self.old (K.written out.old)
+            (λ first before. Breaks self.old.input.max first (S.left input.new) before (K.written out.new))) }
         ensures max { self.new.input.max ≡ self.old.input.max }
         ensures place { IfOk result (λ end. IfNone end (self.old.input.place < self.new.input.place)) }
         ensures within { self.new.input.place ≤ self.new.input.max }
@@ -153,8 +146,7 @@ impl Walk {
 fn ending_here(input: &InputBuffer, ahead: Ahead) -> Option<Option<StreamFault>>
     requires max { input.now.max ≤ 2 ^ 40 }
     requires ahead { IsAhead ahead input.now packet_length }
-    ensures { MatchOption result (Accepts (reader_of input.now)) (λ ending.
-        EndsHere ending 1 input.now.max input.now.place input.now.held input.now.ended) }
+    ensures { IsEndingHere result input.now }
 {
     match ahead {
         Ahead::Whole if input.held()[0] == SYNC_BYTE => None,

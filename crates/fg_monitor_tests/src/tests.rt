@@ -25,24 +25,6 @@ fn stream(alloc: Global, heads: &[Head]) -> Result<Vec<u8>, AllocError> {
     Ok(bytes)
 }
 
-/// How a stream is said to end, or which fault came.
-type Answer = Result<Option<StreamFault>, Fault>;
-
-/// The answer for a source, and the text that a sink has which fails at these calls.
-fn monitored<S: Source>(
-    alloc: Global,
-    input: &mut S,
-    max: u64,
-    fails: &[u64],
-) -> Result<(Answer, MemSink), AllocError>
-    requires least { 8 ≤ max }
-    requires limit { max ≤ 2 ^ 40 }
-{
-    let mut out = MemSink::new(alloc, 65_536, fails)?;
-    let answer = monitor_stream(alloc, max, input, &mut out);
-    Ok((answer, out))
-}
-
 /// Monitors a stream of these bytes, in pieces of any size, and compares its ending and its text with these.
 fn is_told(
     rt: &impl Abort,
@@ -57,7 +39,8 @@ fn is_told(
 {
     for piece in [1, 189, 4000] {
         let mut input = SafeSource::new(alloc, bytes, piece)?;
-        let (answer, out) = monitored(alloc, &mut input, max, &[])?;
+        let mut out = MemSink::new(alloc, 65_536, &[])?;
+        let answer = monitor_stream(alloc, max, &mut input, &mut out);
         assert_eq!(rt; answer, Ok(ending));
         assert_eq!(rt; out.bytes(), text.as_bytes());
     }
@@ -95,77 +78,58 @@ packets 84 faults 2
     Ok(())
 }
 
-// A packet is repeated once, after a break too, and a packet that announces a break is no repeat.
-#[test]
-fn repeats(rt: HostRuntime) -> Result<(), Fail> {
-    is_told_whole(
-        &rt,
-        rt.alloc(),
+/// How packets of PID 256 begin: what follows the PID, as numbers of three bytes.
+fn heads_of(alloc: Global, rests: &[u32]) -> Result<Vec<Head>, AllocError> {
+    let mut heads = Vec::new(alloc);
+    for rest in rests {
+        let [_, control, length, flags] = rest.to_be_bytes();
+        heads.push([0x47, 1, 0, control, length, flags])?;
+    }
+    Ok(heads)
+}
+
+/// Streams of such packets, and what is told of them.
+const ON_ONE_PID: [(&[u32], &str); 3] = [
+    // A packet is repeated once, after a break too, and a packet that announces a break is no repeat.
+    (
         &[
-            [0x47, 1, 0, 0x13, 0, 0],
-            [0x47, 1, 0, 0x13, 0, 0],
-            [0x47, 1, 0, 0x13, 0, 0],
-            [0x47, 1, 0, 0x14, 0, 0],
-            [0x47, 1, 0, 0x1f, 0, 0],
-            [0x47, 1, 0, 0x1f, 0, 0],
-            [0x47, 1, 0, 0x10, 0, 0],
-            [0x47, 1, 0, 0x30, 1, 0x80],
-            [0x47, 1, 0, 0x10, 0, 0],
-            [0x47, 1, 0, 0x10, 0, 0],
+            0x13_0000, 0x13_0000, 0x13_0000, 0x14_0000, 0x1f_0000, 0x1f_0000, 0x10_0000, 0x30_0180,
+            0x10_0000, 0x10_0000,
         ],
         "packet 2 pid 256 counter 3 after 3
 packet 4 pid 256 counter 15 after 4
 packet 9 pid 256 counter 0 after 0
 packets 10 faults 3
 ",
-    )?;
-    Ok(())
-}
-
-// Two packets without payload, and those after them; and a packet with payload that doesn't rise after one without.
-#[test]
-fn packets_without_payload(rt: HostRuntime) -> Result<(), Fail> {
-    is_told_whole(
-        &rt,
-        rt.alloc(),
+    ),
+    // Two packets without payload, and those after them; and a packet with payload that doesn't rise after one without.
+    (
         &[
-            [0x47, 1, 0, 0x15, 0, 0],
-            [0x47, 1, 0, 0x25, 0xb7, 0],
-            [0x47, 1, 0, 0x16, 0, 0],
-            [0x47, 1, 0, 0x27, 0xb7, 0],
-            [0x47, 1, 0, 0x17, 0, 0],
-            [0x47, 1, 0, 0x07, 0, 0],
+            0x15_0000, 0x25_b700, 0x16_0000, 0x27_b700, 0x17_0000, 0x07_0000,
         ],
         "packet 3 pid 256 counter 7 after 6
 packet 4 pid 256 counter 7 after 7
 packets 6 faults 2
 ",
-    )?;
-    Ok(())
-}
-
-// With an adaptation field that says so, without one, with an empty one, and with one that says nothing.
-#[test]
-fn announced_breaks(rt: HostRuntime) -> Result<(), Fail> {
-    is_told_whole(
-        &rt,
-        rt.alloc(),
+    ),
+    // Announced breaks: with an adaptation field that says so, without one, with an empty one, and with one that says nothing.
+    (
         &[
-            [0x47, 1, 0, 0x10, 0, 0],
-            [0x47, 1, 0, 0x38, 1, 0x80],
-            [0x47, 1, 0, 0x19, 0, 0],
-            [0x47, 1, 0, 0x24, 0xb7, 0xff],
-            [0x47, 1, 0, 0x15, 0, 0],
-            [0x47, 1, 0, 0x18, 1, 0x80],
-            [0x47, 1, 0, 0x3b, 0, 0x80],
-            [0x47, 1, 0, 0x3e, 1, 0x7f],
+            0x10_0000, 0x38_0180, 0x19_0000, 0x24_b7ff, 0x15_0000, 0x18_0180, 0x3b_0080, 0x3e_017f,
         ],
         "packet 5 pid 256 counter 8 after 5
 packet 6 pid 256 counter 11 after 8
 packet 7 pid 256 counter 14 after 11
 packets 8 faults 3
 ",
-    )?;
+    ),
+];
+
+#[test]
+fn breaks_on_one_pid(rt: HostRuntime) -> Result<(), Fail> {
+    for (rests, text) in ON_ONE_PID {
+        is_told_whole(&rt, rt.alloc(), &heads_of(rt.alloc(), rests)?, text)?;
+    }
     Ok(())
 }
 
@@ -236,18 +200,29 @@ fn streams_end(rt: HostRuntime) -> Result<(), Fail> {
     Ok(())
 }
 
+/// Checks that a source is monitored up to this fault, where a sink that fails at these calls has nothing.
+fn is_stopped<S: Source>(
+    rt: &impl Abort,
+    alloc: Global,
+    input: &mut S,
+    fails: &[u64],
+    fault: Fault,
+) -> Result<(), AllocError> {
+    let mut out = MemSink::new(alloc, 65_536, fails)?;
+    let answer = monitor_stream(alloc, MOST, input, &mut out);
+    assert_eq!(rt; answer, Err(fault));
+    assert!(rt; out.bytes().is_empty());
+    Ok(())
+}
+
 // The second packet isn't whole when the read fails, or its line is held when the write of all fails.
 #[test]
 fn reads_and_writes_fail(rt: HostRuntime) -> Result<(), Fail> {
     let bytes = broken(rt.alloc())?;
     let mut input = MemSource::new(rt.alloc(), &bytes, 100, &[3])?;
-    let (answer, out) = monitored(rt.alloc(), &mut input, MOST, &[])?;
-    assert_eq!(rt; answer, Err(Fault::Read));
-    assert!(rt; out.bytes().is_empty());
+    is_stopped(&rt, rt.alloc(), &mut input, &[], Fault::Read)?;
     let mut input = SafeSource::new(rt.alloc(), &bytes, 100)?;
-    let (answer, out) = monitored(rt.alloc(), &mut input, MOST, &[0])?;
-    assert_eq!(rt; answer, Err(Fault::Write));
-    assert!(rt; out.bytes().is_empty());
+    is_stopped(&rt, rt.alloc(), &mut input, &[0], Fault::Write)?;
     Ok(())
 }
 

@@ -145,6 +145,19 @@ abbrev GivesNothing : (ℕ → Option Word) → Equation → Type 0
 GivesNothing known equation = AllByRecursion
     (λ p. ((q : ℕ) → Contains (slots equation) q → q ≢ p → IsSome (known q)) → IsSome (known p)) (slots equation)
 
+-- Of four slots the two in the middle are alike, as they are where both are unknown.
+two_alike :
+    (known : ℕ → Option Word) (equation : Equation) (a b c d : ℕ) → slots equation ≡ a ∷ b ∷ c ∷ d ∷ [] → b ≢ c
+    → IsSome (known a) → known b ≡ known c → IsSome (known d) → GivesNothing known equation
+two_alike known equation a b c d are differ first same last =
+    subst (λ (xs : List ℕ). AllByRecursion (λ p. ((q : ℕ) → Contains xs q → q ≢ p → IsSome (known q)) → IsSome (known p)) xs) (sym are) (
+      λ o. first,
+      (
+        λ o. subst (λ (w : Option Word). IsSome w) (sym same) (o c (2, omega arith, refl) (λ one. differ (sym one))),
+        (λ o. subst (λ (w : Option Word). IsSome w) same (o b (1, omega arith, refl) differ), (λ o. last, tt)),
+      ),
+    )
+
 pub four_in_square_stay : FourInSquareStay
 four_in_square_stay words across down q = (
   closure_least known all (λ p. IsSome (known p)) (record {
@@ -162,28 +175,16 @@ four_in_square_stay words across down q = (
     all = block across down (0 ∷ 1 ∷ 2 ∷ 3 ∷ []) (0 ∷ 1 ∷ 2 ∷ 3 ∷ [])
 
     row_1 : GivesNothing known (row (across 1) 1)
-    row_1 = (
-      λ o. refl,
-      (λ o. o 6 (2, omega arith, refl) (omega arith), (λ o. o 5 (1, omega arith, refl) (omega arith), (λ o. refl, tt))),
-    )
+    row_1 = two_alike known (row (across 1) 1) 4 5 6 7 refl (omega arith) refl refl refl
 
     row_2 : GivesNothing known (row (across 2) 2)
-    row_2 = (
-      λ o. refl,
-      (λ o. o 10 (2, omega arith, refl) (omega arith), (λ o. o 9 (1, omega arith, refl) (omega arith), (λ o. refl, tt))),
-    )
+    row_2 = two_alike known (row (across 2) 2) 8 9 10 11 refl (omega arith) refl refl refl
 
     column_1 : GivesNothing known (column (down 1) 1)
-    column_1 = (
-      λ o. refl,
-      (λ o. o 9 (2, omega arith, refl) (omega arith), (λ o. o 5 (1, omega arith, refl) (omega arith), (λ o. refl, tt))),
-    )
+    column_1 = two_alike known (column (down 1) 1) 1 5 9 13 refl (omega arith) refl refl refl
 
     column_2 : GivesNothing known (column (down 2) 2)
-    column_2 = (
-      λ o. refl,
-      (λ o. o 10 (2, omega arith, refl) (omega arith), (λ o. o 6 (1, omega arith, refl) (omega arith), (λ o. refl, tt))),
-    )
+    column_2 = two_alike known (column (down 2) 2) 2 6 10 14 refl (omega arith) refl refl refl
 
     nothing : AllByRecursion (GivesNothing known) all
     nothing =

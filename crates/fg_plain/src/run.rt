@@ -1,15 +1,15 @@
 //! A flow's run: a list of its datagrams taken over a desk, which is flushed at the end.
 
-ghost use Rattle.std.specs.Prelude.{◌≡◌, ◌↔◌, ◌<◌, ◌≤◌, ◌^◌, ◌++◌, List, [], map, length, Option, Some, IsTrue, IsSomeAnd, IfOk};
+ghost use Rattle.std.specs.Prelude.{◌≡◌, ◌↔◌, ◌<◌, ◌≤◌, ◌^◌, ◌++◌, List, [], map, length, Option, Some, IsTrue, IfOk};
 ghost use Rattle.std.specs.List.{All};
 ghost use Rattle.fg_playout.specs.State.{State, opening};
 ghost use Rattle.fg_playout.specs.Admission.{IsDue, IsFresh, counted};
 ghost use Rattle.fg_playout.specs.Play.{Play, HasMore};
 ghost use Rattle.fg_playout.specs.Room.{HasRoom};
 ghost use Rattle.fg_playout.specs.Laws.{IsRead};
-ghost use Rattle.fg_playout.specs.Run.{Takes, TakesAll, TakesThen, ArePlaysHeld, ArePlaysBefore, IsFlush, IsRun, time_of, came_by, is_counted, count_of};
+ghost use Rattle.fg_playout.specs.Run.{TakesThen, ArePlaysHeld, ArePlaysBefore, IsFlush, IsRun, time_of, came_by, is_counted, count_of};
 ghost use Rattle.fg_plain.specs.Datagrams.{arrival_of, play_of, IsGiven, AreTaken};
-ghost use Rattle.fg_desk.specs.Arrivals.{StaysWithin, HeldWithin, ThenWithin, BeforeWithin, FlushesWithin};
+ghost use Rattle.fg_desk.specs.Arrivals.{HeldWithin, ThenWithin, BeforeWithin, FlushesWithin};
 
 use fg_desk::{Desk, Played, Tray};
 use fg_playout::laws::{flushes_end, runs_join, runs_stay_within};
@@ -244,32 +244,11 @@ fn take_all(
     runs_join();
     runs_stay_within();
     for datagram in datagrams {
+        play_held(alloc, desk, tray, &mut run.plays, datagram.time())?;
         let reply = take(alloc, desk, tray, &mut run.plays, datagram)?;
         run.replies.push(reply)?;
     }
     Ok(())
-}
-
-/// Takes one datagram: plays what is played before it, and admits it or says why not.
-fn take(
-    alloc: Global,
-    desk: &mut Desk,
-    tray: &mut Tray,
-    plays: &mut Vec<ShownPlay>,
-    datagram: &Datagram,
-) -> Result<Option<Reply>, AllocError>
-    requires within { StaysWithin desk.old.state }
-    requires tray { desk.old.state.playout.window ≤ tray.old.window }
-    requires given { IsGiven datagram.now }
-    ensures takes { IfOk result (λ reply. (before : List Play)
-        × (map play_of plays.new.items ≡ map play_of plays.old.items ++ before)
-        × Takes desk.old.state (arrival_of datagram.now) before reply desk.new.state) }
-    ensures read { IfOk result (λ _. IsRead (arrival_of datagram.now)) }
-    ensures playout { IfOk result (λ _. desk.new.state.playout ≡ desk.old.state.playout) }
-    ensures tray { tray.new.window ≡ tray.old.window }
-{
-    play_held(alloc, desk, tray, plays, datagram.time())?;
-    take_then(alloc, desk, tray, plays, datagram)
 }
 
 /// Plays what has waited for too long by a time.
@@ -298,8 +277,8 @@ fn play_held(
     Ok(())
 }
 
-/// Takes one datagram where no word has waited for too long.
-fn take_then(
+/// Takes one datagram where no word has waited for too long: plays what is played before it, and admits it or says why not.
+fn take(
     alloc: Global,
     desk: &mut Desk,
     tray: &mut Tray,
@@ -367,29 +346,6 @@ fn play_before(
         flush(alloc, desk, tray, plays)?;
         return Ok(());
     }
-    play_due(alloc, desk, tray, plays, seq, ssrc)
-}
-
-/// Plays while a play is due before a datagram of this sequence number and SSRC.
-fn play_due(
-    alloc: Global,
-    desk: &mut Desk,
-    tray: &mut Tray,
-    plays: &mut Vec<ShownPlay>,
-    seq: u16,
-    ssrc: u32,
-) -> Result<(), AllocError>
-    requires within { BeforeWithin desk.old.state seq ssrc }
-    requires stale { ¬ IsFresh desk.old.state ssrc }
-    requires tray { desk.old.state.playout.window ≤ tray.old.window }
-    ensures plays { IfOk result (λ _. (due : List Play)
-        × (map play_of plays.new.items ≡ map play_of plays.old.items ++ due)
-        × ArePlaysBefore desk.old.state seq ssrc due desk.new.state) }
-    ensures room { IfOk result (λ _. HasRoom desk.new.state) }
-    ensures playout { IfOk result (λ _. desk.new.state.playout ≡ desk.old.state.playout) }
-    ensures tray { tray.new.window ≡ tray.old.window }
-{
-    runs_join();
     while desk.due(seq, ssrc) {
         let played = desk.play(tray);
         plays.push(copied(alloc, played, tray)?)?;

@@ -56,8 +56,7 @@ fn lesser(
     height: u8,
     before: Option<(u8, u8)>,
 ) -> Option<(u8, u8)>
-    requires columns { columns ≤ 20 }
-    requires height { height ≤ 20 }
+    requires matrix { (columns ≤ 20) × (height ≤ 20) }
     requires most { most ≤ 100 }
     requires before { IsLeastBefore burst most rows columns height before }
     ensures { IsLeastBefore burst most rows columns (height + 1) result }
@@ -73,8 +72,7 @@ fn lesser(
 
 /// Whether a matrix fits.
 fn fits(burst: u8, most: u8, rows: bool, columns: u8, height: u8) -> bool
-    requires columns { columns ≤ 20 }
-    requires height { height ≤ 20 }
+    requires matrix { (columns ≤ 20) × (height ≤ 20) }
     requires most { most ≤ 100 }
     ensures { IsTrue result ↔ Fits burst most rows columns height }
 {
@@ -86,8 +84,7 @@ fn fits(burst: u8, most: u8, rows: bool, columns: u8, height: u8) -> bool
 
 /// Whether a matrix has parity of at most so many percent.
 fn is_light(most: u8, rows: bool, columns: u8, height: u8) -> bool
-    requires columns { columns ≤ 20 }
-    requires height { height ≤ 20 }
+    requires matrix { (columns ≤ 20) × (height ≤ 20) }
     requires most { most ≤ 100 }
     ensures { IsTrue result ↔ (parity_count rows columns height * 100 ≤ most * (columns * height)) }
 {

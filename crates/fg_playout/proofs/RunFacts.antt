@@ -1,5 +1,5 @@
 -- The facts hold all along a run, and there is room.
-use Rattle.std.proofs.Common.{◌≡◌, ◌≢◌, ◌+◌, ◌-◌, ◌*◌, ◌^◌, ◌<◌, ◌≤◌, ℕ, min, List, [], ◌∷◌, length, Option, Some, None, IsSome, refl, sym, ap, subst, ◌∙◌, ⊎_elim, arith}
+use Rattle.std.proofs.Common.{◌≡◌, ◌≢◌, ◌+◌, ◌-◌, ◌^◌, ◌<◌, ◌≤◌, ℕ, min, max, List, [], ◌∷◌, length, Option, Some, None, IsSome, refl, sym, ap, subst, ◌∙◌, ⊎_elim, arith}
 use Rattle.std.proofs.lemmas.Bool.{cases_lt}
 use Rattle.std.proofs.lemmas.Option.{none-some}
 use Rattle.std.proofs.lemmas.List.Elements.{All-head, All-tail}
@@ -169,30 +169,20 @@ from_holding deep most end time old new w ends f =
     let close = f.mark in
     let calls = f.calls in
     let same_depth : new.playout.depth ≡ old.playout.depth = ap (λ (p : Playout). p.depth) f.playout_is in
-    let top : (t : Top) → new.top ≡ Some t → t.position ≤ 40000 * most = λ t at. w.top t (sym f.top_is ∙ at) in (
-      record {
-        holds = f.holds;
-        within = record {
-          window = f.holds.window.0;
-          fits = f.holds.depth;
-          depth_is = same_depth ∙ is;
-          shallow = w.shallow;
-          top = top;
-          mark = omega (arith, mark, is, close, ends);
-          calls = omega (arith, calls);
-        };
-      },
+    let reached : (clock' calls' : ℕ) → calls' ≤ most + most + most + 1 + new.mark → WithinHeld deep most (record new { clock = clock'; calls = calls' }) =
+    λ clock' calls' few. record {
+      window = f.holds.window.0;
+      fits = f.holds.depth;
+      depth_is = same_depth ∙ is;
+      shallow = w.shallow;
+      top = λ t at. w.top t (sym f.top_is ∙ at);
+      mark = omega (arith, mark, is, close, ends);
+      calls = few;
+    } in (
+      record { holds = f.holds; within = reached new.clock new.calls (omega (arith, calls)) },
       record {
         holds = counted_holds (at_time new time) (at_time_holds new time f.holds);
-        within = record {
-          window = f.holds.window.0;
-          fits = f.holds.depth;
-          depth_is = same_depth ∙ is;
-          shallow = w.shallow;
-          top = top;
-          mark = omega (arith, mark, is, close, ends);
-          calls = omega (arith, calls);
-        };
+        within = reached (max new.clock time) (new.calls + 1) (omega (arith, calls));
       },
     )
 

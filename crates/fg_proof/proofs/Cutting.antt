@@ -1,16 +1,13 @@
 -- The case of a desk, cut to a smaller window.
-use Rattle.std.proofs.Common.{◌≡◌, ◌⊎◌, ◌↔◌, ◌+◌, ◌-◌, ◌*◌, ◌<◌, ◌≤◌, ℕ, List, length, get_or, max, map, take, Option, Some, inl, inr, refl, sym, ap, subst, ◌∙◌, ⊎_elim, arith}
+use Rattle.std.proofs.Common.{◌≡◌, ◌⊎◌, ◌↔◌, ◌+◌, ◌-◌, ◌*◌, ◌<◌, ◌≤◌, ℕ, List, length, max, Some, inl, inr, sym, ap, subst, ◌∙◌, ⊎_elim, arith, below_more}
 use Rattle.std.proofs.lemmas.Bool.{cases_lt}
 use Rattle.std.proofs.lemmas.Option.{get_or_from_slice_get, slice_get-get_or, slice_get_within, same_Some}
 use Rattle.std.specs.List.{Contains, slice_get}
 use Rattle.fg_shape.specs.declared.Shape.{Shape}
-use Rattle.fg_peel.specs.Equation.{Equation}
 use Rattle.fg_peel.proofs.Lists.{Contains-map, Contains-from_map}
-use Rattle.fg_playout.specs.State.{State, last_slot, live_equations}
+use Rattle.fg_playout.specs.State.{State, live_equations}
 use Rattle.fg_runs.specs.Runs.{InRuns, AreApart, AreRunsOf}
-use Rattle.fg_closure.specs.Holes.{IsLookedAt, IsHole, rule_of, rules_of}
-use Rattle.fg_proof.specs.declared.case.Case.{Case}
-use Rattle.fg_proof.specs.Case.{IsCase}
+use Rattle.fg_closure.specs.Holes.{IsHole, rule_of, rules_of}
 
 -- The position behind the last slot of a line.
 abbrev pub rule_end : ℕ × Shape → ℕ
@@ -35,15 +32,11 @@ pub end_on : (mark count i end more last : ℕ) (lines : List (ℕ × Shape)) (r
 end_on mark count i end more last lines rule here last_is is before =
     let window = before.window in record {
       window = omega (arith, is, window);
-      above = λ k other below at. ⊎_elim
-          (λ less. (let low = before.above k other less at in omega (arith, is, low)))
-          (λ not_less. (
-          let same : k ≡ i = omega (arith, below, not_less) in
-          let one : rule ≡ other = same_Some rule other (sym here ∙ ap (λ n. slice_get lines n) (sym same) ∙ at) in
-          let ends : rule_end rule ≡ rule_end other = ap rule_end one in
-          omega (arith, is, last_is, ends)
-          ))
-          (cases_lt k i);
+      above = λ k other below at.
+          below_more (λ (n : ℕ). (r : ℕ × Shape) → slice_get lines n ≡ Some r → rule_end r ≤ more) i
+          (λ n less r at'. let low = before.above n r less at' in omega (arith, is, low))
+          (λ r at'. let same = ap rule_end (same_Some rule r (sym here ∙ at')) in omega (arith, is, last_is, same))
+          k below other at;
       told = ⊎_elim
           (λ grows. inr (i, rule, here, omega (arith, is, grows, last_is)))
           (λ stays. (let e : more ≡ end = omega (arith, is, stays) in ⊎_elim

@@ -137,16 +137,14 @@ static FIRST_RULES: [Told; 5] = [
 ];
 
 /// The rows and columns of a block of 4 columns and 4 rows.
-static BLOCK: [(u64, u8, u8); 8] = [
-    (0, 1, 4),
-    (4, 1, 4),
-    (8, 1, 4),
-    (0, 4, 4),
-    (1, 4, 4),
-    (2, 4, 4),
-    (3, 4, 4),
-    (12, 1, 4),
-];
+fn block() -> [(u64, u8, u8); 8] {
+    let mut lines = [(0, 1, 4); 8];
+    for i in 0..4 {
+        lines[i].0 = 4 * i as u64;
+        lines[4 + i] = (i as u64, 4, 4);
+    }
+    lines
+}
 
 fn runs_of(alloc: Global, told: &[(u64, u64)]) -> Result<Runs, AllocError> {
     let mut runs = Runs::new(alloc);
@@ -221,7 +219,7 @@ fn is_block_judged(
     holes: &[(u64, u64)],
     answer: Answer,
 ) -> Result<(), Fail> {
-    let case = case_of(alloc, 0, 16, &[(0, 5), (7, 2), (11, 5)], &BLOCK, holes)?;
+    let case = case_of(alloc, 0, 16, &[(0, 5), (7, 2), (11, 5)], &block(), holes)?;
     is_judged(rt, &case, answer);
     Ok(())
 }

@@ -6,19 +6,16 @@ use Rattle.fg_rtp.specs.Laws.{ReadsOneWay}
 use Rattle.fg_fechead.specs.declared.Parity.{Parity as ParityRead}
 use Rattle.fg_fechead.specs.ParityDatagram.{IsParityDatagram}
 use Rattle.fg_shape.specs.declared.kind.Kind.{Kind}
-use Rattle.fg_shape.specs.declared.kind.Kind.TheVariants.{Media, Column, Row}
+use Rattle.fg_shape.specs.declared.kind.Kind.TheVariants.{Media}
 use Rattle.fg_playout.specs.declared.reply.Reply.{Reply}
 use Rattle.fg_playout.specs.State.{State}
 use Rattle.fg_playout.specs.Admission.{AdmitsMedia, AdmitsParity}
-use Rattle.fg_playout.specs.Play.{Play}
-use Rattle.fg_playout.specs.Room.{HasRoom}
 use Rattle.fg_playout.specs.Run.{Arrival, carries, protects, refused, time_of, ArePlaysHeld, ArePlaysBefore, by_flush, by_due, TakesThen}
 use Rattle.fg_playout.specs.Laws.{HavePlayedBefore, still_held, then_played, FreshIsDecided}
 use Rattle.fg_playout.specs.PlayedOn.{PlayOn, held_on, before_on, taken_then_on}
 use Rattle.fg_playout.specs.DesksJoin.{played_before_on, played_then_on}
-use Rattle.fg_desk.specs.Arrivals.{StaysWithin, HeldWithin, ThenStaysWithin}
 use Rattle.fg_results.proofs.FlowRecords.{as_parity}
-use Rattle.fg_results.specs.Flow.{IsReadAsParity, IsReadAs, parity_of}
+use Rattle.fg_results.specs.Flow.{IsReadAs, parity_of}
 use Rattle.fg_prove.specs.Steps.{HaveTold, HavePart, Tells, Breaks, HaveHeld, have_held_on, AdmitsDatagram, AdmitsThen, BreaksAtDatagram, BreaksThen}
 use Rattle.fg_prove.proofs.Telling.{told_none, told_more, part_more, no_part}
 
@@ -150,14 +147,7 @@ admitted_whole kind time bytes port old ready new held between held' before midd
       read = a.read;
       plays = at.plays ++ a.plays;
       reply = a.reply;
-      takes = record {
-        held = at.plays;
-        after = a.plays;
-        ready = ready;
-        plays_are = refl;
-        holds = at.are;
-        takes = a.takes;
-      };
+      takes = record { held = at.plays; after = a.plays; ready = ready; plays_are = refl; holds = at.are; takes = a.takes };
       told = told_more port (held_on old (time_of a.arrival) at.plays ready at.are) (taken_then_on ready a.arrival a.plays a.reply new a.takes)
           held between held' before middle after at.told a.told;
     }

@@ -22,7 +22,8 @@ use Rattle.fg_proof.specs.Case.{IsCase}
 use Rattle.fg_proof.specs.Judgement.{IsAnswer}
 use Rattle.fg_proof.specs.Laws.{TrueCasesAreProved}
 use Rattle.fg_prove.specs.Proved.{ShowsALoss, no_loss, a_loss}
-use Rattle.fg_prove.specs.Steps.{HaveTold, HavePart, TellsGap, whole, gap, BreaksGap, unmade, unwritten, BreaksOne, no_play, one_play}
+use Rattle.fg_prove.specs.declared.gaps.Gaps.{Gaps}
+use Rattle.fg_prove.specs.Steps.{HaveTold, HavePart, TellsGap, whole, gap, BreaksGap, unmade, unwritten, TellsOne, BreaksOne, no_play, one_play}
 use Rattle.fg_prove.proofs.Telling.{one_case_of, no_part}
 use Rattle.fg_prove.proofs.Texts.{cases_text-one}
 
@@ -136,7 +137,7 @@ module _ (law : TrueCasesAreProved) (port count n : ℕ) (found desk new : State
     subst (λ m. IsCase port desk m case) (sym counts) (same.cases port count case of),
   )
 
-  pub told_after :
+  told_after :
       (held held' : List ℕ) (before after : Option (List ℕ)) → Holds found → HasRoom found → found.playout.depth ≤ 1000 → count ≤ 100
       → TellsGap port found count play.outcome held before held' after
       → HaveTold port (record { desk = desk; play = play } ∷ []) held before held' after
@@ -159,7 +160,7 @@ module _ (law : TrueCasesAreProved) (port count n : ℕ) (found desk new : State
         sent = subst (λ (t : List ℕ). Sent before (held ++ t) held' after) (sym (cases_text-one case)) sent;
       }
 
-  pub broken_after :
+  broken_after :
       (Plays : Play → State → Type 0) (held : List ℕ) (before after : Option (List ℕ)) → Plays play new
       → BreaksGap port found count play.outcome held before after → BreaksOne Plays desk port held before after
   broken_after Plays held before after plays (unmade same_written) =
@@ -171,6 +172,29 @@ module _ (law : TrueCasesAreProved) (port count n : ℕ) (found desk new : State
         are = one_case_of port (record { desk = desk; play = play }) (case ∷ []) (a_loss case its.0 its.1 refl);
         part = subst (λ (t : List ℕ). GainsPart before (held ++ t) after) (sym (cases_text-one case)) part;
       })
+
+-- So it is told of such a play, and so its telling breaks off, after a look that left what is told of the gaps as it was.
+module _
+    (law : TrueCasesAreProved) {looked gaps : Gaps} (left : looked ≡ gaps) {count n : ℕ} {found desk new : State} (play : Play)
+    (Plays : Play → State → Type 0) (plays : Plays play new) (same : SameGaps found desk) (is : IsPlay n desk play new)
+    (counts : length play.shown ≡ count) {before after : Option (List ℕ)} where
+  pub tells_one :
+      {held' : List ℕ} → Holds found → HasRoom found → found.playout.depth ≤ 1000 → count ≤ 100
+      → TellsGap looked.port found count play.outcome looked.text.held before held' after
+      → TellsOne Plays desk gaps.port gaps.text.held before new held' after
+  tells_one {held'} holds room depth few so = record {
+    play = play;
+    plays = plays;
+    told = told_after law gaps.port count n found desk new play same is counts gaps.text.held held' before after holds room depth few
+        (subst (λ (at : Gaps). TellsGap at.port found count play.outcome at.text.held before held' after) left so);
+  }
+
+  pub breaks_one :
+      BreaksGap looked.port found count play.outcome looked.text.held before after
+      → BreaksOne Plays desk gaps.port gaps.text.held before after
+  breaks_one off =
+      broken_after law gaps.port count n found desk new play same is counts Plays gaps.text.held before after plays
+      (subst (λ (at : Gaps). BreaksGap at.port found count play.outcome at.text.held before after) left off)
 
 -- How many positions a held play closes
 

@@ -1,5 +1,5 @@
 //! A flow whose gaps are proved: its desk, and the cases of the plays that show a loss.
-ghost use Rattle.std.specs.Prelude.{◌≡◌, ◌≢◌, ℕ, Some, None, Option, IsSome, [], ◌∷◌, length, slice_index, IfOk, OnOk, OnErr};
+ghost use Rattle.std.specs.Prelude.{◌≡◌, ◌≢◌, ℕ, Some, None, Option, IsSome, [], ◌∷◌, slice_index, IfOk, OnOk, OnErr};
 ghost use Rattle.std.specs.Bool.{OnTrue, OnFalse};
 ghost use Rattle.fg_io.specs.Faults.{Counts};
 ghost use Rattle.fg_fechead.specs.declared.Parity.{Parity as ParityRead};
@@ -119,8 +119,7 @@ impl Prover {
         media_datagrams_read_one_way();
         match kind {
             Kind::Media => {
-                let spare = self.desk.spare();
-                let Ok((seq, ssrc, share)) = media_share(alloc, spare, datagram)? else {
+                let Ok((seq, ssrc, share)) = media_share(alloc, self.desk.spare(), datagram)? else {
                     return Ok(());
                 };
                 self.play_before(alloc, seq, ssrc, out)?;
@@ -135,7 +134,7 @@ impl Prover {
     }
 
     /// Plays what comes before a media datagram of this sequence number and SSRC: all that is left where the SSRC is fresh, so
-    /// that a run can begin, and else what is due. Tells the cases of these plays.
+    /// that a run can begin, and else while a play is due. Tells the cases of these plays.
     fn play_before<K: Sink>(
         &mut self,
         alloc: Global,
@@ -159,40 +158,11 @@ impl Prover {
     {
         flushes_end();
         runs_join();
-        if self.desk.fresh(ssrc) {
-            self.play_rest(alloc, out)
-        } else {
-            self.play_due(alloc, seq, ssrc, out)
-        }
-    }
-
-    /// Plays while a play is due before a media datagram of this sequence number and SSRC, which isn't fresh, and tells the cases
-    /// of these plays.
-    fn play_due<K: Sink>(
-        &mut self,
-        alloc: Global,
-        seq: u16,
-        ssrc: u32,
-        out: &mut K,
-    ) -> Result<(), Fault>
-        requires within { BeforeWithin self.old.desk.state seq ssrc }
-        requires stale { ¬ IsFresh self.old.desk.state ssrc }
-        ensures plays { OnOk result (Tells (ArePlaysBefore self.old.desk.state seq ssrc)
-            (before_on self.old.desk.state seq ssrc)
-            self.old.gaps.port self.old.gaps.text.held (K.written out.old) self.new.desk.state
-            self.new.gaps.text.held (K.written out.new)) }
-        ensures none_due { OnOk result (¬ IsDue self.new.desk.state seq ssrc) }
-        ensures flushed { OnOk result (IsFresh self.new.desk.state ssrc → ¬ HasMore self.new.desk.state) }
-        ensures room { OnOk result (HasRoom self.new.desk.state) }
-        ensures breaks { OnErr result (Breaks (HavePlayedBefore self.old.desk.state seq ssrc)
-            (played_before_on self.old.desk.state seq ssrc)
-            self.old.gaps.port self.old.gaps.text.held (K.written out.old) (K.written out.new)) }
-        ensures port { self.new.gaps.port ≡ self.old.gaps.port }
-        ensures faults { Counts result [] ((K.faults out.old, K.faults out.new) ∷ []) }
-    {
-        runs_join();
         desks_join();
         desks_end();
+        if self.desk.fresh(ssrc) {
+            return self.play_rest(alloc, out);
+        }
         'plays: while self.desk.due(seq, ssrc) {
             self.play(alloc, out)?;
         }

@@ -1,5 +1,5 @@
 //! Walking a trace, and proving the gaps of its one flow.
-ghost use Rattle.std.specs.Prelude.{◌≡◌, ◌⊎◌, ◌+◌, ◌≤◌, ◌<◌, ◌++◌, ℕ, Option, List, [], ◌∷◌, length, slice_index, None, IfOk, IfErr, IfSome, IfNone, OnOk, OnErr};
+ghost use Rattle.std.specs.Prelude.{◌≡◌, ◌⊎◌, ◌+◌, ◌≤◌, ◌<◌, ◌++◌, ℕ, Option, List, [], ◌∷◌, length, slice_index, None, IfOk, IfSome, IfNone, OnOk, OnErr};
 ghost use Rattle.std.specs.Io.KnownBytes.{IsAtEnd};
 ghost use Rattle.fg_io.specs.Faults.{Counts, CountsFaults};
 ghost use Rattle.fg_trace.specs.Reader.{StandsAfter};
@@ -8,8 +8,13 @@ ghost use Rattle.fg_trace.specs.Finish.{IsFault, ReadsAll, finish_of};
 ghost use Rattle.fg_trace.specs.Reading.{HasReached, IsReadFor};
 ghost use Rattle.fg_trace.specs.Reached.{IsReadTo, Stands, answer_to};
 ghost use Rattle.fg_flows.specs.Plan.{PlanFits, playout_of};
+ghost use Rattle.fg_rtp.specs.Laws.{ReadsOneWay as MediaReadsOneWay};
+ghost use Rattle.fg_fechead.specs.Laws.{ReadsOneWay as ParityReadsOneWay};
+ghost use Rattle.fg_playout.specs.DesksJoin.{DesksBeforeComeNextInRuns, FlushDesksComeNext, TakenDesksComeFirst};
+ghost use Rattle.fg_playout.specs.Laws.{FlushesStayWithin, RunsStayWithin};
 ghost use Rattle.fg_playout.specs.State.{opening};
 ghost use Rattle.fg_desk.specs.Arrivals.{StaysWithin};
+ghost use Rattle.fg_prove.specs.Laws.{OneListOfCases, OneProof};
 ghost use Rattle.fg_prove.specs.Proved.{Proves, ProvesPart};
 ghost use Rattle.fg_prove.specs.Steps.{FirstHasTaken, HasPart, IsUnderway, HasTakenAll};
 
@@ -165,12 +170,8 @@ fn end<K: Sink>(
     ensures faults { Counts result [] ((K.faults out.old, K.faults out.new) ∷ []) }
 {
     one_trace();
-    one_proof();
-    media_datagrams_read_one_way();
-    parity_datagrams_read_one_way();
-    runs_stay_within();
+    records_are_told();
     desks_end();
-    desks_come_in_order();
     prover.play_rest(alloc, out)?;
     prover.gaps.text.held.flush(out)
 }
@@ -267,11 +268,7 @@ fn take_next<S: Source, K: Sink>(
 {
     walks_the_front();
     walks_on();
-    one_proof();
-    media_datagrams_read_one_way();
-    parity_datagrams_read_one_way();
-    runs_stay_within();
-    desks_come_in_order();
+    records_are_told();
     match reader.next(input) {
         Ok(Step::Datagram { time, port, .. }) => {
             take_record(prover, alloc, plan, port, time, reader.payload(), out)?;
@@ -311,13 +308,30 @@ fn take_record<K: Sink>(
     ensures port { prover.new.gaps.port ≡ prover.old.gaps.port }
     ensures faults { Counts result [] ((K.faults out.old, K.faults out.new) ∷ []) }
 {
-    one_proof();
-    media_datagrams_read_one_way();
-    parity_datagrams_read_one_way();
+    records_are_told();
     desks_join();
-    desks_come_in_order();
     match plan.table.find(port) {
         Some((_, kind)) => prover.take(alloc, kind, time, datagram, out),
         None => Ok(()),
     }
+}
+
+/// What is told of a flow follows from its records: these are read in one way, the run of them stays within the limits, its desks
+/// come in the order of the plays, and the plays have one list of cases.
+fn records_are_told()
+    ensures media { MediaReadsOneWay }
+    ensures parity { ParityReadsOneWay }
+    ensures taking { RunsStayWithin }
+    ensures flushing { FlushesStayWithin }
+    ensures taken { TakenDesksComeFirst }
+    ensures next { DesksBeforeComeNextInRuns }
+    ensures flushed { FlushDesksComeNext }
+    ensures mades { OneListOfCases }
+    ensures records { OneProof }
+{
+    media_datagrams_read_one_way();
+    parity_datagrams_read_one_way();
+    runs_stay_within();
+    desks_come_in_order();
+    one_proof();
 }

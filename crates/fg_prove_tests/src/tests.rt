@@ -4,7 +4,7 @@ ghost use Rattle.std.specs.Prelude.{◌≤◌, length};
 use fg_flows::{Plan, Table};
 use fg_io::{MemSink, MemSource, SafeSource, Source};
 use fg_prove::*;
-use fg_trace::Finish;
+use fg_trace::{Finish, record_header};
 use std::alloc::{AllocError, Global};
 use std::process::Abort;
 use std::test::Fail;
@@ -38,9 +38,7 @@ fn parity(base: u8, offset: u8, first: u8) -> [u8; 1344] {
 fn add(trace: &mut Vec<u8>, port: u16, datagram: &[u8]) -> Result<(), AllocError>
     requires { length datagram.now ≤ 65535 }
 {
-    trace.extend_from_slice(&[0; 8])?;
-    trace.extend_from_slice(&port.to_be_bytes())?;
-    trace.extend_from_slice(&(datagram.len() as u16).to_be_bytes())?;
+    trace.extend_from_slice(&record_header(0, port, datagram.len() as u16))?;
     trace.extend_from_slice(datagram)
 }
 
@@ -107,9 +105,8 @@ fn is_told(
     Ok(())
 }
 
-/// Of four datagrams that two rows and two columns have in common, none follows.
-const FOUR: &str = "case 5000 0 16
-known 0 5
+/// What is known of a block of which four datagrams that two rows and two columns have in common are lost: none follows.
+const FOUR: &str = "known 0 5
 known 7 2
 known 11 5
 line 0 1 4
@@ -121,47 +118,34 @@ line 2 4 4
 line 3 4 4
 line 12 1 4
 open 5 2
-open 9 2
-end
-";
-
-/// In windows of eight the second play has what the first one left: what it kept, and the parity that speaks of no lost datagram.
-const TWO_WINDOWS: &str = "case 5000 0 8
-known 0 5
-known 7 2
-known 11 5
-line 0 1 4
-line 4 1 4
-line 8 1 4
-line 0 4 4
-line 1 4 4
-line 2 4 4
-line 3 4 4
-line 12 1 4
-open 5 2
-open 9 2
-end
-case 5000 8 8
-known 0 5
-known 7 2
-known 11 5
-line 8 1 4
-line 0 4 4
-line 3 4 4
-line 12 1 4
 open 9 2
 end
 ";
 
 #[test]
 fn four_are_lost(rt: HostRuntime) -> Result<(), Fail> {
-    is_told(&rt, rt.alloc(), &[5, 6, 9, 10], 0, 100, FOUR)?;
+    let text = format!(in rt.alloc(); "case 5000 0 16\n{FOUR}")?;
+    is_told(&rt, rt.alloc(), &[5, 6, 9, 10], 0, 100, &text)?;
     Ok(())
 }
 
+/// In windows of eight the second play has what the first one left: what it kept, and the parity that speaks of no lost datagram.
+const SECOND_PLAY: &str = "case 5000 8 8
+known 0 5
+known 7 2
+known 11 5
+line 8 1 4
+line 0 4 4
+line 3 4 4
+line 12 1 4
+open 9 2
+end
+";
+
 #[test]
 fn four_are_lost_in_two_windows(rt: HostRuntime) -> Result<(), Fail> {
-    is_told(&rt, rt.alloc(), &[5, 6, 9, 10], 0, 8, TWO_WINDOWS)?;
+    let text = format!(in rt.alloc(); "case 5000 0 8\n{FOUR}{SECOND_PLAY}")?;
+    is_told(&rt, rt.alloc(), &[5, 6, 9, 10], 0, 8, &text)?;
     Ok(())
 }
 

@@ -1,17 +1,32 @@
 //! Runs and slots, added and told.
 use super::*;
 use fg_shape::Shape;
+use std::alloc::{AllocError, Global};
 use std::process::Abort;
 use std::test::Fail;
 
+/// These runs, added one after another.
+fn added(alloc: Global, runs: &[(u64, u64)]) -> Result<Runs, AllocError> {
+    let mut added = Runs::new(alloc);
+    for (first, length) in runs {
+        added.add(*first, *length)?;
+    }
+    Ok(added)
+}
+
+/// Compares the runs with these.
+fn are_told(rt: &impl Abort, runs: &Runs, want: &[(u64, u64)]) {
+    assert_eq!(rt; runs.count(), want.len());
+    for (i, run) in want.iter().enumerate() {
+        assert!(rt; i < runs.count());
+        assert_eq!(rt; runs.item(i), *run);
+    }
+}
+
 #[test]
 fn runs_are_told_as_added(rt: HostRuntime) -> Result<(), Fail> {
-    let mut runs = Runs::new(rt.alloc());
-    runs.add(7, 2)?;
-    runs.add(0, 18446744073709551615)?;
-    assert_eq!(rt; runs.count(), 2);
-    assert_eq!(rt; runs.item(0), (7, 2));
-    assert_eq!(rt; runs.item(1), (0, 18446744073709551615));
+    let want = [(7, 2), (0, 18446744073709551615)];
+    are_told(&rt, &added(rt.alloc(), &want)?, &want);
     Ok(())
 }
 
@@ -21,27 +36,19 @@ fn runs_that_touch_are_joined(rt: HostRuntime) -> Result<(), Fail> {
     runs.join(3, 2)?;
     runs.join(5, 1)?;
     runs.join(7, 18446744073709551608)?;
-    assert_eq!(rt; runs.count(), 2);
-    assert_eq!(rt; runs.item(0), (3, 3));
-    assert_eq!(rt; runs.item(1), (7, 18446744073709551608));
+    are_told(&rt, &runs, &[(3, 3), (7, 18446744073709551608)]);
     Ok(())
 }
 
 #[test]
 fn runs_are_cut_at_an_end(rt: HostRuntime) -> Result<(), Fail> {
-    let mut runs = Runs::new(rt.alloc());
-    runs.add(3, 3)?;
-    runs.add(7, 4)?;
-    runs.add(18446744073709551615, 9)?;
+    let mut runs = added(rt.alloc(), &[(3, 3), (7, 4), (18446744073709551615, 9)])?;
     runs.cut(18446744073709551619);
-    assert_eq!(rt; runs.count(), 3);
-    assert_eq!(rt; runs.item(2), (18446744073709551615, 4));
+    are_told(&rt, &runs, &[(3, 3), (7, 4), (18446744073709551615, 4)]);
     runs.cut(8);
-    assert_eq!(rt; runs.count(), 2);
-    assert_eq!(rt; runs.item(1), (7, 1));
+    are_told(&rt, &runs, &[(3, 3), (7, 1)]);
     runs.cut(6);
-    assert_eq!(rt; runs.count(), 1);
-    assert_eq!(rt; runs.item(0), (3, 3));
+    are_told(&rt, &runs, &[(3, 3)]);
     Ok(())
 }
 

@@ -48,7 +48,7 @@ fn datagram_after_its_play(rt: HostRuntime) -> Result<(), Fail> {
 fn as_many_equations_as_may_be_live(rt: HostRuntime) -> Result<(), Fail> {
     let script = [
         Media(0, 0, Admitted),
-        Parities(1, 512),
+        Parities(1, 513, 1),
         Live(512),
         Parity(513, 1, 1, 513, Crowded),
         Parity(1, 1, 1, 1, Duplicate),
@@ -184,11 +184,11 @@ fn inconsistent_play_shows_media_alone(rt: HostRuntime) -> Result<(), Fail> {
 fn equation_whose_last_slot_is_the_mark(rt: HostRuntime) -> Result<(), Fail> {
     let script = [
         Run(0, 4, 0),
-        Parity(1, 1, 4, 1, Admitted),
-        Parity(0, 1, 4, 0, Admitted),
+        Parities(0, 2, 4),
         Play(Repaired, 4, 0, 0, 0),
         Live(1),
-        Place(0, Some(1)),
+        Place(0, None),
+        Place(1, Some(1)),
         Parity(2, 1, 3, 2, Admitted),
         Parity(1, 1, 3, 1, Late),
         Flush(Repaired, 1, 0, 1, 0),
@@ -223,9 +223,7 @@ fn least_free_place_is_taken(rt: HostRuntime) -> Result<(), Fail> {
         Place(0, None),
         Place(1, Some(4)),
         Place(2, None),
-        Parity(5, 1, 4, 5, Admitted),
-        Parity(6, 1, 4, 6, Admitted),
-        Parity(7, 1, 4, 7, Admitted),
+        Parities(5, 8, 4),
         Place(0, Some(5)),
         Place(2, Some(6)),
         Place(3, Some(7)),
@@ -279,8 +277,11 @@ fn window_of_one_position(rt: HostRuntime) -> Result<(), Fail> {
 }
 
 #[test]
-fn flush_ends_with_a_recovered_word(rt: HostRuntime) -> Result<(), Fail> {
+fn flush_of_an_empty_desk_and_to_a_recovered_word(rt: HostRuntime) -> Result<(), Fail> {
     let script = [
+        Flushed,
+        Mark(0),
+        // The last word of all is a recovered one.
         Run(0, 5, 0),
         Parity(4, 1, 2, 4, Admitted),
         Parity(5, 2, 2, 5, Admitted),
@@ -290,9 +291,4 @@ fn flush_ends_with_a_recovered_word(rt: HostRuntime) -> Result<(), Fail> {
         Mark(8),
     ];
     follows(&rt, rt.alloc(), 4, 8, &script)
-}
-
-#[test]
-fn flush_of_an_empty_desk(rt: HostRuntime) -> Result<(), Fail> {
-    follows(&rt, rt.alloc(), 4, 8, &[Flushed, Mark(0)])
 }

@@ -41,6 +41,14 @@ struct Draw {
     runs: u64,
 }
 
+/// A desk, and one in another style that takes the same.
+#[derive(Drop)]
+struct Both {
+    alloc: Global,
+    desk: Desk,
+    plain: Plain,
+}
+
 /// One of so many numbers from 0 on, or 0 where there are none.
 fn one_of(draw: &mut Draw, count: usize) -> usize {
     draw.random.next_word() as usize % count.max(1)
@@ -107,7 +115,8 @@ fn shows_same(
 }
 
 /// Whether both desks tell the same of themselves.
-fn tell_same(desk: &Desk, plain: &Plain) -> bool {
+fn tell_same(both: &Both) -> bool {
+    let (desk, plain) = (&both.desk, &both.plain);
     if desk.mark() != plain.mark as u64
         || desk.epoch() != plain.epoch
         || desk.live() as usize != plain.live.len()
@@ -129,7 +138,8 @@ fn is_sent(word: Option<&Word>, timestamp: Option<u32>) -> bool {
 }
 
 /// Whether both desks know the same near the mark. What they show is compared byte by byte.
-fn know_same(desk: &Desk, plain: &Plain) -> bool {
+fn know_same(both: &Both) -> bool {
+    let (desk, plain) = (&both.desk, &both.plain);
     for i in 0..140usize {
         let position = plain.mark.saturating_add(i).wrapping_sub(100);
         if position < 100_000 && !is_sent(desk.word(position as u64), plain.known(position)) {
@@ -151,33 +161,28 @@ enum Way {
 }
 
 /// Both desks play. Whether they agree.
-fn both_play(
-    desk: &mut Desk,
-    plain: &mut Plain,
-    alloc: Global,
-    way: Way,
-) -> Result<bool, AllocError> {
+fn both_play(both: &mut Both, way: Way) -> Result<bool, AllocError> {
+    let (desk, alloc) = (&mut both.desk, both.alloc);
     let (done, held) = match way {
-        Way::Window => (play(desk, alloc)?, plain.window),
-        Way::Flush => (flush(desk, alloc)?, plain.window),
-        Way::Held(time) => (held(desk, alloc, time)?, plain.held(time)),
+        Way::Window => (play(desk, alloc)?, both.plain.window),
+        Way::Flush => (flush(desk, alloc)?, both.plain.window),
+        Way::Held(time) => (held(desk, alloc, time)?, both.plain.held(time)),
     };
     // Most held steps find nothing, and then no word has to be looked for.
     if held == 0 {
         return Ok(done.is_none());
     }
-    plays_same(desk, plain, alloc, way, held, &done)
+    plays_same(both, way, held, &done)
 }
 
 /// The plain desk plays, and at most so many positions. Whether a desk did the same.
 fn plays_same(
-    desk: &Desk,
-    plain: &mut Plain,
-    alloc: Global,
+    both: &mut Both,
     way: Way,
     most: usize,
     done: &Option<(Played, Tray)>,
 ) -> Result<bool, AllocError> {
+    let (alloc, plain) = (both.alloc, &mut both.plain);
     let first = plain.mark;
     let words = plain.closure(alloc)?;
     let count = match way {
@@ -191,7 +196,7 @@ fn plays_same(
         return Ok(false);
     }
     let outcome = plain.play(alloc, &words, count)?;
-    Ok(shows_same(plain, done, first, count, outcome) && tell_same(desk, plain))
+    Ok(shows_same(plain, done, first, count, outcome) && tell_same(both))
 }
 
 /// Whether no word was shown at so many positions.
@@ -218,19 +223,13 @@ fn plays_nothing(plain: &mut Plain, alloc: Global, way: Way) -> Result<bool, All
 }
 
 /// The plain desk plays as many windows as a desk passed at once. Whether each shows nothing.
-fn both_pass(
-    desk: &Desk,
-    plain: &mut Plain,
-    alloc: Global,
-    way: Way,
-    count: u64,
-) -> Result<bool, AllocError> {
+fn both_pass(both: &mut Both, way: Way, count: u64) -> Result<bool, AllocError> {
     for _ in 0..count {
-        if !plays_nothing(plain, alloc, way)? {
+        if !plays_nothing(&mut both.plain, both.alloc, way)? {
             return Ok(false);
         }
     }
-    Ok(tell_same(desk, plain))
+    Ok(tell_same(both))
 }
 
 /// How many windows are due before a position.
@@ -274,39 +273,36 @@ fn passes_held(desk: &mut Desk, draw: &mut Draw, time: u64) -> u64 {
 
 /// Both make plays that are due before a position, at least one. Whether they agree.
 fn both_play_some(
-    desk: &mut Desk,
-    plain: &mut Plain,
-    alloc: Global,
+    both: &mut Both,
     draw: &mut Draw,
     seq: u16,
     position: usize,
 ) -> Result<bool, AllocError> {
-    let most = due_before(plain, position);
-    let count = passes_due(desk, draw, seq, plain.current.unwrap_or(0));
+    let most = due_before(&both.plain, position);
+    let ssrc = both.plain.current.unwrap_or(0);
+    let count = passes_due(&mut both.desk, draw, seq, ssrc);
     if count == 0 {
-        return both_play(desk, plain, alloc, Way::Window);
+        return both_play(both, Way::Window);
     }
-    Ok(count <= most && both_pass(desk, plain, alloc, Way::Window, count)?)
+    Ok(count <= most && both_pass(both, Way::Window, count)?)
 }
 
 /// Both make the plays that are due before a position. Whether they agree.
 fn both_play_before(
-    desk: &mut Desk,
-    plain: &mut Plain,
-    alloc: Global,
+    both: &mut Both,
     draw: &mut Draw,
     seq: u16,
     position: usize,
 ) -> Result<bool, AllocError> {
     for _ in 0..PLAYS {
-        let due = due_before(plain, position) > 0;
-        if desk.due(seq, plain.current.unwrap_or(0)) != due {
+        let due = due_before(&both.plain, position) > 0;
+        if both.desk.due(seq, both.plain.current.unwrap_or(0)) != due {
             return Ok(false);
         }
         if !due {
             return Ok(true);
         }
-        if !both_play_some(desk, plain, alloc, draw, seq, position)? {
+        if !both_play_some(both, draw, seq, position)? {
             return Ok(false);
         }
     }
@@ -314,102 +310,90 @@ fn both_play_before(
 }
 
 /// Both are flushed until nothing is left. Whether they agree.
-fn both_are_flushed(
-    desk: &mut Desk,
-    plain: &mut Plain,
-    alloc: Global,
-    draw: &mut Draw,
-) -> Result<bool, AllocError> {
+fn both_are_flushed(both: &mut Both, draw: &mut Draw) -> Result<bool, AllocError> {
     for _ in 0..FLUSHES {
-        let count = passes_rest(desk, draw);
-        if !both_pass(desk, plain, alloc, Way::Flush, count)? {
+        let count = passes_rest(&mut both.desk, draw);
+        if !both_pass(both, Way::Flush, count)? {
             return Ok(false);
         }
-        let mark = plain.mark;
-        if !both_play(desk, plain, alloc, Way::Flush)? {
+        let mark = both.plain.mark;
+        if !both_play(both, Way::Flush)? {
             return Ok(false);
         }
-        if plain.mark == mark {
+        if both.plain.mark == mark {
             return Ok(true);
         }
     }
     Ok(false)
 }
 
+/// Both admit a media datagram, of this position where it is one of the current run. Whether they agree.
+fn both_admit(
+    both: &mut Both,
+    seq: u16,
+    ssrc: u32,
+    position: Option<usize>,
+    timestamp: u32,
+) -> Result<bool, AllocError> {
+    let share = stamped(timestamp).share(both.alloc)?;
+    let reply = admit_media(&mut both.desk, seq, ssrc, share);
+    let want = both.plain.admit_media(seq, ssrc, position, timestamp);
+    Ok(reply == Some(want))
+}
+
 /// A media datagram of another sender than the current one comes to both. Where it begins a run, both are
 /// flushed first.
 fn both_take_another(
-    desk: &mut Desk,
-    plain: &mut Plain,
-    alloc: Global,
+    both: &mut Both,
     draw: &mut Draw,
     seq: u16,
     ssrc: u32,
 ) -> Result<bool, AllocError> {
-    let fresh = plain.previous != Some(ssrc);
-    if desk.fresh(ssrc) != fresh || desk.due(seq, ssrc) {
+    let fresh = both.plain.previous != Some(ssrc);
+    if both.desk.fresh(ssrc) != fresh || both.desk.due(seq, ssrc) {
         return Ok(false);
     }
-    if fresh && !both_are_flushed(desk, plain, alloc, draw)? {
+    if fresh && !both_are_flushed(both, draw)? {
         return Ok(false);
     }
-    let timestamp = sent(plain.mark);
-    let reply = admit_media(desk, seq, ssrc, stamped(timestamp).share(alloc)?);
-    let want = plain.admit_media(seq, ssrc, None, timestamp);
-    Ok(reply == Some(want) && tell_same(desk, plain))
+    let timestamp = sent(both.plain.mark);
+    Ok(both_admit(both, seq, ssrc, None, timestamp)? && tell_same(both))
 }
 
 /// The media datagram three positions before this one comes to both, and plays that it makes due.
-fn both_take_at(
-    desk: &mut Desk,
-    plain: &mut Plain,
-    alloc: Global,
-    draw: &mut Draw,
-    from_three: usize,
-) -> Result<bool, AllocError> {
-    let seq = seq_of(plain, from_three).wrapping_sub(3);
+fn both_take_at(both: &mut Both, draw: &mut Draw, from_three: usize) -> Result<bool, AllocError> {
+    let seq = seq_of(&both.plain, from_three).wrapping_sub(3);
     let position = from_three.checked_sub(3);
-    if !both_play_before(desk, plain, alloc, draw, seq, position.unwrap_or(0))? {
+    if !both_play_before(both, draw, seq, position.unwrap_or(0))? {
         return Ok(false);
     }
-    let ssrc = plain.current.unwrap_or(0);
+    let ssrc = both.plain.current.unwrap_or(0);
     let timestamp = arriving(draw, from_three.wrapping_sub(3));
-    let reply = admit_media(desk, seq, ssrc, stamped(timestamp).share(alloc)?);
-    Ok(reply == Some(plain.admit_media(seq, ssrc, position, timestamp)))
+    both_admit(both, seq, ssrc, position, timestamp)
 }
 
 /// A media datagram of the current run comes to both, near the mark, and now and then from farther ahead.
-fn both_take_own(
-    desk: &mut Desk,
-    plain: &mut Plain,
-    alloc: Global,
-    draw: &mut Draw,
-) -> Result<bool, AllocError> {
-    let near = one_of(draw, plain.depth.saturating_add(6));
+fn both_take_own(both: &mut Both, draw: &mut Draw) -> Result<bool, AllocError> {
+    let near = one_of(draw, both.plain.depth.saturating_add(6));
     let far = if one_of(draw, 16) == 0 {
         one_of(draw, 400)
     } else {
         0
     };
-    let from_three = plain.mark.saturating_add(near).saturating_add(far);
-    both_take_at(desk, plain, alloc, draw, from_three)
+    let from_three = both.plain.mark.saturating_add(near).saturating_add(far);
+    both_take_at(both, draw, from_three)
 }
 
 /// The media datagrams that follow the last one come to both, but for those that are lost.
-fn both_take_run(
-    desk: &mut Desk,
-    plain: &mut Plain,
-    alloc: Global,
-    draw: &mut Draw,
-) -> Result<bool, AllocError> {
-    let top = match desk.top() {
+fn both_take_run(both: &mut Both, draw: &mut Draw) -> Result<bool, AllocError> {
+    let top = match both.desk.top() {
         Some((top, _)) => (top % 65_536) as usize,
         None => 0,
     };
-    let next = top.max(plain.mark).saturating_add(4);
+    let next = top.max(both.plain.mark).saturating_add(4);
     for i in 0..one_of(draw, 50) {
         let lost = draw.random.next_word() % 100 < draw.loss;
-        if !lost && !both_take_at(desk, plain, alloc, draw, next.saturating_add(i))? {
+        if !lost && !both_take_at(both, draw, next.saturating_add(i))? {
             return Ok(false);
         }
     }
@@ -417,18 +401,13 @@ fn both_take_run(
 }
 
 /// A media datagram comes to both, mostly of the current run.
-fn both_take_media(
-    desk: &mut Desk,
-    plain: &mut Plain,
-    alloc: Global,
-    draw: &mut Draw,
-) -> Result<bool, AllocError> {
+fn both_take_media(both: &mut Both, draw: &mut Draw) -> Result<bool, AllocError> {
     let ssrc = draw.random.next_word() % 4;
-    if one_of(draw, 12) == 0 && plain.current != Some(ssrc) {
+    if one_of(draw, 12) == 0 && both.plain.current != Some(ssrc) {
         let seq = (draw.random.next_word() % 65_536) as u16;
-        return both_take_another(desk, plain, alloc, draw, seq, ssrc);
+        return both_take_another(both, draw, seq, ssrc);
     }
-    both_take_own(desk, plain, alloc, draw)
+    both_take_own(both, draw)
 }
 
 /// The parity of what was sent at these slots.
@@ -458,29 +437,21 @@ fn arriving_parity(draw: &mut Draw, base: usize, offset: usize, count: usize) ->
 }
 
 /// A parity datagram comes to both.
-fn both_take_parity(
-    desk: &mut Desk,
-    plain: &mut Plain,
-    alloc: Global,
-    draw: &mut Draw,
-) -> Result<bool, AllocError> {
+fn both_take_parity(both: &mut Both, draw: &mut Draw) -> Result<bool, AllocError> {
     let offset = 1 + draw.random.next_word() % 4;
     let count = 1 + draw.random.next_word() % 5;
-    let near = one_of(draw, plain.depth.saturating_add(10));
+    let near = one_of(draw, both.plain.depth.saturating_add(10));
     let far = if one_of(draw, 16) == 0 { 100 } else { 0 };
-    let from_eight = plain.mark.saturating_add(near).saturating_add(far);
+    let from_eight = both.plain.mark.saturating_add(near).saturating_add(far);
     let base = from_eight.wrapping_sub(8);
     let word = arriving_parity(draw, base, offset as usize, count as usize);
     let parity = word.ts;
-    let reply = admit_parity(
-        desk,
-        seq_of(plain, from_eight).wrapping_sub(8),
-        Shape {
-            offset: offset as u8,
-            na: count as u8,
-        },
-        word.share(alloc)?,
-    );
+    let seq = seq_of(&both.plain, from_eight).wrapping_sub(8);
+    let shape = Shape {
+        offset: offset as u8,
+        na: count as u8,
+    };
+    let reply = admit_parity(&mut both.desk, seq, shape, word.share(both.alloc)?);
     if from_eight < 8 {
         return Ok(reply == Some(Reply::BeforeStart));
     }
@@ -490,35 +461,24 @@ fn both_take_parity(
         count: count as usize,
         parity,
     };
-    Ok(reply == Some(plain.admit_parity(sum)?))
+    Ok(reply == Some(both.plain.admit_parity(sum)?))
 }
 
 /// Both make a held step at a time, or pass windows by then. Whether they agree.
-fn both_hold_some(
-    desk: &mut Desk,
-    plain: &mut Plain,
-    alloc: Global,
-    draw: &mut Draw,
-    time: u64,
-) -> Result<bool, AllocError> {
-    let count = passes_held(desk, draw, time);
+fn both_hold_some(both: &mut Both, draw: &mut Draw, time: u64) -> Result<bool, AllocError> {
+    let count = passes_held(&mut both.desk, draw, time);
     if count == 0 {
-        return both_play(desk, plain, alloc, Way::Held(time));
+        return both_play(both, Way::Held(time));
     }
-    both_pass(desk, plain, alloc, Way::Held(time), count)
+    both_pass(both, Way::Held(time), count)
 }
 
 /// Both are told a time, which may be before the last one, and play what has waited for too long by then.
-fn both_are_told(
-    desk: &mut Desk,
-    plain: &mut Plain,
-    alloc: Global,
-    draw: &mut Draw,
-) -> Result<bool, AllocError> {
+fn both_are_told(both: &mut Both, draw: &mut Draw) -> Result<bool, AllocError> {
     let later = u64::from(draw.random.next_word() % 100);
-    let time = plain.clock.saturating_add(later).saturating_sub(30);
+    let time = both.plain.clock.saturating_add(later).saturating_sub(30);
     for _ in 0..4 {
-        if !both_hold_some(desk, plain, alloc, draw, time)? {
+        if !both_hold_some(both, draw, time)? {
             return Ok(false);
         }
     }
@@ -526,70 +486,42 @@ fn both_are_told(
 }
 
 /// A parity datagram comes to both, or media datagrams in a flow without parity.
-fn both_take_sum(
-    desk: &mut Desk,
-    plain: &mut Plain,
-    alloc: Global,
-    draw: &mut Draw,
-) -> Result<bool, AllocError> {
+fn both_take_sum(both: &mut Both, draw: &mut Draw) -> Result<bool, AllocError> {
     if draw.parity {
-        both_take_parity(desk, plain, alloc, draw)
+        both_take_parity(both, draw)
     } else {
-        both_take_run(desk, plain, alloc, draw)
+        both_take_run(both, draw)
     }
 }
 
 /// One call of both. Whether they agree.
-fn both_go_on(
-    desk: &mut Desk,
-    plain: &mut Plain,
-    alloc: Global,
-    draw: &mut Draw,
-) -> Result<bool, AllocError> {
+fn both_go_on(both: &mut Both, draw: &mut Draw) -> Result<bool, AllocError> {
     let agree = match draw.random.next_word() % 40 {
-        0 => both_play(desk, plain, alloc, Way::Window)?,
-        1 => both_play(desk, plain, alloc, Way::Flush)?,
-        2..16 => both_take_media(desk, plain, alloc, draw)?,
-        16..20 => both_take_run(desk, plain, alloc, draw)?,
-        20..32 => both_take_sum(desk, plain, alloc, draw)?,
-        _ => both_are_told(desk, plain, alloc, draw)?,
+        0 => both_play(both, Way::Window)?,
+        1 => both_play(both, Way::Flush)?,
+        2..16 => both_take_media(both, draw)?,
+        16..20 => both_take_run(both, draw)?,
+        20..32 => both_take_sum(both, draw)?,
+        _ => both_are_told(both, draw)?,
     };
-    Ok(agree && tell_same(desk, plain) && know_same(desk, plain))
-}
-
-/// A media datagram that begins a run comes to both.
-fn both_begin(desk: &mut Desk, plain: &mut Plain, alloc: Global) -> Result<bool, AllocError> {
-    let first = admit_media(desk, FIRST, 0, stamped(sent(0)).share(alloc)?);
-    Ok(first == Some(plain.admit_media(FIRST, 0, None, sent(0))))
+    Ok(agree && tell_same(both) && know_same(both))
 }
 
 /// A hundred calls of both, from the first on.
-fn both_are_called(
-    rt: &impl Abort,
-    alloc: Global,
-    desk: &mut Desk,
-    plain: &mut Plain,
-    draw: &mut Draw,
-) -> Result<(), Fail> {
-    assert!(rt; both_begin(desk, plain, alloc)?);
+fn both_are_called(rt: &impl Abort, both: &mut Both, draw: &mut Draw) -> Result<(), Fail> {
+    assert!(rt; both_admit(both, FIRST, 0, None, sent(0))?);
     for i in 0..100 {
-        assert!(rt; both_go_on(desk, plain, alloc, draw)?, "call {i}");
+        assert!(rt; both_go_on(both, draw)?, "call {i}");
     }
     Ok(())
 }
 
-/// Calls of a desk and of a new plain one, which are flushed at last.
-fn try_desk(rt: &impl Abort, alloc: Global, desk: &mut Desk, draw: &mut Draw) -> Result<(), Fail> {
-    let mut plain = Plain::new(
-        alloc,
-        desk.window() as usize,
-        desk.depth() as usize,
-        desk.hold(),
-    )?;
-    both_are_called(rt, alloc, desk, &mut plain, draw)?;
-    assert!(rt; both_are_flushed(desk, &mut plain, alloc, draw)?);
-    draw.inconsistent = draw.inconsistent.saturating_add(plain.epoch);
-    draw.runs = draw.runs.saturating_add(plain.runs);
+/// Calls of two new desks, which are flushed at last.
+fn try_both(rt: &impl Abort, both: &mut Both, draw: &mut Draw) -> Result<(), Fail> {
+    both_are_called(rt, both, draw)?;
+    assert!(rt; both_are_flushed(both, draw)?);
+    draw.inconsistent = draw.inconsistent.saturating_add(both.plain.epoch);
+    draw.runs = draw.runs.saturating_add(both.plain.runs);
     Ok(())
 }
 
@@ -626,8 +558,12 @@ fn try_flow(rt: &impl Abort, alloc: Global, draw: &mut Draw) -> Result<(), Fail>
     let depth = drawn_depth(draw, window);
     assert!(rt; 1 <= window && window <= 100 && window <= depth && depth <= 1000);
     let hold = u64::from(draw.random.next_word() % 4) * 25;
-    let mut desk = Desk::new(alloc, window, depth, hold)?;
-    try_desk(rt, alloc, &mut desk, draw)
+    let mut both = Both {
+        alloc,
+        desk: Desk::new(alloc, window, depth, hold)?,
+        plain: Plain::new(alloc, window as usize, depth as usize, hold)?,
+    };
+    try_both(rt, &mut both, draw)
 }
 
 /// Whether windows were passed, plays were inconsistent, and runs were begun beside the first one of each flow.

@@ -8,6 +8,7 @@ use fg_desk::{Desk, Outcome, Played, Reply, Tray};
 use fg_shape::{Shape, shape_ok};
 use fg_words::{Shared, Word};
 use std::alloc::{AllocError, Global};
+use std::ops::Range;
 use std::process::Abort;
 use std::test::Fail;
 
@@ -27,8 +28,9 @@ pub(super) enum Step {
     /// A parity datagram: the sequence number of its base, offset and count of its shape, the word
     /// at its first slot, and the reply. The words at its slots are numbered as the slots are.
     Parity(u16, u8, u8, u32, Reply),
-    /// Parity datagrams of one slot each that are all admitted: the first slot, and how many.
-    Parities(u16, u16),
+    /// Parity datagrams of slots that follow one another, which are all admitted: the first base, the one after the last, and
+    /// how many slots each has.
+    Parities(u16, u16, u8),
     /// Whether a sequence number makes a play due.
     Due(u16, bool),
     /// A play: its outcome, how many positions it shows, which of them show no word, which show a
@@ -265,16 +267,16 @@ fn parity_replies(
 fn parities_are_admitted(
     desk: &mut Desk,
     alloc: Global,
-    base: u16,
-    count: u16,
+    bases: Range<u16>,
+    na: u8,
 ) -> Result<bool, AllocError> {
-    let shape = Shape { offset: 1, na: 1 };
-    let mut admitted = true;
-    for i in 0..count {
-        let base = base.wrapping_add(i);
-        admitted &= parity_replies(desk, alloc, base, shape, u32::from(base), Reply::Admitted)?;
+    let shape = Shape { offset: 1, na };
+    for base in bases {
+        if !parity_replies(desk, alloc, base, shape, u32::from(base), Reply::Admitted)? {
+            return Ok(false);
+        }
     }
-    Ok(admitted)
+    Ok(true)
 }
 
 /// What a play is to show.
@@ -371,7 +373,7 @@ fn answers(desk: &mut Desk, alloc: Global, step: Step) -> Result<bool, AllocErro
         Step::Parity(base, offset, na, number, reply) => {
             parity_replies(desk, alloc, base, Shape { offset, na }, number, reply)
         }
-        Step::Parities(base, count) => parities_are_admitted(desk, alloc, base, count),
+        Step::Parities(base, end, na) => parities_are_admitted(desk, alloc, base..end, na),
         Step::Plays(seq) => plays_on(desk, alloc, seq),
         Step::Play(outcome, count, missing, repaired, flipped) => {
             let want = to_show(outcome, count, missing, repaired, flipped);

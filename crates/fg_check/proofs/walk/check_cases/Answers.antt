@@ -1,13 +1,25 @@
-use Rattle.std.proofs.Common.{◌∙◌}
+use Rattle.std.proofs.Common.{◌≡◌, ◌∙◌}
 use Rattle.fg_io.proofs.FaultLemmas.{on_err}
+use Rattle.fg_check.specs.Steps.{HasWalked}
 use Rattle.fg_check.proofs.Walks.{any_answer, checks, checks_part, exactly, part_of, read_for_fault, walked_to}
 use Rattle.fg_check.proofs.walk.check_cases.Goals as goal
+use Rattle.fg_check.proofs.walk.check_cases.Goals.{After-flush}
 
-pub walk_all-requires : goal.walk_all-requires
-walk_all-requires g c =
+-- The walk over all that is to be read.
+walked :
+    (g : _) (c : After-flush g)
+    → HasWalked (g.S.Source.left c.args.input.now) (g.S.Source.left c.walk_all.new.input) c.in_ok-checked.checked c.walk_all.new.self
+    (g.K.Sink.written c.args.out.now) (g.K.Sink.written c.walk_all.new.out)
+walked g c =
     let left = g.S.Source.left c.args.input.now in
     let written = g.K.Sink.written c.args.out.now in
-    (left, written, c.in_ok-walk.ensures.begins left written)
+    c.in_ok-checked.ensures.whole left written (c.in_ok-walk.ensures.begins left written)
+
+max_is : (g : _) (c : After-flush g) → c.walk_all.new.self.max ≡ c.args.max
+max_is g c = c.walk_all.ensures.max ∙ c.in_ok-walk.ensures.max
+
+pub walk_all-requires : goal.walk_all-requires
+walk_all-requires g c = (_, _, c.in_ok-walk.ensures.begins (g.S.Source.left c.args.input.now) (g.K.Sink.written c.args.out.now))
 
 pub returns-in_err-checked-clause-reads : goal.returns-in_err-checked-clause-reads
 returns-in_err-checked-clause-reads g c =
@@ -19,51 +31,31 @@ returns-in_err-checked-clause-reads g c =
 
 pub returns-in_err-flush-clause-reads : goal.returns-in_err-flush-clause-reads
 returns-in_err-flush-clause-reads g c =
-    let left = g.S.Source.left c.args.input.now in
-    let now = g.S.Source.left c.walk_all.new.input in
-    let written = g.K.Sink.written c.args.out.now in
-    read_for_fault c.args.max left now c.from_residual-in_err-flush.result c.from_residual-in_err-flush.ensures.0
-    (any_answer c.args.max _ left now
-    (walked_to c.args.max c.walk_all.new.self c.in_ok-checked.checked left now written _ (c.walk_all.ensures.max ∙ c.in_ok-walk.ensures.max)
-    (c.in_ok-checked.ensures.whole left written (c.in_ok-walk.ensures.begins left written))))
+    let here = (goal.at.returns-in_err-flush-clause-reads g c).After-flush in
+    read_for_fault c.args.max _ _ c.from_residual-in_err-flush.result c.from_residual-in_err-flush.ensures.0
+    (any_answer c.args.max _ _ _ (walked_to c.args.max _ _ _ _ _ _ (max_is g here) (walked g here)))
 
 pub returns-in_err-flush-clause-part : goal.returns-in_err-flush-clause-part
 returns-in_err-flush-clause-part g c =
-    let left = g.S.Source.left c.args.input.now in
-    let now = g.S.Source.left c.walk_all.new.input in
-    let written = g.K.Sink.written c.args.out.now in
+    let here = (goal.at.returns-in_err-flush-clause-part g c).After-flush in
     on_err _ _
-    (checks_part c.one_check.ensures c.one_text.ensures.text c.args.max c.walk_all.new.self c.in_ok-checked.checked left now written _ _ (c.walk_all.ensures.max ∙ c.in_ok-walk.ensures.max)
-    (c.in_ok-checked.ensures.whole left written (c.in_ok-walk.ensures.begins left written)) c.in_err-flush.ensures.part)
+    (checks_part c.one_check.ensures c.one_text.ensures.text c.args.max _ _ _ _ _ _ _ (max_is g here) (walked g here) c.in_err-flush.ensures.part)
 
 pub returns-clause-whole : goal.returns-clause-whole
 returns-clause-whole g c =
-    let left = g.S.Source.left c.args.input.now in
-    let now = g.S.Source.left c.walk_all.new.input in
-    let written = g.K.Sink.written c.args.out.now in
-    checks c.args.max c.walk_all.new.self c.in_ok-checked.checked left now written _ _ (c.walk_all.ensures.max ∙ c.in_ok-walk.ensures.max)
-    (c.in_ok-checked.ensures.whole left written (c.in_ok-walk.ensures.begins left written)) c.in_ok-flush.ensures.whole
+    let here = (goal.at.returns-clause-whole g c).After-flush in
+    checks c.args.max _ _ _ _ _ _ _ (max_is g here) (walked g here) c.in_ok-flush.ensures.whole
 
 pub returns-clause-exactly : goal.returns-clause-exactly
 returns-clause-exactly g c =
-    let left = g.S.Source.left c.args.input.now in
-    let now = g.S.Source.left c.walk_all.new.input in
-    let written = g.K.Sink.written c.args.out.now in
-    exactly c.one_check.ensures c.one_text.ensures.answers c.args.max c.in_ok-checked.checked left written _
-    (checks c.args.max c.walk_all.new.self c.in_ok-checked.checked left now written _ _ (c.walk_all.ensures.max ∙ c.in_ok-walk.ensures.max)
-    (c.in_ok-checked.ensures.whole left written (c.in_ok-walk.ensures.begins left written)) c.in_ok-flush.ensures.whole)
+    let here = (goal.at.returns-clause-exactly g c).After-flush in
+    exactly c.one_check.ensures c.one_text.ensures.answers c.args.max _ _ _ _
+    (checks c.args.max _ _ _ _ _ _ _ (max_is g here) (walked g here) c.in_ok-flush.ensures.whole)
 
 pub returns-clause-all_read : goal.returns-clause-all_read
-returns-clause-all_read g c =
-    let left = g.S.Source.left c.args.input.now in
-    let written = g.K.Sink.written c.args.out.now in
-    let all = c.in_ok-checked.ensures.whole left written (c.in_ok-walk.ensures.begins left written) in
-    all.at_end
+returns-clause-all_read g c = (walked g (goal.at.returns-clause-all_read g c).After-flush).at_end
 
 pub returns-clause-reads : goal.returns-clause-reads
 returns-clause-reads g c =
-    let left = g.S.Source.left c.args.input.now in
-    let now = g.S.Source.left c.walk_all.new.input in
-    let written = g.K.Sink.written c.args.out.now in
-    walked_to c.args.max c.walk_all.new.self c.in_ok-checked.checked left now written _ (c.walk_all.ensures.max ∙ c.in_ok-walk.ensures.max)
-    (c.in_ok-checked.ensures.whole left written (c.in_ok-walk.ensures.begins left written))
+    let here = (goal.at.returns-clause-reads g c).After-flush in
+    walked_to c.args.max _ _ _ _ _ _ (max_is g here) (walked g here)

@@ -1,5 +1,4 @@
-use Rattle.std.proofs.Common.{◌^◌, refl, arith, ◌∙◌, ap}
-use Rattle.fg_shape.specs.Playout.{Playout}
+use Rattle.std.proofs.Common.{◌^◌, refl, ◌∙◌, ap}
 use Rattle.fg_playout.specs.State.{State}
 use Rattle.fg_plain.proofs.PlainRuns.{none_flushed, one_more_flushed, step_nearer}
 use Rattle.fg_plain.proofs.run.flush.Goals as goal
@@ -11,12 +10,6 @@ pub flush_step-requires-clause-room : goal.flush_step-requires-clause-room
 flush_step-requires-clause-room c =
     let so = c.loop-played.invariant.so in
     (c.requires.within so.flushed c.loop-played.desk.state so.steps).1
-
-pub flush_step-requires-clause-tray : goal.flush_step-requires-clause-tray
-flush_step-requires-clause-tray c =
-    let window = ap (λ (p : Playout). p.window) c.loop-played.invariant.so.playout in
-    let tray = c.loop-played.invariant.tray in
-    omega (arith, window, tray, c.requires.tray)
 
 pub loop-played-smaller : goal.loop-played-smaller
 loop-played-smaller c =

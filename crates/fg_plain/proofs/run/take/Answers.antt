@@ -1,54 +1,31 @@
-use Rattle.std.proofs.Common.{◌≡◌, ◌++◌, ℕ, List, map, Option, Result, Ok, Err, IfOk, refl, ap, subst, ◌∙◌, append_assoc}
-use Rattle.std.specs.declared.alloc.AllocError.{AllocError}
-use Rattle.fg_playout.specs.declared.reply.Reply.{Reply}
-use Rattle.fg_playout.specs.Play.{Play}
-use Rattle.fg_playout.specs.Run.{Takes, TakesThen, ArePlaysHeld, time_of}
-use Rattle.fg_playout.specs.Laws.{then_played}
-use Rattle.fg_plain.specs.Datagrams.{arrival_of, play_of}
+use Rattle.std.proofs.Common.{[], Some, sym, subst}
+use Rattle.fg_words.specs.declared.Word.{Word}
+use Rattle.fg_plain.specs.declared.run.Datagram.{Datagram}
+use Rattle.fg_playout.specs.Admission.{AdmitsMedia}
+use Rattle.fg_playout.specs.Run.{TakesThen}
+use Rattle.fg_plain.specs.Datagrams.{arrival_of}
+use Rattle.fg_desk.specs.Arrivals.{ThenWithin}
+use Rattle.fg_plain.proofs.PlainRuns.{nothing_played}
 use Rattle.fg_plain.proofs.run.take.Goals as goal
-use Rattle.fg_plain.proofs.run.take.Goals.{In_ok-play_held}
 
-held_before :
-    (c : In_ok-play_held)
-    → ArePlaysHeld c.args.desk.now.state (time_of (arrival_of c.args.datagram.now)) c.in_ok-play_held.ensures.plays.0 c.play_held.new.desk.state
-held_before c =
-    subst (λ (t : ℕ). ArePlaysHeld c.args.desk.now.state t c.in_ok-play_held.ensures.plays.0 c.play_held.new.desk.state) c.time.ensures
-    c.in_ok-play_held.ensures.plays.2
+pub admit_parity-requires-clause-room : goal.admit_parity-requires-clause-room
+admit_parity-requires-clause-room c =
+    (c.requires.within [] c.args.desk.now.state (nothing_played (arrival_of c.args.datagram.now) c.args.desk.now.state)).1
 
-pub take_then-requires-clause-within : goal.take_then-requires-clause-within
-take_then-requires-clause-within c plays new played =
-    let held = c.in_ok-play_held.ensures.plays.0 in
-    c.requires.within (arrival_of c.args.datagram.now) (held ++ plays) new
-    (then_played held plays c.play_held.new.desk.state (held_before (goal.at.take_then-requires-clause-within c).In_ok-play_held) refl played)
-
-pub returns-clause-takes : goal.returns-clause-takes
-returns-clause-takes c = go c.take_then.result c.take_then.ensures.takes
-  where
-    held : List Play
-    held = c.in_ok-play_held.ensures.plays.0
-
-    Is : Option Reply → Type 0
-    Is reply = (before : List Play)
-        × (map play_of c.take_then.new.plays.items ≡ map play_of c.play_held.new.plays.items ++ before)
-        × TakesThen c.play_held.new.desk.state (arrival_of c.args.datagram.now) before reply c.take_then.new.desk.state
-
-    IsWhole : Option Reply → Type 0
-    IsWhole reply = (before : List Play)
-        × (map play_of c.take_then.new.plays.items ≡ map play_of c.args.plays.now.items ++ before)
-        × Takes c.args.desk.now.state (arrival_of c.args.datagram.now) before reply c.take_then.new.desk.state
-
-    go : (r : Result (Option Reply) AllocError) → IfOk r Is → IfOk r IsWhole
-    go (Ok reply) is = (
-      held ++ is.0,
-      is.1 ∙ ap (λ (ps : List Play). ps ++ is.0) c.in_ok-play_held.ensures.plays.1
-          ∙ append_assoc (map play_of c.args.plays.now.items) held is.0,
-      record {
-        held = held;
-        after = is.0;
-        ready = c.play_held.new.desk.state;
-        plays_are = refl;
-        holds = held_before (goal.at.returns-clause-takes c).In_ok-play_held;
-        takes = is.2;
-      },
+pub returns-in_ok-play_before-in-Media-clause-takes : goal.returns-in_ok-play_before-in-Media-clause-takes
+returns-in_ok-play_before-in-Media-clause-takes c =
+    let before = c.in_ok-play_before-in-Media.ensures.plays in
+    let admits =
+    subst (λ (word : Word). AdmitsMedia c.play_before.new.desk.state c.in-Media.seq c.in-Media.ssrc word
+    c.admit_media.result c.admit_media.new.self.state)
+    c.in_ok-share-in-Media.ensures c.admit_media.ensures.state in (
+      before.0,
+      before.1,
+      subst (λ (datagram : Datagram). TakesThen c.args.desk.now.state (arrival_of datagram) before.0 (Some c.admit_media.result)
+          c.admit_media.new.self.state)
+          (sym c.in-Media.is) (c.play_before.new.desk.state, before.2, admits),
     )
-    go (Err e) is = is
+
+pub play_before-requires-clause-within : goal.play_before-requires-clause-within
+play_before-requires-clause-within c =
+    subst (λ (datagram : Datagram). ThenWithin c.args.desk.now.state (arrival_of datagram)) c.in-Media.is c.requires.within

@@ -5,11 +5,5 @@ use Rattle.fg_playout.proofs.Held.{held_step_keeps}
 use Rattle.fg_playout.proofs.laws.facts_are_kept.Goals as goal
 
 pub returns : goal.returns
-returns c = record {
-  opening = opening_holds;
-  media = media_keeps;
-  parity = parity_keeps;
-  play = play_keeps;
-  flush = flush_step_keeps;
-  held = held_step_keeps;
-}
+returns c =
+    search (opening_holds, media_keeps, parity_keeps, play_keeps, flush_step_keeps, held_step_keeps)

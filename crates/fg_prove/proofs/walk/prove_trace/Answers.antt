@@ -14,6 +14,7 @@ use Rattle.fg_trace.proofs.Opening.{never_refused}
 use Rattle.fg_prove.proofs.Opening.{none_is_part, proves_none}
 use Rattle.fg_trace.proofs.Reached.{differs_at, failed_at}
 use Rattle.fg_prove.proofs.walk.prove_trace.Goals as goal
+use Rattle.fg_prove.proofs.walk.prove_trace.Goals.{After-start}
 
 no_write : fg.Read ≡ fg.Write → ⊥
 no_write e = cc
@@ -31,6 +32,18 @@ read_counted result before after written is h = record {
   sinks_rise = omega arith;
 }
 
+-- What the start says of the input, at its answer.
+opens :
+    (g : _) (c : After-start g) (answer : Result (Unit {0}) TraceFault) → c.start.result ≡ answer
+    → Opens answer c.start.new.self (g.S.Source.left c.args.input.now) (g.S.Source.left c.start.new.from)
+opens g c answer is =
+    let left = g.S.Source.left c.args.input.now in
+    subst (λ (a : Result (Unit {0}) TraceFault). Opens a c.start.new.self left (g.S.Source.left c.start.new.from)) is
+    (c.start.ensures.opens left (c.in_ok-reader.ensures.opening left))
+
+max_is : (g : _) (c : After-start g) → c.start.new.self.max ≡ c.args.plan.now.max
+max_is g c = c.start.ensures.max ∙ ap (λ (t : ReaderState). t.max) c.in_ok-reader.ensures.new
+
 pub prove_records-requires-clause-begun : goal.prove_records-requires-clause-begun
 prove_records-requires-clause-begun g c =
     let left = g.S.Source.left c.args.input.now in
@@ -47,20 +60,18 @@ returns-in-Ok-clause-refused g c =
 pub returns-in-Err-NotTrace-clause-whole : goal.returns-in-Err-NotTrace-clause-whole
 returns-in-Err-NotTrace-clause-whole g c =
     let left = g.S.Source.left c.args.input.now in
-    let max : c.start.new.self.max ≡ c.args.plan.now.max = c.start.ensures.max ∙ ap (λ (t : ReaderState). t.max) c.in_ok-reader.ensures.new in
-    let opens : Opens (Err (fault.NotTrace c.in-Err-NotTrace.place)) c.start.new.self left (g.S.Source.left c.start.new.from) = subst (λ (a : Result (Unit {0}) TraceFault). Opens a c.start.new.self left (g.S.Source.left c.start.new.from)) (c.in-Err-NotTrace.is ∙ ap Err c.in-Err-NotTrace.field-0-is) (c.start.ensures.opens left (c.in_ok-reader.ensures.opening left)) in
+    let here = (goal.at.returns-in-Err-NotTrace-clause-whole g c).After-start in
     let written = g.K.Sink.written c.args.out.now in
     subst (λ f. Proves c.args.plan.now f left written written) (sym (ap finish.NotTrace c.in-Err-NotTrace.place-is))
-    (proves_none c.args.plan.now left c.start.new.self.max c.in-Err-NotTrace.place written max opens.1)
+    (proves_none c.args.plan.now left c.start.new.self.max c.in-Err-NotTrace.place written (max_is g here) (opens g here _ (c.in-Err-NotTrace.is ∙ ap Err c.in-Err-NotTrace.field-0-is)).1)
 
 pub returns-in-Err-NotTrace-clause-reached : goal.returns-in-Err-NotTrace-clause-reached
 returns-in-Err-NotTrace-clause-reached g c =
     let left = g.S.Source.left c.args.input.now in
-    let max : c.start.new.self.max ≡ c.args.plan.now.max = c.start.ensures.max ∙ ap (λ (t : ReaderState). t.max) c.in_ok-reader.ensures.new in
+    let here = (goal.at.returns-in-Err-NotTrace-clause-reached g c).After-start in
     let unkept : IsNone c.in_ok-reader.reader.kept = subst (λ (t : ReaderState). IsNone t.kept) (sym c.in_ok-reader.ensures.new) refl in
-    let opens : Opens (Err (fault.NotTrace c.in-Err-NotTrace.place)) c.start.new.self left (g.S.Source.left c.start.new.from) = subst (λ (a : Result (Unit {0}) TraceFault). Opens a c.start.new.self left (g.S.Source.left c.start.new.from)) (c.in-Err-NotTrace.is ∙ ap Err c.in-Err-NotTrace.field-0-is) (c.start.ensures.opens left (c.in_ok-reader.ensures.opening left)) in
     subst (λ (f : Finish). IsReadTo c.args.plan.now.max (Ok f) left (g.S.Source.left c.start.new.from)) (sym (ap finish.NotTrace c.in-Err-NotTrace.place-is))
-    (differs_at c.read_as_far_as_needed.ensures.before c.args.plan.now.max c.start.new.self left _ c.in-Err-NotTrace.place max opens c.start.ensures.bounded c.start.ensures.few
+    (differs_at c.read_as_far_as_needed.ensures.before c.args.plan.now.max c.start.new.self left _ c.in-Err-NotTrace.place (max_is g here) (opens g here _ (c.in-Err-NotTrace.is ∙ ap Err c.in-Err-NotTrace.field-0-is)) c.start.ensures.bounded c.start.ensures.few
     (c.start.ensures.differs unkept c.in-Err-NotTrace.place (c.in-Err-NotTrace.is ∙ ap Err c.in-Err-NotTrace.field-0-is)))
 
 pub returns-in-Err-ReadFault-clause-faults : goal.returns-in-Err-ReadFault-clause-faults
@@ -73,19 +84,16 @@ returns-in-Err-ReadFault-clause-part g c = none_is_part c.args.plan.now _ _
 pub returns-in-Err-ReadFault-clause-reached : goal.returns-in-Err-ReadFault-clause-reached
 returns-in-Err-ReadFault-clause-reached g c =
     let left = g.S.Source.left c.args.input.now in
-    let max : c.start.new.self.max ≡ c.args.plan.now.max = c.start.ensures.max ∙ ap (λ (t : ReaderState). t.max) c.in_ok-reader.ensures.new in
-    let opens : Opens (Err fault.ReadFault) c.start.new.self left (g.S.Source.left c.start.new.from) = subst (λ (a : Result (Unit {0}) TraceFault). Opens a c.start.new.self left (g.S.Source.left c.start.new.from)) (c.in-Err-ReadFault.is ∙ ap Err c.in-Err-ReadFault.field-0-is) (c.start.ensures.opens left (c.in_ok-reader.ensures.opening left)) in
-    failed_at c.read_as_far_as_needed.ensures.before c.args.plan.now.max c.start.new.self left _ max opens c.start.ensures.bounded
+    let here = (goal.at.returns-in-Err-ReadFault-clause-reached g c).After-start in
+    failed_at c.read_as_far_as_needed.ensures.before c.args.plan.now.max c.start.new.self left _ (max_is g here) (opens g here _ (c.in-Err-ReadFault.is ∙ ap Err c.in-Err-ReadFault.field-0-is)) c.start.ensures.bounded
 
 pub unreachable-requires : goal.unreachable-requires
 unreachable-requires g c =
-    let left = g.S.Source.left c.args.input.now in
-    subst (λ (a : Result (Unit {0}) TraceFault). Opens a c.start.new.self left (g.S.Source.left c.start.new.from)) (c.in-Err-Cut.is ∙ ap Err c.in-Err-Cut.field-0-is) (c.start.ensures.opens left (c.in_ok-reader.ensures.opening left))
+    opens g (goal.at.unreachable-requires g c).After-start _ (c.in-Err-Cut.is ∙ ap Err c.in-Err-Cut.field-0-is)
 
 pub unreachable-requires-in-Err-TooLong : goal.unreachable-requires-in-Err-TooLong
 unreachable-requires-in-Err-TooLong g c =
-    let left = g.S.Source.left c.args.input.now in
-    subst (λ (a : Result (Unit {0}) TraceFault). Opens a c.start.new.self left (g.S.Source.left c.start.new.from)) (c.in-Err-TooLong.is ∙ ap Err c.in-Err-TooLong.field-0-is) (c.start.ensures.opens left (c.in_ok-reader.ensures.opening left))
+    opens g (goal.at.unreachable-requires-in-Err-TooLong g c).After-start _ (c.in-Err-TooLong.is ∙ ap Err c.in-Err-TooLong.field-0-is)
 
 pub returns-in-Ok-clause-whole : goal.returns-in-Ok-clause-whole
 returns-in-Ok-clause-whole g c =

@@ -15,7 +15,7 @@ pub take_record-requires-clause-within : goal.take_record-requires-clause-within
 take_record-requires-clause-within g c =
     let underway = c.requires.underway.2 in
     let few = few_records c.args.plan.now c.requires.fits c.requires.underway.0 _ c.args.reader.now underway.records c.requires.max underway.stands in
-    stays_within c.runs_stay_within.ensures.taking (playout_of c.args.plan.now) _ underway.records c.args.prover.now.desk.state c.requires.underway.1
+    stays_within c.records_are_told.ensures.taking (playout_of c.args.plan.now) _ underway.records c.args.prover.now.desk.state c.requires.underway.1
     c.args.prover.now.gaps.text.held (g.K.Sink.written c.args.out.now) c.requires.fits.playout few underway.taken
 
 pub returns-in_err-take_record-in-Ok-Datagram-clause-part : goal.returns-in_err-take_record-in-Ok-Datagram-clause-part
@@ -60,5 +60,5 @@ returns-in-Err-ReadFault-clause-part g c = λ first before h.
     let at = g.K.Sink.written c.args.out.now in
     part_at_fault c.walks_the_front.ensures c.args.plan.now first _ _ c.args.reader.now c.next.new.self old.desk.state before old.gaps.text.held at c.in-Err-ReadFault.field-0
     (c.next.ensures.max ∙ c.requires.max) (c.in-Err-ReadFault.ensures.walks first)
-    (λ records taken. told_is_part c.media_datagrams_read_one_way.ensures.one_way c.parity_datagrams_read_one_way.ensures c.one_proof.ensures.mades c.desks_come_in_order.ensures.taken
+    (λ records taken. told_is_part c.records_are_told.ensures.media c.records_are_told.ensures.parity c.records_are_told.ensures.mades c.records_are_told.ensures.taken
     (playout_of c.args.plan.now) _ records old.desk.state before old.gaps.text.held at taken) h

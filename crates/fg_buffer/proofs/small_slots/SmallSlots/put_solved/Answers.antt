@@ -5,10 +5,8 @@ use Rattle.fg_buffer.proofs.small_slots.SmallSlots.put_solved.Goals as goal
 
 pub invariant_of-self : goal.invariant_of-self
 invariant_of-self c =
-    put_held c.self.inside.slots.items c.self.inside.words c.self.invariant c.args.self.now c.self.view_is c.args.index (Solved c.args.share)
-    c.requires.within c.requires.empty refl
+    put_held _ _ c.self.invariant _ c.self.view_is c.args.index (Solved c.args.share) c.requires.within c.requires.empty refl
 
 pub returns : goal.returns
 returns c =
-    put_said c.self.inside.slots.items c.self.inside.words c.self.invariant c.args.self.now c.self.view_is c.args.index (Solved c.args.share)
-    c.requires.within c.requires.empty refl
+    put_said _ _ c.self.invariant _ c.self.view_is c.args.index (Solved c.args.share) c.requires.within c.requires.empty refl

@@ -1,23 +1,15 @@
-use Rattle.std.proofs.Common.{List, sym, subst}
-use Rattle.fg_playout.specs.Play.{Shown}
+use Rattle.fg_playout.specs.Play.{Play}
 use Rattle.fg_playout.specs.Held.{at_time, IsHeldPlay}
-use Rattle.fg_desk.proofs.DeskShows.{shown_after, count_shown}
+use Rattle.fg_desk.proofs.DeskShows.{count_shown, shown_play}
 use Rattle.fg_desk.proofs.desk.Desk.held_step.Goals as goal
 
 pub returns-clause-some : goal.returns-clause-some
 returns-clause-some c = (
-  count_shown c.self.inside c.self.invariant c.held_step_in_place.new.self c.self.view_is _ _ c.in-Some.step.first c.in-Some.step.count
-      c.in-Some.step.verdict c.in-Some.ensures.held.plays c.show_kept.new.self _ c.show_kept.ensures,
+  count_shown _ c.self.invariant _ c.self.view_is _ _ _ _ _ c.in-Some.ensures.held.plays _ _ c.show_kept.ensures,
   c.in-Some.ensures.some.2,
 )
 
 pub returns-clause-held : goal.returns-clause-held
 returns-clause-held c =
-    subst
-    (λ (xs : List Shown). IsHeldPlay (at_time c.args.self.now.state c.args.time)
-    (record { first = c.in-Some.step.first; shown = xs; outcome = c.in-Some.step.verdict })
-    c.held_step_in_place.new.self.state)
-    (sym
-    (shown_after c.self.inside c.self.invariant c.held_step_in_place.new.self c.self.view_is _ _ c.in-Some.step.first c.in-Some.step.count
-    c.in-Some.step.verdict c.in-Some.ensures.held.plays c.show_kept.new.self _ c.show_kept.ensures))
-    c.in-Some.ensures.held
+    shown_play _ c.self.invariant _ c.self.view_is _ _ _ _ _ c.in-Some.ensures.held.plays _ _ c.show_kept.ensures
+    (λ (play : Play). IsHeldPlay (at_time c.args.self.now.state c.args.time) play c.held_step_in_place.new.self.state) c.in-Some.ensures.held

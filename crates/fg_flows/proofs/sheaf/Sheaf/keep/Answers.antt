@@ -1,46 +1,47 @@
-use Rattle.std.proofs.Common.{ℕ, List, length, set, ap, refl, ◌∙◌}
-use Rattle.std.specs.Result.{is_ok}
+use Rattle.std.proofs.Common.{◌≡◌, ◌+◌, ◌<◌, ◌≤◌, ◌++◌, ℕ, Bool, true, cond, List, [], ◌∷◌, length, get_or, set, ap, refl, ◌∙◌}
+use Rattle.std.specs.Global.{Vec}
+use Rattle.std.specs.Vec.{vec_capacity, vec_len}
 use Rattle.fg_flows.specs.declared.sheaf.Entry.{Entry}
-use Rattle.fg_flows.specs.Sheaf.{SheafState, with_item}
-use Rattle.fg_flows.specs.Entries.{said_by}
+use Rattle.fg_flows.specs.Sheaf.{HasRoom, SheafState, with_item}
+use Rattle.fg_flows.specs.Entries.{AreHeld, said_by}
 use Rattle.fg_flows.proofs.SheafLemmas.{entry_pushed, flow_within, held_with, item_with, kept_room, payload_copied, said_with}
 use Rattle.fg_flows.proofs.sheaf.Sheaf.keep.Goals as goal
 
+-- A payload is copied behind the bytes, and its entry is pushed behind those of a flow: there is room for both. So what is kept is
+-- as it has to be, and it says the batch with one record more.
+kept :
+    (bytes more : Vec ℕ) (flows : List (Vec Entry)) (sheaf : SheafState) (count flow : ℕ) (payload : List ℕ) (old new : Vec Entry)
+    (entry : Entry) (copied pushed : Bool) → AreHeld bytes flows count → said_by bytes.items flows ≡ sheaf
+    → flow < length sheaf.items → HasRoom sheaf payload → old ≡ get_or flows flow old
+    → more.items ≡ cond copied (bytes.items ++ payload) bytes.items
+    → (vec_len bytes + length payload ≤ vec_capacity bytes → copied ≡ true) → vec_capacity bytes ≤ vec_capacity more
+    → new.items ≡ cond pushed (old.items ++ entry ∷ []) old.items
+    → (vec_len old < vec_capacity old → pushed ≡ true) → vec_capacity old ≤ vec_capacity new
+    → entry.start ≡ length bytes.items → entry.len ≡ length payload
+    → AreHeld more (set flows flow new) (count + 1)
+    × (said_by more.items (set flows flow new) ≡ with_item sheaf flow (item_with entry payload))
+kept bytes more flows sheaf count flow payload old new entry copied pushed held view of_batch has_room is copies succeeds wider
+    pushes gets_in roomier start len =
+    let within = flow_within bytes.items flows sheaf flow view of_batch in
+    let room = kept_room bytes flows sheaf count payload held view has_room in
+    let all = payload_copied bytes more payload copied room.1 held.room copies succeeds in
+    let one_more = entry_pushed bytes flows count flow old new entry pushed held room.0 within is pushes gets_in in (
+      held_with bytes more payload flows count flow old new entry held within is all wider one_more roomier start len room.1,
+      ap (λ (all : List ℕ). said_by all (set flows flow new)) all
+          ∙ said_with bytes.items payload flows flow old new entry held.within within is one_more start len
+          ∙ ap (λ (sheaf : SheafState). with_item sheaf flow (item_with entry payload)) view,
+    )
+
 pub invariant_of-self : goal.invariant_of-self
 invariant_of-self c =
-    let bytes = c.self.inside.bytes in
-    let flows = c.self.inside.flows.items in
-    let old = c.index_mut.result.now in
-    let payload = c.args.payload.now in
-    let entry : Entry = record { kind = c.args.kind; time = c.args.time; start = c.len.result; len = length payload } in
-    let within = flow_within bytes.items flows c.args.self.now c.args.flow c.self.view_is c.requires.flow in
-    let room = kept_room bytes flows c.args.self.now c.self.inside.count payload c.self.invariant c.self.view_is c.requires.room in
-    let copied = payload_copied bytes c.extend_from_slice-copied.new.self payload (is_ok c.extend_from_slice-copied.result) room.1 c.self.invariant.room
-    c.extend_from_slice-copied.ensures.items c.extend_from_slice-copied.ensures.succeeds
-    in
-    let pushed = entry_pushed bytes flows c.self.inside.count c.args.flow old c.push-kept.new.self entry (is_ok c.push-kept.result) c.self.invariant
-    room.0 within c.index_mut.ensures.value c.push-kept.ensures.items c.push-kept.ensures.succeeds
-    in
-    held_with bytes c.extend_from_slice-copied.new.self payload flows c.self.inside.count c.args.flow old c.push-kept.new.self entry c.self.invariant within
-    c.index_mut.ensures.value copied c.extend_from_slice-copied.ensures.capacity pushed c.push-kept.ensures.capacity
-    (c.len.ensures ∙ bytes.ok.0) refl room.1
+    (kept _ c.extend_from_slice-copied.new.self _ _ _ c.args.flow c.args.payload.now _ _ _ _ _ c.self.invariant c.self.view_is
+    c.requires.flow c.requires.room c.index_mut.ensures.value c.extend_from_slice-copied.ensures.items
+    c.extend_from_slice-copied.ensures.succeeds c.extend_from_slice-copied.ensures.capacity c.push-kept.ensures.items
+    c.push-kept.ensures.succeeds c.push-kept.ensures.capacity (c.len.ensures ∙ c.self.inside.bytes.ok.0) refl).0
 
 pub returns : goal.returns
 returns c =
-    let bytes = c.self.inside.bytes in
-    let flows = c.self.inside.flows.items in
-    let old = c.index_mut.result.now in
-    let payload = c.args.payload.now in
-    let entry : Entry = record { kind = c.args.kind; time = c.args.time; start = c.len.result; len = length payload } in
-    let within = flow_within bytes.items flows c.args.self.now c.args.flow c.self.view_is c.requires.flow in
-    let room = kept_room bytes flows c.args.self.now c.self.inside.count payload c.self.invariant c.self.view_is c.requires.room in
-    let copied = payload_copied bytes c.extend_from_slice-copied.new.self payload (is_ok c.extend_from_slice-copied.result) room.1 c.self.invariant.room
-    c.extend_from_slice-copied.ensures.items c.extend_from_slice-copied.ensures.succeeds
-    in
-    let pushed = entry_pushed bytes flows c.self.inside.count c.args.flow old c.push-kept.new.self entry (is_ok c.push-kept.result) c.self.invariant
-    room.0 within c.index_mut.ensures.value c.push-kept.ensures.items c.push-kept.ensures.succeeds
-    in
-    ap (λ (all : List ℕ). said_by all (set flows c.args.flow c.push-kept.new.self)) copied
-    ∙ said_with bytes.items payload flows c.args.flow old c.push-kept.new.self entry c.self.invariant.within within c.index_mut.ensures.value pushed
-    (c.len.ensures ∙ bytes.ok.0) refl
-    ∙ ap (λ (sheaf : SheafState). with_item sheaf c.args.flow (item_with entry payload)) c.self.view_is
+    (kept _ c.extend_from_slice-copied.new.self _ _ _ c.args.flow c.args.payload.now _ _ _ _ _ c.self.invariant c.self.view_is
+    c.requires.flow c.requires.room c.index_mut.ensures.value c.extend_from_slice-copied.ensures.items
+    c.extend_from_slice-copied.ensures.succeeds c.extend_from_slice-copied.ensures.capacity c.push-kept.ensures.items
+    c.push-kept.ensures.succeeds c.push-kept.ensures.capacity (c.len.ensures ∙ c.self.inside.bytes.ok.0) refl).1

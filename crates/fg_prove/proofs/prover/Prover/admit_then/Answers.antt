@@ -20,7 +20,7 @@ admit_parity-requires g c = record { room = room_before c.runs_begin.ensures.fre
 
 pub play_before-requires : goal.play_before-requires
 play_before-requires g c =
-    record { within = subst (λ (desk : Contents). BeforeWithin desk.state c.in-Ok.seq c.in-Ok.ssrc) (sym c.spare-spare.ensures) (c.requires.within c.in-Ok.seq c.in-Ok.ssrc) }
+    record { within = subst (λ (desk : Contents). BeforeWithin desk.state c.in-Ok.seq c.in-Ok.ssrc) (sym c.spare.ensures) (c.requires.within c.in-Ok.seq c.in-Ok.ssrc) }
 
 pub returns-in_err-admit_parity-in_default-clause-breaks : goal.returns-in_err-admit_parity-in_default-clause-breaks
 returns-in_err-admit_parity-in_default-clause-breaks g c =
@@ -48,8 +48,8 @@ returns-in_err-seq-in-Media-clause-breaks g c =
 pub returns-in_default-2-clause-takes : goal.returns-in_default-2-clause-takes
 returns-in_default-2-clause-takes g c =
     let old = c.args.self.now in
-    let same = ap (λ (desk : Contents). desk.state) c.spare-spare.ensures in
-    rw c.in-Media.is (λ time. media_is_refused time c.args.datagram.now old.gaps.port old.desk.state c.spare-spare.new.self.state old.gaps.text.held (g.K.Sink.written c.args.out.now) same
+    let same = ap (λ (desk : Contents). desk.state) c.spare.ensures in
+    rw c.in-Media.is (λ time. media_is_refused time c.args.datagram.now old.gaps.port old.desk.state c.spare.new.self.state old.gaps.text.held (g.K.Sink.written c.args.out.now) same
     (IfErr-at_err (λ (fault : MediaFault). (seq ssrc : ℕ) (word : Word) → ¬ IsMediaDatagram c.args.datagram.now seq ssrc word)
     c.in_default-2.is c.in_ok-seq-in-Media.ensures.refused))
 
@@ -61,7 +61,7 @@ returns-in_err-play_before-in-Media-clause-breaks g c =
     let read = IfOk-at_ok (λ (t : ℕ × ℕ × Word). IsMediaDatagram c.args.datagram.now t.0 t.1 t.2) c.in-Ok.is c.in_ok-seq-in-Media.ensures.ok in
     let off =
     subst (λ (desk : Contents). Breaks (HavePlayedBefore desk.state c.in-Ok.seq c.in-Ok.ssrc) (played_before_on desk.state c.in-Ok.seq c.in-Ok.ssrc) old.gaps.port old.gaps.text.held before after)
-    c.spare-spare.ensures c.in_err-play_before-in-Media.ensures.breaks in
+    c.spare.ensures c.in_err-play_before-in-Media.ensures.breaks in
     let breaks : (time : ℕ) → BreaksThen c.args.kind time c.args.datagram.now old.gaps.port old.desk.state old.gaps.text.held before after =
     rw c.in-Media.is (λ time. media_breaks_off c.media_datagrams_read_one_way.ensures.one_way time c.args.datagram.now old.gaps.port old.desk.state old.gaps.text.held before after
     c.in-Ok.seq c.in-Ok.ssrc c.in-Ok.share read off) in
@@ -76,6 +76,6 @@ returns-in_ok-play_before-in-Media-clause-takes g c =
     let read = IfOk-at_ok (λ (t : ℕ × ℕ × Word). IsMediaDatagram c.args.datagram.now t.0 t.1 t.2) c.in-Ok.is c.in_ok-seq-in-Media.ensures.ok in
     let so =
     subst (λ (desk : Contents). Tells (ArePlaysBefore desk.state c.in-Ok.seq c.in-Ok.ssrc) (before_on desk.state c.in-Ok.seq c.in-Ok.ssrc) old.gaps.port old.gaps.text.held before due.desk.state due.gaps.text.held after)
-    c.spare-spare.ensures c.in_ok-play_before-in-Media.ensures.plays in
+    c.spare.ensures c.in_ok-play_before-in-Media.ensures.plays in
     rw c.in-Media.is (λ time. media_is_admitted time c.args.datagram.now old.gaps.port old.desk.state due.desk.state c.admit_media-reply.new.self.state
     old.gaps.text.held due.gaps.text.held before after c.in-Ok.seq c.in-Ok.ssrc c.in-Ok.share c.admit_media-reply.result read so c.admit_media-reply.ensures.state)

@@ -1,58 +1,53 @@
-use Rattle.std.proofs.Common.{◌≤◌, ◌+◌, ◌-◌, min, subst, sym, arith}
+use Rattle.std.proofs.Common.{◌≡◌, ◌≤◌, length, subst, sym, arith}
+use Rattle.std.specs.Prelude.{IsFalse}
 use Rattle.fg_io.proofs.FaultLemmas.{on_err}
+use Rattle.fg_closure.specs.Holes.{HasMissing}
 use Rattle.fg_playout.specs.Play.{Play, IsFlushStep}
 use Rattle.fg_desk.specs.Contents.{kept_from}
-use Rattle.fg_prove.specs.declared.gaps.Gaps.{Gaps}
-use Rattle.fg_prove.specs.Steps.{TellsGap, BreaksGap}
-use Rattle.fg_prove.proofs.Missing.{same_gaps, kept_long, missing_more, told_after, broken_after}
+use Rattle.fg_prove.proofs.Missing.{same_gaps, kept_long, missing_more, tells_one, breaks_one}
 use Rattle.fg_prove.proofs.prover.Prover.flush_step.Goals as goal
+use Rattle.fg_prove.proofs.prover.Prover.flush_step.Goals.{In-Some}
+
+module _ (g : _) (c : In-Some g) where
+  abbrev made : Play
+  made =
+      let played = c.in-Some.played in
+      record { first = played.first; shown = kept_from c.flush_step_in_place.new.self played.first played.count; outcome = played.verdict }
+
+  long : length made.shown ≡ c.in-Some.played.count
+  long = kept_long c.flush_step_in_place.new.self c.in-Some.played.first c.in-Some.played.count
+
+  -- No fewer positions were looked at than it closes.
+  most : c.in-Some.played.count ≤ c.window-count.result
+  most = subst (λ n. c.in-Some.played.count ≤ n) (sym c.window-count.ensures.value) c.in-Some.ensures.some.1
+
+  few : c.in-Some.played.count ≤ 100
+  few = let fits = most in let limit = c.window-count.ensures.limit in omega (arith, fits, limit)
+
+  none_missing : IsFalse c.look-looked.result → ¬ HasMissing c.args.self.now.desk.state c.in-Some.played.count
+  none_missing isnt missing =
+      c.look-looked.ensures.none isnt (missing_more c.args.self.now.desk.state c.in-Some.played.count c.window-count.result most missing)
 
 pub returns-clause-some : goal.returns-clause-some
 returns-clause-some g c =
+    let here = (goal.at.returns-clause-some g c).In-Some in
     let old = c.args.self.now.desk.state in
-    let gaps = c.args.self.now.gaps in
-    let new = c.flush_step_in_place.new.self in
-    let played = c.in-Some.played in
-    let play : Play = record { first = played.first; shown = kept_from new played.first played.count; outcome = played.verdict } in
-    let step = c.in-Some.ensures.flushes in
-    let look = c.look-looked.ensures in
-    let most : played.count ≤ c.window-count.result = subst (λ n. played.count ≤ n) (sym c.window-count.ensures.value) c.in-Some.ensures.some.1 in
-    let few : played.count ≤ 100 = (let limit = c.window-count.ensures.limit in omega (arith, most, limit)) in
-    let before = g.K.Sink.written c.args.out.now in
-    let after = g.K.Sink.written c.tell.new.out in
-    let held' = c.tell.new.self.text.held in
-    record {
-      play = play;
-      plays = step;
-      told = told_after c.true_cases_are_proved.ensures.proved gaps.port played.count (min old.playout.window (step.highest + 1 - old.mark)) old old new.state play (same_gaps old) step.plays
-          (kept_long new played.first played.count) gaps.text.held held' before after look.facts c.requires.room look.depth few
-          (subst (λ (at : Gaps). TellsGap at.port old played.count played.verdict at.text.held before held' after) look.same
-          (c.in_ok-tell.ensures.tells old look.found (λ isnt missing. look.none isnt (missing_more old played.count c.window-count.result most missing))));
-    }
+    tells_one c.true_cases_are_proved.ensures.proved c.look-looked.ensures.same (made g here) (IsFlushStep old)
+    c.in-Some.ensures.flushes (same_gaps old) c.in-Some.ensures.flushes.plays (long g here) c.look-looked.ensures.facts
+    c.requires.room c.look-looked.ensures.depth (few g here)
+    (c.in_ok-tell.ensures.tells old c.look-looked.ensures.found (none_missing g here))
 
 pub returns-in_err-tell-clause-breaks : goal.returns-in_err-tell-clause-breaks
 returns-in_err-tell-clause-breaks g c =
+    let here = (goal.at.returns-in_err-tell-clause-breaks g c).In-Some in
     let old = c.args.self.now.desk.state in
-    let gaps = c.args.self.now.gaps in
-    let new = c.flush_step_in_place.new.self in
-    let played = c.in-Some.played in
-    let play : Play = record { first = played.first; shown = kept_from new played.first played.count; outcome = played.verdict } in
-    let step = c.in-Some.ensures.flushes in
-    let look = c.look-looked.ensures in
-    let most : played.count ≤ c.window-count.result = subst (λ n. played.count ≤ n) (sym c.window-count.ensures.value) c.in-Some.ensures.some.1 in
-    let before = g.K.Sink.written c.args.out.now in
-    let after = g.K.Sink.written c.tell.new.out in
     on_err _ _
-    (broken_after c.true_cases_are_proved.ensures.proved gaps.port played.count (min old.playout.window (step.highest + 1 - old.mark)) old old new.state play (same_gaps old) step.plays
-    (kept_long new played.first played.count) (IsFlushStep old) gaps.text.held before after step
-    (subst (λ (at : Gaps). BreaksGap at.port old played.count played.verdict at.text.held before after) look.same
-    (c.in_err-tell.ensures.breaks old look.found (λ isnt missing. look.none isnt (missing_more old played.count c.window-count.result most missing)))))
+    (breaks_one c.true_cases_are_proved.ensures.proved c.look-looked.ensures.same (made g here) (IsFlushStep old)
+    c.in-Some.ensures.flushes (same_gaps old) c.in-Some.ensures.flushes.plays (long g here)
+    (c.in_err-tell.ensures.breaks old c.look-looked.ensures.found (none_missing g here)))
 
 pub tell-requires-clause-found : goal.tell-requires-clause-found
 tell-requires-clause-found g c looked = (c.args.self.now.desk.state, c.look-looked.ensures.found looked)
 
 pub tell-requires-clause-count : goal.tell-requires-clause-count
-tell-requires-clause-count g c =
-    let most : c.in-Some.played.count ≤ c.window-count.result = subst (λ n. c.in-Some.played.count ≤ n) (sym c.window-count.ensures.value) c.in-Some.ensures.some.1 in
-    let limit = c.window-count.ensures.limit in
-    omega (arith, most, limit)
+tell-requires-clause-count g c = few g (goal.at.tell-requires-clause-count g c).In-Some

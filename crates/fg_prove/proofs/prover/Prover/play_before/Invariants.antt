@@ -3,7 +3,7 @@ use Rattle.fg_playout.specs.Room.{farthest_limit}
 use Rattle.fg_playout.specs.Laws.{HavePlayed}
 use Rattle.fg_playout.specs.DesksJoin.{have_played_on}
 use Rattle.fg_prove.specs.Steps.{Tells}
-use Rattle.fg_prove.proofs.prover.Prover.play_due.Given as goal
+use Rattle.fg_prove.proofs.prover.Prover.play_before.Given as goal
 
 abbrev pub invariant-plays : goal.invariant-plays
 invariant-plays g l = record {
