@@ -50,7 +50,7 @@ pub enum Why {
 }
 
 /// How a call of the program ended.
-#[derive(Clone, Copy, Debug, PartialEq, Eq)]
+#[derive(Clone, Copy)]
 pub struct Ended {
     /// The exit status.
     pub status: u8,

@@ -7,7 +7,7 @@ pub trait Gate: Sync {
 }
 
 /// The gate of the program, which does nothing.
-#[derive(Clone, Copy, Debug)]
+#[derive(Clone, Copy)]
 pub struct NoGate;
 
 impl Gate for NoGate {

@@ -15,7 +15,7 @@ use std::process::Abort;
 use std::test::Fail;
 
 /// A record that was sent: its time and port, and its datagram's size and some fields.
-#[derive(Clone, Copy, Debug, PartialEq, Eq, Drop)]
+#[derive(Clone, Copy, Drop)]
 struct Sent {
     time: u64,
     port: u16,

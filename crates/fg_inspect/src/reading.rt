@@ -6,7 +6,7 @@ use fg_flows::{Kind, Table};
 use fg_rtp::{MediaFault, media_header, payload};
 
 /// What a record's datagram is read as.
-#[derive(Clone, Copy, Debug, PartialEq, Eq)]
+#[derive(Clone, Copy)]
 pub enum Reading {
     /// A media datagram.
     Media {

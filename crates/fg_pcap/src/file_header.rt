@@ -6,7 +6,7 @@ ghost use Rattle.fg_pcap.specs.Capture.{HasMagic, HasVersion, IsEthernet, IsFile
 pub(crate) const FILE_HEADER: usize = 24;
 
 /// The order of the bytes of a capture's numbers.
-#[derive(Clone, Copy, Debug, PartialEq, Eq)]
+#[derive(Clone, Copy)]
 pub enum ByteOrder {
     /// The highest byte first.
     HighestFirst,
@@ -15,7 +15,7 @@ pub enum ByteOrder {
 }
 
 /// What the fractions of seconds count in a capture.
-#[derive(Clone, Copy, Debug, PartialEq, Eq)]
+#[derive(Clone, Copy)]
 pub enum TimeUnit {
     /// Millionths of a second.
     Microseconds,

@@ -1,7 +1,7 @@
 //! The answers of a desk.
 
 /// The reply to a datagram, by the first rule that applies.
-#[derive(Clone, Copy, Debug, PartialEq, Eq)]
+#[derive(Clone, Copy, PartialEq, Eq)]
 pub enum Reply {
     /// The desk has it from now on.
     Admitted,
@@ -24,7 +24,7 @@ pub enum Reply {
 }
 
 /// What a play's words are.
-#[derive(Clone, Copy, Debug, PartialEq, Eq)]
+#[derive(Clone, Copy, PartialEq, Eq)]
 pub enum Outcome {
     /// Received and recovered words, with which every equation comes out.
     Repaired,

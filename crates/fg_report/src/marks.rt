@@ -2,7 +2,7 @@
 
 /// How many datagrams of a kind got each reply. Media datagrams get the first four only, `bad` and `foreign`, which parity
 /// datagrams don't get.
-#[derive(Clone, Copy, Debug, PartialEq, Eq, Default)]
+#[derive(Clone, Copy, Default)]
 pub struct Marks {
     /// Taken.
     pub admitted: u64,

@@ -1,7 +1,7 @@
 //! How a trace ended.
 
 /// How the trace ended. Places are counted in bytes from 0.
-#[derive(Clone, Copy, Debug, PartialEq, Eq)]
+#[derive(Clone, Copy)]
 pub enum Tail {
     /// Behind a whole record.
     Ended,

@@ -23,7 +23,7 @@ pub const HEADER_LENGTH: usize = 12;
 const VERSION_TWO: u8 = 0x80;
 
 /// The fields of the fixed header of RTP (RFC 3550), but for the version.
-#[derive(Clone, Copy, Debug)]
+#[derive(Clone, Copy)]
 pub struct Rtp {
     /// Whether padding follows the payload.
     pub padding: bool,
@@ -44,7 +44,7 @@ pub struct Rtp {
 }
 
 /// Why bytes have no RTP header.
-#[derive(Clone, Copy, Debug, PartialEq, Eq)]
+#[derive(Clone, Copy)]
 pub enum RtpFault {
     /// There are fewer than 12 bytes.
     Short,

@@ -43,7 +43,7 @@ impl From<RtpFault> for MediaFault {
 }
 
 /// The numbers of a media datagram.
-#[derive(Clone, Copy, Debug, PartialEq, Eq)]
+#[derive(Clone, Copy)]
 pub struct MediaHeader {
     /// The sequence number.
     pub seq: u16,

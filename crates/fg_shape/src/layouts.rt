@@ -24,7 +24,7 @@ pub enum LayoutFault {
 
 /// How media datagrams are arranged in rows and columns for parity (SMPTE ST 2022-1). The two
 /// arrangements and their limits are this project's own.
-#[derive(Clone, Copy, Debug, PartialEq, Eq)]
+#[derive(Clone, Copy, PartialEq, Eq)]
 pub struct Layout {
     /// The columns, 1 to 20.
     pub l: u8,

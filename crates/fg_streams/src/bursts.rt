@@ -9,7 +9,7 @@ use std::alloc::AllocError;
 pub(crate) const LONGEST: usize = 10;
 
 /// Positions in a row at which no datagram was received, behind one at which one was.
-#[derive(Clone, Copy, Debug, PartialEq, Eq)]
+#[derive(Clone, Copy)]
 pub struct Burst {
     /// The first of them, counted from the stream's first position.
     pub slot: u64,
@@ -20,7 +20,7 @@ pub struct Burst {
 }
 
 /// How many bursts there are, and how many of each length.
-#[derive(Clone, Copy, Debug, Default, PartialEq, Eq)]
+#[derive(Clone, Copy, Default)]
 pub struct Lengths {
     /// All.
     pub runs: u64,

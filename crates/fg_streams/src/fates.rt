@@ -4,7 +4,7 @@ ghost use Rattle.fg_streams.specs.Fates.{counts_of};
 ghost use Rattle.fg_streams.specs.Steps.{CountsHaveRoom};
 
 /// What became of a datagram.
-#[derive(Clone, Copy, Debug, PartialEq, Eq)]
+#[derive(Clone, Copy, PartialEq, Eq)]
 pub enum Fate {
     /// It came below the first position, or 1,024 or more behind the top.
     Late,
@@ -17,7 +17,7 @@ pub enum Fate {
 }
 
 /// How many datagrams had each fate.
-#[derive(Clone, Copy, Debug, Default, PartialEq, Eq)]
+#[derive(Clone, Copy, Default)]
 pub struct Counts {
     /// Received.
     pub received: u64,

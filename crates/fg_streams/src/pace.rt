@@ -5,7 +5,7 @@ ghost use Rattle.fg_streams.specs.Pace.{difference, longer, microseconds, pace_o
 ghost use Rattle.fg_streams.specs.Steps.{PaceHasRoom};
 
 /// What is kept of a datagram.
-#[derive(Clone, Copy, Debug, PartialEq, Eq)]
+#[derive(Clone, Copy)]
 pub struct Sent {
     /// Its time, in microseconds.
     pub time: u64,
@@ -14,7 +14,7 @@ pub struct Sent {
 }
 
 /// A rise from one datagram's time to the next one's.
-#[derive(Clone, Copy, Debug, PartialEq, Eq)]
+#[derive(Clone, Copy)]
 pub struct Silence {
     /// How far, in microseconds.
     pub length: u64,
@@ -23,7 +23,7 @@ pub struct Silence {
 }
 
 /// The pace of a stream.
-#[derive(Clone, Copy, Debug, PartialEq, Eq)]
+#[derive(Clone, Copy)]
 pub struct Pace {
     /// The last datagram.
     pub last: Option<Sent>,

@@ -9,7 +9,7 @@ use fg_unwrap::position;
 pub(crate) const LATE_BY: u64 = 1024;
 
 /// The positions from the first to the greatest so far.
-#[derive(Clone, Copy, Debug, PartialEq, Eq)]
+#[derive(Clone, Copy)]
 pub struct Span {
     /// The first position, which is the number of the first datagram.
     pub first: u64,

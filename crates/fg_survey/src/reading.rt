@@ -7,7 +7,7 @@ use fg_fechead::parity_header;
 use fg_rtp::media_header;
 
 /// What a datagram is.
-#[derive(Clone, Copy, Debug, PartialEq, Eq)]
+#[derive(Clone, Copy)]
 pub enum Reading {
     /// A media datagram.
     Media {

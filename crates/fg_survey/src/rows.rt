@@ -8,7 +8,7 @@ ghost use Rattle.fg_survey.specs.Totals.{size};
 use crate::reading::Reading;
 
 /// What a port holds. Times are in microseconds.
-#[derive(Clone, Copy, Debug, PartialEq, Eq)]
+#[derive(Clone, Copy)]
 pub struct Row {
     /// The records.
     pub records: u64,

@@ -4,7 +4,7 @@ ghost use Rattle.fg_survey.specs.Senders.{listed, same_sender};
 ghost use Rattle.fg_survey.specs.Steps.{IsFoundAt};
 
 /// A sender on a port.
-#[derive(Clone, Copy, Debug, PartialEq, Eq)]
+#[derive(Clone, Copy)]
 pub struct Sender {
     /// The UDP port.
     pub port: u16,

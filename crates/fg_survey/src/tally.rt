@@ -9,7 +9,7 @@ use std::alloc::{AllocError, Global};
 const SIDE: usize = 20;
 
 /// The matrix that parity shows.
-#[derive(Clone, Copy, Debug, PartialEq, Eq)]
+#[derive(Clone, Copy)]
 pub struct Matrix {
     /// The columns: the commonest offset, or without a column's parity the commonest number.
     pub columns: u64,

@@ -5,7 +5,7 @@ ghost use Rattle.fg_survey.specs.Steps.{TotalsHaveRoom};
 ghost use Rattle.fg_survey.specs.Totals.{size, totals_of};
 
 /// What a trace holds in all. Times are in microseconds.
-#[derive(Clone, Copy, Debug, PartialEq, Eq)]
+#[derive(Clone, Copy)]
 pub struct Totals {
     /// The records.
     pub records: u64,

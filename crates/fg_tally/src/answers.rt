@@ -4,7 +4,7 @@ use fg_board::Key;
 use fg_shape::Shape;
 
 /// What came of a start.
-#[derive(Clone, Copy, Debug, PartialEq, Eq)]
+#[derive(Clone, Copy, PartialEq, Eq)]
 pub enum Begun {
     /// The tally holds the key, with nothing folded.
     Held,
@@ -18,7 +18,7 @@ pub enum Begun {
 }
 
 /// What came of a fold.
-#[derive(Clone, Copy, Debug, PartialEq, Eq)]
+#[derive(Clone, Copy, PartialEq, Eq)]
 pub enum Folded {
     /// So many slots are missing still, at least two.
     Waiting(u8),
@@ -33,7 +33,7 @@ pub enum Folded {
 }
 
 /// What a tally holds.
-#[derive(Clone, Copy, PartialEq, Eq)]
+#[derive(Clone, Copy)]
 pub struct Held {
     /// The key that it was started with.
     pub key: Key,
