@@ -1,7 +1,7 @@
 #!/usr/bin/env bash
 # Tells how long the built program takes to drill a stream of 20,000 datagrams, as a ratio to the time of encoding it and then
 # repairing the trace. Each is the least user and system time of five runs, without losses. Outside the gate. It wants
-# crates/fgate/out/fgate, as `rt run` leaves it there, and 120 MB for a while.
+# crates/fgate/out/fgate, as `tools/prove` leaves it there, and 120 MB for a while.
 set -euo pipefail
 here=$(cd "$(dirname "$0")" && pwd)
 program=$here/../../crates/fgate/out/fgate

@@ -10,11 +10,6 @@ import tempfile
 from documents_parts import blocks
 
 SECONDS = 300  # for all of them, on a machine that may be busy
-RT = """#!/bin/sh
-[ "$1 $2" = "run --" ] || { echo "rt $*: only rt run -- stands here" >&2; exit 1; }
-shift 2
-exec out/fgate "$@"
-"""
 
 
 def make_folder(repository, folder):
@@ -24,14 +19,11 @@ def make_folder(repository, folder):
     shutil.copytree(repository / "crates/fgate/data", folder / "crates/fgate/data")
     shutil.copytree(repository / "tools", folder / "tools")
     (folder / "tools/prove").write_text("#!/bin/sh\n")
-    (folder / "path").mkdir()
-    (folder / "path/rt").write_text(RT)
-    (folder / "path/rt").chmod(0o755)
 
 
 def shell_script(work, commands):
     """A script that runs each block in one shell, and keeps what it prints and its status."""
-    lines = ['PATH="$1/path:$PATH"', 'cd "$1" || exit', "exec < /dev/null"]
+    lines = ['cd "$1" || exit', "exec < /dev/null"]
     for number, block in enumerate(commands):
         (work / f"{number}.sh").write_text(block.text)
         lines.append(f'eval "$(cat {work}/{number}.sh)" > {work}/{number}.out 2>&1')
