@@ -47,9 +47,10 @@ impl Prover {
         ensures desk { IfOk result (λ prover. prover.desk ≡ opened (playout_of plan.now)) }
         ensures held { IfOk result (λ prover. prover.gaps.text.held ≡ []) }
     {
+        // What costs less to let go is made first.
         Ok(Prover {
-            desk: Desk::new(alloc, plan.window, plan.depth, plan.hold)?,
             gaps: Gaps::new(alloc, plan.table.port(0))?,
+            desk: Desk::new(alloc, plan.window, plan.depth, plan.hold)?,
         })
     }
 

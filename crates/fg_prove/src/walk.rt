@@ -98,11 +98,39 @@ fn prove_trace<S: Source, K: Sink>(
         ((K.faults out.old, K.faults out.new) ∷ []) }
     ensures fixed { S.fixed input.new ≡ S.fixed input.old }
 {
+    let mut prover = Prover::new(alloc, plan)?;
+    prove_from_start(&mut prover, alloc, plan, input, out)
+}
+
+/// Proves the gaps of a trace of which nothing is read yet, and answers how it ends.
+fn prove_from_start<S: Source, K: Sink>(
+    prover: &mut Prover,
+    alloc: Global,
+    plan: &Plan,
+    input: &mut S,
+    out: &mut K,
+) -> Result<Finish, Fault>
+    requires fits { PlanFits plan.now }
+    requires one { length plan.now.table ≡ 1 }
+    requires port { prover.old.gaps.port ≡ slice_index plan.now.table 0 }
+    requires desk { prover.old.desk.state ≡ opening (playout_of plan.now) }
+    requires held { prover.old.gaps.text.held ≡ [] }
+    ensures whole { IfOk result (λ finish. Proves plan.now finish (S.left input.old)
+        (K.written out.old) (K.written out.new)) }
+    ensures part { OnErr result (ProvesPart plan.now (S.left input.old)
+        (K.written out.old) (K.written out.new)) }
+    ensures refused { IfSome (S.left input.old) (λ bytes. (place : ℕ)
+        → IsTrace bytes plan.now.max [] (NoMagic place) → out.new ≡ out.old) }
+    ensures all_read { IfOk result (λ finish. ReadsAll finish → IsAtEnd (S.left input.new)) }
+    ensures reached { IsReadTo plan.now.max result (S.left input.old) (S.left input.new) }
+    ensures faults { Counts result ((S.faults input.old, S.faults input.new) ∷ [])
+        ((K.faults out.old, K.faults out.new) ∷ []) }
+    ensures fixed { S.fixed input.new ≡ S.fixed input.old }
+{
     read_as_far_as_needed();
     let mut reader = Reader::new(alloc, plan.max)?;
-    let mut prover = Prover::new(alloc, plan)?;
     match reader.start(input) {
-        Ok(()) => prove_records(&mut prover, alloc, plan, &mut reader, input, out),
+        Ok(()) => prove_records(prover, alloc, plan, &mut reader, input, out),
         Err(TraceFault::NotTrace(place)) => Ok(Finish::NotTrace(place)),
         Err(TraceFault::ReadFault) => Err(Fault::Read),
         Err(TraceFault::Cut(_)) => unreachable!(),
