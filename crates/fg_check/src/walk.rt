@@ -87,12 +87,9 @@ pub fn check_cases<S: Source, K: Sink>(
         ((K.faults out.old, K.faults out.new) ∷ []) }
     ensures fixed { S.fixed input.new ≡ S.fixed input.old }
 {
-    one_check();
-    one_text();
+    // What goes on is a function of its own, so that the walk is let go in one place.
     let mut walk = Walk::new(alloc, max)?;
-    let checked = walk.walk_all(alloc, input, out)?;
-    walk.lines.held.flush(out)?;
-    Ok(checked)
+    walk.check(alloc, input, out)
 }
 
 /// A text that is walked: what was read of it, how many of its lines were taken, the case that is open, and the lines that
@@ -121,6 +118,33 @@ impl Walk {
             opened: None,
             lines: Lines::new(alloc)?,
         })
+    }
+
+    /// Checks all that is to be read: takes its lines, and writes those of its cases.
+    fn check<S: Source, K: Sink>(
+        &mut self,
+        alloc: Global,
+        input: &mut S,
+        out: &mut K,
+    ) -> Result<Checked, Fault>
+        requires { (first before : Option (List ℕ)) → IsUnderway first first self.old before before }
+        ensures whole { IfOk result (λ checked. Checks self.old.max checked (S.left input.old)
+            (K.written out.old) (K.written out.new)) }
+        ensures exactly { IfOk result (λ checked. TellsExactly self.old.max (S.left input.old) checked) }
+        ensures all_read { IfOk result (λ checked. LeavesNothing checked → IsAtEnd (S.left input.new)) }
+        ensures reads { IfSome (S.left input.old) (λ bytes.
+            IsCheckReadFor self.old.max (answer_of result) bytes (S.left input.new)) }
+        ensures part { OnErr result (ChecksPart self.old.max (S.left input.old)
+            (K.written out.old) (K.written out.new)) }
+        ensures faults { Counts result ((S.faults input.old, S.faults input.new) ∷ [])
+            ((K.faults out.old, K.faults out.new) ∷ []) }
+        ensures fixed { S.fixed input.new ≡ S.fixed input.old }
+    {
+        one_check();
+        one_text();
+        let checked = self.walk_all(alloc, input, out)?;
+        self.lines.held.flush(out)?;
+        Ok(checked)
     }
 
     /// Takes the lines that are left, and answers what is to be told.
