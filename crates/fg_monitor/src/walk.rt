@@ -53,12 +53,9 @@ pub fn monitor_stream<S: Source, K: Sink>(
         ((K.faults out.old, K.faults out.new) ∷ []) }
     ensures fixed { S.fixed input.new ≡ S.fixed input.old }
 {
-    one_cut();
-    one_text();
+    // What goes on is a function of its own, so that the walk is let go in one place.
     let mut walk = Walk::new(alloc, max)?;
-    let ending = walk.walk_all(input, out)?;
-    walk.lines.close(ending, walk.monitor.fed(), out)?;
-    Ok(ending)
+    walk.monitor_all(input, out)
 }
 
 /// A stream that is walked: what was read of it, what the monitor was fed, and the lines that aren't written yet.
@@ -82,6 +79,31 @@ impl Walk {
             monitor: Monitor::new(alloc)?,
             lines: Lines::new(alloc)?,
         })
+    }
+
+    /// Monitors all that is to be read, and writes its text. It answers how the stream ends.
+    fn monitor_all<S: Source, K: Sink>(
+        &mut self,
+        input: &mut S,
+        out: &mut K,
+    ) -> Result<Option<StreamFault>, Fault>
+        requires { (first before : Option (List ℕ)) → IsUnderway first first self.old before before }
+        ensures whole { IfOk result (λ ending. Monitors self.old.input.max ending (S.left input.old)
+            (K.written out.old) (K.written out.new)) }
+        ensures all_read { IfOk result (λ ending. LeavesNothing ending → IsAtEnd (S.left input.new)) }
+        ensures reads { IfSome (S.left input.old) (λ bytes.
+            IsStreamReadFor self.old.input.max (ending_of result) bytes (S.left input.new)) }
+        ensures part { OnErr result (MonitorsPart self.old.input.max (S.left input.old)
+            (K.written out.old) (K.written out.new)) }
+        ensures faults { Counts result ((S.faults input.old, S.faults input.new) ∷ [])
+            ((K.faults out.old, K.faults out.new) ∷ []) }
+        ensures fixed { S.fixed input.new ≡ S.fixed input.old }
+    {
+        one_cut();
+        one_text();
+        let ending = self.walk_all(input, out)?;
+        self.lines.close(ending, self.monitor.fed(), out)?;
+        Ok(ending)
     }
 
     /// Tells the packets that are left, of which the last lines may be held, and answers how the stream ends.
