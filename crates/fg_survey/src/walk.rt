@@ -90,19 +90,11 @@ fn survey_trace<S: Source, K: Sink>(
     ensures faults { Counts result ((S.faults input.old, S.faults input.new) ∷ [])
         ((K.faults out.old, K.faults out.new) ∷ []) }
 {
-    one_trace();
-    one_text();
     read_as_far_as_needed();
+    // What goes on is a function of its own, so that the sheet is let go in one place.
     let sheet = Sheet::new(alloc)?;
     let mut work = Surveying { alloc, sheet };
-    // Nothing is written before all records are read.
-    match walk(alloc, max, &mut work, input, &mut SafeSink::new())? {
-        Finish::NotTrace(place) => Ok(Finish::NotTrace(place)),
-        finish => {
-            write_text(alloc, json, &mut work.sheet, tail_of(finish), out)?;
-            Ok(finish)
-        }
-    }
+    work.survey_all(max, json, input, out)
 }
 
 /// A survey under way: what is kept of the records that were read.
@@ -110,6 +102,43 @@ fn survey_trace<S: Source, K: Sink>(
 struct Surveying {
     alloc: Global,
     sheet: Sheet,
+}
+
+impl Surveying {
+    /// Surveys all that is to be read, and answers how it ends.
+    fn survey_all<S: Source, K: Sink>(
+        &mut self,
+        max: u64,
+        json: bool,
+        input: &mut S,
+        out: &mut K,
+    ) -> Result<Finish, Fault>
+        requires least { 8 ≤ max }
+        requires limit { max ≤ 2 ^ 40 }
+        requires new { IsSheet self.old.sheet [] }
+        ensures whole { IfOk result (λ finish. Surveys json max finish (S.left input.old)
+            (K.written out.old) (K.written out.new)) }
+        ensures part { OnErr result (SurveysPart json max (S.left input.old)
+            (K.written out.old) (K.written out.new)) }
+        ensures unwritten { IfErr result (λ fault. (fault ≢ Fault.Write) → out.new ≡ out.old) }
+        ensures refused { IfSome (S.left input.old) (λ bytes. (place : ℕ)
+            → IsTrace bytes max [] (NoMagic place) → out.new ≡ out.old) }
+        ensures all_read { IfOk result (λ finish. ReadsAll finish → IsAtEnd (S.left input.new)) }
+        ensures reached { IsReadTo max result (S.left input.old) (S.left input.new) }
+        ensures faults { Counts result ((S.faults input.old, S.faults input.new) ∷ [])
+            ((K.faults out.old, K.faults out.new) ∷ []) }
+    {
+        one_trace();
+        one_text();
+        // Nothing is written before all records are read.
+        match walk(self.alloc, max, self, input, &mut SafeSink::new())? {
+            Finish::NotTrace(place) => Ok(Finish::NotTrace(place)),
+            finish => {
+                write_text(self.alloc, json, &mut self.sheet, tail_of(finish), out)?;
+                Ok(finish)
+            }
+        }
+    }
 }
 
 impl Telling for Surveying {

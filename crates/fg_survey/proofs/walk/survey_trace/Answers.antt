@@ -1,22 +1,6 @@
 use Rattle.fg_io.proofs.FaultLemmas.{on_err}
-use Rattle.fg_survey.specs.declared.walk.Surveying.{Surveying}
-use Rattle.fg_survey.proofs.Walking.{no_refusal, none_is_part, surveys, surveys_part}
+use Rattle.fg_survey.proofs.Walking.{none_is_part}
 use Rattle.fg_survey.proofs.walk.survey_trace.Goals as goal
 
 pub returns-in_err-sheet-clause-part : goal.returns-in_err-sheet-clause-part
 returns-in_err-sheet-clause-part g c = on_err _ _ (none_is_part c.args.json c.args.max _ (g.K.Sink.written c.args.out.now))
-
-pub returns-in_err-finish-clause-part : goal.returns-in_err-finish-clause-part
-returns-in_err-finish-clause-part g c = on_err _ _ (none_is_part c.args.json c.args.max _ (g.K.Sink.written c.args.out.now))
-
-pub returns-in_err-write_text-in_default-clause-part : goal.returns-in_err-write_text-in_default-clause-part
-returns-in_err-write_text-in_default-clause-part g c =
-    on_err _ _ (surveys_part (λ (w : Surveying). w.sheet) c.walk.new.telling c.one_trace.ensures c.one_text.ensures c.args.json c.args.max c.in_ok-finish.finish c.tail_of.result _ _ _ c.in_ok-finish.ensures.whole c.in_default.not-NotTrace c.tail_of.ensures c.in_err-write_text-in_default.ensures.part)
-
-pub returns-clause-whole : goal.returns-clause-whole
-returns-clause-whole g c =
-    surveys (λ (w : Surveying). w.sheet) c.walk.new.telling c.args.json c.args.max c.in_ok-finish.finish c.tail_of.result _ _ _ c.in_ok-finish.ensures.whole c.in_default.not-NotTrace c.tail_of.ensures c.in_ok-write_text-in_default.ensures.whole
-
-pub returns-clause-refused : goal.returns-clause-refused
-returns-clause-refused g c =
-    no_refusal (λ (w : Surveying). w.sheet) c.walk.new.telling c.one_trace.ensures c.args.max c.in_ok-finish.finish _ _ c.in_ok-finish.ensures.whole c.in_default.not-NotTrace
