@@ -1,5 +1,5 @@
 -- The rows of the table: names told apart, and values within their ranges.
-use Rattle.std.proofs.Common.{◌≡◌, ◌≢◌, ◌⊎◌, inl, inr, ◌||◌, ℕ, zero, suc, ◌^◌, ◌<◌, ◌≤◌, Bool, true, false, cond, nat_eq, List, [], ◌∷◌, ◌++◌, get_or, map, refl, ap, ◌∙◌, sym, subst, arith, append_assoc, lit<, lit≤}
+use Rattle.std.proofs.Common.{◌≡◌, ◌≢◌, ◌⊎◌, inl, inr, ◌||◌, ℕ, zero, suc, ◌^◌, ◌<◌, ◌≤◌, Bool, true, false, cond, nat_eq, List, [], ◌∷◌, ◌++◌, get_or, length, map, refl, ap, ◌∙◌, sym, subst, arith, append_assoc, lit<, lit≤}
 use Rattle.std.specs.Fmt.{decimal}
 use lib.Pointwise.{pointwise}
 use Rattle.std.specs.List.{list_any, position_or_len}
@@ -166,12 +166,23 @@ pub default_bound : (k : Key) → default_of (row k).absent ≤ greatest_of (row
 default_bound key.Flow = lit≤ tt
 default_bound _ = lit≤ tt
 
-abbrev command_named : List ℕ → Command
-command_named text = get_or commands (position_or_len (λ t. pointwise nat_eq text t) (map command_text commands)) command.Repair
+abbrev command_place_of : List ℕ → ℕ
+command_place_of text = position_or_len (λ t. pointwise nat_eq text t) (map command_text commands)
 
-command_of_text : (c : Command) → command_named (command_text c) ≡ c
+abbrev command_named : List ℕ → Command
+command_named text = get_or commands (command_place_of text) command.Repair
+
+pub command_of_text : (c : Command) → command_named (command_text c) ≡ c
 command_of_text command.Repair = refl
 command_of_text _ = refl
+
+-- each command has its place among all
+abbrev pub command_place : Command → ℕ
+command_place c = command_place_of (command_text c)
+
+pub command_place_below : (c : Command) → command_place c < length commands
+command_place_below command.Repair = lit< tt
+command_place_below _ = lit< tt
 
 pub command_injective : (b c : Command) → command_text b ≡ command_text c → b ≡ c
 command_injective b c e = sym (command_of_text b) ∙ ap (λ t. command_named t) e ∙ command_of_text c

@@ -153,44 +153,10 @@ impl Command {
         ensures found { IfSome result (λ command. word.now ≡ command_text command) }
         ensures none { IfNone result ((command : Command) → word.now ≡ command_text command → ⊥) }
     {
-        if word == "repair" {
-            return Some(Command::Repair);
-        }
-        if word == "encode" {
-            return Some(Command::Encode);
-        }
-        if word == "drill" {
-            return Some(Command::Drill);
-        }
-        if word == "inspect" {
-            return Some(Command::Inspect);
-        }
-        if word == "sample" {
-            return Some(Command::Sample);
-        }
-        if word == "fromcap" {
-            return Some(Command::FromCapture);
-        }
-        if word == "tocap" {
-            return Some(Command::ToCapture);
-        }
-        if word == "monitor" {
-            return Some(Command::Monitor);
-        }
-        if word == "prove" {
-            return Some(Command::Prove);
-        }
-        if word == "check" {
-            return Some(Command::Check);
-        }
-        if word == "plan" {
-            return Some(Command::ChooseMatrix);
-        }
-        if word == "survey" {
-            return Some(Command::Survey);
-        }
-        if word == "pick" {
-            return Some(Command::Pick);
+        for command in Command::all() {
+            if command.word() == word {
+                return Some(*command);
+            }
         }
         None
     }
