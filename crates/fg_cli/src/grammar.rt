@@ -1,10 +1,11 @@
 //! The commands, and the names that may stand after them: one row for each name.
 ghost use Rattle.std.specs.Prelude.{◌≡◌, ◌<◌, ◌↔◌, IfNone, IfSome, IsTrue};
-ghost use Rattle.fg_cli.specs.Grammar.{Knows, Number, Either, about, command_about, command_text, commands, keys_of, most_of, named, needed, optional, row, told_after, told_row};
+ghost use Rattle.fg_cli.specs.Grammar.{Knows, Number, Either, about, command_about, command_text, commands, keys_of, most_of, needed, row, told_after, told_row};
 ghost use Rattle.fg_cli.specs.Reading.{BeginsPlain, Reads, range_seen, row_seen};
 
+mod table;
+
 use crate::Name;
-use fg_shape::LAST_PORT;
 
 /// What the first word says is to be done.
 #[derive(Clone, Copy, Debug, PartialEq, Eq)]
@@ -247,46 +248,12 @@ impl Key {
     pub fn row(self) -> Row
         ensures { row_seen result ≡ row self }
     {
-        match self {
-            Key::Flow => Row {
-                name: "flow",
-                values: Values::Number(1, u64::from(LAST_PORT)),
-                absent: Absent::Needed(Name::Flow),
-                most: None,
-            },
-            Key::Window => optional_row("window", Values::Number(1, 100), 100),
-            Key::Depth => optional_row("depth", Values::Number(1, 1_000), 400),
-            Key::Hold => named_row("hold", Values::Number(1, 3_600_000_000), 1),
-            Key::Workers => optional_row("workers", Values::Number(0, 16), 4),
-            Key::Max => optional_row(
-                "max",
-                Values::Number(8, 1_099_511_627_776),
-                1_099_511_627_776,
-            ),
-            Key::Columns => needed_row("columns", Values::Number(0, 255), Name::Columns),
-            Key::Rows => needed_row("rows", Values::Number(0, 255), Name::Rows),
-            Key::Fec => optional_row("fec", Values::Either("column", "both"), 1),
-            Key::Layout => optional_row("layout", Values::Either("block", "staggered"), 0),
-            Key::Packets => optional_row("packets", Values::Number(1, 7), 7),
-            Key::Rate => optional_row("rate", Values::Number(1, 10_000_000_000), 10_000_000),
-            Key::Port => optional_row("port", Values::Number(1, u64::from(LAST_PORT)), 5000),
-            Key::Seq => optional_row("seq", Values::Number(0, 65_535), 0),
-            Key::Ssrc => optional_row("ssrc", Values::Number(0, 4_294_967_295), 0),
-            Key::Stamp => optional_row("stamp", Values::Number(0, 4_294_967_295), 0),
-            Key::Drop => named_row("drop", Values::Number(1, 9_999_999_999_999), 1_000),
-            Key::Every => named_row("every", Values::Number(2, 9_999_999_999_999), 1),
-            Key::Seed => needed_row("seed", Values::Number(0, 9_999_999_999_999), Name::Seed),
-            Key::Datagrams => optional_row("datagrams", Values::Number(1, 20_000), 1_000),
-            Key::Loss => optional_row("loss", Values::Number(0, 20), 3),
-            Key::Burst => needed_row("burst", Values::Number(1, 20), Name::Burst),
-            Key::Most => needed_row("most", Values::Number(1, 100), Name::Most),
-            Key::PickedFlow => named_row("flow", Values::Number(1, u64::from(LAST_PORT)), 64),
-            Key::PickedPort => named_row("port", Values::Number(0, 65_535), 64),
-            Key::PickedSource => named_row("ssrc", Values::Number(0, 4_294_967_295), 16),
-            Key::Without => named_row("without", Values::Number(0, 4_294_967_295), 16),
-            Key::From => optional_row("from", Values::Number(0, u64::MAX), 0),
-            Key::Until => named_row("until", Values::Number(0, u64::MAX), 1),
-            Key::Format => optional_row("format", Values::Either("lines", "json"), 0),
+        let (name, values, absent, most) = table::ROWS[self as usize];
+        Row {
+            name,
+            values,
+            absent,
+            most,
         }
     }
 
@@ -354,30 +321,6 @@ fn needed_row(name: &'static str, values: Values, missing: Name) -> Row
         values,
         absent: Absent::Needed(missing),
         most: Some(1),
-    }
-}
-
-/// The row of a name that may be left out, and stands once at most.
-fn optional_row(name: &'static str, values: Values, default: u64) -> Row
-    ensures { row_seen result ≡ optional name.now (range_seen values) default }
-{
-    Row {
-        name,
-        values,
-        absent: Absent::Default(default),
-        most: Some(1),
-    }
-}
-
-/// The row of a name that may be left out for nothing, and stands so often at most.
-fn named_row(name: &'static str, values: Values, most: usize) -> Row
-    ensures { row_seen result ≡ named name.now (range_seen values) most }
-{
-    Row {
-        name,
-        values,
-        absent: Absent::Nothing,
-        most: Some(most),
     }
 }
 
