@@ -56,12 +56,8 @@ pub fn encode<S: Source, K: Sink>(
         ((K.faults out.old, K.faults out.new) ∷ []) }
     ensures fixed { S.fixed input.new ≡ S.fixed input.old }
 {
-    one_cut();
     let mut encoding = Encoding::new(alloc, settings, max)?;
-    encoding.trace.add(&MAGIC, out)?;
-    let ending = encoding.encode_all(input, out)?;
-    encoding.trace.flush(out)?;
-    Ok(ending)
+    encoding.encode_to_end(input, out)
 }
 
 /// An encoding under way: what cuts the stream, what encodes its payloads, the records of the last one, and the bytes of the
@@ -95,6 +91,34 @@ impl Encoding {
             batch: Batch::new(alloc)?,
             trace: OutputBuffer::new(alloc, ROOM)?,
         })
+    }
+
+    /// Writes the trace of the whole stream, and answers how that ends.
+    fn encode_to_end<S: Source, K: Sink>(
+        &mut self,
+        input: &mut S,
+        out: &mut K,
+    ) -> Result<Option<StreamFault>, Fault>
+        requires begins { (first before after : Option (List ℕ)) (trace : List ℕ)
+            → Sent before magic trace after
+            → IsUnderway first first (record self.old { trace = trace }) before after }
+        requires trace { self.old.trace ≡ [] }
+        ensures whole { IfOk result (λ ending. Encodes self.old.encoder.settings self.old.reader.max ending
+            (S.left input.old) (K.written out.old) (K.written out.new)) }
+        ensures all_read { IfOk result (λ ending. LeavesNothing ending → IsAtEnd (S.left input.new)) }
+        ensures reads { IfSome (S.left input.old) (λ bytes.
+            IsStreamReadFor self.old.reader.max (ending_of result) bytes (S.left input.new)) }
+        ensures part { OnErr result (EncodesPart self.old.encoder.settings self.old.reader.max
+            (S.left input.old) (K.written out.old) (K.written out.new)) }
+        ensures faults { Counts result ((S.faults input.old, S.faults input.new) ∷ [])
+            ((K.faults out.old, K.faults out.new) ∷ []) }
+        ensures fixed { S.fixed input.new ≡ S.fixed input.old }
+    {
+        one_cut();
+        self.trace.add(&MAGIC, out)?;
+        let ending = self.encode_all(input, out)?;
+        self.trace.flush(out)?;
+        Ok(ending)
     }
 
     /// Encodes the payloads that are left, of whose records the last may be held, and answers how the stream ends.
