@@ -1,5 +1,5 @@
 //! The boards of a repair and their tallies, and who works at them, before the first record.
-ghost use Rattle.std.specs.Prelude.{◌≡◌, ◌+◌, length, All, IfOk, OnOk};
+ghost use Rattle.std.specs.Prelude.{◌≡◌, ◌≤◌, ◌+◌, ◌++◌, ◌∷◌, [], length, All, IfOk, OnOk};
 ghost use Rattle.fg_shape.specs.Playout.{Playout};
 ghost use Rattle.fg_flows.specs.Plan.{PlanFits};
 ghost use Rattle.fg_workers.specs.Crewed.{HasSeats, HostAll, IsNewHost, HasNoPass, IsCrew};
@@ -7,7 +7,7 @@ ghost use Rattle.fg_workers.specs.Crewed.{HasSeats, HostAll, IsNewHost, HasNoPas
 use crate::held_places::PLACES;
 use crate::post::{Crew, Host, Post, Remembered};
 use crate::signal::Signal;
-use fg_board::Board;
+use fg_board::{Admitter, Board};
 use fg_desk::Tray;
 use fg_flows::Plan;
 use fg_tally::Tallies;
@@ -56,10 +56,33 @@ fn open_next(alloc: Global, plan: &Plan, crew: &mut Crew) -> Result<(), AllocErr
     ensures { OnOk result (IsCrew plan.now (length crew.old.posts.items + 1) crew.new) }
 {
     let (board, admitter) = Board::new(alloc, plan.window, plan.depth, plan.hold, PLACES)?;
-    let tray = Tray::new(alloc, plan.window)?;
+    add_host(alloc, plan.window, admitter, &mut crew.hosts)?;
+    add_post(alloc, board, &mut crew.posts)
+}
+
+/// A host more, with a tray for a window.
+fn add_host(
+    alloc: Global,
+    window: u32,
+    admitter: Admitter,
+    hosts: &mut Vec<Host>,
+) -> Result<(), AllocError>
+    requires { (1 ≤ window) × (window ≤ 100) }
+    ensures { OnOk result ((host : Host) × (hosts.new.items ≡ hosts.old.items ++ host ∷ [])
+        × (host.admitter ≡ admitter) × (host.tray.window ≡ window)) }
+{
+    let tray = Tray::new(alloc, window)?;
+    hosts.push(Host { admitter, tray })?;
+    Ok(())
+}
+
+/// A post more, of which nothing was told.
+fn add_post(alloc: Global, board: Board, posts: &mut Vec<Post>) -> Result<(), AllocError>
+    ensures { OnOk result ((post : Post) × (posts.new.items ≡ posts.old.items ++ post ∷ [])
+        × (post.board ≡ board)) }
+{
     let signal = Signal::new(alloc)?;
-    crew.hosts.push(Host { admitter, tray })?;
-    crew.posts.push(Post { board, signal })?;
+    posts.push(Post { board, signal })?;
     Ok(())
 }
 
