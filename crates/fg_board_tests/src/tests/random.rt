@@ -564,7 +564,24 @@ fn drawn_odds(random: &mut Pcg32) -> Odds {
     }
 }
 
-/// Steps of a new board and a new desk, which flush at last. How many runs were begun.
+/// Both start, take steps and flush at last.
+fn try_both(rt: &(impl Abort + Wait), both: &mut Both, random: &mut Pcg32) -> Result<(), Fail> {
+    assert!(rt; both_start(rt, both)?);
+    steps(rt, both, random)?;
+    assert!(rt; both_flush_on(rt, both, random)?);
+    Ok(())
+}
+
+/// Ends both. How many runs were begun on each.
+fn end_both(rt: &impl Abort, both: Both) -> u64 {
+    let Both { scene, desk, .. } = both;
+    let runs = scene.runs();
+    assert_eq!(rt; runs, desk.runs());
+    assert!(rt; scene.close());
+    runs
+}
+
+/// Steps of a new board and a new desk. How many runs were begun.
 fn try_flow(
     rt: &(impl Abort + Wait),
     alloc: Global,
@@ -576,14 +593,9 @@ fn try_flow(
     let hold = u64::from(random.next_word() % 4 * 20);
     assert!(rt; 1 <= window && window <= 100 && window <= depth && depth <= 1000);
     let mut both = new_both(alloc, window, depth, hold, drawn_odds(random), *came)?;
-    assert!(rt; both_start(rt, &mut both)?);
-    steps(rt, &mut both, random)?;
-    assert!(rt; both_flush_on(rt, &mut both, random)?);
+    try_both(rt, &mut both, random)?;
     *came = both.came;
-    let runs = both.scene.runs();
-    assert_eq!(rt; runs, both.desk.runs());
-    assert!(rt; both.scene.close());
-    Ok(runs)
+    Ok(end_both(rt, both))
 }
 
 /// All flows. Each event comes, and runs are begun beside the first one of each flow.
