@@ -509,8 +509,8 @@ fn new_both(
     requires window { (1 ≤ window) × (window ≤ 100) }
     requires depth { (window ≤ depth) × (depth ≤ 1000) }
 {
-    let scene = Scene::new(alloc, window, depth, hold)?;
     let desk = Desk::new(alloc, window, depth, hold)?;
+    let scene = Scene::new(alloc, window, depth, hold)?;
     Ok(Both {
         scene,
         desk,
@@ -572,13 +572,20 @@ fn try_both(rt: &(impl Abort + Wait), both: &mut Both, random: &mut Pcg32) -> Re
     Ok(())
 }
 
-/// Ends both. How many runs were begun on each.
-fn end_both(rt: &impl Abort, both: Both) -> u64 {
+/// How many runs were begun on a desk, which isn't used any more.
+fn runs_on(desk: Desk) -> u64 {
+    desk.runs()
+}
+
+/// Ends both, of which this came. How many runs were begun on each.
+fn end_both(rt: &impl Abort, both: Both, tried: Result<(), Fail>) -> Result<u64, Fail> {
     let Both { scene, desk, .. } = both;
     let runs = scene.runs();
-    assert_eq!(rt; runs, desk.runs());
-    assert!(rt; scene.close());
-    runs
+    let same = runs_on(desk) == runs;
+    let closed = scene.close();
+    tried?;
+    assert!(rt; same && closed);
+    Ok(runs)
 }
 
 /// Steps of a new board and a new desk. How many runs were begun.
@@ -593,9 +600,10 @@ fn try_flow(
     let hold = u64::from(random.next_word() % 4 * 20);
     assert!(rt; 1 <= window && window <= 100 && window <= depth && depth <= 1000);
     let mut both = new_both(alloc, window, depth, hold, drawn_odds(random), *came)?;
-    try_both(rt, &mut both, random)?;
+    // Both are let go in one place, whatever came of them.
+    let tried = try_both(rt, &mut both, random);
     *came = both.came;
-    Ok(end_both(rt, both))
+    end_both(rt, both, tried)
 }
 
 /// All flows. Each event comes, and runs are begun beside the first one of each flow.
