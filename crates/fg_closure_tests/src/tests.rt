@@ -137,25 +137,45 @@ fn are_holes(
     Ok(are_runs(&holes, want))
 }
 
-#[test]
-fn four_lost_in_a_square(rt: HostRuntime) -> Result<(), Fail> {
-    let mut desk = Desk::new(rt.alloc(), 100, 400, 0)?;
-    let mut closure = Closure::new(rt.alloc())?;
-    assert!(rt; admits_block(&mut desk, rt.alloc())?);
-    assert!(rt; are_holes(&mut closure, rt.alloc(), &desk, 16, &[(5, 2), (9, 2)])?);
+/// Four are lost in a square: the middle of the block.
+fn try_square(
+    rt: &impl Abort,
+    alloc: Global,
+    desk: &mut Desk,
+    closure: &mut Closure,
+) -> Result<(), Fail> {
+    assert!(rt; admits_block(desk, alloc)?);
+    assert!(rt; are_holes(closure, alloc, desk, 16, &[(5, 2), (9, 2)])?);
     assert!(rt; !closure.is_missing(5) && closure.is_missing(6));
-    assert!(rt; tells_square(&closure, rt.alloc())?);
+    assert!(rt; tells_square(closure, alloc)?);
     assert_eq!(rt; closure.mark(), 0);
     Ok(())
 }
 
-#[test]
-fn three_that_follow_one_by_one(rt: HostRuntime) -> Result<(), Fail> {
-    let mut desk = Desk::new(rt.alloc(), 100, 400, 0)?;
-    let mut closure = Closure::new(rt.alloc())?;
-    assert!(rt; admits_block(&mut desk, rt.alloc())?);
-    assert!(rt; is_admitted(&mut desk, rt.alloc(), 5)?);
-    assert!(rt; are_holes(&mut closure, rt.alloc(), &desk, 18, &[(16, 2)])?);
+/// The other three follow one by one, once one of them has come.
+fn try_three(
+    rt: &impl Abort,
+    alloc: Global,
+    desk: &mut Desk,
+    closure: &mut Closure,
+) -> Result<(), Fail> {
+    assert!(rt; admits_block(desk, alloc)?);
+    assert!(rt; is_admitted(desk, alloc, 5)?);
+    assert!(rt; are_holes(closure, alloc, desk, 18, &[(16, 2)])?);
     assert!(rt; !closure.is_missing(16) && closure.is_missing(17));
     Ok(())
+}
+
+#[test]
+fn four_lost_in_a_square(rt: HostRuntime) -> Result<(), Fail> {
+    let mut closure = Closure::new(rt.alloc())?;
+    let mut desk = Desk::new(rt.alloc(), 100, 400, 0)?;
+    try_square(&rt, rt.alloc(), &mut desk, &mut closure)
+}
+
+#[test]
+fn three_that_follow_one_by_one(rt: HostRuntime) -> Result<(), Fail> {
+    let mut closure = Closure::new(rt.alloc())?;
+    let mut desk = Desk::new(rt.alloc(), 100, 400, 0)?;
+    try_three(&rt, rt.alloc(), &mut desk, &mut closure)
 }
