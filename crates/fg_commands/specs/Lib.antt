@@ -8,6 +8,7 @@ pub mod Endings
 pub mod Filter
 pub mod FromCapture
 pub mod Inspection
+pub mod Lines
 pub mod Monitoring
 pub mod Picking
 pub mod Planning

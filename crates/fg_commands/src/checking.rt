@@ -1,4 +1,4 @@
-//! The judgement of a text of cases.
+//! The command `check`.
 ghost use Rattle.std.specs.Prelude.{◌≤◌, ◌^◌};
 ghost use Rattle.fg_commands.specs.Checking.{checking};
 ghost use Rattle.fg_commands.specs.Filter.{FilterEnded};

@@ -6,22 +6,32 @@ ghost use Rattle.std.specs.Prelude.{◌≡◌, ◌≤◌};
 ghost use Rattle.fg_commands.specs.Ended.{TellsFault, status_of};
 
 mod answering;
-mod captures;
 mod checking;
+mod encoding;
 mod ended;
 mod fault_line;
+mod from_capture;
+mod inspection;
+mod monitoring;
+mod picking;
 mod planning;
-mod records;
-mod transport;
+mod proving;
+mod surveying;
+mod to_capture;
 
 pub use answering::answer_question;
-pub use captures::{run_fromcap, run_tocap};
 pub use checking::run_check;
+pub use encoding::run_encode;
 pub use ended::{Ended, Why};
 use fg_io::Sink;
+pub use from_capture::run_fromcap;
+pub use inspection::run_inspect;
+pub use monitoring::run_monitor;
+pub use picking::run_pick;
 pub use planning::run_plan;
-pub use records::{run_inspect, run_pick, run_prove, run_survey};
-pub use transport::{run_encode, run_monitor};
+pub use proving::run_prove;
+pub use surveying::run_survey;
+pub use to_capture::run_tocap;
 
 /// Tells how a call ended: writes the line that says why to `err`, and answers with the status. A fault of `err`
 /// changes nothing else.

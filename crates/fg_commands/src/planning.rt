@@ -1,4 +1,4 @@
-//! The choice of a matrix.
+//! The command `plan`.
 ghost use Rattle.std.specs.Prelude.{◌≡◌, ◌≤◌};
 ghost use Rattle.fg_commands.specs.Ended.{status_of};
 ghost use Rattle.fg_commands.specs.Planning.{planning};

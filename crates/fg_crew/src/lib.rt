@@ -11,6 +11,3 @@ pub use chore::{Body, Chore};
 pub use gate::{Gate, NoGate};
 pub use hints::{HINTS_LIMIT, Hints};
 pub use running::{crew, run_beside};
-
-#[cfg(test)]
-mod tests;

@@ -13,6 +13,3 @@ mod steps;
 pub use link::{Back, Full, Passes};
 pub use running::run_three;
 pub use stage::{Giver, Maker, Storer};
-
-#[cfg(test)]
-mod tests;

@@ -4,6 +4,3 @@ pub mod Plays
 pub mod Laws
 pub mod Standing
 pub mod Inside
-pub mod Examples
-pub mod ExampleLaws
-pub mod Board

@@ -10,8 +10,6 @@ pub mod laws;
 mod rule;
 mod sleepers;
 mod steps;
-#[cfg(test)]
-mod tests;
 mod turn;
 mod view;
 

@@ -1,5 +1,0 @@
-use Rattle.std.proofs.Common.{◌≡◌, ◌+◌, false}
-use Rattle.fg_turn.proofs.tests.pair.seat_turns.Given as goal
-
-abbrev pub invariant-loop : goal.invariant-loop
-invariant-loop g l = (l.seat.turn ≡ l.turn.name) × (l.seat.inside ≡ false) × (l.seat.turns ≡ l.initial.seat.turns + l.counter)
