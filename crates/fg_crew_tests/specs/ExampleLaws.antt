@@ -3,7 +3,7 @@ use Rattle.std.proofs.Common.{ℕ, ◌≤◌, List, [], ◌∷◌, ◌++◌, ◌
 use Rattle.std.specs.Prelude.{Option, Some, None}
 use mathlib.Core.List.{IsPrefix}
 use Rattle.fg_turn.specs.Entries.{Entry}
-use Rattle.fg_turn.specs.Examples.{Raises, Counts, Reached, Takes, IsLeft, WasSeen}
+use Rattle.fg_crew_tests.specs.Examples.{Raises, Counts, Reached, Takes, IsLeft, WasSeen}
 
 pub counts_entry : (calls : List Entry) (entry : Entry) (a b a' b' : ℕ) → Counts calls a b
     → Raises (Some entry) a b a' b' → Counts (calls ++ entry ∷ []) a' b'
