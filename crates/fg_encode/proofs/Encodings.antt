@@ -1,10 +1,11 @@
 -- How the payloads of a stream are encoded, from where the reader stands.
-use Rattle.std.proofs.Common.{◌≡◌, ◌⊎◌, inl, inr, ⊎_elim, ℕ, ◌+◌, ◌*◌, ◌<◌, ◌≤◌, ◌^◌, true, Option, Some, None, IfSome, Ok, List, [], ◌∷◌, ◌++◌, length, take, drop, refl, sym, ap, ◌∙◌, subst, arith, append_assoc, append-nil, length-append}
+use Rattle.std.proofs.Common.{◌≡◌, ◌⊎◌, inl, inr, ⊎_elim, ℕ, ◌+◌, ◌*◌, ◌<◌, ◌≤◌, ◌^◌, true, Option, Some, None, IfSome, IfOk, OnErr, Result, Ok, List, [], ◌∷◌, ◌++◌, length, take, drop, refl, sym, ap, ◌∙◌, subst, arith, append_assoc, append-nil, length-append}
 use Rattle.std.specs.List.{flat_map}
 use Rattle.std.proofs.lemmas.Bool.{cases_lt}
 use Rattle.std.proofs.lemmas.List.{take-append-drop}
 use Rattle.std.proofs.lemmas.List.Concat.{flat_map-append}
 use Rattle.std.proofs.lemmas.List.FromFn.{take-map-range_with_len}
+use Rattle.fg_io.specs.declared.fault.Fault.{Fault}
 use Rattle.fg_io.specs.Sent.{Sent}
 use Rattle.fg_io.specs.Sink.{Gains, GainsPart}
 use Rattle.fg_io.proofs.SentLemmas.{Sent-then, Sent-whole, Sent-cut, Sent-part, Sent-stop}
@@ -14,8 +15,8 @@ use Rattle.fg_ts.specs.Packets.{ArePackets}
 use Rattle.fg_trace.specs.Trace.{Record, magic, spelling, trace_of}
 use Rattle.fg_encode.specs.declared.encoding.Encoding.{Encoding}
 use Rattle.fg_encode.specs.declared.stream.StreamStep.TheVariants.{End}
-use Rattle.fg_encode.specs.Encode.{Encodes, EncodesPart}
-use Rattle.fg_encode.specs.EncodeSteps.{Breaks, CanGoOn, HasEncoded, IsReadTo, IsUnderway}
+use Rattle.fg_encode.specs.Encode.{EncodesPart}
+use Rattle.fg_encode.specs.EncodeSteps.{Breaks, CanGoOn, HasEncoded, IsEncoded, IsNew, IsReadTo, IsUnderway}
 use Rattle.fg_encode.specs.Encoder.{EncoderState, StandsAfter as HasTaken}
 use Rattle.fg_encode.specs.Encoding.{encoding, records_at}
 use Rattle.fg_encode.specs.Laws.{OneMoreAdds}
@@ -113,22 +114,35 @@ within_limit reader next encoder payloads payload count placed packets goes stay
 -- Where an encoding stands
 
 -- the magic was added
-pub sent_first : (trace next : List ℕ) (before after : Option (List ℕ)) → trace ≡ [] → Sent before (trace ++ magic) next after → Sent before magic next after
+sent_first : (trace next : List ℕ) (before after : Option (List ℕ)) → trace ≡ [] → Sent before (trace ++ magic) next after → Sent before magic next after
 sent_first trace next before after none sent = subst (λ (t : List ℕ). Sent before (t ++ magic) next after) none sent
 
--- nothing is read, and the magic is held or written
-pub underway_new : (work : Encoding) (first before after : Option (List ℕ))
-    → StandsAfter work.reader first first [] → work.reader.kept ≡ None → work.reader.max ≤ 2 ^ 40 → HasTaken work.encoder [] → work.encoder.settings.packets ≡ work.reader.packets
-    → Sent before magic work.trace after → IsUnderway first first work before after
-underway_new work first before after stands untold limit taken packets sent = record {
+-- a part of the magic is
+magic_encoded : (settings : Settings) (max : ℕ) (first before after : Option (List ℕ)) → GainsPart before magic after → EncodesPart settings max first before after
+magic_encoded settings max None before after part = tt
+magic_encoded settings max (Some bytes) before after part = λ payloads ending cut.
+    GainsPart-longer before after magic (flat_map spelling (encoding settings payloads)) part
+
+-- the magic is held or written
+pub begun : (work : Encoding) (reader : StreamState) (next : List ℕ) (first now before after : Option (List ℕ)) → Sent before (work.trace ++ magic) next after → IsNew work reader first now
+    → IsUnderway (record work { trace = next }) reader first now before after
+begun work reader next first now before after sent h = record {
   payloads = [];
-  stands = stands;
-  untold = untold;
-  limit = limit;
-  packets = packets;
-  goes_on = inl taken;
-  sent = sent;
+  stands = h.stands;
+  untold = h.untold;
+  limit = h.limit;
+  packets = h.packets;
+  goes_on = inl h.taken;
+  sent = sent_first work.trace next before after h.trace sent;
 }
+
+-- a part of it is
+pub breaks_at_magic : (work : Encoding) (reader : StreamState) (first now before after : Option (List ℕ)) → GainsPart before (work.trace ++ magic) after → IsNew work reader first now
+    → Breaks work.encoder.settings reader.max first now before after
+breaks_at_magic work reader first now before after part h = (
+  magic_encoded work.encoder.settings reader.max first before after (subst (λ trace. GainsPart before (trace ++ magic) after) h.trace part),
+  h.read,
+)
 
 sent_payload : OneMoreAdds → (settings : Settings) (payloads : List (List ℕ)) (payload held next : List ℕ) (batch : List Record) (before at after : Option (List ℕ))
     → batch ≡ records_at settings (payloads ++ payload ∷ []) (length payloads) → Sent before (trace_of (encoding settings payloads)) held at
@@ -147,41 +161,41 @@ goes_on reader encoder next payloads packets (inr last) takes = inr last
 
 -- one payload more
 pub underway_more :
-    OneMoreAdds → (work next : Encoding) (first left now before at after : Option (List ℕ)) (batch : List Record) (count : ℕ)
-    → ((payloads : List (List ℕ)) → StandsAfter work.reader first left payloads → StandsAfter next.reader first now (payloads ++ next.reader.payload ∷ []))
-    → next.reader.kept ≡ None → next.reader.max ≡ work.reader.max
-    → (work.reader.ended ≡ true → next.reader.payload ++ next.reader.held ≡ work.reader.held) → 1 ≤ count → ArePackets next.reader.payload count
-    → (length next.reader.payload ≡ 188 * next.reader.packets) ⊎ ((next.reader.ended ≡ true) × (next.reader.held ≡ []))
-    → next.reader.packets ≡ work.reader.packets → next.encoder.settings ≡ work.encoder.settings
-    → ((payloads : List (List ℕ)) → HasTaken work.encoder payloads → batch ≡ records_at work.encoder.settings (payloads ++ next.reader.payload ∷ []) (length payloads))
-    → ((payloads : List (List ℕ)) → HasTaken work.encoder payloads → length next.reader.payload ≡ 188 * work.encoder.settings.packets → HasTaken next.encoder (payloads ++ next.reader.payload ∷ []))
+    OneMoreAdds → (work next : Encoding) (reader further : StreamState) (first left now before at after : Option (List ℕ)) (batch : List Record) (count : ℕ)
+    → ((payloads : List (List ℕ)) → StandsAfter reader first left payloads → StandsAfter further first now (payloads ++ further.payload ∷ []))
+    → further.kept ≡ None → further.max ≡ reader.max
+    → (reader.ended ≡ true → further.payload ++ further.held ≡ reader.held) → 1 ≤ count → ArePackets further.payload count
+    → (length further.payload ≡ 188 * further.packets) ⊎ ((further.ended ≡ true) × (further.held ≡ []))
+    → further.packets ≡ reader.packets → next.encoder.settings ≡ work.encoder.settings
+    → ((payloads : List (List ℕ)) → HasTaken work.encoder payloads → batch ≡ records_at work.encoder.settings (payloads ++ further.payload ∷ []) (length payloads))
+    → ((payloads : List (List ℕ)) → HasTaken work.encoder payloads → length further.payload ≡ 188 * work.encoder.settings.packets → HasTaken next.encoder (payloads ++ further.payload ∷ []))
     → Sent at (work.trace ++ flat_map spelling batch) next.trace after
-    → IsUnderway first left work before at → IsUnderway first now next before after
-underway_more law work next first left now before at after batch count walks untold max stays some whole last packets settings made takes sent h =
-    let taken : HasTaken work.encoder h.payloads = takes_next work.reader work.encoder h.payloads next.reader.payload next.reader.held count h.goes_on stays some whole in
+    → IsUnderway work reader first left before at → IsUnderway next further first now before after
+underway_more law work next reader further first left now before at after batch count walks untold max stays some whole last packets settings made takes sent h =
+    let taken : HasTaken work.encoder h.payloads = takes_next reader work.encoder h.payloads further.payload further.held count h.goes_on stays some whole in
     record {
-      payloads = h.payloads ++ next.reader.payload ∷ [];
+      payloads = h.payloads ++ further.payload ∷ [];
       stands = walks h.payloads h.stands;
       untold = untold;
       limit = subst (λ n. n ≤ 2 ^ 40) (sym max) h.limit;
       packets = ap (λ (s : Settings). s.packets) settings ∙ h.packets ∙ sym packets;
-      goes_on = goes_on next.reader work.encoder next.encoder h.payloads (h.packets ∙ sym packets) last (takes h.payloads taken);
-      sent = subst (λ (s : Settings). Sent before (trace_of (encoding s (h.payloads ++ next.reader.payload ∷ []))) next.trace after) (sym settings)
-          (sent_payload law work.encoder.settings h.payloads next.reader.payload work.trace next.trace batch before at after (made h.payloads taken) h.sent sent);
+      goes_on = goes_on further work.encoder next.encoder h.payloads (h.packets ∙ sym packets) last (takes h.payloads taken);
+      sent = subst (λ (s : Settings). Sent before (trace_of (encoding s (h.payloads ++ further.payload ∷ []))) next.trace after) (sym settings)
+          (sent_payload law work.encoder.settings h.payloads further.payload work.trace next.trace batch before at after (made h.payloads taken) h.sent sent);
     }
 
 -- a payload whose records are not all written, for a fault
 pub breaks_at_payload :
-    OneMoreAdds → ReadsAsFar → (work : Encoding) (next : StreamState) (first left now before at after : Option (List ℕ)) (batch : List Record) (count : ℕ)
-    → ((payloads : List (List ℕ)) → StandsAfter work.reader first left payloads → StandsAfter next first now (payloads ++ next.payload ∷ []))
-    → ReadsLittle next → next.max ≡ work.reader.max
-    → (work.reader.ended ≡ true → next.payload ++ next.held ≡ work.reader.held) → 1 ≤ count → ArePackets next.payload count
-    → next.packets ≡ work.reader.packets
+    OneMoreAdds → ReadsAsFar → (work : Encoding) (reader next : StreamState) (first left now before at after : Option (List ℕ)) (batch : List Record) (count : ℕ)
+    → ((payloads : List (List ℕ)) → StandsAfter reader first left payloads → StandsAfter next first now (payloads ++ next.payload ∷ []))
+    → ReadsLittle next → next.max ≡ reader.max
+    → (reader.ended ≡ true → next.payload ++ next.held ≡ reader.held) → 1 ≤ count → ArePackets next.payload count
+    → next.packets ≡ reader.packets
     → ((payloads : List (List ℕ)) → HasTaken work.encoder payloads → batch ≡ records_at work.encoder.settings (payloads ++ next.payload ∷ []) (length payloads))
     → GainsPart at (work.trace ++ flat_map spelling batch) after
-    → IsUnderway first left work before at → Breaks first now work before after
-breaks_at_payload law far work next first left now before at after batch count walks little max stays some whole packets made part h =
-    let taken : HasTaken work.encoder h.payloads = takes_next work.reader work.encoder h.payloads next.payload next.held count h.goes_on stays some whole in
+    → IsUnderway work reader first left before at → Breaks work.encoder.settings reader.max first now before after
+breaks_at_payload law far work reader next first left now before at after batch count walks little max stays some whole packets made part h =
+    let taken : HasTaken work.encoder h.payloads = takes_next reader work.encoder h.payloads next.payload next.held count h.goes_on stays some whole in
     let settings = work.encoder.settings in
     let stands = walks h.payloads h.stands in (
       subst (λ n. EncodesPart settings n first before after) max
@@ -189,50 +203,51 @@ breaks_at_payload law far work next first left now before at after batch count w
           (subst (λ bytes. GainsPart before bytes after)
           (ap (λ (rs : List Record). trace_of (encoding settings h.payloads) ++ flat_map spelling rs) (made h.payloads taken) ∙ sym (trace_more law settings h.payloads next.payload))
           (Sent-part before at after (trace_of (encoding settings h.payloads)) work.trace (flat_map spelling batch) h.sent part))),
-      any_ending_to work.reader.max next.kept first now (read_so_far far next first now (h.payloads ++ next.payload ∷ []) work.reader.max max stands little),
+      any_ending_to reader.max next.kept first now (read_so_far far next first now (h.payloads ++ next.payload ∷ []) reader.max max stands little),
     )
 
 -- a read that failed
 pub breaks_at_read :
-    OneMoreAdds → ReadsAsFar → (work : Encoding) (next : StreamState) (first left now before at : Option (List ℕ))
-    → ((payloads : List (List ℕ)) → StandsAfter work.reader first left payloads → StandsAfter next first now payloads)
-    → ReadsLittle next → next.max ≡ work.reader.max
-    → IsUnderway first left work before at → Breaks first now work before at
-breaks_at_read law far work next first left now before at walks little max h =
+    OneMoreAdds → ReadsAsFar → (work : Encoding) (reader next : StreamState) (first left now before at : Option (List ℕ))
+    → ((payloads : List (List ℕ)) → StandsAfter reader first left payloads → StandsAfter next first now payloads)
+    → ReadsLittle next → next.max ≡ reader.max
+    → IsUnderway work reader first left before at → Breaks work.encoder.settings reader.max first now before at
+breaks_at_read law far work reader next first left now before at walks little max h =
     let settings = work.encoder.settings in (
-      part_of_all law settings work.reader.packets work.reader.max first h.payloads before at h.packets h.stands.cut
+      part_of_all law settings reader.packets reader.max first h.payloads before at h.packets h.stands.cut
           (subst (λ bytes. GainsPart before bytes at) (append-nil (trace_of (encoding settings h.payloads)))
           (Sent-stop before at (trace_of (encoding settings h.payloads)) work.trace [] h.sent)),
-      any_ending_to work.reader.max next.kept first now (read_so_far far next first now h.payloads work.reader.max max (walks h.payloads h.stands) little),
+      any_ending_to reader.max next.kept first now (read_so_far far next first now h.payloads reader.max max (walks h.payloads h.stands) little),
     )
 
 -- the end of the stream
-pub encoded : ReadsAsFar → (work next : Encoding) (first left now before at : Option (List ℕ)) (ending : StreamEnding)
-    → ((payloads : List (List ℕ)) → StandsAfter work.reader first left payloads → Walks (Ok (End ending)) next.reader first now payloads)
-    → ReadsLittle next.reader → next.reader.kept ≡ Some ending
-    → next.encoder ≡ work.encoder → next.trace ≡ work.trace → next.reader.packets ≡ work.reader.packets
-    → IsUnderway first left work before at → HasEncoded first now ending next before at
-encoded far work next first left now before at ending walks little kept encoder trace packets h =
+pub encoded : ReadsAsFar → (work : Encoding) (reader next : StreamState) (first left now before at : Option (List ℕ)) (ending : StreamEnding)
+    → ((payloads : List (List ℕ)) → StandsAfter reader first left payloads → Walks (Ok (End ending)) next first now payloads)
+    → ReadsLittle next → next.kept ≡ Some ending → next.packets ≡ reader.packets
+    → IsUnderway work reader first left before at → HasEncoded work next ending first now before at
+encoded far work reader next first left now before at ending walks little kept packets h =
     let end = walks h.payloads h.stands in
     record {
       payloads = h.payloads;
-      of_input = subst (λ n. IfSome first (λ bytes. IsCut n next.reader.max bytes h.payloads ending)) (packets ∙ sym h.packets ∙ ap (λ (e : EncoderState). e.settings.packets) (sym encoder)) end.1;
-      read = subst (λ (e : Option StreamEnding). IsReadTo next.reader.max e first now) kept (read_so_far far next.reader first now h.payloads next.reader.max refl end.0 little);
+      of_input = subst (λ n. IfSome first (λ bytes. IsCut n next.max bytes h.payloads ending)) (packets ∙ sym h.packets) end.1;
+      read = subst (λ (e : Option StreamEnding). IsReadTo next.max e first now) kept (read_so_far far next first now h.payloads next.max refl end.0 little);
       at_end = end.2;
-      sent = subst (λ (e : EncoderState). Sent before (trace_of (encoding e.settings h.payloads)) next.trace at) (sym encoder)
-          (subst (λ bytes. Sent before (trace_of (encoding work.encoder.settings h.payloads)) bytes at) (sym trace) h.sent);
+      sent = h.sent;
     }
 
 -- All is encoded
 
-pub encodes : (settings : Settings) (max : ℕ) (work : Encoding) (ending : StreamEnding) (first now before at after : Option (List ℕ)) → work.encoder.settings ≡ settings → work.reader.max ≡ max
-    → HasEncoded first now ending work before at → Gains at work.trace after → Encodes settings max ending first before after
-encodes settings max work ending first now before at after same limit h gained =
-    subst (λ (s : Settings). Encodes s max ending first before after) same (record {
-      payloads = h.payloads;
-      of_input = subst (λ n. IfSome first (λ bytes. IsCut work.encoder.settings.packets n bytes h.payloads ending)) limit h.of_input;
-      gained = Sent-whole before at after (trace_of (encoding work.encoder.settings h.payloads)) work.trace h.sent gained;
-    })
+pub all_encoded : (work : Encoding) (reader : StreamState) (ending : StreamEnding) (first now before at after : Option (List ℕ))
+    → Gains at work.trace after → HasEncoded work reader ending first now before at → IsEncoded work.encoder.settings reader.max ending first now before after
+all_encoded work reader ending first now before at after gained h = record {
+  encodes = record {
+    payloads = h.payloads;
+    of_input = h.of_input;
+    gained = Sent-whole before at after (trace_of (encoding work.encoder.settings h.payloads)) work.trace h.sent gained;
+  };
+  read = h.read;
+  at_end = h.at_end;
+}
 
 -- the last bytes are not all written, for a fault
 part_at_end : OneCut → (settings : Settings) (max : ℕ) (first : Option (List ℕ)) (payloads : List (List ℕ)) (ending : StreamEnding) (before after : Option (List ℕ))
@@ -242,43 +257,29 @@ part_at_end law settings max None payloads ending before after cut part = tt
 part_at_end law settings max (Some bytes) payloads ending before after cut part = λ all other k.
     subst (λ (ps : List (List ℕ)). GainsPart before (trace_of (encoding settings ps)) after) (law settings.packets max bytes payloads all ending other cut k).0 part
 
-pub encodes_part : OneCut → (settings : Settings) (max : ℕ) (work : Encoding) (ending : StreamEnding) (first now before at after : Option (List ℕ)) → work.encoder.settings ≡ settings → work.reader.max ≡ max
-    → HasEncoded first now ending work before at → GainsPart at work.trace after → EncodesPart settings max first before after
-encodes_part law settings max work ending first now before at after same limit h part =
-    let mine = work.encoder.settings in
-    subst (λ (s : Settings). EncodesPart s max first before after) same
-    (subst (λ n. EncodesPart mine n first before after) limit
-    (part_at_end law mine work.reader.max first h.payloads ending before after h.of_input
-    (Sent-cut before at after (trace_of (encoding mine h.payloads)) work.trace h.sent part)))
+pub breaks_at_end : OneCut → (work : Encoding) (reader : StreamState) (ending : StreamEnding) (first now before at after : Option (List ℕ))
+    → GainsPart at work.trace after → HasEncoded work reader ending first now before at → Breaks work.encoder.settings reader.max first now before after
+breaks_at_end law work reader ending first now before at after part h =
+    let settings = work.encoder.settings in (
+      part_at_end law settings reader.max first h.payloads ending before after h.of_input (Sent-cut before at after (trace_of (encoding settings h.payloads)) work.trace h.sent part),
+      any_ending_to reader.max (Some ending) first now h.read,
+    )
 
 -- nothing is written
 pub nothing_encoded : (settings : Settings) (max : ℕ) (first written : Option (List ℕ)) → EncodesPart settings max first written written
 nothing_encoded settings max None written = tt
 nothing_encoded settings max (Some bytes) written = λ payloads ending cut. GainsPart-nil written (trace_of (encoding settings payloads))
 
--- a part of the magic is
-pub magic_encoded : (settings : Settings) (max : ℕ) (first before after : Option (List ℕ)) → GainsPart before magic after → EncodesPart settings max first before after
-magic_encoded settings max None before after part = tt
-magic_encoded settings max (Some bytes) before after part = λ payloads ending cut.
-    GainsPart-longer before after magic (flat_map spelling (encoding settings payloads)) part
+-- As it was set
 
--- What a fault leaves of an encoding it leaves of one that is set so
-pub breaks_along : (work other : Encoding) (first now before after : Option (List ℕ)) → work.encoder.settings ≡ other.encoder.settings → work.reader.max ≡ other.reader.max
-    → Breaks first now work before after → Breaks first now other before after
-breaks_along work other first now before after same limit h = (
-  subst (λ (s : Settings). EncodesPart s other.reader.max first before after) same (subst (λ n. EncodesPart work.encoder.settings n first before after) limit h.0),
-  subst (λ n. IsReadTo n None first now) limit h.1,
-)
+pub encoded_as : (found settings : Settings) (limit max : ℕ) (came : Result StreamEnding Fault) (first now before after : Option (List ℕ)) → found ≡ settings → limit ≡ max
+    → IfOk came (λ ending. IsEncoded found limit ending first now before after) → IfOk came (λ ending. IsEncoded settings max ending first now before after)
+encoded_as found settings limit max came first now before after same within h =
+    subst (λ n. IfOk came (λ ending. IsEncoded settings n ending first now before after)) within
+    (subst (λ (s : Settings). IfOk came (λ ending. IsEncoded s limit ending first now before after)) same h)
 
--- or of what was set so
-pub breaks_as_set : (settings : Settings) (max : ℕ) (work : Encoding) (first now before after : Option (List ℕ)) → work.encoder.settings ≡ settings → work.reader.max ≡ max
-    → Breaks first now work before after → EncodesPart settings max first before after × IsReadTo max None first now
-breaks_as_set settings max work first now before after same limit h = (
-  subst (λ (s : Settings). EncodesPart s max first before after) same (subst (λ n. EncodesPart work.encoder.settings n first before after) limit h.0),
-  subst (λ n. IsReadTo n None first now) limit h.1,
-)
-
--- Where all is encoded, the stream was read for its ending
-pub encoded_to : (max : ℕ) (work : Encoding) (ending : StreamEnding) (first now before at : Option (List ℕ)) → work.reader.max ≡ max
-    → HasEncoded first now ending work before at → IsReadTo max (Some ending) first now
-encoded_to max work ending first now before at limit h = subst (λ n. IsReadTo n (Some ending) first now) limit h.read
+pub breaks_as : (found settings : Settings) (limit max : ℕ) (came : Result StreamEnding Fault) (first now before after : Option (List ℕ)) → found ≡ settings → limit ≡ max
+    → OnErr came (Breaks found limit first now before after) → OnErr came (Breaks settings max first now before after)
+breaks_as found settings limit max came first now before after same within h =
+    subst (λ n. OnErr came (Breaks settings n first now before after)) within
+    (subst (λ (s : Settings). OnErr came (Breaks s limit first now before after)) same h)

@@ -1,5 +1,5 @@
 -- How far a stream was read.
-use Rattle.std.proofs.Common.{◌≡◌, ℕ, Option, None, Some, IfSome, Result, Ok, Err, IsErr, List, [], refl, subst, arith}
+use Rattle.std.proofs.Common.{◌≡◌, ℕ, Option, None, Some, IfOk, OnErr, Result, Ok, Err, List, [], refl, subst, arith}
 use Rattle.fg_io.specs.declared.fault.Fault.{Fault}
 use Rattle.fg_encode.specs.Encode.{ending_of}
 use Rattle.fg_encode.specs.EncodeSteps.{IsReadTo}
@@ -44,7 +44,8 @@ read_so_far law reader None now payloads max limit h little = tt
 read_so_far law reader (Some bytes) now payloads max limit h little =
     subst (λ m. IsStreamReadFor m reader.kept bytes now) limit (law reader bytes now payloads h little)
 
--- after a fault
-pub read_for_fault : (max : ℕ) (first now : Option (List ℕ)) (result : Result StreamEnding Fault) → IsErr result → IsReadTo max None first now → IfSome first (λ bytes. IsStreamReadFor max (ending_of result) bytes now)
-read_for_fault max first now (Ok ending) fault h = absurd (let no = fault in cc)
-read_for_fault max first now (Err f) fault h = h
+-- what the answer to a stream was read for
+pub read_of : (max : ℕ) (came : Result StreamEnding Fault) (first now : Option (List ℕ)) → IfOk came (λ ending. IsReadTo max (Some ending) first now) → OnErr came (IsReadTo max None first now)
+    → IsReadTo max (ending_of came) first now
+read_of max (Ok ending) first now h k = h
+read_of max (Err fault) first now h k = k

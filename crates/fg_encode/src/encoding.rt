@@ -1,14 +1,14 @@
 //! The encoding of a stream as a trace.
-ghost use Rattle.std.specs.Prelude.{◌≡◌, ◌≤◌, ◌<◌, ◌^◌, ◌++◌, ℕ, Ok, Option, List, [], ◌∷◌, length, IfOk, IfSome, OnOk, OnErr};
+ghost use Rattle.std.specs.Prelude.{◌≡◌, ◌≤◌, ◌<◌, ◌^◌, ◌++◌, [], ◌∷◌, length, IfOk, IfSome, OnOk, OnErr};
 ghost use Rattle.std.specs.Io.KnownBytes.{IsAtEnd};
 ghost use Rattle.std.specs.List.{flat_map};
 ghost use Rattle.fg_io.specs.Faults.{Counts};
 ghost use Rattle.fg_io.specs.Sent.{Sent};
 ghost use Rattle.fg_io.specs.Sink.{GainsPart};
 ghost use Rattle.fg_shape.specs.Settings.{CanEncode};
-ghost use Rattle.fg_trace.specs.Trace.{Record, magic, spelling};
+ghost use Rattle.fg_trace.specs.Trace.{Record, spelling};
 ghost use Rattle.fg_encode.specs.Encode.{Encodes, EncodesPart, ending_of};
-ghost use Rattle.fg_encode.specs.EncodeSteps.{Breaks, HasEncoded, IsUnderway, Steps};
+ghost use Rattle.fg_encode.specs.Encoder.{StandsAfter as HasTaken};
 ghost use Rattle.fg_encode.specs.Reading.{IsStreamReadFor};
 ghost use Rattle.fg_encode.specs.Stream.{LeavesNothing};
 
@@ -18,6 +18,7 @@ use crate::{Batch, Encoder};
 use fg_io::{Fault, OutputBuffer, Sink, Source};
 use fg_shape::Settings;
 use fg_trace::{MAGIC, record_header};
+use fg_walk::{Walking, walk};
 use std::alloc::{AllocError, Global};
 
 /// How many bytes of the trace are held at most.
@@ -56,130 +57,87 @@ pub fn encode<S: Source, K: Sink>(
         ((K.faults out.old, K.faults out.new) ∷ []) }
     ensures fixed { S.fixed input.new ≡ S.fixed input.old }
 {
-    let mut encoding = Encoding::new(alloc, settings, max)?;
-    encoding.encode_to_end(input, out)
+    let mut reader = StreamReader::new(alloc, settings.packets, max)?;
+    let mut encoding = Encoding::new(alloc, settings)?;
+    walk(&mut encoding, &mut reader, input, out)
 }
 
-/// An encoding under way: what cuts the stream, what encodes its payloads, the records of the last one, and the bytes of the
-/// trace that aren't written yet.
+/// An encoding under way: what encodes the stream's payloads, the records of the last one, and the bytes of the trace that
+/// aren't written yet.
 #[derive(Drop)]
 struct Encoding {
-    reader: StreamReader,
     encoder: Encoder,
     batch: Batch,
     trace: OutputBuffer,
 }
 
 impl Encoding {
-    /// An encoding of which nothing is read or written. All its memory is taken here.
-    fn new(alloc: Global, settings: &Settings, max: u64) -> Result<Encoding, AllocError>
-        requires settings { CanEncode settings.now }
-        requires least { 8 ≤ max }
-        requires limit { max ≤ 2 ^ 40 }
-
-        // Once the magic is held or written, it is under way.
-        ensures begins { IfOk result (λ work. (first before after : Option (List ℕ)) (trace : List ℕ)
-            → Sent before magic trace after
-            → IsUnderway first first (record work { trace = trace }) before after) }
-        ensures trace { IfOk result (λ work. work.trace ≡ []) }
+    /// An encoding of which nothing is written. All its memory is taken here.
+    fn new(alloc: Global, settings: &Settings) -> Result<Encoding, AllocError>
+        requires { CanEncode settings.now }
+        ensures taken { IfOk result (λ work. HasTaken work.encoder []) }
         ensures settings { IfOk result (λ work. work.encoder.settings ≡ settings.now) }
-        ensures max { IfOk result (λ work. work.reader.max ≡ max) }
+        ensures trace { IfOk result (λ work. work.trace ≡ []) }
     {
         Ok(Encoding {
-            reader: StreamReader::new(alloc, settings.packets, max)?,
             encoder: Encoder::new(alloc, *settings)?,
             batch: Batch::new(alloc)?,
             trace: OutputBuffer::new(alloc, ROOM)?,
         })
     }
+}
 
-    /// Writes the trace of the whole stream, and answers how that ends.
-    fn encode_to_end<S: Source, K: Sink>(
-        &mut self,
-        input: &mut S,
-        out: &mut K,
-    ) -> Result<Option<StreamFault>, Fault>
-        requires begins { (first before after : Option (List ℕ)) (trace : List ℕ)
-            → Sent before magic trace after
-            → IsUnderway first first (record self.old { trace = trace }) before after }
-        requires trace { self.old.trace ≡ [] }
-        ensures whole { IfOk result (λ ending. Encodes self.old.encoder.settings self.old.reader.max ending
-            (S.left input.old) (K.written out.old) (K.written out.new)) }
-        ensures all_read { IfOk result (λ ending. LeavesNothing ending → IsAtEnd (S.left input.new)) }
-        ensures reads { IfSome (S.left input.old) (λ bytes.
-            IsStreamReadFor self.old.reader.max (ending_of result) bytes (S.left input.new)) }
-        ensures part { OnErr result (EncodesPart self.old.encoder.settings self.old.reader.max
-            (S.left input.old) (K.written out.old) (K.written out.new)) }
-        ensures faults { Counts result ((S.faults input.old, S.faults input.new) ∷ [])
-            ((K.faults out.old, K.faults out.new) ∷ []) }
-        ensures fixed { S.fixed input.new ≡ S.fixed input.old }
-    {
-        one_cut();
-        self.trace.add(&MAGIC, out)?;
-        let ending = self.encode_all(input, out)?;
-        self.trace.flush(out)?;
-        Ok(ending)
+impl Walking for Encoding {
+    ghost use Rattle.std.specs.Prelude.{◌-◌, ℕ};
+    ghost use Rattle.fg_shape.specs.declared.encoding.Settings.{Settings};
+    ghost use Rattle.fg_encode.specs.EncodeSteps.{Breaks, HasEncoded, IsEncoded, IsNew, IsUnderway};
+
+    type Reader = StreamReader;
+
+    type Ending = Option<StreamFault>;
+
+    ghost Given = { Settings × ℕ };
+
+    ghost given = { λ work reader. (work.encoder.settings, reader.max) };
+
+    ghost is_new = { IsNew };
+
+    ghost is_underway = { IsUnderway };
+
+    ghost has_ended = { HasEncoded };
+
+    ghost whole = { λ given _. IsEncoded given.0 given.1 };
+
+    ghost part = { λ given. Breaks given.0 given.1 };
+
+    ghost steps_left = { λ _ reader. reader.max - reader.place };
+
+    fn begin<K: Sink>(&mut self, out: &mut K) -> Result<(), Fault> {
+        self.trace.add(&MAGIC, out)
     }
 
-    /// Encodes the payloads that are left, of whose records the last may be held, and answers how the stream ends.
-    fn encode_all<S: Source, K: Sink>(
+    /// Encodes the next payload, where there is one.
+    fn step<S: Source, K: Sink>(
         &mut self,
+        reader: &mut StreamReader,
         input: &mut S,
         out: &mut K,
-    ) -> Result<Option<StreamFault>, Fault>
-        requires { (first : Option (List ℕ)) × (before : Option (List ℕ))
-            × IsUnderway first (S.left input.old) self.old before (K.written out.old) }
-        ensures whole { IfOk result (λ ending. (first before : Option (List ℕ))
-            → IsUnderway first (S.left input.old) self.old before (K.written out.old)
-            → HasEncoded first (S.left input.new) ending self.new before (K.written out.new)) }
-        ensures part { OnErr result ((first before : Option (List ℕ))
-            → IsUnderway first (S.left input.old) self.old before (K.written out.old)
-            → Breaks first (S.left input.new) self.old before (K.written out.new)) }
-        ensures settings { self.new.encoder.settings ≡ self.old.encoder.settings }
-        ensures max { self.new.reader.max ≡ self.old.reader.max }
-        ensures faults { Counts result ((S.faults input.old, S.faults input.new) ∷ [])
-            ((K.faults out.old, K.faults out.new) ∷ []) }
-        ensures fixed { S.fixed input.new ≡ S.fixed input.old }
-    {
-        loop {
-            if let StreamStep::End(ending) = self.encode_next(input, out)? {
-                return Ok(ending);
-            }
-        }
-    }
-
-    /// Encodes the next payload, where there is one; else it answers how the stream ends.
-    fn encode_next<S: Source, K: Sink>(
-        &mut self,
-        input: &mut S,
-        out: &mut K,
-    ) -> Result<StreamStep, Fault>
-        requires { (first : Option (List ℕ)) × (before : Option (List ℕ))
-            × IsUnderway first (S.left input.old) self.old before (K.written out.old) }
-        ensures steps { IfOk result (λ step. (first before : Option (List ℕ))
-            → IsUnderway first (S.left input.old) self.old before (K.written out.old)
-            → Steps step first (S.left input.new) self.new before (K.written out.new)) }
-        ensures part { OnErr result ((first before : Option (List ℕ))
-            → IsUnderway first (S.left input.old) self.old before (K.written out.old)
-            → Breaks first (S.left input.new) self.old before (K.written out.new)) }
-        ensures settings { self.new.encoder.settings ≡ self.old.encoder.settings }
-        ensures max { self.new.reader.max ≡ self.old.reader.max }
-        ensures place { result ≡ Ok StreamStep.Payload → self.old.reader.place < self.new.reader.place }
-        ensures within { self.new.reader.place ≤ self.new.reader.max }
-        ensures faults { Counts result ((S.faults input.old, S.faults input.new) ∷ [])
-            ((K.faults out.old, K.faults out.new) ∷ []) }
-        ensures fixed { S.fixed input.new ≡ S.fixed input.old }
-    {
+    ) -> Result<Option<Option<StreamFault>>, Fault> {
         a_payload_more_adds_its_records();
         read_as_far_as_needed();
-        match self.reader.next(input)? {
+        match reader.next(input)? {
             StreamStep::Payload => {
-                self.encoder.push(self.reader.payload(), &mut self.batch);
+                self.encoder.push(reader.payload(), &mut self.batch);
                 add_all(&mut self.trace, &self.batch, out)?;
-                Ok(StreamStep::Payload)
+                Ok(None)
             }
-            StreamStep::End(ending) => Ok(StreamStep::End(ending)),
+            StreamStep::End(ending) => Ok(Some(ending)),
         }
+    }
+
+    fn end<K: Sink>(&mut self, _ending: Option<StreamFault>, out: &mut K) -> Result<(), Fault> {
+        one_cut();
+        self.trace.flush(out)
     }
 }
 

@@ -14,7 +14,7 @@ use fg_flows::Table;
 use fg_io::{Fault, Sink, Source};
 use fg_trace::Finish;
 use fg_trace::laws::{one_trace, read_as_far_as_needed};
-use fg_walk::{Telling, walk};
+use fg_walk::{Telling, walk_trace};
 use std::alloc::Global;
 
 /// Tells the records of a trace, a line for each.
@@ -64,7 +64,7 @@ pub fn inspect<S: Source, K: Sink>(
         return Finish::Memory;
     };
     let mut work = Inspection { table, lines };
-    match walk(alloc, max, &mut work, input, out) {
+    match walk_trace(alloc, max, &mut work, input, out) {
         Ok(finish) => finish,
         Err(fault) => Finish::from(fault),
     }

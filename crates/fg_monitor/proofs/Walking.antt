@@ -1,5 +1,5 @@
 -- How a stream is walked.
-use Rattle.std.proofs.Common.{◌≡◌, ◌⊎◌, inl, ⊎_elim, ℕ, ◌+◌, ◌*◌, ◌<◌, ◌≤◌, ◌^◌, true, Option, None, Some, IfSome, List, [], ◌∷◌, ◌++◌, length, take, drop, refl, sym, ap, ◌∙◌, subst, arith}
+use Rattle.std.proofs.Common.{◌≡◌, ◌⊎◌, inl, ⊎_elim, ℕ, ◌+◌, ◌*◌, ◌<◌, ◌≤◌, ◌^◌, true, Option, None, Some, IfSome, IfOk, OnErr, Result, List, [], ◌∷◌, ◌++◌, length, take, drop, refl, sym, ap, ◌∙◌, subst, arith}
 use Rattle.std.specs.List.{flat_map}
 use Rattle.std.specs.Io.KnownBytes.{IsAtEnd}
 use Rattle.std.proofs.lemmas.Bool.{cases_lt}
@@ -7,23 +7,23 @@ use Rattle.std.proofs.lemmas.List.{length-take, take-append-drop}
 use Rattle.std.proofs.lemmas.List.FromFn.{take-map-range_with_len}
 use Rattle.fg_io.specs.InputBuffer.{InputState, IsAhead, TakesMore, most_held, new_input}
 use Rattle.fg_io.specs.declared.input_buffer.Ahead.{Ahead}
+use Rattle.fg_io.specs.declared.fault.Fault.{Fault}
 use Rattle.fg_io.specs.Sink.{Gains, GainsPart}
 use Rattle.fg_io.proofs.SentLemmas.{Sent-end, Sent-part}
-use Rattle.fg_encode.specs.EncodeSteps.{IsReadTo}
 use Rattle.fg_encode.specs.Reading.{ReadsAsFar, ReadsLittle}
 use Rattle.fg_encode.specs.Stream.{payload_of, AreFirst, IsCut, OneCut, StreamEnding}
 use Rattle.fg_encode.specs.StreamReader.{StreamState, EndsHere, StandsAfter}
 use Rattle.fg_encode.specs.StreamSteps.{Accepts, TakesIn, after_payload}
 use Rattle.fg_encode.proofs.CutLemmas.{refused}
-use Rattle.fg_encode.proofs.ReadLemmas.{read_so_far}
+use Rattle.fg_encode.proofs.ReadLemmas.{any_ending_to, read_so_far}
 use Rattle.fg_encode.proofs.StreamViews.{holds}
 use Rattle.fg_encode.proofs.StreamWalks.{after_taking, placed_here, walks_ending, walks_payload}
 use Rattle.fg_monitor.specs.declared.lines.Lines.{Lines}
-use Rattle.fg_monitor.specs.declared.walk.Walk.{Walk}
+use Rattle.fg_monitor.specs.declared.walk.Monitoring.{Monitoring}
 use Rattle.fg_monitor.specs.Kept.{MonitorState, HasSeen}
 use Rattle.fg_monitor.specs.Laws.{OneText}
-use Rattle.fg_monitor.specs.Monitored.{Monitors, MonitorsPart}
-use Rattle.fg_monitor.specs.Steps.{Breaks, HasTold, HasWalked, IsBuffer, IsUnderway, reader_of}
+use Rattle.fg_monitor.specs.Monitored.{MonitorsPart}
+use Rattle.fg_monitor.specs.Steps.{Breaks, HasMonitored, HasTold, HasWalked, IsBuffer, IsNew, reader_of}
 use Rattle.fg_monitor.specs.Text.{IsText, closing, line_if}
 use Rattle.fg_monitor.proofs.Telling.{HasPart, nothing_told}
 
@@ -124,12 +124,12 @@ breaks_at law input max first rest before after packets told same h bounded few 
 
 -- Endings
 
-pub ended_here : ReadsAsFar → (ahead : Ahead) (walk : Walk) (input : InputState) (first rest before after : Option (List ℕ)) (ending : StreamEnding) (packets : List (List ℕ))
+pub ended_here : ReadsAsFar → (ahead : Ahead) (monitoring : Monitoring) (input : InputState) (first rest before after : Option (List ℕ)) (ending : StreamEnding) (packets : List (List ℕ))
     → IsAhead ahead input 188 → IsBuffer input → input.place + length input.held ≤ input.max + 1 → length input.held ≤ most_held input.longest input.piece
     → EndsHere ending 1 input.max input.place input.held input.ended
-    → StandsAfter (reader_of input) first rest packets → HasSeen walk.monitor packets → HasTold packets walk.lines before after
-    → HasWalked first rest ending (record walk { input = input }) before after
-ended_here law ahead walk input first rest before after ending packets is h bounded few here stands seen told =
+    → StandsAfter (reader_of input) first rest packets → HasSeen monitoring.monitor packets → HasTold packets monitoring.lines before after
+    → HasWalked monitoring input ending first rest before after
+ended_here law ahead monitoring input first rest before after ending packets is h bounded few here stands seen told =
     let reader = reader_of input in
     let kept : StreamState = record reader { kept = Some ending } in
     let ends = walks_ending reader kept first rest packets ending stands (holds ahead input 1 None is) h.within here refl in
@@ -161,16 +161,16 @@ begun max (Some bytes) = record {
   ending = tt;
 }
 
-pub underway : (max : ℕ) (walk : Walk) (first before : Option (List ℕ)) → max ≤ 2 ^ 40 → walk.input ≡ new_input max 188 65536 → HasSeen walk.monitor [] → walk.lines.held ≡ [] → walk.lines.faults ≡ 0
-    → StandsAfter (reader_of (new_input max 188 65536)) first first [] → IsUnderway first first walk before before
-underway max walk first before limit new seen held faults stands =
-    let buffer : IsBuffer (new_input max 188 65536) = record { longest = refl; small = omega arith; limit = limit; within = omega arith } in
+pub new_here : (monitoring : Monitoring) (input : InputState) (first : Option (List ℕ)) → input.max ≤ 2 ^ 40 → input ≡ new_input input.max 188 65536 → HasSeen monitoring.monitor [] → monitoring.lines.held ≡ [] → monitoring.lines.faults ≡ 0
+    → IsNew monitoring input first first
+new_here monitoring input first limit new seen held faults = λ written.
+    let buffer : IsBuffer (new_input input.max 188 65536) = record { longest = refl; small = omega arith; limit = limit; within = omega arith } in
     record {
       packets = [];
-      stands = subst (λ (t : InputState). StandsAfter (reader_of t) first first []) (sym new) stands;
+      stands = subst (λ (t : InputState). StandsAfter (reader_of t) first first []) (sym new) (begun input.max first);
       buffer = subst IsBuffer (sym new) buffer;
       seen = seen;
-      told = nothing_told walk.lines before held faults;
+      told = nothing_told monitoring.lines written held faults;
     }
 
 whole_text : (packets : List (List ℕ)) (ending : StreamEnding) (lines : Lines) (before at : Option (List ℕ)) (fed : ℕ) → fed ≡ length packets → (h : HasTold packets lines before at)
@@ -181,32 +181,43 @@ whole_text packets ending lines before at fed same h = record {
   text_is = ap (λ n. flat_map line_if h.told ++ closing ending n lines.faults) same ∙ ap (λ n. flat_map line_if h.told ++ closing ending (length packets) n) h.count;
 }
 
-pub monitors : (max : ℕ) (walk : Walk) (ending : StreamEnding) (first now before at after : Option (List ℕ)) (fed : ℕ) → walk.input.max ≡ max → fed ≡ walk.monitor.fed
-    → HasWalked first now ending walk before at → Gains at (walk.lines.held ++ closing ending fed walk.lines.faults) after → Monitors max ending first before after
-monitors max walk ending first now before at after fed same count h gained = record {
-  packets = h.packets;
-  text = flat_map line_if h.told.told ++ closing ending fed walk.lines.faults;
-  of_input = subst (λ n. IfSome first (λ bytes. IsCut 1 n bytes h.packets ending)) same h.of_input;
-  is_text = whole_text h.packets ending walk.lines before at fed (count ∙ h.seen.fed) h.told;
-  gained = Sent-end before at after (flat_map line_if h.told.told) walk.lines.held (closing ending fed walk.lines.faults) h.told.sent gained;
+pub monitored : (monitoring : Monitoring) (input : InputState) (ending : StreamEnding) (first now before at after : Option (List ℕ)) (fed : ℕ) → fed ≡ monitoring.monitor.fed
+    → HasWalked monitoring input ending first now before at → Gains at (monitoring.lines.held ++ closing ending fed monitoring.lines.faults) after → HasMonitored input.max ending first now before after
+monitored monitoring input ending first now before at after fed count h gained = record {
+  monitors = record {
+    packets = h.packets;
+    text = flat_map line_if h.told.told ++ closing ending fed monitoring.lines.faults;
+    of_input = h.of_input;
+    is_text = whole_text h.packets ending monitoring.lines before at fed (count ∙ h.seen.fed) h.told;
+    gained = Sent-end before at after (flat_map line_if h.told.told) monitoring.lines.held (closing ending fed monitoring.lines.faults) h.told.sent gained;
+  };
+  read = h.read;
+  at_end = h.at_end;
 }
 
-pub monitors_part : OneCut → OneText → (max : ℕ) (walk : Walk) (ending : StreamEnding) (first now before at after : Option (List ℕ)) (fed : ℕ) → walk.input.max ≡ max → fed ≡ walk.monitor.fed
-    → HasWalked first now ending walk before at → GainsPart at (walk.lines.held ++ closing ending fed walk.lines.faults) after → MonitorsPart max first before after
-monitors_part cut one max walk ending None now before at after fed same count h part = tt
-monitors_part cut one max walk ending (Some bytes) now before at after fed same count h part = λ packets end text is_cut is.
-    let mine : IsCut 1 max bytes h.packets ending = subst (λ n. IsCut 1 n bytes h.packets ending) same h.of_input in
-    let both = cut 1 max bytes packets h.packets end ending is_cut mine in
+monitors_part : OneCut → OneText → (monitoring : Monitoring) (input : InputState) (ending : StreamEnding) (first now before at after : Option (List ℕ)) (fed : ℕ) → fed ≡ monitoring.monitor.fed
+    → HasWalked monitoring input ending first now before at → GainsPart at (monitoring.lines.held ++ closing ending fed monitoring.lines.faults) after → MonitorsPart input.max first before after
+monitors_part cut one monitoring input ending None now before at after fed count h part = tt
+monitors_part cut one monitoring input ending (Some bytes) now before at after fed count h part = λ packets end text is_cut is.
+    let both = cut 1 input.max bytes packets h.packets end ending is_cut h.of_input in
     let moved : IsText h.packets ending text = subst (λ (e : StreamEnding). IsText h.packets e text) both.1 (subst (λ (l : List (List ℕ)). IsText l end text) both.0 is) in
-    let texts = one h.packets ending _ text (whole_text h.packets ending walk.lines before at fed (count ∙ h.seen.fed) h.told) moved in
+    let texts = one h.packets ending _ text (whole_text h.packets ending monitoring.lines before at fed (count ∙ h.seen.fed) h.told) moved in
     subst (λ (t : List ℕ). GainsPart before t after) texts
-    (Sent-part before at after (flat_map line_if h.told.told) walk.lines.held (closing ending fed walk.lines.faults) h.told.sent part)
+    (Sent-part before at after (flat_map line_if h.told.told) monitoring.lines.held (closing ending fed monitoring.lines.faults) h.told.sent part)
 
--- where all was walked, the stream was read for its ending
-pub walked_to : (max : ℕ) (walk : Walk) (ending : StreamEnding) (first now before at : Option (List ℕ)) → walk.input.max ≡ max
-    → HasWalked first now ending walk before at → IsReadTo max (Some ending) first now
-walked_to max walk ending first now before at same h = subst (λ n. IsReadTo n (Some ending) first now) same h.read
+pub breaks_at_end : OneCut → OneText → (monitoring : Monitoring) (input : InputState) (ending : StreamEnding) (first now before at after : Option (List ℕ)) (fed : ℕ) → fed ≡ monitoring.monitor.fed
+    → HasWalked monitoring input ending first now before at → GainsPart at (monitoring.lines.held ++ closing ending fed monitoring.lines.faults) after → Breaks input.max first now before after
+breaks_at_end cut one monitoring input ending first now before at after fed count h part = (
+  monitors_part cut one monitoring input ending first now before at after fed count h part,
+  any_ending_to input.max (Some ending) first now h.read,
+)
 
--- where it was walked in part, it was read no further than the limit
-pub read_in_part : (max : ℕ) (walk : Walk) (first now before at : Option (List ℕ)) → walk.input.max ≡ max → Breaks walk.input.max first now before at → IsReadTo max None first now
-read_in_part max walk first now before at same h = subst (λ n. IsReadTo n None first now) same h.1
+-- Under the limit that the buffer was made with
+
+pub monitored_at : (found max : ℕ) (came : Result StreamEnding Fault) (first now before after : Option (List ℕ)) → found ≡ max
+    → IfOk came (λ ending. HasMonitored found ending first now before after) → IfOk came (λ ending. HasMonitored max ending first now before after)
+monitored_at found max came first now before after same h = subst (λ n. IfOk came (λ ending. HasMonitored n ending first now before after)) same h
+
+pub breaks_as : (found max : ℕ) (came : Result StreamEnding Fault) (first now before after : Option (List ℕ)) → found ≡ max
+    → OnErr came (Breaks found first now before after) → OnErr came (Breaks max first now before after)
+breaks_as found max came first now before after same h = subst (λ n. OnErr came (Breaks n first now before after)) same h

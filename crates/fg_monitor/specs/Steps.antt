@@ -15,9 +15,9 @@ use Rattle.fg_encode.specs.StreamSteps.{Accepts, reader_at}
 use Rattle.fg_monitor.specs.declared.continuity.Break.{Break}
 use Rattle.fg_monitor.specs.declared.continuity.Last.{Last}
 use Rattle.fg_monitor.specs.declared.lines.Lines.{Lines}
-use Rattle.fg_monitor.specs.declared.walk.Walk.{Walk}
+use Rattle.fg_monitor.specs.declared.walk.Monitoring.{Monitoring}
 use Rattle.fg_monitor.specs.Kept.{HasSeen}
-use Rattle.fg_monitor.specs.Monitored.{MonitorsPart}
+use Rattle.fg_monitor.specs.Monitored.{Monitors, MonitorsPart}
 use Rattle.fg_monitor.specs.Text.{AreToldOf, line_if}
 
 -- By what is kept of the last packet of its PID, the packet is a repeat.
@@ -72,26 +72,32 @@ pub record IsBuffer (input : InputState) : Type 0 where
   pub within : input.place ≤ input.max
 
 -- The packets that were taken from the stream were fed and told.
-pub record IsUnderway (first now : Option (List ℕ)) (walk : Walk) (before after : Option (List ℕ)) : Type 0 where
+pub record IsUnderway (monitoring : Monitoring) (input : InputState) (first now before after : Option (List ℕ)) : Type 0 where
   pub packets : List (List ℕ)
-  pub stands : StandsAfter (reader_of walk.input) first now packets
-  pub buffer : IsBuffer walk.input
-  pub seen : HasSeen walk.monitor packets
-  pub told : HasTold packets walk.lines before after
+  pub stands : StandsAfter (reader_of input) first now packets
+  pub buffer : IsBuffer input
+  pub seen : HasSeen monitoring.monitor packets
+  pub told : HasTold packets monitoring.lines before after
 
--- So it is from wherever a walk is under way.
-abbrev pub FromUnderway : Option (List ℕ) → Walk → Option (List ℕ) → (Option (List ℕ) → Option (List ℕ) → Type 0) → Type 0
-FromUnderway now walk after IsSo = (first before : Option (List ℕ)) → IsUnderway first now walk before after → IsSo first before
+-- None was taken yet.
+abbrev pub IsNew : Monitoring → InputState → Option (List ℕ) → Option (List ℕ) → Type 0
+IsNew monitoring input first now = (written : Option (List ℕ)) → IsUnderway monitoring input first now written written
 
 -- All packets of the stream were, and this is its ending, for which it was read.
 pub record HasWalked
-    (first now : Option (List ℕ)) (ending : StreamEnding) (walk : Walk) (before after : Option (List ℕ)) : Type 0 where
+    (monitoring : Monitoring) (input : InputState) (ending : StreamEnding) (first now before after : Option (List ℕ)) : Type 0 where
   pub packets : List (List ℕ)
-  pub of_input : IfSome first (λ bytes. IsCut 1 walk.input.max bytes packets ending)
-  pub read : IsReadTo walk.input.max (Some ending) first now
+  pub of_input : IfSome first (λ bytes. IsCut 1 input.max bytes packets ending)
+  pub read : IsReadTo input.max (Some ending) first now
   pub at_end : LeavesNothing ending → IsAtEnd now
-  pub seen : HasSeen walk.monitor packets
-  pub told : HasTold packets walk.lines before after
+  pub seen : HasSeen monitoring.monitor packets
+  pub told : HasTold packets monitoring.lines before after
+
+-- The text of the whole stream is written, and it was read for its ending.
+pub record HasMonitored (max : ℕ) (ending : StreamEnding) (first now before after : Option (List ℕ)) : Type 0 where
+  pub monitors : Monitors max ending first before after
+  pub read : IsReadTo max (Some ending) first now
+  pub at_end : LeavesNothing ending → IsAtEnd now
 
 -- What a fault leaves: the stream was read no further than a byte past the limit, and the sink has gained a prefix of the
 -- text.

@@ -1,5 +1,5 @@
 //! Walking a stream, and telling its faults.
-ghost use Rattle.std.specs.Prelude.{◌≡◌, ◌+◌, ◌≤◌, ◌<◌, ◌^◌, ℕ, Option, List, [], ◌∷◌, length, take, None, Some, IfOk, IfSome, IfNone, OnErr};
+ghost use Rattle.std.specs.Prelude.{◌≡◌, ◌≤◌, ◌^◌, [], ◌∷◌, length, take, IfOk, IfSome, OnErr};
 ghost use Rattle.std.specs.Io.KnownBytes.{IsAtEnd};
 ghost use Rattle.fg_io.specs.Faults.{Counts};
 ghost use Rattle.fg_io.specs.InputBuffer.{IsAhead};
@@ -7,8 +7,9 @@ ghost use Rattle.fg_ts.specs.Packets.{packet_length};
 ghost use Rattle.fg_encode.specs.Encode.{ending_of};
 ghost use Rattle.fg_encode.specs.Reading.{IsStreamReadFor};
 ghost use Rattle.fg_encode.specs.Stream.{LeavesNothing};
+ghost use Rattle.fg_monitor.specs.Kept.{HasSeen};
 ghost use Rattle.fg_monitor.specs.Monitored.{Monitors, MonitorsPart};
-ghost use Rattle.fg_monitor.specs.Steps.{Breaks, FromUnderway, HasWalked, IsEndingHere, IsUnderway};
+ghost use Rattle.fg_monitor.specs.Steps.{IsEndingHere};
 
 use crate::continuity::Monitor;
 use crate::laws::{one_text, one_to_tell};
@@ -16,6 +17,7 @@ use crate::lines::Lines;
 use fg_encode::stream::{StreamFault, one_cut, read_as_far_as_needed};
 use fg_io::{Ahead, Fault, InputBuffer, Sink, Source};
 use fg_ts::{PACKET_LENGTH, SYNC_BYTE, TsFault};
+use fg_walk::{Walking, walk};
 use std::alloc::{AllocError, Global};
 
 /// How many bytes the source is asked for at once.
@@ -53,114 +55,84 @@ pub fn monitor_stream<S: Source, K: Sink>(
         ((K.faults out.old, K.faults out.new) ∷ []) }
     ensures fixed { S.fixed input.new ≡ S.fixed input.old }
 {
-    // What goes on is a function of its own, so that the walk is let go in one place.
-    let mut walk = Walk::new(alloc, max)?;
-    walk.monitor_all(input, out)
+    let mut input_buffer = InputBuffer::new(alloc, max, PACKET_LENGTH, PIECE)?;
+    let mut monitoring = Monitoring::new(alloc)?;
+    walk(&mut monitoring, &mut input_buffer, input, out)
 }
 
-/// A stream that is walked: what was read of it, what the monitor was fed, and the lines that aren't written yet.
+/// A monitoring under way: what the monitor was fed, and the lines that aren't written yet.
 #[derive(Drop)]
-struct Walk {
-    input: InputBuffer,
+struct Monitoring {
     monitor: Monitor,
     lines: Lines,
 }
 
-impl Walk {
-    /// A walk of which nothing is read or written. All its memory is taken here.
-    fn new(alloc: Global, max: u64) -> Result<Walk, AllocError>
-        requires { max ≤ 2 ^ 40 }
-        ensures begins { IfOk result (λ walk. (first before : Option (List ℕ))
-            → IsUnderway first first walk before before) }
-        ensures max { IfOk result (λ walk. walk.input.max ≡ max) }
+impl Monitoring {
+    /// A monitoring of which nothing is written. All its memory is taken here.
+    fn new(alloc: Global) -> Result<Monitoring, AllocError>
+        ensures seen { IfOk result (λ monitoring. HasSeen monitoring.monitor []) }
+        ensures held { IfOk result (λ monitoring. monitoring.lines.held ≡ []) }
+        ensures faults { IfOk result (λ monitoring. monitoring.lines.faults ≡ 0) }
     {
-        Ok(Walk {
-            input: InputBuffer::new(alloc, max, PACKET_LENGTH, PIECE)?,
+        Ok(Monitoring {
             monitor: Monitor::new(alloc)?,
             lines: Lines::new(alloc)?,
         })
     }
+}
 
-    /// Monitors all that is to be read, and writes its text. It answers how the stream ends.
-    fn monitor_all<S: Source, K: Sink>(
-        &mut self,
-        input: &mut S,
-        out: &mut K,
-    ) -> Result<Option<StreamFault>, Fault>
-        requires { (first before : Option (List ℕ)) → IsUnderway first first self.old before before }
-        ensures whole { IfOk result (λ ending. Monitors self.old.input.max ending (S.left input.old)
-            (K.written out.old) (K.written out.new)) }
-        ensures all_read { IfOk result (λ ending. LeavesNothing ending → IsAtEnd (S.left input.new)) }
-        ensures reads { IfSome (S.left input.old) (λ bytes.
-            IsStreamReadFor self.old.input.max (ending_of result) bytes (S.left input.new)) }
-        ensures part { OnErr result (MonitorsPart self.old.input.max (S.left input.old)
-            (K.written out.old) (K.written out.new)) }
-        ensures faults { Counts result ((S.faults input.old, S.faults input.new) ∷ [])
-            ((K.faults out.old, K.faults out.new) ∷ []) }
-        ensures fixed { S.fixed input.new ≡ S.fixed input.old }
-    {
-        one_cut();
-        one_text();
-        let ending = self.walk_all(input, out)?;
-        self.lines.close(ending, self.monitor.fed(), out)?;
-        Ok(ending)
+impl Walking for Monitoring {
+    ghost use Rattle.std.specs.Prelude.{◌-◌, ℕ};
+    ghost use Rattle.fg_monitor.specs.Steps.{Breaks, HasMonitored, HasWalked, IsNew, IsUnderway};
+
+    type Reader = InputBuffer;
+
+    type Ending = Option<StreamFault>;
+
+    ghost Given = { ℕ };
+
+    ghost given = { λ _ input. input.max };
+
+    ghost is_new = { IsNew };
+
+    ghost is_underway = { IsUnderway };
+
+    ghost has_ended = { HasWalked };
+
+    ghost whole = { λ max _. HasMonitored max };
+
+    ghost part = { Breaks };
+
+    ghost steps_left = { λ _ input. input.max - input.place };
+
+    fn begin<K: Sink>(&mut self, _out: &mut K) -> Result<(), Fault> {
+        Ok(())
     }
 
-    /// Tells the packets that are left, of which the last lines may be held, and answers how the stream ends.
-    fn walk_all<S: Source, K: Sink>(
+    /// Tells the next packet, where there is one.
+    fn step<S: Source, K: Sink>(
         &mut self,
+        reader: &mut InputBuffer,
         input: &mut S,
         out: &mut K,
-    ) -> Result<Option<StreamFault>, Fault>
-        requires { (first : Option (List ℕ)) × (before : Option (List ℕ))
-            × IsUnderway first (S.left input.old) self.old before (K.written out.old) }
-        ensures whole { IfOk result (λ ending. FromUnderway (S.left input.old) self.old (K.written out.old)
-            (λ first before. HasWalked first (S.left input.new) ending self.new before (K.written out.new))) }
-        ensures part { OnErr result (FromUnderway (S.left input.old) self.old (K.written out.old)
-            (λ first before. Breaks self.old.input.max first (S.left input.new) before (K.written out.new))) }
-        ensures max { self.new.input.max ≡ self.old.input.max }
-        ensures faults { Counts result ((S.faults input.old, S.faults input.new) ∷ [])
-            ((K.faults out.old, K.faults out.new) ∷ []) }
-        ensures fixed { S.fixed input.new ≡ S.fixed input.old }
-    {
-        loop {
-            if let Some(ending) = self.walk_on(input, out)? {
-                return Ok(ending);
-            }
-        }
-    }
-
-    /// Tells the next packet, where there is one; else it answers how the stream ends.
-    fn walk_on<S: Source, K: Sink>(
-        &mut self,
-        input: &mut S,
-        out: &mut K,
-    ) -> Result<Option<Option<StreamFault>>, Fault>
-        requires { (first : Option (List ℕ)) × (before : Option (List ℕ))
-            × IsUnderway first (S.left input.old) self.old before (K.written out.old) }
-        ensures more { IfOk result (λ end. IfNone end (FromUnderway (S.left input.old) self.old (K.written out.old)
-            (λ first before. IsUnderway first (S.left input.new) self.new before (K.written out.new)))) }
-        ensures ends { IfOk result (λ end. IfSome end (λ ending. FromUnderway (S.left input.old) self.old (K.written out.old)
-            (λ first before. HasWalked first (S.left input.new) ending self.new before (K.written out.new)))) }
-        ensures part { OnErr result (FromUnderway (S.left input.old) self.old (K.written out.old)
-            (λ first before. Breaks self.old.input.max first (S.left input.new) before (K.written out.new))) }
-        ensures max { self.new.input.max ≡ self.old.input.max }
-        ensures place { IfOk result (λ end. IfNone end (self.old.input.place < self.new.input.place)) }
-        ensures within { self.new.input.place ≤ self.new.input.max }
-        ensures faults { Counts result ((S.faults input.old, S.faults input.new) ∷ [])
-            ((K.faults out.old, K.faults out.new) ∷ []) }
-        ensures fixed { S.fixed input.new ≡ S.fixed input.old }
-    {
+    ) -> Result<Option<Option<StreamFault>>, Fault> {
         one_to_tell();
         read_as_far_as_needed();
-        let ahead = self.input.fill(input, PACKET_LENGTH)?;
-        if let Some(ending) = ending_here(&self.input, ahead) {
+        let ahead = reader.fill(input, PACKET_LENGTH)?;
+        if let Some(ending) = ending_here(reader, ahead) {
             return Ok(Some(ending));
         }
-        let told = self.monitor.feed(next_packet(&self.input));
+        let told = self.monitor.feed(next_packet(reader));
         self.lines.add(told, out)?;
-        self.input.step(PACKET_LENGTH);
+        reader.step(PACKET_LENGTH);
         Ok(None)
+    }
+
+    /// Writes the last lines.
+    fn end<K: Sink>(&mut self, ending: Option<StreamFault>, out: &mut K) -> Result<(), Fault> {
+        one_cut();
+        one_text();
+        self.lines.close(ending, self.monitor.fed(), out)
     }
 }
 

@@ -1,23 +1,30 @@
 -- How far the making of a trace has come, as records are read and sent on.
-use Rattle.std.proofs.Common.{◌≡◌, inr, ℕ, ◌+◌, ◌-◌, ◌*◌, ◌^◌, Option, None, Some, IfSome, List, [], ◌∷◌, ◌++◌, map, take, drop, sym, ap, ◌∙◌, refl, subst, arith, append-nil}
+use Rattle.std.proofs.Common.{◌≡◌, inl, inr, ℕ, ◌+◌, ◌-◌, ◌*◌, ◌<◌, ◌≤◌, ◌^◌, Option, None, Some, IfSome, IfOk, OnErr, Result, Ok, Err, List, [], ◌∷◌, ◌++◌, length, map, take, drop, sym, ap, ◌∙◌, refl, subst, arith, append-nil}
+use Rattle.std.specs.Io.KnownBytes.{IsAtEnd}
 use Rattle.std.specs.List.{flat_map}
 use Rattle.fg_io.proofs.SentLemmas.{part_sent}
 use Rattle.fg_io.specs.InputBuffer.{InputState, TakesMore}
 use Rattle.fg_io.specs.Sent.{Sent}
 use Rattle.fg_io.specs.Sink.{Gains, GainsPart}
 use Rattle.fg_io.proofs.SentLemmas.{Sent-then, Sent-part, Sent-whole, Sent-cut}
+use Rattle.fg_io.proofs.SourceLemmas.{Gives-told}
+use Rattle.fg_io.specs.declared.fault.Fault.{Fault}
 use Rattle.fg_trace.proofs.Traces.{trace_more}
 use Rattle.fg_trace.specs.Trace.{Record, magic, spelling, trace_of}
 use Rattle.fg_pcap.specs.declared.ending.CaptureEnding.{CaptureEnding}
+use Rattle.fg_pcap.specs.declared.ending.CaptureEnding.TheVariants.{Ended, NotCapture, Cut, TooLong}
+use Rattle.fg_pcap.specs.declared.file_header.ByteOrder.{ByteOrder}
 use Rattle.fg_pcap.specs.declared.file_header.Format.{Format}
 use Rattle.fg_pcap.specs.declared.file_header.TimeUnit.{TimeUnit}
 use Rattle.fg_pcap.specs.declared.packet_header.PacketHeader.{PacketHeader}
 use Rattle.fg_pcap.specs.Capture.{Packet, Frame, Begins, frame_of, microseconds, place_after}
-use Rattle.fg_pcap.specs.FromCapture.{Converts}
+use Rattle.fg_pcap.specs.FromCapture.{Converts, LeavesNothing, ReachesFor}
 use Rattle.fg_pcap.specs.Frame.{IsDatagramsOf}
-use Rattle.fg_pcap.specs.Reading.{StandsAfter, HoldsPacket, EndsAt, EndsHere, SendsFrames, SendsPart, HasSent, HasSentAll, HasPart, IsUnderway}
+use Rattle.fg_pcap.specs.ReadFor.{ending_of}
+use Rattle.fg_pcap.specs.Reading.{Breaks, EndsAt, EndsHere, GoesOn, HasEnded, HasPart, HasReached, HasRead, HasSent, HasSentAll, HoldsPacket, IsConverted, IsNew, IsReadTo, IsReading, IsUnderway, SendsFrames, SendsPart, StandsAfter}
+use Rattle.fg_pcap.proofs.Captures.{converts_part}
 use Rattle.fg_pcap.proofs.Datagrams.{datagrams_more}
-use Rattle.fg_pcap.proofs.Standing.{packet_at, passes, takes_in, stands_more, stands_taking, stands_begin}
+use Rattle.fg_pcap.proofs.Standing.{packet_at, passes, read_more, read_passed, takes_in, stands_more, stands_taking, stands_begin}
 
 -- The frame of a record that is held
 
@@ -48,13 +55,31 @@ sent_more unit packets p frame held next before at after is h k = record {
   sent = subst (λ t. Sent before t next after) (sym (trace_more h.records k.records)) (Sent-then before at after (trace_of h.records) held (flat_map spelling k.records) next h.sent k.sent);
 }
 
-pub underway_more : (format : Format) (input new : InputState) (header : PacketHeader) (frame : Frame) (first now : Option (List ℕ)) (held next : List ℕ) (before at after : Option (List ℕ)) → HoldsPacket format.order input header → new ≡ passes input (16 + header.kept)
+underway_more : (format : Format) (input new : InputState) (header : PacketHeader) (frame : Frame) (first now : Option (List ℕ)) (held next : List ℕ) (before at after : Option (List ℕ)) → HoldsPacket format.order input header → new ≡ passes input (16 + header.kept)
     → frame ≡ frame_of format.unit (packet_at header input.held) → SendsFrames (frame ∷ []) held next at after → IsUnderway format first now input held before at → IsUnderway format first now new next before after
 underway_more format input new header frame first now held next before at after holds step is sends h = record {
   packets = h.packets ++ packet_at header input.held ∷ [];
   stands = stands_more format input new header first now h.packets holds step h.stands;
+  read = read_passed input new (16 + header.kept) first now holds.whole step h.read;
   sent = sent_more format.unit h.packets (packet_at header input.held) frame held next before at after is h.sent sends;
 }
+
+reading_on : (input new : InputState) (count : ℕ) → input.place + count ≤ input.max → new ≡ passes input count → IsReading input → IsReading new
+reading_on input new count within step h =
+    let next : IsReading (passes input count) = record { longest = h.longest; piece = h.piece; within = within; going = h.going } in
+    subst IsReading (sym step) next
+
+pub goes_on : (format : Format) (input new : InputState) (header : PacketHeader) (frame : Frame) (first now : Option (List ℕ)) (held next : List ℕ) (before at after : Option (List ℕ)) → HoldsPacket format.order input header → new ≡ passes input (16 + header.kept)
+    → frame ≡ frame_of format.unit (packet_at header input.held) → SendsFrames (frame ∷ []) held next at after → IsReading input → IsUnderway format first now input held before at → GoesOn format next new first now before after
+goes_on format input new header frame first now held next before at after holds step is sends reading h = record {
+  reading = reading_on input new (16 + header.kept) holds.within step reading;
+  underway = underway_more format input new header frame first now held next before at after holds step is sends h;
+}
+
+-- one step fewer is left
+pub fewer_left : (old input new : InputState) (order : ByteOrder) (header : PacketHeader) → input ≡ takes_in old input.held input.ended → HoldsPacket order input header → new ≡ passes input (16 + header.kept) → new.max - new.place < old.max - old.place
+fewer_left old input new order header same holds step =
+    omega (arith, holds.within, ap (λ (t : InputState). t.place) same, ap (λ (t : InputState). t.max) same, ap (λ (t : InputState). t.place) step, ap (λ (t : InputState). t.max) step)
 
 -- Parts
 
@@ -66,13 +91,13 @@ part_standing format input (Some bytes) now packets records before after stands 
     record { packets = packets; rest = input.held ++ begun.0; begins = begun.2; records = records; datagrams = datagrams; part = part }
 
 -- nothing more was sent
-pub part_here : (format : Format) (input : InputState) (max : ℕ) (first now : Option (List ℕ)) (held : List ℕ) (before at : Option (List ℕ)) → input.max ≡ max → IsUnderway format first now input held before at → IfSome first (λ bytes. HasPart format max bytes before at)
+part_here : (format : Format) (input : InputState) (max : ℕ) (first now : Option (List ℕ)) (held : List ℕ) (before at : Option (List ℕ)) → input.max ≡ max → IsUnderway format first now input held before at → IfSome first (λ bytes. HasPart format max bytes before at)
 part_here format input max first now held before at limit h =
     subst (λ n. IfSome first (λ bytes. HasPart format n bytes before at)) limit
     (part_standing format input first now h.packets h.sent.records before at h.stands h.sent.datagrams (part_sent before at (trace_of h.sent.records) held h.sent.sent))
 
 -- a front of one more record's datagram was
-pub part_more : (format : Format) (input : InputState) (header : PacketHeader) (frame : Frame) (max : ℕ) (first now : Option (List ℕ)) (held : List ℕ) (before at after : Option (List ℕ)) → input.max ≡ max → HoldsPacket format.order input header
+part_more : (format : Format) (input : InputState) (header : PacketHeader) (frame : Frame) (max : ℕ) (first now : Option (List ℕ)) (held : List ℕ) (before at after : Option (List ℕ)) → input.max ≡ max → HoldsPacket format.order input header
     → frame ≡ frame_of format.unit (packet_at header input.held) → SendsPart (frame ∷ []) held at after → IsUnderway format first now input held before at → IfSome first (λ bytes. HasPart format max bytes before after)
 part_more format input header frame max first now held before at after limit holds is sends h =
     let p : Packet = packet_at header input.held in
@@ -93,7 +118,7 @@ ends_there format input (Some bytes) now packets end stands ends =
     let here : EndsAt format.order end input.max input.place (input.held ++ begun.0) = subst (λ (left : Option (List ℕ)). EndsHere format.order end input left) begun.1 ends in
     (input.held ++ begun.0, begun.2, subst (λ n. EndsAt format.order end input.max n (input.held ++ begun.0)) stands.place here)
 
-pub sent_all : (format : Format) (input : InputState) (max : ℕ) (first now : Option (List ℕ)) (end : CaptureEnding) (held : List ℕ) (before at : Option (List ℕ)) → input.max ≡ max → EndsHere format.order end input now → IsUnderway format first now input held before at
+sent_all : (format : Format) (input : InputState) (max : ℕ) (first now : Option (List ℕ)) (end : CaptureEnding) (held : List ℕ) (before at : Option (List ℕ)) → input.max ≡ max → EndsHere format.order end input now → IsUnderway format first now input held before at
     → HasSentAll format max first end held before at
 sent_all format input max first now end held before at limit ends h = record {
   packets = h.packets;
@@ -108,26 +133,32 @@ pub underway_taking : (format : Format) (old new : InputState) (first left now :
 underway_taking format old new first left now held before at takes same h = record {
   packets = h.packets;
   stands = stands_taking format old new first left now h.packets takes same h.stands;
+  read = read_more old new first left now takes same h.read;
   sent = h.sent;
 }
 
 -- The magic
 
-pub underway_start : (format : Format) (input : InputState) (first now : Option (List ℕ)) (held next : List ℕ) (before after : Option (List ℕ)) → held ≡ [] → Sent before (held ++ magic) next after → StandsAfter format input first now [] → IsUnderway format first now input next before after
-underway_start format input first now held next before after none sent stands = record {
-  packets = [];
-  stands = stands;
-  sent = record { records = []; datagrams = refl; sent = subst (λ t. Sent before t next after) (ap (λ t. t ++ magic) none ∙ sym (append-nil magic)) sent };
+pub underway_start : (format : Format) (input : InputState) (first now : Option (List ℕ)) (held next : List ℕ) (before after : Option (List ℕ)) → Sent before (held ++ magic) next after → IsNew format held input first now
+    → GoesOn format next input first now before after
+underway_start format input first now held next before after sent h = record {
+  reading = h.reading;
+  underway = record {
+    packets = [];
+    stands = h.stands;
+    read = h.read;
+    sent = record { records = []; datagrams = refl; sent = subst (λ t. Sent before t next after) (ap (λ t. t ++ magic) h.empty ∙ sym (append-nil magic)) sent };
+  };
 }
 
-pub part_first : (format : Format) (input : InputState) (first now : Option (List ℕ)) (held : List ℕ) (before after : Option (List ℕ)) → held ≡ [] → GainsPart before (held ++ magic) after → StandsAfter format input first now []
+part_first : (format : Format) (input : InputState) (first now : Option (List ℕ)) (held : List ℕ) (before after : Option (List ℕ)) → held ≡ [] → GainsPart before (held ++ magic) after → StandsAfter format input first now []
     → IfSome first (λ bytes. HasPart format input.max bytes before after)
 part_first format input first now held before after none part stands =
     part_standing format input first now [] [] before after stands refl (subst (λ t. GainsPart before t after) (ap (λ t. t ++ magic) none ∙ sym (append-nil magic)) part)
 
 -- What was held at the end is written, or a front of it
 
-pub part_last : (format : Format) (max : ℕ) (first : Option (List ℕ)) (end : CaptureEnding) (held : List ℕ) (before at after : Option (List ℕ)) → HasSentAll format max first end held before at → GainsPart at held after
+part_last : (format : Format) (max : ℕ) (first : Option (List ℕ)) (end : CaptureEnding) (held : List ℕ) (before at after : Option (List ℕ)) → HasSentAll format max first end held before at → GainsPart at held after
     → IfSome first (λ bytes. HasPart format max bytes before after)
 part_last format max None end held before at after h part = tt
 part_last format max (Some bytes) end held before at after h part = record {
@@ -139,7 +170,7 @@ part_last format max (Some bytes) end held before at after h part = record {
   part = Sent-cut before at after (trace_of h.sent.records) held h.sent.sent part;
 }
 
-pub converts : (format : Format) (max : ℕ) (first : Option (List ℕ)) (end : CaptureEnding) (held : List ℕ) (before at after : Option (List ℕ)) → HasSentAll format max first end held before at → Gains at held after
+converts : (format : Format) (max : ℕ) (first : Option (List ℕ)) (end : CaptureEnding) (held : List ℕ) (before at after : Option (List ℕ)) → HasSentAll format max first end held before at → Gains at held after
     → Converts max end first before after
 converts format max None end held before at after h gained = record {
   trace = trace_of h.sent.records;
@@ -169,3 +200,102 @@ converts format max (Some bytes) end held before at after h gained =
       );
       gained = Sent-whole before at after (trace_of h.sent.records) held h.sent.sent gained;
     }
+
+-- How far the input is read
+
+reaches : (end : CaptureEnding) (input : InputState) (read rest : List ℕ) → length read ≡ input.place + length input.held → HasReached end input (Some rest) → ReachesFor input.max end read rest
+reaches Ended input read rest size h = h
+reaches (Cut n) input read rest size h = h
+reaches (TooLong n) input read rest size h = omega (arith, size, h)
+reaches (NotCapture n) input read rest size h = (
+  elim h.0 [ inl near ↦ inl (omega (arith, size, near)) | inr end ↦ inr end ],
+  omega (arith, size, h.1),
+)
+
+reaches_for : (end : Option CaptureEnding) (input : InputState) (read rest : List ℕ) → length read ≡ input.place + length input.held → IfSome end (λ e. HasReached e input (Some rest)) → IfSome end (λ e. ReachesFor input.max e read rest)
+reaches_for None input read rest size h = tt
+reaches_for (Some end) input read rest size h = reaches end input read rest size h
+
+pub read_to : (end : Option CaptureEnding) (input : InputState) (first now : Option (List ℕ)) → input.place + length input.held ≤ input.max + 1 → IfSome end (λ e. HasReached e input now) → HasRead input first now → IsReadTo input.max end first now
+read_to end input None now bounded reached h = tt
+read_to end input (Some bytes) now bounded reached h =
+    let told = Gives-told (Some bytes) now h.read bytes h.gives refl in
+    record {
+      read = h.read;
+      rest = told.0;
+      now_is = told.1;
+      all = told.2;
+      reaches = reaches_for end input h.read told.0 h.size (subst (λ (left : Option (List ℕ)). IfSome end (λ e. HasReached e input left)) told.1 reached);
+      bounded = omega (arith, bounded, h.size);
+    }
+
+-- what was read for an ending is read for a fault
+fault_read : (max : ℕ) (end : CaptureEnding) (first now : Option (List ℕ)) → IsReadTo max (Some end) first now → IsReadTo max None first now
+fault_read max end None now h = tt
+fault_read max end (Some bytes) now h = record {
+  read = h.read;
+  rest = h.rest;
+  now_is = h.now_is;
+  all = h.all;
+  reaches = tt;
+  bounded = h.bounded;
+}
+
+pub ends_there_read : (end : CaptureEnding) (input : InputState) (now : Option (List ℕ)) → HasReached end input now → LeavesNothing end → IsAtEnd now
+ends_there_read Ended input now h all = h
+ends_there_read (Cut n) input now h all = h
+ends_there_read (TooLong n) input now h all = absurd all
+ends_there_read (NotCapture n) input now h all = absurd all
+
+pub read_of : (max : ℕ) (came : Result CaptureEnding Fault) (first now : Option (List ℕ)) → IfOk came (λ ending. IsReadTo max (Some ending) first now) → OnErr came (IsReadTo max None first now) → IsReadTo max (ending_of came) first now
+read_of max (Ok ending) first now h k = h
+read_of max (Err fault) first now h k = k
+
+-- What a fault leaves
+
+pub breaks_at_magic : (format : Format) (input : InputState) (first now : Option (List ℕ)) (held : List ℕ) (before after : Option (List ℕ)) → GainsPart before (held ++ magic) after → IsNew format held input first now
+    → Breaks input.max first now before after
+breaks_at_magic format input first now held before after part h =
+    (converts_part format input.max first before after (part_first format input first now held before after h.empty part h.stands), read_to None input first now h.bounded tt h.read)
+
+pub breaks_at_read : (format : Format) (input : InputState) (max : ℕ) (first now : Option (List ℕ)) (held : List ℕ) (before at : Option (List ℕ)) → input.max ≡ max → input.place + length input.held ≤ input.max + 1
+    → IsUnderway format first now input held before at → Breaks max first now before at
+breaks_at_read format input max first now held before at limit bounded h = (
+  converts_part format max first before at (part_here format input max first now held before at limit h),
+  subst (λ n. IsReadTo n None first now) limit (read_to None input first now bounded tt h.read),
+)
+
+pub breaks_at_frame : (format : Format) (input : InputState) (header : PacketHeader) (frame : Frame) (max : ℕ) (first now : Option (List ℕ)) (held : List ℕ) (before at after : Option (List ℕ)) → input.max ≡ max → input.place + length input.held ≤ input.max + 1
+    → HoldsPacket format.order input header → frame ≡ frame_of format.unit (packet_at header input.held) → SendsPart (frame ∷ []) held at after → IsUnderway format first now input held before at → Breaks max first now before after
+breaks_at_frame format input header frame max first now held before at after limit bounded holds is sends h = (
+  converts_part format max first before after (part_more format input header frame max first now held before at after limit holds is sends h),
+  subst (λ n. IsReadTo n None first now) limit (read_to None input first now bounded tt h.read),
+)
+
+pub ended : (format : Format) (input : InputState) (first now : Option (List ℕ)) (end : CaptureEnding) (held : List ℕ) (before at : Option (List ℕ)) → input.place + length input.held ≤ input.max + 1 → EndsHere format.order end input now
+    → HasReached end input now → IsUnderway format first now input held before at → HasEnded format held input end first now before at
+ended format input first now end held before at bounded ends reached h = record {
+  sent = sent_all format input input.max first now end held before at refl ends h;
+  read = read_to (Some end) input first now bounded reached h.read;
+  at_end = ends_there_read end input now reached;
+}
+
+pub breaks_at_end : (format : Format) (input : InputState) (first now : Option (List ℕ)) (end : CaptureEnding) (held : List ℕ) (before at after : Option (List ℕ)) → GainsPart at held after → HasEnded format held input end first now before at
+    → Breaks input.max first now before after
+breaks_at_end format input first now end held before at after part h =
+    (converts_part format input.max first before after (part_last format input.max first end held before at after h.sent part), fault_read input.max end first now h.read)
+
+pub converted : (format : Format) (input : InputState) (first now : Option (List ℕ)) (end : CaptureEnding) (held : List ℕ) (before at after : Option (List ℕ)) → Gains at held after → HasEnded format held input end first now before at
+    → IsConverted input.max end first now before after
+converted format input first now end held before at after gained h =
+    record { converts = converts format input.max first end held before at after h.sent gained; read = h.read; at_end = h.at_end }
+
+-- Under the limit that the buffer was made with
+
+pub converted_at : (found max : ℕ) (came : Result CaptureEnding Fault) (first now before after : Option (List ℕ)) → found ≡ max
+    → IfOk came (λ ending. IsConverted found ending first now before after) → IfOk came (λ ending. IsConverted max ending first now before after)
+converted_at found max came first now before after same h = subst (λ n. IfOk came (λ ending. IsConverted n ending first now before after)) same h
+
+pub breaks_as : (found max : ℕ) (came : Result CaptureEnding Fault) (first now before after : Option (List ℕ)) → found ≡ max
+    → OnErr came (Breaks found first now before after) → OnErr came (Breaks max first now before after)
+breaks_as found max came first now before after same h = subst (λ n. OnErr came (Breaks n first now before after)) same h

@@ -1,7 +1,9 @@
 -- How the records of a trace are written, from where the reader stands.
-use Rattle.std.proofs.Common.{◌≡◌, ◌↔◌, ℕ, ◌+◌, ◌<◌, ◌≤◌, ◌^◌, Bool, true, false, IsTrue, Option, Some, None, IfSome, Ok, Err, List, [], ◌∷◌, ◌++◌, length, refl, sym, ap, ◌∙◌, subst, arith, append_assoc, append-nil, length-append}
+use Rattle.std.proofs.Common.{◌≡◌, ◌↔◌, ℕ, ◌+◌, ◌<◌, ◌≤◌, ◌^◌, Bool, true, false, IsTrue, Option, Some, None, IfSome, IfOk, OnErr, Result, Ok, Err, List, [], ◌∷◌, ◌++◌, length, refl, sym, ap, ◌∙◌, subst, arith, append_assoc, append-nil, length-append}
+use Rattle.std.specs.Io.KnownBytes.{IsAtEnd}
 use Rattle.std.specs.List.{flat_map, AllByRecursion}
 use Rattle.std.proofs.lemmas.Grind.{flat_map-append}
+use Rattle.fg_io.specs.declared.fault.Fault.{Fault}
 use Rattle.fg_io.specs.Sent.{Sent}
 use Rattle.fg_io.specs.Sink.{Gains, GainsPart}
 use Rattle.fg_io.proofs.SentLemmas.{Sent-cut, Sent-part, Sent-stop, Sent-then, Sent-whole}
@@ -19,10 +21,10 @@ use Rattle.fg_pcap.specs.declared.writer.SpellingEnding.{SpellingEnding}
 use Rattle.fg_pcap.specs.declared.writer.SpellingEnding.TheVariants.{NotTrace, Unfit}
 use Rattle.fg_pcap.specs.Laws.{OneSpelling}
 use Rattle.fg_pcap.specs.Spelling.{FitsCapture, capture_of, file_header, most_datagram, seconds_end, spelling}
-use Rattle.fg_pcap.specs.Steps.{Breaks, HasSpelled, IsUnderway}
-use Rattle.fg_pcap.specs.ToCapture.{IsSpelled, Spells, SpellsPart, StopsWith, text_of}
+use Rattle.fg_pcap.specs.Steps.{Breaks, HasSpelled, IsNew, IsUnderway, IsWritten}
+use Rattle.fg_pcap.specs.ToCapture.{IsSpelled, LeavesNothing, Spells, SpellsPart, StopsWith, text_of}
 use Rattle.fg_pcap.proofs.Fronts.{answer_for, written_front}
-use Rattle.fg_pcap.proofs.Reaching.{HasReached, at_limit, read_to}
+use Rattle.fg_pcap.proofs.Reaching.{HasReached, fault_read, read_to}
 
 -- Lists
 
@@ -40,8 +42,9 @@ capture_more records r =
 
 -- Few records
 
-pub few_spelt : (first now : Option (List ℕ)) (reader : ReaderState) (work : Spelling) (before after : Option (List ℕ)) → reader.max ≤ 2 ^ 40 → IsUnderway first now reader work before after → work.number < 2 ^ 60
-few_spelt first now reader work before after limit h =
+pub few_spelt : (first now : Option (List ℕ)) (reader : ReaderState) (work : Spelling) (before after : Option (List ℕ)) → IsUnderway work reader first now before after → work.number < 2 ^ 60
+few_spelt first now reader work before after h =
+    let limit = h.limit in
     let within : length (trace_of h.records) ≤ reader.max = subst (λ n. n ≤ reader.max) h.stands.place h.stands.within in
     omega (arith, limit, within, h.number, few_spelled h.records)
 
@@ -72,15 +75,17 @@ fits time port size datagram t s e = record { time = t; size = subst (λ n. n �
 
 pub underway_more :
     (first left now : Option (List ℕ)) (reader next : ReaderState) (work done : Spelling) (before at after : Option (List ℕ)) (answer : Answer) (time port size : ℕ)
-    → answer ≡ Ok (Datagram time port size) → ((records : List Record) → StandsAfter reader first left records → Walks answer next first now records)
+    → answer ≡ Ok (Datagram time port size) → next.kept ≡ None → next.max ≡ reader.max → ((records : List Record) → StandsAfter reader first left records → Walks answer next first now records)
     → time < seconds_end → size ≤ most_datagram → size ≡ length next.payload
     → Sent at (work.held ++ spelling (record { time = time; port = port; datagram = next.payload })) done.held after → done.number ≡ work.number + 1
-    → IsUnderway first left reader work before at → IsUnderway first now next done before after
-underway_more first left now reader next work done before at after answer time port size is walks t s sized sent number h =
+    → IsUnderway work reader first left before at → IsUnderway done next first now before after
+underway_more first left now reader next work done before at after answer time port size is untold max walks t s sized sent number h =
     let r : Record = record { time = time; port = port; datagram = next.payload } in
     record {
       records = h.records ++ r ∷ [];
       stands = stands_more reader next first left now h.records answer time port size is walks h.stands;
+      untold = untold;
+      limit = subst (λ n. n ≤ 2 ^ 40) (sym max) h.limit;
       fit = fit_more h.records r h.fit (fits time port size next.payload t s sized);
       number = number ∙ ap (λ n. n + 1) h.number ∙ sym (one_more h.records r);
       sent = subst (λ bytes. Sent before bytes done.held after) (sym (capture_more h.records r))
@@ -95,7 +100,7 @@ pub breaks_at_record :
     → answer ≡ Ok (Datagram time port size) → ((records : List Record) → StandsAfter reader first left records → Walks answer next first now records)
     → time < seconds_end → size ≤ most_datagram → size ≡ length next.payload
     → GainsPart at (work.held ++ spelling (record { time = time; port = port; datagram = next.payload })) after
-    → IsUnderway first left reader work before at → Breaks reader.max first now before after
+    → IsUnderway work reader first left before at → Breaks reader.max first now before after
 breaks_at_record first left now reader next work before at after answer time port size max few is walks t s sized part h =
     let r : Record = record { time = time; port = port; datagram = next.payload } in
     let stands = stands_more reader next first left now h.records answer time port size is walks h.stands in
@@ -108,7 +113,7 @@ pub breaks_at_fault :
     (first left now : Option (List ℕ)) (reader next : ReaderState) (work : Spelling) (before at : Option (List ℕ)) (why : TraceFault)
     → next.max ≡ reader.max → next.place + length next.held ≤ next.max + 1
     → ((records : List Record) → StandsAfter reader first left records → Walks (Err why) next first now records)
-    → IsUnderway first left reader work before at → Breaks reader.max first now before at
+    → IsUnderway work reader first left before at → Breaks reader.max first now before at
 breaks_at_fault first left now reader next work before at why max few walks h =
     let stands = stands_still next first now h.records why (walks h.records h.stands) in
     let gained : GainsPart before (capture_of h.records) at = subst (λ bytes. GainsPart before bytes at) (append-nil (capture_of h.records)) (Sent-stop before at (capture_of h.records) work.held [] h.sent) in
@@ -120,20 +125,21 @@ breaks_at_fault first left now reader next work before at why max few walks h =
 -- the first record that doesn't fit
 pub stops_at :
     (first left now : Option (List ℕ)) (reader next : ReaderState) (work : Spelling) (before at : Option (List ℕ)) (answer : Answer) (time port size : ℕ) (fit : Bool)
-    → next.max ≡ reader.max → next.place + length next.held ≤ next.max + 1
+    → next.place + length next.held ≤ next.max + 1
     → length next.held ≤ 327744
     → answer ≡ Ok (Datagram time port size) → ((records : List Record) → StandsAfter reader first left records → Walks answer next first now records)
     → (IsTrue fit ↔ ((time < seconds_end) × (size ≤ most_datagram))) → fit ≡ false → size ≡ length next.payload
-    → IsUnderway first left reader work before at → HasSpelled reader.max first now (Unfit work.number) work before at
-stops_at first left now reader next work before at answer time port size fit max few held is walks tells refused sized h =
+    → IsUnderway work reader first left before at → HasSpelled work next (Unfit work.number) first now before at
+stops_at first left now reader next work before at answer time port size fit few held is walks tells refused sized h =
     let r : Record = record { time = time; port = port; datagram = next.payload } in
     let stands = stands_more reader next first left now h.records answer time port size is walks h.stands in
     let unfit : ¬ FitsCapture r = λ f. (let told : fit ≡ true = tells.1 (f.time, subst (λ n. n ≤ most_datagram) (sym sized) f.size) in cc) in
     record {
       records = h.records;
-      of_input = subst (λ n. IfSome first (λ bytes. IsSpelled (Unfit work.number) bytes n h.records)) max (told first r stands unfit);
+      of_input = told first r stands unfit;
       sent = h.sent;
-      read = at_limit next.max reader.max (Some (Unfit work.number)) first now max (read_to (Some (Unfit work.number)) next first now (h.records ++ r ∷ []) stands few (one_more h.records r ∙ ap (λ n. n + 1) (sym h.number), held));
+      read = read_to (Some (Unfit work.number)) next first now (h.records ++ r ∷ []) stands few (one_more h.records r ∙ ap (λ n. n + 1) (sym h.number), held);
+      at_end = λ all. absurd all;
     }
   where
     told : (first : Option (List ℕ)) (r : Record) → StandsAfter next first now (h.records ++ r ∷ []) → (¬ FitsCapture r) → IfSome first (λ bytes. IsSpelled (Unfit work.number) bytes next.max h.records)
@@ -156,17 +162,18 @@ all_spelled end (Some bytes) max records fit h = record { fit = fit; stops = tra
 -- the trace's ending after records that all fit
 pub spelled_all :
     (first left now : Option (List ℕ)) (reader next : ReaderState) (work : Spelling) (before at : Option (List ℕ)) (end : Ending) (ending : SpellingEnding)
-    → next.max ≡ reader.max → next.place + length next.held ≤ next.max + 1 → ending ≡ answer_for end
-    → ((records : List Record) → HasReached (answer_for end) next now records) → ((records : List Record) → text_of (answer_for end) records ≡ capture_of records)
+    → next.place + length next.held ≤ next.max + 1 → ending ≡ answer_for end
+    → ((records : List Record) → HasReached (answer_for end) next now records) → ((records : List Record) → text_of (answer_for end) records ≡ capture_of records) → (LeavesNothing (answer_for end) → IsAtEnd now)
     → ((records : List Record) → StandsAfter reader first left records → StandsAfter next first now records × IfSome first (λ bytes. IsTrace bytes next.max records end))
-    → IsUnderway first left reader work before at → HasSpelled reader.max first now ending work before at
-spelled_all first left now reader next work before at end ending max few is reached text walks h =
-    subst (λ f. HasSpelled reader.max first now f work before at) (sym is)
+    → IsUnderway work reader first left before at → HasSpelled work next ending first now before at
+spelled_all first left now reader next work before at end ending few is reached text at_end walks h =
+    subst (λ f. HasSpelled work next f first now before at) (sym is)
     (record {
       records = h.records;
-      of_input = subst (λ n. IfSome first (λ bytes. IsSpelled (answer_for end) bytes n h.records)) max (all_spelled end first next.max h.records h.fit (walks h.records h.stands).1);
+      of_input = all_spelled end first next.max h.records h.fit (walks h.records h.stands).1;
       sent = subst (λ bytes. Sent before bytes work.held at) (sym (text h.records)) h.sent;
-      read = at_limit next.max reader.max (Some (answer_for end)) first now max (read_to (Some (answer_for end)) next first now h.records (walks h.records h.stands).0 few (reached h.records));
+      read = read_to (Some (answer_for end)) next first now h.records (walks h.records h.stands).0 few (reached h.records);
+      at_end = at_end;
     })
 
 -- From the first record
@@ -176,36 +183,60 @@ unfolding file_header
 file_header_is = refl
 
 -- the file header is written or held
-pub underway : (first now : Option (List ℕ)) (reader : ReaderState) (old work : Spelling) (header : List ℕ) (before after : Option (List ℕ)) → old.held ≡ [] → work.number ≡ 0 → header ≡ file_header → Sent before (old.held ++ header) work.held after
-    → StandsAfter reader first now [] → IsUnderway first now reader work before after
-underway first now reader old work header before after empty number is sent stands = record {
+pub underway : (first now : Option (List ℕ)) (reader : ReaderState) (work : Spelling) (next header : List ℕ) (before after : Option (List ℕ)) → header ≡ file_header → Sent before (work.held ++ header) next after
+    → IsNew work reader first now → IsUnderway (record work { held = next }) reader first now before after
+underway first now reader work next header before after is sent h = record {
   records = [];
-  stands = stands;
+  stands = h.stands;
+  untold = h.untold;
+  limit = h.limit;
   fit = tt;
-  number = number;
-  sent = subst (λ bytes. Sent before bytes work.held after) (ap (λ held. held ++ header) empty ∙ is ∙ sym (append-nil file_header)) sent;
+  number = h.number;
+  sent = subst (λ bytes. Sent before bytes next after) (ap (λ held. held ++ header) h.held ∙ is ∙ sym (append-nil file_header)) sent;
 }
 
 -- it isn't all written
-pub header_part : (first now : Option (List ℕ)) (reader : ReaderState) (held header : List ℕ) (before after : Option (List ℕ)) → held ≡ [] → header ≡ file_header → GainsPart before (held ++ header) after
-    → StandsAfter reader first now [] → SpellsPart reader.max first before after
-header_part first now reader held header before after empty is part stands =
-    leaves_part first now reader [] before after stands tt (subst (λ bytes. GainsPart before bytes after) (ap (λ held. held ++ header) empty ∙ is ∙ sym (append-nil file_header)) part)
+pub breaks_at_header : (first now : Option (List ℕ)) (reader : ReaderState) (work : Spelling) (header : List ℕ) (before after : Option (List ℕ)) → header ≡ file_header → GainsPart before (work.held ++ header) after
+    → IsNew work reader first now → Breaks reader.max first now before after
+breaks_at_header first now reader work header before after is part h = (
+  leaves_part first now reader [] before after h.stands tt (subst (λ bytes. GainsPart before bytes after) (ap (λ held. held ++ header) h.held ∙ is ∙ sym (append-nil file_header)) part),
+  read_to None reader first now [] h.stands h.bounded tt,
+)
 
 -- what is held is written
-pub spells : (max : ℕ) (first now : Option (List ℕ)) (ending : SpellingEnding) (work : Spelling) (before at after : Option (List ℕ)) → HasSpelled max first now ending work before at → Gains at work.held after → Spells max ending first before after
-spells max first now ending work before at after h gained = record {
-  records = h.records;
-  of_input = h.of_input;
-  gained = Sent-whole before at after (text_of ending h.records) work.held h.sent gained;
+pub written : (first now : Option (List ℕ)) (reader : ReaderState) (ending : SpellingEnding) (work : Spelling) (before at after : Option (List ℕ)) → Gains at work.held after → HasSpelled work reader ending first now before at
+    → IsWritten reader.max ending first now before after
+written first now reader ending work before at after gained h = record {
+  spells = record {
+    records = h.records;
+    of_input = h.of_input;
+    gained = Sent-whole before at after (text_of ending h.records) work.held h.sent gained;
+  };
+  read = h.read;
+  at_end = h.at_end;
 }
 
-pub spells_part : OneSpelling → (max : ℕ) (first now : Option (List ℕ)) (ending : SpellingEnding) (work : Spelling) (before at after : Option (List ℕ)) → HasSpelled max first now ending work before at → GainsPart at work.held after → SpellsPart max first before after
-spells_part law max None now ending work before at after h part = tt
-spells_part law max (Some bytes) now ending work before at after h part = λ answer records is.
-    let same = law bytes max h.records records ending answer h.of_input is in
+spells_part : OneSpelling → (first now : Option (List ℕ)) (reader : ReaderState) (ending : SpellingEnding) (work : Spelling) (before at after : Option (List ℕ)) → GainsPart at work.held after → HasSpelled work reader ending first now before at → SpellsPart reader.max first before after
+spells_part law None now reader ending work before at after part h = tt
+spells_part law (Some bytes) now reader ending work before at after part h = λ answer records is.
+    let same = law bytes reader.max h.records records ending answer h.of_input is in
     let texts : text_of ending h.records ≡ text_of answer records = ap (λ f. text_of f h.records) same.1 ∙ ap (λ rs. text_of answer rs) same.0 in
     subst (λ t. GainsPart before t after) texts (Sent-cut before at after (text_of ending h.records) work.held h.sent part)
+
+pub breaks_at_end : OneSpelling → (first now : Option (List ℕ)) (reader : ReaderState) (ending : SpellingEnding) (work : Spelling) (before at after : Option (List ℕ)) → GainsPart at work.held after → HasSpelled work reader ending first now before at
+    → Breaks reader.max first now before after
+breaks_at_end law first now reader ending work before at after part h =
+    (spells_part law first now reader ending work before at after part h, fault_read reader.max (Some ending) first now h.read)
+
+-- Under the limit that the reader was made with
+
+pub written_at : (found max : ℕ) (came : Result SpellingEnding Fault) (first now before after : Option (List ℕ)) → found ≡ max
+    → IfOk came (λ ending. IsWritten found ending first now before after) → IfOk came (λ ending. IsWritten max ending first now before after)
+written_at found max came first now before after same h = subst (λ n. IfOk came (λ ending. IsWritten n ending first now before after)) same h
+
+pub breaks_as : (found max : ℕ) (came : Result SpellingEnding Fault) (first now before after : Option (List ℕ)) → found ≡ max
+    → OnErr came (Breaks found first now before after) → OnErr came (Breaks max first now before after)
+breaks_as found max came first now before after same h = subst (λ n. OnErr came (Breaks n first now before after)) same h
 
 -- Nothing is written
 

@@ -1,9 +1,10 @@
 -- How far the reading of a capture has come. No public contract cites what stands here.
-use Rattle.std.specs.Prelude.{◌≡◌, ◌+◌, ◌<◌, ◌≤◌, ◌⊎◌, ℕ, false, Option, IfSome, List, ◌++◌, length, map}
+use Rattle.std.specs.Prelude.{◌≡◌, ◌+◌, ◌<◌, ◌≤◌, ◌⊎◌, ℕ, false, Option, None, Some, IfSome, List, [], ◌++◌, length, map}
 use Rattle.std.specs.Io.KnownBytes.{IsAtEnd}
 use Rattle.std.specs.List.{flat_map, AllByRecursion}
 use Rattle.fg_io.specs.InputBuffer.{InputState}
 use Rattle.fg_io.specs.Sent.{Sent}
+use Rattle.fg_io.specs.Texts.{ReadTexts}
 use Rattle.fg_io.specs.Sink.{GainsPart}
 use Rattle.fg_io.specs.Source.{Gives}
 use Rattle.fg_trace.specs.Trace.{Record, spelling, trace_of}
@@ -16,8 +17,9 @@ use Rattle.fg_pcap.specs.declared.capture_reader.TheConstants.{LONGEST, PIECE}
 use Rattle.fg_pcap.specs.declared.packet_header.PacketHeader.{PacketHeader}
 use Rattle.fg_pcap.specs.Capture.{Packet, Fits, Frame, IsFileHeader, Begins, NoneFollows, IsEnding, frame_of, spelling_of, place_after, most_kept, record_header_length}
 use Rattle.fg_pcap.specs.Frame.{IsDatagramsOf}
-use Rattle.fg_pcap.specs.FromCapture.{most_held}
+use Rattle.fg_pcap.specs.FromCapture.{Converts, ConvertsPart, LeavesNothing, ReachesFor, most_held}
 use Rattle.fg_pcap.specs.PacketHeader.{IsPacketHeader}
+use Rattle.fg_pcap.specs.ReadFor.{IsReadFor}
 
 -- The buffer that a capture is read through, while its source isn't known to be at its end.
 pub record IsReading (input : InputState) : Type 0 where
@@ -101,12 +103,31 @@ pub record HasSent (unit : TimeUnit) (packets : List Packet) (held : List ℕ) (
   pub datagrams : IsDatagramsOf (map (frame_of unit) packets) records
   pub sent : Sent before (trace_of records) held after
 
+-- The input, which had `first`, was read as far as an ending needs, once one is told.
+abbrev pub IsReadTo : ℕ → Option CaptureEnding → Option (List ℕ) → Option (List ℕ) → Type 0
+IsReadTo max ending first now = IfSome first (λ bytes. IsReadFor (ReachesFor max) max ending bytes now)
+
+-- The buffer stands behind the file header, and nothing is sent on.
+pub record IsNew (format : Format) (held : List ℕ) (input : InputState) (first now : Option (List ℕ)) : Type 0 where
+  pub stands : StandsAfter format input first now []
+  pub reading : IsReading input
+  pub read : HasRead input first now
+  pub bounded : input.place + length input.held ≤ input.max + 1
+  pub empty : held ≡ []
+
 -- The buffer stands behind the records whose datagrams are sent on.
 pub record IsUnderway
     (format : Format) (first now : Option (List ℕ)) (input : InputState) (held : List ℕ) (before after : Option (List ℕ)) : Type 0 where
   pub packets : List Packet
   pub stands : StandsAfter format input first now packets
+  pub read : HasRead input first now
   pub sent : HasSent format.unit packets held before after
+
+-- And its source isn't known to be at its end.
+pub record GoesOn
+    (format : Format) (held : List ℕ) (input : InputState) (first now before after : Option (List ℕ)) : Type 0 where
+  pub reading : IsReading input
+  pub underway : IsUnderway format first now input held before after
 
 -- All datagrams of the capture are, and this is its ending.
 pub record HasSentAll
@@ -115,6 +136,23 @@ pub record HasSentAll
   pub sent : HasSent format.unit packets held before after
   pub ends : IfSome first (λ bytes. (rest : List ℕ) × Begins bytes max format.order format.unit packets rest
       × EndsAt format.order end max (place_after format.order packets) rest)
+
+-- And the input was read for it.
+pub record HasEnded
+    (format : Format) (held : List ℕ) (input : InputState) (end : CaptureEnding) (first now before after : Option (List ℕ)) : Type 0 where
+  pub sent : HasSentAll format input.max first end held before after
+  pub read : IsReadTo input.max (Some end) first now
+  pub at_end : LeavesNothing end → IsAtEnd now
+
+-- The whole trace is written, and the input was read for the capture's ending.
+pub record IsConverted (max : ℕ) (end : CaptureEnding) (first now before after : Option (List ℕ)) : Type 0 where
+  pub converts : Converts max end first before after
+  pub read : IsReadTo max (Some end) first now
+  pub at_end : LeavesNothing end → IsAtEnd now
+
+-- What a fault leaves: a prefix of the trace is written, and the input was read no further than a byte past the limit.
+abbrev pub Breaks : ℕ → ReadTexts
+Breaks max first now before after = ConvertsPart max first before after × IsReadTo max None first now
 
 -- The sink has gained a front of the trace of some records that begin the capture.
 pub record HasPart (format : Format) (max : ℕ) (bytes : List ℕ) (before after : Option (List ℕ)) : Type 0 where

@@ -75,6 +75,7 @@ pub(crate) fn look<S: Source>(
     ensures few { length input.new.held ≤ most_held }
     ensures fault { IfErr result (λ fault. fault ≡ Fault.Read) }
     ensures faults { Counts result ((S.faults from.old, S.faults from.new) ∷ []) [] }
+    ensures fixed { S.fixed from.new ≡ S.fixed from.old }
 {
     if let Some(ending) = ask(input, from, PACKET_HEADER)? {
         return Ok(Err(ending));
@@ -108,6 +109,7 @@ fn ask<S: Source>(
     ensures few { length input.new.held ≤ most_held }
     ensures fault { IfErr result (λ fault. fault ≡ Fault.Read) }
     ensures faults { Counts result ((S.faults from.old, S.faults from.new) ∷ []) [] }
+    ensures fixed { S.fixed from.new ≡ S.fixed from.old }
 {
     match input.fill(from, want)? {
         Ahead::Whole => Ok(None),

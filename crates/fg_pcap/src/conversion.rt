@@ -1,11 +1,11 @@
 //! Making a trace of a capture.
-ghost use Rattle.std.specs.Prelude.{◌≡◌, ◌+◌, ◌≤◌, ◌<◌, ◌^◌, ℕ, Option, Some, None, List, [], ◌∷◌, length, IfOk, IfErr, IfSome, IfNone, OnOk, OnErr};
+ghost use Rattle.std.specs.Prelude.{◌≡◌, ◌≤◌, ◌^◌, ℕ, List, [], ◌∷◌, IfOk, IfErr, IfSome, OnOk, OnErr};
 ghost use Rattle.std.specs.Io.KnownBytes.{IsAtEnd};
 ghost use Rattle.fg_io.specs.Faults.{Counts};
 ghost use Rattle.fg_pcap.specs.Capture.{IsRefused};
 ghost use Rattle.fg_pcap.specs.FromCapture.{ComesTo, Converts, ConvertsPart, LeavesNothing, ReachesFor};
 ghost use Rattle.fg_pcap.specs.ReadFor.{IsReadFor, ending_of};
-ghost use Rattle.fg_pcap.specs.Reading.{HasPart, HasReached, HasRead, HasSentAll, IsReading, IsUnderway, SendsFrames, SendsPart, StandsAfter};
+ghost use Rattle.fg_pcap.specs.Reading.{SendsFrames, SendsPart};
 
 use crate::capture_reader::{LONGEST, PIECE, look, open};
 use crate::ending::CaptureEnding;
@@ -15,6 +15,7 @@ use crate::laws::one_capture;
 use crate::packet_header::PACKET_HEADER;
 use fg_io::{Fault, InputBuffer, OutputBuffer, Sink, Source};
 use fg_trace::{MAGIC, record_header};
+use fg_walk::{Walking, walk};
 use std::alloc::Global;
 
 /// How many bytes of the trace are gathered before they are written.
@@ -63,113 +64,74 @@ pub fn from_capture<S: Source, K: Sink>(
     let mut buffer = InputBuffer::new(alloc, max, LONGEST, PIECE)?;
     let trace = OutputBuffer::new(alloc, ROOM)?;
     match open(&mut buffer, input)? {
-        Ok(format) => convert_packets(format, &mut buffer, input, trace, out),
+        Ok(format) => {
+            let mut conversion = Conversion { format, trace };
+            walk(&mut conversion, &mut buffer, input, out)
+        }
         Err(ending) => Ok(ending),
     }
 }
 
-/// Makes a trace of a capture whose file header was read, and answers how the capture ends.
-fn convert_packets<S: Source, K: Sink>(
+/// A conversion under way: how the capture is to be read, and the bytes of the trace that aren't written yet.
+#[derive(Drop)]
+struct Conversion {
     format: Format,
-    input: &mut InputBuffer,
-    from: &mut S,
-    mut trace: OutputBuffer,
-    out: &mut K,
-) -> Result<CaptureEnding, Fault>
-    requires reading { IsReading input.old }
-    requires empty { trace ≡ [] }
-    requires bounded { input.old.place + length input.old.held ≤ input.old.max + 1 }
-    ensures whole { IfOk result (λ ending. (first : Option (List ℕ))
-        → StandsAfter format input.old first (S.left from.old) []
-        → Converts input.old.max ending first (K.written out.old) (K.written out.new)) }
-    ensures part { OnErr result ((first : Option (List ℕ))
-        → StandsAfter format input.old first (S.left from.old) []
-        → IfSome first (λ bytes. HasPart format input.old.max bytes (K.written out.old) (K.written out.new))) }
-    ensures read { (first : Option (List ℕ))
-        → HasRead input.old first (S.left from.old) → HasRead input.new first (S.left from.new) }
-    ensures max { input.new.max ≡ input.old.max }
-    ensures bounded { input.new.place + length input.new.held ≤ input.new.max + 1 }
-    ensures reached { IfOk result (λ ending. HasReached ending input.new (S.left from.new)) }
-    ensures faults { Counts result ((S.faults from.old, S.faults from.new) ∷ [])
-        ((K.faults out.old, K.faults out.new) ∷ []) }
-{
-    trace.add(&MAGIC, out)?;
-    let ending = convert_all(format, input, from, &mut trace, out)?;
-    trace.flush(out)?;
-    Ok(ending)
+    trace: OutputBuffer,
 }
 
-/// Sends the datagrams of the records that are left, of which the last may be held, and answers how the capture ends.
-fn convert_all<S: Source, K: Sink>(
-    format: Format,
-    input: &mut InputBuffer,
-    from: &mut S,
-    trace: &mut OutputBuffer,
-    out: &mut K,
-) -> Result<CaptureEnding, Fault>
-    requires reading { IsReading input.old }
-    ensures whole { IfOk result (λ ending. (first : Option (List ℕ)) (before : Option (List ℕ))
-        → IsUnderway format first (S.left from.old) input.old trace.old before (K.written out.old)
-        → HasSentAll format input.old.max first ending trace.new before (K.written out.new)) }
-    ensures part { OnErr result ((first : Option (List ℕ)) (before : Option (List ℕ))
-        → IsUnderway format first (S.left from.old) input.old trace.old before (K.written out.old)
-        → IfSome first (λ bytes. HasPart format input.old.max bytes before (K.written out.new))) }
-    ensures read { (first : Option (List ℕ))
-        → HasRead input.old first (S.left from.old) → HasRead input.new first (S.left from.new) }
-    ensures max { input.new.max ≡ input.old.max }
-    ensures bounded { input.new.place + length input.new.held ≤ input.new.max + 1 }
-    ensures reached { IfOk result (λ ending. HasReached ending input.new (S.left from.new)) }
-    ensures faults { Counts result ((S.faults from.old, S.faults from.new) ∷ [])
-        ((K.faults out.old, K.faults out.new) ∷ []) }
-{
-    loop {
-        if let Some(ending) = convert_next(format, input, from, trace, out)? {
-            return Ok(ending);
-        }
+impl Walking for Conversion {
+    ghost use Rattle.std.specs.Prelude.{◌-◌, ℕ};
+    ghost use Rattle.fg_pcap.specs.Reading.{Breaks, GoesOn, HasEnded, IsConverted, IsNew};
+
+    type Reader = InputBuffer;
+
+    type Ending = CaptureEnding;
+
+    ghost Given = { ℕ };
+
+    ghost given = { λ _ input. input.max };
+
+    ghost is_new = { λ work. IsNew work.format work.trace };
+
+    ghost is_underway = { λ work. GoesOn work.format work.trace };
+
+    ghost has_ended = { λ work. HasEnded work.format work.trace };
+
+    ghost whole = { λ max _. IsConverted max };
+
+    ghost part = { Breaks };
+
+    ghost steps_left = { λ _ input. input.max - input.place };
+
+    fn begin<K: Sink>(&mut self, out: &mut K) -> Result<(), Fault> {
+        self.trace.add(&MAGIC, out)
     }
-}
 
-/// Sends the datagram of the next record, where there is one; else it answers how the capture ends.
-fn convert_next<S: Source, K: Sink>(
-    format: Format,
-    input: &mut InputBuffer,
-    from: &mut S,
-    trace: &mut OutputBuffer,
-    out: &mut K,
-) -> Result<Option<CaptureEnding>, Fault>
-    requires reading { IsReading input.old }
-    ensures more { IfOk result (λ end. IfNone end ((first : Option (List ℕ)) (before : Option (List ℕ))
-        → IsUnderway format first (S.left from.old) input.old trace.old before (K.written out.old)
-        → IsUnderway format first (S.left from.new) input.new trace.new before (K.written out.new))) }
-    ensures ends { IfOk result (λ end. IfSome end (λ ending. (first : Option (List ℕ)) (before : Option (List ℕ))
-        → IsUnderway format first (S.left from.old) input.old trace.old before (K.written out.old)
-        → HasSentAll format input.old.max first ending trace.new before (K.written out.new))) }
-    ensures part { OnErr result ((first : Option (List ℕ)) (before : Option (List ℕ))
-        → IsUnderway format first (S.left from.old) input.old trace.old before (K.written out.old)
-        → IfSome first (λ bytes. HasPart format input.old.max bytes before (K.written out.new))) }
-    ensures reading { IfOk result (λ end. IfNone end (IsReading input.new)) }
-    ensures read { (first : Option (List ℕ))
-        → HasRead input.old first (S.left from.old) → HasRead input.new first (S.left from.new) }
-    ensures max { input.new.max ≡ input.old.max }
-    ensures place { IfOk result (λ end. IfNone end (input.old.place < input.new.place)) }
-    ensures bounded { input.new.place + length input.new.held ≤ input.new.max + 1 }
-    ensures reached { IfOk result (λ end. IfSome end (λ ending. HasReached ending input.new (S.left from.new))) }
-    ensures faults { Counts result ((S.faults from.old, S.faults from.new) ∷ [])
-        ((K.faults out.old, K.faults out.new) ∷ []) }
-{
-    let header = match look(format.order, input, from)? {
-        Ok(header) => header,
-        Err(ending) => return Ok(Some(ending)),
-    };
-    let size = PACKET_HEADER + header.kept as usize;
-    send_frame(
-        header.time(format.unit),
-        &input.held()[PACKET_HEADER..size],
-        trace,
-        out,
-    )?;
-    input.step(size);
-    Ok(None)
+    /// Sends the datagram of the next record, where there is one.
+    fn step<S: Source, K: Sink>(
+        &mut self,
+        reader: &mut InputBuffer,
+        input: &mut S,
+        out: &mut K,
+    ) -> Result<Option<CaptureEnding>, Fault> {
+        let header = match look(self.format.order, reader, input)? {
+            Ok(header) => header,
+            Err(ending) => return Ok(Some(ending)),
+        };
+        let size = PACKET_HEADER + header.kept as usize;
+        send_frame(
+            header.time(self.format.unit),
+            &reader.held()[PACKET_HEADER..size],
+            &mut self.trace,
+            out,
+        )?;
+        reader.step(size);
+        Ok(None)
+    }
+
+    fn end<K: Sink>(&mut self, _ending: CaptureEnding, out: &mut K) -> Result<(), Fault> {
+        self.trace.flush(out)
+    }
 }
 
 /// Sends the record of a frame's datagram, if it gives one. The time is in microseconds.

@@ -1,15 +1,13 @@
 //! Writing a trace as a capture.
-ghost use Rattle.std.specs.Prelude.{◌≡◌, ◌+◌, ◌<◌, ◌≤◌, ◌^◌, ◌++◌, ℕ, Option, List, [], ◌∷◌, length, None, Some, IfOk, IfSome, IfNone, OnOk, OnErr};
+ghost use Rattle.std.specs.Prelude.{◌≡◌, ◌+◌, ◌<◌, ◌≤◌, ◌^◌, ◌++◌, ℕ, List, [], ◌∷◌, length, IfOk, IfSome, OnOk, OnErr};
 ghost use Rattle.std.specs.Io.KnownBytes.{IsAtEnd};
 ghost use Rattle.fg_io.specs.Faults.{Counts};
 ghost use Rattle.fg_io.specs.Sent.{Sent};
 ghost use Rattle.fg_io.specs.Sink.{GainsPart};
-ghost use Rattle.fg_trace.specs.Reader.{StandsAfter};
 ghost use Rattle.fg_trace.specs.Trace.{Record, NotTrace as NoMagic, IsTrace};
 ghost use Rattle.fg_pcap.specs.ReadFor.{IsReadFor, ending_of};
 ghost use Rattle.fg_pcap.specs.Spelling as spelled;
 ghost use Rattle.fg_pcap.specs.Spelling.{seconds_end, most_datagram};
-ghost use Rattle.fg_pcap.specs.Steps.{Breaks, HasSpelled, IsReadTo, IsUnderway};
 ghost use Rattle.fg_pcap.specs.ToCapture.{ComesBack, IsSpelled, LeavesNothing, ReachesFor, Spells, SpellsPart, WritesCapture};
 
 use crate::laws::{one_spelling, written_is_read_back};
@@ -17,6 +15,7 @@ use crate::spelling::{FILE_HEADER_BYTES, fit, headers};
 use fg_io::{Fault, OutputBuffer, Sink, Source};
 use fg_trace::laws::read_as_far_as_needed;
 use fg_trace::{Reader, Step, TraceFault};
+use fg_walk::{Walking, walk};
 use std::alloc::{AllocError, Global};
 
 /// How many bytes of the capture are held at most.
@@ -133,116 +132,11 @@ impl Spelling {
         read_as_far_as_needed();
         let mut reader = Reader::new(alloc, max)?;
         match reader.start(input) {
-            Ok(()) => self.spell_records(&mut reader, input, out),
+            Ok(()) => walk(self, &mut reader, input, out),
             Err(TraceFault::NotTrace(place)) => Ok(SpellingEnding::NotTrace(place)),
             Err(TraceFault::ReadFault) => Err(Fault::Read),
             Err(TraceFault::Cut(_)) => unreachable!(),
             Err(TraceFault::TooLong(_)) => unreachable!(),
-        }
-    }
-
-    /// Writes the capture of a trace, whose magic the reader has found, and answers how that ends.
-    fn spell_records<S: Source, K: Sink>(
-        &mut self,
-        reader: &mut Reader,
-        input: &mut S,
-        out: &mut K,
-    ) -> Result<SpellingEnding, Fault>
-        requires held { self.old.held ≡ [] }
-        requires number { self.old.number ≡ 0 }
-        requires begun { (first : Option (List ℕ)) × StandsAfter reader.old first (S.left input.old) [] }
-        requires open { reader.old.kept ≡ None }
-        requires limit { reader.old.max ≤ 2 ^ 40 }
-        requires bounded { reader.old.place + length reader.old.held ≤ reader.old.max + 1 }
-        ensures whole { IfOk result (λ ending. (first : Option (List ℕ))
-            → StandsAfter reader.old first (S.left input.old) []
-            → Spells reader.old.max ending first (K.written out.old) (K.written out.new)) }
-        ensures part { OnErr result ((first : Option (List ℕ))
-            → StandsAfter reader.old first (S.left input.old) []
-            → Breaks reader.old.max first (S.left input.new) (K.written out.old) (K.written out.new)) }
-        ensures all_read { IfOk result (λ ending. LeavesNothing ending → IsAtEnd (S.left input.new)) }
-        ensures read { IfOk result (λ ending. (first : Option (List ℕ))
-            → StandsAfter reader.old first (S.left input.old) []
-            → IsReadTo reader.old.max (Some ending) first (S.left input.new)) }
-        ensures faults { Counts result ((S.faults input.old, S.faults input.new) ∷ [])
-            ((K.faults out.old, K.faults out.new) ∷ []) }
-    {
-        one_spelling();
-        self.held.add(&FILE_HEADER_BYTES, out)?;
-        let ending = self.spell_all(reader, input, out)?;
-        self.held.flush(out)?;
-        Ok(ending)
-    }
-
-    /// Spells the records that are left, of whose bytes the last may be held, and answers how that ends.
-    fn spell_all<S: Source, K: Sink>(
-        &mut self,
-        reader: &mut Reader,
-        input: &mut S,
-        out: &mut K,
-    ) -> Result<SpellingEnding, Fault>
-        requires underway { (first : Option (List ℕ)) × (before : Option (List ℕ))
-            × IsUnderway first (S.left input.old) reader.old self.old before (K.written out.old) }
-        requires open { reader.old.kept ≡ None }
-        requires limit { reader.old.max ≤ 2 ^ 40 }
-        ensures whole { IfOk result (λ ending. (first : Option (List ℕ)) (before : Option (List ℕ))
-            → IsUnderway first (S.left input.old) reader.old self.old before (K.written out.old)
-            → HasSpelled reader.old.max first (S.left input.new) ending self.new before (K.written out.new)) }
-        ensures part { OnErr result ((first : Option (List ℕ)) (before : Option (List ℕ))
-            → IsUnderway first (S.left input.old) reader.old self.old before (K.written out.old)
-            → Breaks reader.old.max first (S.left input.new) before (K.written out.new)) }
-        ensures all_read { IfOk result (λ ending. LeavesNothing ending → IsAtEnd (S.left input.new)) }
-        ensures faults { Counts result ((S.faults input.old, S.faults input.new) ∷ [])
-            ((K.faults out.old, K.faults out.new) ∷ []) }
-    {
-        loop {
-            if let Some(ending) = self.spell_next(reader, input, out)? {
-                return Ok(ending);
-            }
-        }
-    }
-
-    /// Spells the next record, where there is one that fits; else it answers how the writing ends.
-    fn spell_next<S: Source, K: Sink>(
-        &mut self,
-        reader: &mut Reader,
-        input: &mut S,
-        out: &mut K,
-    ) -> Result<Option<SpellingEnding>, Fault>
-        requires underway { (first : Option (List ℕ)) × (before : Option (List ℕ))
-            × IsUnderway first (S.left input.old) reader.old self.old before (K.written out.old) }
-        requires open { reader.old.kept ≡ None }
-        requires limit { reader.old.max ≤ 2 ^ 40 }
-        ensures more { IfOk result (λ end. IfNone end ((first : Option (List ℕ)) (before : Option (List ℕ))
-            → IsUnderway first (S.left input.old) reader.old self.old before (K.written out.old)
-            → IsUnderway first (S.left input.new) reader.new self.new before (K.written out.new))) }
-        ensures ends { IfOk result (λ end. IfSome end (λ ending. (first : Option (List ℕ)) (before : Option (List ℕ))
-            → IsUnderway first (S.left input.old) reader.old self.old before (K.written out.old)
-            → HasSpelled reader.old.max first (S.left input.new) ending self.new before (K.written out.new))) }
-        ensures part { OnErr result ((first : Option (List ℕ)) (before : Option (List ℕ))
-            → IsUnderway first (S.left input.old) reader.old self.old before (K.written out.old)
-            → Breaks reader.old.max first (S.left input.new) before (K.written out.new)) }
-        ensures all_read { IfOk result (λ end. IfSome end (λ ending. LeavesNothing ending → IsAtEnd (S.left input.new))) }
-        ensures open { IfOk result (λ end. IfNone end (reader.new.kept ≡ None)) }
-        ensures max { reader.new.max ≡ reader.old.max }
-        ensures place { IfOk result (λ end. IfNone end (reader.old.place < reader.new.place)) }
-        ensures within { reader.new.place ≤ reader.new.max }
-        ensures faults { Counts result ((S.faults input.old, S.faults input.new) ∷ [])
-            ((K.faults out.old, K.faults out.new) ∷ []) }
-    {
-        match reader.next(input) {
-            Ok(Step::Datagram { time, port, size }) => {
-                if !fit(time, size) {
-                    return Ok(Some(SpellingEnding::Unfit(self.number)));
-                }
-                self.add(time, port, reader.payload(), out)?;
-                Ok(None)
-            }
-            Ok(Step::End) => Ok(Some(SpellingEnding::Done)),
-            Err(TraceFault::Cut(place)) => Ok(Some(SpellingEnding::Cut(place))),
-            Err(TraceFault::TooLong(place)) => Ok(Some(SpellingEnding::TooLong(place))),
-            Err(TraceFault::ReadFault) => Err(Fault::Read),
-            Err(TraceFault::NotTrace(_)) => unreachable!(),
         }
     }
 
@@ -271,5 +165,62 @@ impl Spelling {
         self.held.add(datagram, out)?;
         self.number += 1;
         Ok(())
+    }
+}
+
+impl Walking for Spelling {
+    ghost use Rattle.std.specs.Prelude.{◌-◌, ℕ};
+    ghost use Rattle.fg_pcap.specs.Steps.{Breaks, HasSpelled, IsNew, IsUnderway, IsWritten};
+
+    type Reader = Reader;
+
+    type Ending = SpellingEnding;
+
+    ghost Given = { ℕ };
+
+    ghost given = { λ _ reader. reader.max };
+
+    ghost is_new = { IsNew };
+
+    ghost is_underway = { IsUnderway };
+
+    ghost has_ended = { HasSpelled };
+
+    ghost whole = { λ max _. IsWritten max };
+
+    ghost part = { Breaks };
+
+    ghost steps_left = { λ _ reader. reader.max - reader.place };
+
+    fn begin<K: Sink>(&mut self, out: &mut K) -> Result<(), Fault> {
+        self.held.add(&FILE_HEADER_BYTES, out)
+    }
+
+    /// Spells the next record, where there is one that fits.
+    fn step<S: Source, K: Sink>(
+        &mut self,
+        reader: &mut Reader,
+        input: &mut S,
+        out: &mut K,
+    ) -> Result<Option<SpellingEnding>, Fault> {
+        match reader.next(input) {
+            Ok(Step::Datagram { time, port, size }) => {
+                if !fit(time, size) {
+                    return Ok(Some(SpellingEnding::Unfit(self.number)));
+                }
+                self.add(time, port, reader.payload(), out)?;
+                Ok(None)
+            }
+            Ok(Step::End) => Ok(Some(SpellingEnding::Done)),
+            Err(TraceFault::Cut(place)) => Ok(Some(SpellingEnding::Cut(place))),
+            Err(TraceFault::TooLong(place)) => Ok(Some(SpellingEnding::TooLong(place))),
+            Err(TraceFault::ReadFault) => Err(Fault::Read),
+            Err(TraceFault::NotTrace(_)) => unreachable!(),
+        }
+    }
+
+    fn end<K: Sink>(&mut self, _ending: SpellingEnding, out: &mut K) -> Result<(), Fault> {
+        one_spelling();
+        self.held.flush(out)
     }
 }

@@ -19,7 +19,7 @@ use fg_flows::Selection;
 use fg_io::{Fault, OutputBuffer, Sink, Source};
 use fg_trace::laws::{one_trace, read_as_far_as_needed, spelled_is_read};
 use fg_trace::{Finish, MAGIC, record_header};
-use fg_walk::{Telling, walk};
+use fg_walk::{Telling, walk_trace};
 use std::alloc::Global;
 
 /// How many bytes of the trace are gathered before they are written.
@@ -111,7 +111,7 @@ fn pick_trace<S: Source, K: Sink>(
         table,
         held,
     };
-    walk(alloc, max, &mut work, input, out)
+    walk_trace(alloc, max, &mut work, input, out)
 }
 
 /// A pick under way: what is picked, and the bytes that aren't written yet.

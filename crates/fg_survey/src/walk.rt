@@ -17,7 +17,7 @@ use fg_io::{Fault, SafeSink, Sink, Source, write_all};
 use fg_report::Tail;
 use fg_trace::Finish;
 use fg_trace::laws::{one_trace, read_as_far_as_needed};
-use fg_walk::{Telling, walk};
+use fg_walk::{Telling, walk_trace};
 use std::alloc::Global;
 
 /// Surveys a trace, and writes what it holds to `out`: its totals, each port with a record, each stream of media datagrams,
@@ -131,7 +131,7 @@ impl Surveying {
         one_trace();
         one_text();
         // Nothing is written before all records are read.
-        match walk(self.alloc, max, self, input, &mut SafeSink::new())? {
+        match walk_trace(self.alloc, max, self, input, &mut SafeSink::new())? {
             Finish::NotTrace(place) => Ok(Finish::NotTrace(place)),
             finish => {
                 write_text(self.alloc, json, &mut self.sheet, tail_of(finish), out)?;

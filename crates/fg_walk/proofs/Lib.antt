@@ -1,3 +1,3 @@
 -- Lemmas on the definitions of this crate.
 pub mod Given
-mod Walking
+mod Records

@@ -1,8 +1,10 @@
-//! One walk over a trace, whatever is told of its records.
+//! One walk over an input that writes what it makes of it, item by item; and what is told of a trace's records.
 #![tactic(auto)]
 
 mod teller;
 mod trace;
+mod walking;
 
 pub use teller::Telling;
-pub use trace::walk;
+pub use trace::walk_trace;
+pub use walking::{Walking, walk};

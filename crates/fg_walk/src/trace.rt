@@ -1,18 +1,16 @@
 //! Walking a trace, and telling its records.
-ghost use Rattle.std.specs.Prelude.{◌≡◌, ◌+◌, ◌≤◌, ◌<◌, ◌^◌, ℕ, Option, List, [], ◌∷◌, length, None, IfOk, IfSome, IfNone, OnErr};
+ghost use Rattle.std.specs.Prelude.{◌≡◌, ◌≤◌, ◌^◌, ℕ, List, [], ◌∷◌, IfOk, IfSome, OnErr};
 ghost use Rattle.std.specs.Io.KnownBytes.{IsAtEnd};
 ghost use Rattle.fg_io.specs.Faults.{Counts};
-ghost use Rattle.fg_trace.specs.Reader.{StandsAfter};
-ghost use Rattle.fg_trace.specs.Trace.{Record, NotTrace as NoMagic, IsTrace};
+ghost use Rattle.fg_trace.specs.Trace.{NotTrace as NoMagic, IsTrace};
 ghost use Rattle.fg_trace.specs.Finish.{ReadsAll};
-ghost use Rattle.fg_trace.specs.Reading.{HasReached};
-ghost use Rattle.fg_trace.specs.Reached.{IsReadTo, Stands, answer_to};
-ghost use Rattle.fg_walk.specs.Walk.{IsBegun, Walked, WalkedPart};
-ghost use Rattle.fg_walk.specs.Steps.{HasToldAll, IsUnderway};
+ghost use Rattle.fg_trace.specs.Reached.{IsReadTo};
+ghost use Rattle.fg_walk.specs.Walk.{Walked, WalkedPart};
 
 use crate::teller::Telling;
+use crate::walking::{Walking, walk};
 use fg_io::{Fault, Sink, Source};
-use fg_trace::laws::{one_trace, read_as_far_as_needed, walks_on, walks_the_front};
+use fg_trace::laws::{one_trace, read_as_far_as_needed, walks_the_front};
 use fg_trace::{Finish, Reader, Step, TraceFault};
 use std::alloc::Global;
 
@@ -21,7 +19,7 @@ use std::alloc::Global;
 ///
 /// The trace is read to its end, to the first byte that differs from the magic, or past the limit. Where the input is no trace
 /// nothing is begun.
-pub fn walk<T: Telling, S: Source, K: Sink>(
+pub fn walk_trace<T: Telling, S: Source, K: Sink>(
     alloc: Global,
     max: u64,
     telling: &mut T,
@@ -57,7 +55,7 @@ pub fn walk<T: Telling, S: Source, K: Sink>(
     telling.stops();
     let mut reader = Reader::new(alloc, max)?;
     match reader.start(input) {
-        Ok(()) => walk_records(telling, &mut reader, input, out),
+        Ok(()) => walk(telling, &mut reader, input, out),
         Err(TraceFault::NotTrace(place)) => Ok(Finish::NotTrace(place)),
         Err(TraceFault::ReadFault) => Err(Fault::Read),
         Err(TraceFault::Cut(_)) => unreachable!(),
@@ -65,123 +63,61 @@ pub fn walk<T: Telling, S: Source, K: Sink>(
     }
 }
 
-/// Tells all records of a trace, whose magic the reader has found, and answers how it ends.
-fn walk_records<T: Telling, S: Source, K: Sink>(
-    telling: &mut T,
-    reader: &mut Reader,
-    input: &mut S,
-    out: &mut K,
-) -> Result<Finish, Fault>
-    requires new { T.is_new telling.old }
-    requires begun { (first : Option (List ℕ)) × StandsAfter reader.old first (S.left input.old) [] }
-    requires open { reader.old.kept ≡ None }
-    requires bounded { reader.old.place + length reader.old.held ≤ reader.old.max + 1 }
-    requires limit { reader.old.max ≤ 2 ^ 40 }
-    ensures whole { IfOk result (λ finish. (first : Option (List ℕ))
-        → StandsAfter reader.old first (S.left input.old) []
-        → Walked T.whole telling.new reader.old.max finish first (K.written out.old) (K.written out.new)) }
-    ensures all_read { IfOk result (λ finish. ReadsAll finish → IsAtEnd (S.left input.new)) }
-    ensures part { OnErr result ((first : Option (List ℕ))
-        → StandsAfter reader.old first (S.left input.old) []
-        → WalkedPart T.part (T.given telling.old) reader.old.max first (K.written out.old) (K.written out.new)) }
-    ensures given { T.given telling.new ≡ T.given telling.old }
-    ensures reached { (first : Option (List ℕ)) → StandsAfter reader.old first (S.left input.old) []
-        → IsReadTo reader.old.max result first (S.left input.new) }
-    ensures faults { Counts result ((S.faults input.old, S.faults input.new) ∷ [])
-        ((K.faults out.old, K.faults out.new) ∷ []) }
-    ensures fixed { S.fixed input.new ≡ S.fixed input.old }
-{
-    one_trace();
-    read_as_far_as_needed();
-    telling.begin(out)?;
-    let finish = tell_all(telling, reader, input, out)?;
-    telling.end(finish, out)?;
-    Ok(finish)
-}
+/// What tells the records of a trace walks through it.
+impl<T: Telling> Walking for T {
+    ghost use Rattle.std.specs.Prelude.{◌-◌, ℕ};
+    ghost use Rattle.fg_walk.specs.Steps.{Breaks, HasToldAll, HasWalked, IsOpened, IsUnderway};
 
-/// Tells the records that are left, and answers how the trace ends.
-fn tell_all<T: Telling, S: Source, K: Sink>(
-    telling: &mut T,
-    reader: &mut Reader,
-    input: &mut S,
-    out: &mut K,
-) -> Result<Finish, Fault>
-    requires underway { (first : Option (List ℕ)) × (before : Option (List ℕ))
-        × IsUnderway T.has_told telling.old first (S.left input.old) reader.old before (K.written out.old) }
-    requires open { reader.old.kept ≡ None }
-    requires limit { reader.old.max ≤ 2 ^ 40 }
-    ensures whole { IfOk result (λ finish. (first before : Option (List ℕ))
-        → IsUnderway T.has_told telling.old first (S.left input.old) reader.old before (K.written out.old)
-        → HasToldAll T.has_told telling.new reader.old.max first finish before (K.written out.new)) }
-    ensures all_read { IfOk result (λ finish. ReadsAll finish → IsAtEnd (S.left input.new)) }
-    ensures part { OnErr result ((first before : Option (List ℕ))
-        → IsUnderway T.has_told telling.old first (S.left input.old) reader.old before (K.written out.old)
-        → WalkedPart T.part (T.given telling.old) reader.old.max first before (K.written out.new)) }
-    ensures begun { IfOk result IsBegun }
-    ensures given { T.given telling.new ≡ T.given telling.old }
-    ensures stands { (first : Option (List ℕ))
-        → Stands reader.old first (S.left input.old) → Stands reader.new first (S.left input.new) }
-    ensures max { reader.new.max ≡ reader.old.max }
-    ensures bounded { reader.new.place + length reader.new.held ≤ reader.new.max + 1 }
-    ensures reached { HasReached (answer_to result) reader.new (S.left input.new) }
-    ensures faults { Counts result ((S.faults input.old, S.faults input.new) ∷ [])
-        ((K.faults out.old, K.faults out.new) ∷ []) }
-    ensures fixed { S.fixed input.new ≡ S.fixed input.old }
-{
-    loop {
-        if let Some(finish) = tell_next(telling, reader, input, out)? {
-            return Ok(finish);
+    type Reader = Reader;
+
+    type Ending = Finish;
+
+    ghost Given = { T.Given × ℕ };
+
+    ghost given = { λ telling reader. (T.given telling, reader.max) };
+
+    ghost is_new = { λ telling reader first now.
+        T.is_new telling × IsOpened reader first now };
+
+    ghost is_underway = { IsUnderway T.has_told };
+
+    ghost has_ended = { HasToldAll T.has_told };
+
+    ghost whole = { λ given. HasWalked T.whole given.1 };
+
+    ghost part = { λ given. Breaks T.part given.0 given.1 };
+
+    ghost steps_left = { λ _ reader. reader.max - reader.place };
+
+    fn begin<K: Sink>(&mut self, out: &mut K) -> Result<(), Fault> {
+        read_as_far_as_needed();
+        Telling::begin(self, out)
+    }
+
+    fn step<S: Source, K: Sink>(
+        &mut self,
+        reader: &mut Reader,
+        input: &mut S,
+        out: &mut K,
+    ) -> Result<Option<Finish>, Fault> {
+        walks_the_front();
+        read_as_far_as_needed();
+        self.stops();
+        match reader.next(input) {
+            Ok(Step::Datagram { time, port, .. }) => {
+                self.tell(time, port, reader.payload(), out)?;
+                Ok(None)
+            }
+            Ok(Step::End) => Ok(Some(Finish::Done)),
+            Err(TraceFault::Cut(place)) => Ok(Some(Finish::Cut(place))),
+            Err(TraceFault::TooLong(place)) => Ok(Some(Finish::TooLong(place))),
+            Err(TraceFault::ReadFault) => Err(Fault::Read),
+            Err(TraceFault::NotTrace(_)) => unreachable!(),
         }
     }
-}
 
-/// Tells the next record, where there is one; else it answers how the trace ends.
-fn tell_next<T: Telling, S: Source, K: Sink>(
-    telling: &mut T,
-    reader: &mut Reader,
-    input: &mut S,
-    out: &mut K,
-) -> Result<Option<Finish>, Fault>
-    requires underway { (first : Option (List ℕ)) × (before : Option (List ℕ))
-        × IsUnderway T.has_told telling.old first (S.left input.old) reader.old before (K.written out.old) }
-    requires open { reader.old.kept ≡ None }
-    requires limit { reader.old.max ≤ 2 ^ 40 }
-    ensures more { IfOk result (λ end. IfNone end ((first before : Option (List ℕ))
-        → IsUnderway T.has_told telling.old first (S.left input.old) reader.old before (K.written out.old)
-        → IsUnderway T.has_told telling.new first (S.left input.new) reader.new before (K.written out.new))) }
-    ensures ends { IfOk result (λ end. IfSome end (λ finish. (first before : Option (List ℕ))
-        → IsUnderway T.has_told telling.old first (S.left input.old) reader.old before (K.written out.old)
-        → HasToldAll T.has_told telling.new reader.old.max first finish before (K.written out.new))) }
-    ensures all_read { IfOk result (λ end. IfSome end (λ finish. ReadsAll finish → IsAtEnd (S.left input.new))) }
-    ensures part { OnErr result ((first before : Option (List ℕ))
-        → IsUnderway T.has_told telling.old first (S.left input.old) reader.old before (K.written out.old)
-        → WalkedPart T.part (T.given telling.old) reader.old.max first before (K.written out.new)) }
-    ensures begun { IfOk result (λ end. IfSome end IsBegun) }
-    ensures given { T.given telling.new ≡ T.given telling.old }
-    ensures stands { (first : Option (List ℕ))
-        → Stands reader.old first (S.left input.old) → Stands reader.new first (S.left input.new) }
-    ensures bounded { reader.new.place + length reader.new.held ≤ reader.new.max + 1 }
-    ensures reached { IfOk result (λ end. IfSome end (λ finish. HasReached finish reader.new (S.left input.new))) }
-    ensures open { IfOk result (λ end. IfNone end (reader.new.kept ≡ None)) }
-    ensures max { reader.new.max ≡ reader.old.max }
-    ensures place { IfOk result (λ end. IfNone end (reader.old.place < reader.new.place)) }
-    ensures within { reader.new.place ≤ reader.new.max }
-    ensures faults { Counts result ((S.faults input.old, S.faults input.new) ∷ [])
-        ((K.faults out.old, K.faults out.new) ∷ []) }
-    ensures fixed { S.fixed input.new ≡ S.fixed input.old }
-{
-    walks_the_front();
-    walks_on();
-    telling.stops();
-    match reader.next(input) {
-        Ok(Step::Datagram { time, port, .. }) => {
-            telling.tell(time, port, reader.payload(), out)?;
-            Ok(None)
-        }
-        Ok(Step::End) => Ok(Some(Finish::Done)),
-        Err(TraceFault::Cut(place)) => Ok(Some(Finish::Cut(place))),
-        Err(TraceFault::TooLong(place)) => Ok(Some(Finish::TooLong(place))),
-        Err(TraceFault::ReadFault) => Err(Fault::Read),
-        Err(TraceFault::NotTrace(_)) => unreachable!(),
+    fn end<K: Sink>(&mut self, ending: Finish, out: &mut K) -> Result<(), Fault> {
+        one_trace();
+        Telling::end(self, ending, out)
     }
 }

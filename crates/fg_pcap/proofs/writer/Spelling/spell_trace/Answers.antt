@@ -1,20 +1,31 @@
-use Rattle.std.proofs.Common.{◌≡◌, ◌∙◌, Err, IsNone, Some, ap, refl, subst, sym}
+use Rattle.std.proofs.Common.{◌≡◌, ◌≤◌, ◌^◌, ◌∙◌, Err, IsNone, Some, ap, refl, subst, sym}
+use Rattle.std.specs.Prelude.{IsOk}
 use Rattle.std.proofs.lemmas.Result.{IfOk-weaker}
 use Rattle.fg_io.proofs.FaultLemmas.{err_more}
 use Rattle.fg_trace.specs.Reader.{ReaderState}
 use Rattle.fg_trace.proofs.Opening.{never_refused}
 use Rattle.fg_pcap.specs.declared.writer.SpellingEnding.{SpellingEnding}
 use Rattle.fg_pcap.specs.declared.writer.SpellingEnding.TheVariants as ending
-use Rattle.fg_pcap.specs.Steps.{IsReadTo}
-use Rattle.fg_pcap.specs.ToCapture.{Spells, SpellsPart}
-use Rattle.fg_pcap.proofs.Reaching.{at_limit, differs_at, failed_at, read_for}
-use Rattle.fg_pcap.proofs.Writing.{none_is_part, spells_none}
+use Rattle.fg_pcap.specs.Steps.{IsNew, IsReadTo}
+use Rattle.fg_pcap.specs.ToCapture.{Spells}
+use Rattle.fg_pcap.proofs.Reaching.{differs_at, failed_at, read_for}
+use Rattle.fg_pcap.proofs.Writing.{breaks_as, none_is_part, spells_none, written_at}
 use Rattle.fg_pcap.proofs.writer.Spelling.spell_trace.Goals as goal
 
-pub spell_records-requires-clause-begun : goal.spell_records-requires-clause-begun
-spell_records-requires-clause-begun g c =
+pub walk-requires : goal.walk-requires
+walk-requires g c =
     let left = g.S.Source.left c.args.input.now in
-    (left, c.in-Ok.ensures.opens left (c.in_ok-reader.ensures.opening left))
+    let begun = g.S.Source.left c.start.new.from in
+    let max : c.start.new.self.max ≡ c.args.max = c.start.ensures.max ∙ ap (λ (t : ReaderState). t.max) c.in_ok-reader.ensures.new in
+    let new : IsNew c.args.self.now c.start.new.self left begun = record {
+      stands = c.in-Ok.ensures.opens left (c.in_ok-reader.ensures.opening left);
+      untold = c.start.ensures.kept (subst IsOk (sym c.in-Ok.is) refl) ∙ ap (λ (t : ReaderState). t.kept) c.in_ok-reader.ensures.new;
+      limit = subst (λ n. n ≤ 2 ^ 40) (sym max) c.requires.limit;
+      bounded = c.start.ensures.bounded;
+      held = c.requires.held;
+      number = c.requires.number;
+    } in
+    (left, new)
 
 pub returns-in-Ok-clause-refused : goal.returns-in-Ok-clause-refused
 returns-in-Ok-clause-refused g c = never_refused _ _ _ c.start.new.self c.args.max (c.in-Ok.ensures.opens _ (c.in_ok-reader.ensures.opening _))
@@ -22,28 +33,67 @@ returns-in-Ok-clause-refused g c = never_refused _ _ _ c.start.new.self c.args.m
 pub returns-in-Ok-clause-whole : goal.returns-in-Ok-clause-whole
 returns-in-Ok-clause-whole g c =
     let left = g.S.Source.left c.args.input.now in
+    let begun = g.S.Source.left c.start.new.from in
     let max : c.start.new.self.max ≡ c.args.max = c.start.ensures.max ∙ ap (λ (t : ReaderState). t.max) c.in_ok-reader.ensures.new in
-    IfOk-weaker c.spell_records.result _ _
-    (λ ending h. subst (λ n. Spells n ending left (g.K.Sink.written c.args.out.now) (g.K.Sink.written c.spell_records.new.out)) max (h left (c.in-Ok.ensures.opens left (c.in_ok-reader.ensures.opening left))))
-    c.spell_records.ensures.whole
+    let new : IsNew c.args.self.now c.start.new.self left begun = record {
+      stands = c.in-Ok.ensures.opens left (c.in_ok-reader.ensures.opening left);
+      untold = c.start.ensures.kept (subst IsOk (sym c.in-Ok.is) refl) ∙ ap (λ (t : ReaderState). t.kept) c.in_ok-reader.ensures.new;
+      limit = subst (λ n. n ≤ 2 ^ 40) (sym max) c.requires.limit;
+      bounded = c.start.ensures.bounded;
+      held = c.requires.held;
+      number = c.requires.number;
+    } in
+    let all = written_at c.start.new.self.max c.args.max c.walk.result left _ _ _ max (IfOk-weaker c.walk.result _ _ (λ ending h. h left new) c.walk.ensures.whole) in
+    IfOk-weaker c.walk.result _ _ (λ ending h. h.spells) all
+
+pub returns-in-Ok-clause-all_read : goal.returns-in-Ok-clause-all_read
+returns-in-Ok-clause-all_read g c =
+    let left = g.S.Source.left c.args.input.now in
+    let begun = g.S.Source.left c.start.new.from in
+    let max : c.start.new.self.max ≡ c.args.max = c.start.ensures.max ∙ ap (λ (t : ReaderState). t.max) c.in_ok-reader.ensures.new in
+    let new : IsNew c.args.self.now c.start.new.self left begun = record {
+      stands = c.in-Ok.ensures.opens left (c.in_ok-reader.ensures.opening left);
+      untold = c.start.ensures.kept (subst IsOk (sym c.in-Ok.is) refl) ∙ ap (λ (t : ReaderState). t.kept) c.in_ok-reader.ensures.new;
+      limit = subst (λ n. n ≤ 2 ^ 40) (sym max) c.requires.limit;
+      bounded = c.start.ensures.bounded;
+      held = c.requires.held;
+      number = c.requires.number;
+    } in
+    let all = written_at c.start.new.self.max c.args.max c.walk.result left _ _ _ max (IfOk-weaker c.walk.result _ _ (λ ending h. h left new) c.walk.ensures.whole) in
+    IfOk-weaker c.walk.result _ _ (λ ending h. h.at_end) all
 
 pub returns-in-Ok-clause-reads : goal.returns-in-Ok-clause-reads
 returns-in-Ok-clause-reads g c =
     let left = g.S.Source.left c.args.input.now in
+    let begun = g.S.Source.left c.start.new.from in
     let max : c.start.new.self.max ≡ c.args.max = c.start.ensures.max ∙ ap (λ (t : ReaderState). t.max) c.in_ok-reader.ensures.new in
-    let stands = c.in-Ok.ensures.opens left (c.in_ok-reader.ensures.opening left) in
-    at_limit c.start.new.self.max c.args.max _ left _ max
-    (read_for c.start.new.self.max c.spell_records.result left _
-    (IfOk-weaker c.spell_records.result _ _ (λ ending h. h left stands) c.spell_records.ensures.read)
-    (err_more c.spell_records.result _ _ (λ h. (h left stands).1) c.spell_records.ensures.part))
+    let new : IsNew c.args.self.now c.start.new.self left begun = record {
+      stands = c.in-Ok.ensures.opens left (c.in_ok-reader.ensures.opening left);
+      untold = c.start.ensures.kept (subst IsOk (sym c.in-Ok.is) refl) ∙ ap (λ (t : ReaderState). t.kept) c.in_ok-reader.ensures.new;
+      limit = subst (λ n. n ≤ 2 ^ 40) (sym max) c.requires.limit;
+      bounded = c.start.ensures.bounded;
+      held = c.requires.held;
+      number = c.requires.number;
+    } in
+    let all = written_at c.start.new.self.max c.args.max c.walk.result left _ _ _ max (IfOk-weaker c.walk.result _ _ (λ ending h. h left new) c.walk.ensures.whole) in
+    let broken = breaks_as c.start.new.self.max c.args.max c.walk.result left _ _ _ max (err_more c.walk.result _ _ (λ h. h left new) c.walk.ensures.part) in
+    read_for c.args.max c.walk.result left _ (IfOk-weaker c.walk.result _ _ (λ ending h. h.read) all) (err_more c.walk.result _ _ (λ h. h.1) broken)
 
 pub returns-in-Ok-clause-part : goal.returns-in-Ok-clause-part
 returns-in-Ok-clause-part g c =
     let left = g.S.Source.left c.args.input.now in
+    let begun = g.S.Source.left c.start.new.from in
     let max : c.start.new.self.max ≡ c.args.max = c.start.ensures.max ∙ ap (λ (t : ReaderState). t.max) c.in_ok-reader.ensures.new in
-    err_more c.spell_records.result _ _
-    (λ h. subst (λ n. SpellsPart n left (g.K.Sink.written c.args.out.now) (g.K.Sink.written c.spell_records.new.out)) max (h left (c.in-Ok.ensures.opens left (c.in_ok-reader.ensures.opening left))).0)
-    c.spell_records.ensures.part
+    let new : IsNew c.args.self.now c.start.new.self left begun = record {
+      stands = c.in-Ok.ensures.opens left (c.in_ok-reader.ensures.opening left);
+      untold = c.start.ensures.kept (subst IsOk (sym c.in-Ok.is) refl) ∙ ap (λ (t : ReaderState). t.kept) c.in_ok-reader.ensures.new;
+      limit = subst (λ n. n ≤ 2 ^ 40) (sym max) c.requires.limit;
+      bounded = c.start.ensures.bounded;
+      held = c.requires.held;
+      number = c.requires.number;
+    } in
+    let broken = breaks_as c.start.new.self.max c.args.max c.walk.result left _ _ _ max (err_more c.walk.result _ _ (λ h. h left new) c.walk.ensures.part) in
+    err_more c.walk.result _ _ (λ h. h.0) broken
 
 pub returns-in-Err-NotTrace-clause-whole : goal.returns-in-Err-NotTrace-clause-whole
 returns-in-Err-NotTrace-clause-whole g c =

@@ -8,12 +8,12 @@ returns-in_err-finish-clause-part g c = on_err _ _ (none_is_part c.args.json c.a
 
 pub returns-in_err-write_text-in_default-clause-part : goal.returns-in_err-write_text-in_default-clause-part
 returns-in_err-write_text-in_default-clause-part g c =
-    on_err _ _ (surveys_part (λ (w : Surveying). w.sheet) c.walk.new.telling c.one_trace.ensures c.one_text.ensures c.args.json c.args.max c.in_ok-finish.finish c.tail_of.result _ _ _ c.in_ok-finish.ensures.whole c.in_default.not-NotTrace c.tail_of.ensures c.in_err-write_text-in_default.ensures.part)
+    on_err _ _ (surveys_part (λ (w : Surveying). w.sheet) c.walk_trace.new.telling c.one_trace.ensures c.one_text.ensures c.args.json c.args.max c.in_ok-finish.finish c.tail_of.result _ _ _ c.in_ok-finish.ensures.whole c.in_default.not-NotTrace c.tail_of.ensures c.in_err-write_text-in_default.ensures.part)
 
 pub returns-in_ok-write_text-in_default-clause-whole : goal.returns-in_ok-write_text-in_default-clause-whole
 returns-in_ok-write_text-in_default-clause-whole g c =
-    surveys (λ (w : Surveying). w.sheet) c.walk.new.telling c.args.json c.args.max c.in_ok-finish.finish c.tail_of.result _ _ _ c.in_ok-finish.ensures.whole c.in_default.not-NotTrace c.tail_of.ensures c.in_ok-write_text-in_default.ensures.whole
+    surveys (λ (w : Surveying). w.sheet) c.walk_trace.new.telling c.args.json c.args.max c.in_ok-finish.finish c.tail_of.result _ _ _ c.in_ok-finish.ensures.whole c.in_default.not-NotTrace c.tail_of.ensures c.in_ok-write_text-in_default.ensures.whole
 
 pub returns-in_ok-write_text-in_default-clause-refused : goal.returns-in_ok-write_text-in_default-clause-refused
 returns-in_ok-write_text-in_default-clause-refused g c =
-    no_refusal (λ (w : Surveying). w.sheet) c.walk.new.telling c.one_trace.ensures c.args.max c.in_ok-finish.finish _ _ c.in_ok-finish.ensures.whole c.in_default.not-NotTrace
+    no_refusal (λ (w : Surveying). w.sheet) c.walk_trace.new.telling c.one_trace.ensures c.args.max c.in_ok-finish.finish _ _ c.in_ok-finish.ensures.whole c.in_default.not-NotTrace
