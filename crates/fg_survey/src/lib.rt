@@ -21,6 +21,3 @@ pub use senders::Sender;
 pub use tally::Matrix;
 pub use totals::Totals;
 pub use walk::survey;
-
-#[cfg(test)]
-mod tests;

@@ -1,8 +1,8 @@
 //! A trace with each kind of line, in both forms, and traces that end early.
 ghost use Rattle.std.specs.Prelude.{◌≤◌, length};
 
-use super::*;
 use fg_io::{MemSink, MemSource};
+use fg_survey::survey;
 use fg_trace::{Finish, record_header};
 use std::alloc::{AllocError, Global};
 use std::process::Abort;
