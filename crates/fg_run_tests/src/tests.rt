@@ -1,27 +1,20 @@
 //! Runs over sources, sinks and lanes in memory.
-use fg_cli::{Name, WordFault};
 use fg_crew::{Gate, NoGate};
-use fg_flows::FlowFault;
 use fg_io::{MemOutlet, MemSink, MemSource, Outlet, Source};
-use fg_run::{Ended, Why, run, tell_end};
-use fg_shape::LayoutFault;
-use fg_ts::TsFault;
+use fg_run::{Ended, Why, run};
 use std::alloc::{AllocError, Global};
-use std::process::Abort;
 use std::sync::Wait;
 use std::test::Fail;
 use std::thread::Threads;
 
 mod batches;
 mod failing;
+mod gates;
 mod held;
-mod lines;
 mod order;
-mod pieces;
 mod traces;
-mod workers;
 
-use traces::{BLOCK, Sent, lane_of, numbers, push_record, push_sent, trace};
+use traces::{BLOCK, PAYLOAD, Sent, are_payloads, in_turn, stream, trace};
 
 /// What the outside is like: how much it gives and takes, and which of its calls fail.
 #[derive(Clone, Copy)]
@@ -30,31 +23,80 @@ struct Setting<'a> {
     piece: usize,
     /// How many bytes the sink takes.
     out: usize,
-    /// How many bytes the error sink takes.
-    err: usize,
     /// The ports that may have a lane.
     ports: &'a [u16],
     /// How many bytes each lane takes.
     lane: usize,
-    /// The calls of the source, the sink, the error sink and the outlet that fail.
+    /// The calls of the source, the sink and the outlet that fail.
     reads: &'a [u64],
     writes: &'a [u64],
-    tells: &'a [u64],
     puts: &'a [u64],
 }
 
-/// An outside with room for short runs of the flows 5000, 6000 and 7000, of which no call fails.
+/// The flows of the tests.
+const PORTS: [u16; 4] = [5000, 5010, 5020, 5030];
+
+/// An outside with room for short runs of these flows, of which no call fails.
 const PLAIN: Setting<'static> = Setting {
     piece: 1000,
     out: 2000,
-    err: 100,
-    ports: &[5000, 6000, 7000],
+    ports: &PORTS,
     lane: 30_000,
     reads: &[],
     writes: &[],
-    tells: &[],
     puts: &[],
 };
+
+/// An outside that gives a short trace at once, so that its records are one batch.
+const AT_ONCE: Setting<'static> = Setting {
+    piece: 100_000,
+    ..PLAIN
+};
+
+/// Which part of the outside is to fail.
+#[derive(Clone, Copy)]
+enum Part {
+    Input,
+    Out,
+    Lanes,
+}
+
+impl Part {
+    /// An outside that is so, but for these calls of the part, which fail.
+    fn failing<'a>(self, setting: Setting<'a>, calls: &'a [u64]) -> Setting<'a> {
+        match self {
+            Part::Input => Setting {
+                reads: calls,
+                ..setting
+            },
+            Part::Out => Setting {
+                writes: calls,
+                ..setting
+            },
+            Part::Lanes => Setting {
+                puts: calls,
+                ..setting
+            },
+        }
+    }
+
+    /// The status of a run that the part ended.
+    fn status(self) -> u8 {
+        match self {
+            Part::Input => 2,
+            Part::Out | Part::Lanes => 3,
+        }
+    }
+
+    /// Whether the run ended with the part's fault, and told it.
+    fn has_failed(self, ran: &Ran) -> bool {
+        let told = match self {
+            Part::Input => b"read fault\n".as_slice(),
+            Part::Out | Part::Lanes => b"write fault\n".as_slice(),
+        };
+        ran.ended.status == self.status() && ran.outside.err.bytes() == told
+    }
+}
 
 /// What a run leaves of the outside.
 #[derive(Drop)]
@@ -71,32 +113,43 @@ impl Outside {
         Ok(Outside {
             input: MemSource::new(alloc, bytes, setting.piece.max(1), setting.reads)?,
             out: MemSink::new(alloc, setting.out, setting.writes)?,
-            err: MemSink::new(alloc, setting.err, setting.tells)?,
+            err: MemSink::new(alloc, 100, &[])?,
             lanes: MemOutlet::new(alloc, setting.ports, setting.lane, setting.puts)?,
         })
     }
 
-    /// Checks that the port's lane has the payloads of these media datagrams, or that there is none.
-    fn check_lane(
-        &self,
-        rt: &impl Abort,
-        alloc: Global,
-        port: u16,
-        numbers: Option<&[u16]>,
-    ) -> Result<(), AllocError> {
-        let Some(numbers) = numbers else {
-            assert!(rt; self.lanes.lane(port).is_none());
-            return Ok(());
-        };
-        let lane = lane_of(alloc, numbers)?;
-        assert!(rt; self.lanes.lane(port) == Some(lane.as_slice()));
-        Ok(())
+    /// Whether the port's lane has so many payloads, from that of this number up, or there is no lane where none is wanted.
+    fn has_lane(&self, port: u16, first: u16, count: Option<u16>) -> bool {
+        match (self.lanes.lane(port), count) {
+            (Some(lane), Some(count)) => {
+                lane.len() == usize::from(count) * PAYLOAD && are_payloads(lane, first)
+            }
+            (None, None) => true,
+            _ => false,
+        }
+    }
+
+    /// Whether the first lanes have so many payloads each.
+    fn has_lanes(&self, first: u16, counts: &[Option<u16>]) -> bool {
+        for (port, count) in PORTS.iter().zip(counts) {
+            if !self.has_lane(*port, first, *count) {
+                return false;
+            }
+        }
+        true
     }
 
     /// What the lane of port 5000 has, or no byte where it isn't there.
     fn lane(&self) -> &[u8] {
         self.lanes.lane(5000).unwrap_or(b"")
     }
+}
+
+/// How a run ended, and what it left.
+#[derive(Drop)]
+struct Ran {
+    ended: Ended,
+    outside: Outside,
 }
 
 /// Runs the words between the blanks of the line on these bytes.
@@ -106,7 +159,7 @@ fn run_line<W: Threads + Wait + Sync>(
     setting: &Setting<'_>,
     line: &str,
     bytes: &[u8],
-) -> Result<(Ended, Outside), AllocError> {
+) -> Result<Ran, AllocError> {
     run_gated(rt, alloc, setting, line, bytes, &NoGate)
 }
 
@@ -118,90 +171,58 @@ fn run_gated<W: Threads + Wait + Sync, G: Gate>(
     line: &str,
     bytes: &[u8],
     gate: &G,
-) -> Result<(Ended, Outside), AllocError> {
+) -> Result<Ran, AllocError> {
     let words = words_of(alloc, line)?;
+    run_words(rt, alloc, setting, &words, bytes, gate)
+}
+
+fn run_words<W: Threads + Wait + Sync, G: Gate>(
+    rt: &W,
+    alloc: Global,
+    setting: &Setting<'_>,
+    words: &[String],
+    bytes: &[u8],
+    gate: &G,
+) -> Result<Ran, AllocError> {
     let mut outside = Outside::new(alloc, setting, bytes)?;
     let ended = run(
         rt,
         alloc,
-        &words,
+        words,
         &mut outside.input,
         &mut outside.out,
         &mut outside.err,
         &mut outside.lanes,
         gate,
     );
-    Ok((ended, outside))
+    Ok(Ran { ended, outside })
 }
 
-/// The words between the blanks of the line, and none where it is empty.
+/// The words between the blanks of the line.
 fn words_of(alloc: Global, line: &str) -> Result<Vec<String>, AllocError> {
     let mut words = Vec::new(alloc);
-    if line.is_empty() {
-        return Ok(words);
-    }
-    for word in line.split(' ') {
-        words.push(String::from_str(alloc, word)?)?;
-    }
+    push_words(alloc, &mut words, line)?;
     Ok(words)
 }
 
-/// What a run is to come to.
-#[derive(Clone, Copy)]
-struct Wanted<'a> {
-    status: u8,
-    why: Why,
-    /// The line on the error sink.
-    line: &'a str,
-    out: &'a str,
-    /// The media datagrams whose payloads the lane of port 5000 has, by number; `None` where there is no lane.
-    lane: Option<&'a [u16]>,
-}
-
-/// All is done, and nothing was written or put.
-const DONE: Wanted<'static> = Wanted {
-    status: 0,
-    why: Why::Done,
-    line: "",
-    out: "",
-    lane: None,
-};
-
-impl Wanted<'_> {
-    /// Checks that the run ended so, and left this.
-    fn check(
-        &self,
-        rt: &impl Abort,
-        alloc: Global,
-        ended: Ended,
-        outside: &Outside,
-    ) -> Result<(), AllocError> {
-        assert_eq!(rt; ended.why, self.why);
-        assert_eq!(rt; ended.status, self.status);
-        assert_eq!(rt; outside.err.bytes(), self.line.as_bytes());
-        assert_eq!(rt; outside.out.bytes(), self.out.as_bytes());
-        outside.check_lane(rt, alloc, 5000, self.lane)
+fn push_words(alloc: Global, words: &mut Vec<String>, line: &str) -> Result<(), AllocError> {
+    for word in line.split(' ') {
+        words.push(String::from_str(alloc, word)?)?;
     }
+    Ok(())
 }
 
-/// Runs the line's words on the bytes, and checks what comes of it.
-fn expect<W: Abort + Threads + Wait + Sync>(
-    rt: &W,
-    alloc: Global,
-    setting: &Setting<'_>,
-    line: &str,
-    bytes: &[u8],
-    wanted: &Wanted<'_>,
-) -> Result<(), AllocError> {
-    let (ended, outside) = run_line(rt, alloc, setting, line, bytes)?;
-    wanted.check(rt, alloc, ended, &outside)
+/// The report of a block of which two datagrams are repaired.
+const TWO_REPAIRED: &str = "flow 5000 shown 16 repaired 2 missing 0 windows 1 inconsistent 0
+media 5000 admitted 14 duplicate 0 conflict 0 late 0 bad 0
+column 5000 admitted 4 duplicate 0 conflict 0 late 0 notstarted 0 beforestart 0 ahead 0 crowded 0 bad 0
+row 5000 admitted 4 duplicate 0 conflict 0 late 0 notstarted 0 beforestart 0 ahead 0 crowded 0 bad 0
+other 0
+";
+
+/// Whether all went well, with this report, and the lane of port 5000 has the 16 payloads of a block.
+fn is_block(ran: &Ran, report: &str) -> bool {
+    ran.ended.status == 0
+        && ran.outside.out.bytes() == report.as_bytes()
+        && ran.outside.has_lane(5000, 0, Some(16))
 }
-
-/// Three datagrams in order.
-const TEN: [Sent; 3] = [Sent::Media(10), Sent::Media(11), Sent::Media(12)];
-
-/// The records of the block that are left out in the example of two passes.
-const TWO_PASSES: [usize; 5] = [6, 7, 12, 13, 22];
-
-/// All numbers of a block's media datagrams.
-const ALL: [u16; 16] = [0, 1, 2, 3, 4, 5, 6, 7, 8, 9, 10, 11, 12, 13, 14, 15];

@@ -8,19 +8,19 @@ use std::test::Fail;
 fn steps_over_what_was_asked_for(rt: HostRuntime) -> Result<(), Fail> {
     let mut source = MemSource::new(rt.alloc(), b"abcdefgh", 3, &[])?;
     let mut input = InputBuffer::new(rt.alloc(), 8, 4, 8)?;
-    assert_eq!(rt; input.held(), b"".as_slice());
-    assert_eq!(rt; input.fill(&mut source, 2), Ok(Ahead::Whole));
-    assert_eq!(rt; input.held(), b"abc".as_slice());
+    assert!(rt; input.held() == b"".as_slice());
+    assert!(rt; input.fill(&mut source, 2) == Ok(Ahead::Whole));
+    assert!(rt; input.held() == b"abc".as_slice());
     input.step(1);
-    assert_eq!(rt; input.place(), 1);
-    assert_eq!(rt; input.fill(&mut source, 4), Ok(Ahead::Whole));
-    assert_eq!(rt; input.held(), b"bcdef".as_slice());
+    assert!(rt; input.place() == 1);
+    assert!(rt; input.fill(&mut source, 4) == Ok(Ahead::Whole));
+    assert!(rt; input.held() == b"bcdef".as_slice());
     input.step(4);
-    assert_eq!(rt; input.fill(&mut source, 3), Ok(Ahead::Whole));
-    assert_eq!(rt; input.held(), b"fgh".as_slice());
+    assert!(rt; input.fill(&mut source, 3) == Ok(Ahead::Whole));
+    assert!(rt; input.held() == b"fgh".as_slice());
     input.step(3);
-    assert_eq!(rt; input.place(), 8);
-    assert_eq!(rt; input.fill(&mut source, 1), Ok(Ahead::EndsHere));
+    assert!(rt; input.place() == 8);
+    assert!(rt; input.fill(&mut source, 1) == Ok(Ahead::EndsHere));
     Ok(())
 }
 
@@ -29,12 +29,12 @@ fn steps_over_what_was_asked_for(rt: HostRuntime) -> Result<(), Fail> {
 fn a_source_at_its_end_is_not_asked_again(rt: HostRuntime) -> Result<(), Fail> {
     let mut source = MemSource::new(rt.alloc(), b"ab", 2, &[2])?;
     let mut input = InputBuffer::new(rt.alloc(), 8, 4, 8)?;
-    assert_eq!(rt; input.fill(&mut source, 3), Ok(Ahead::EndsInside));
-    assert_eq!(rt; input.fill(&mut source, 3), Ok(Ahead::EndsInside));
-    assert_eq!(rt; input.fill(&mut source, 2), Ok(Ahead::Whole));
+    assert!(rt; input.fill(&mut source, 3) == Ok(Ahead::EndsInside));
+    assert!(rt; input.fill(&mut source, 3) == Ok(Ahead::EndsInside));
+    assert!(rt; input.fill(&mut source, 2) == Ok(Ahead::Whole));
     input.step(2);
-    assert_eq!(rt; input.fill(&mut source, 1), Ok(Ahead::EndsHere));
-    assert_eq!(rt; source.read(&mut [0]), Err(Failed));
+    assert!(rt; input.fill(&mut source, 1) == Ok(Ahead::EndsHere));
+    assert!(rt; source.read(&mut [0]) == Err(Failed));
     Ok(())
 }
 
@@ -42,14 +42,14 @@ fn a_source_at_its_end_is_not_asked_again(rt: HostRuntime) -> Result<(), Fail> {
 fn reads_one_byte_past_the_limit(rt: HostRuntime) -> Result<(), Fail> {
     let mut source = MemSource::new(rt.alloc(), b"abcdef", 6, &[])?;
     let mut input = InputBuffer::new(rt.alloc(), 4, 4, 8)?;
-    assert_eq!(rt; input.fill(&mut source, 4), Ok(Ahead::Whole));
-    assert_eq!(rt; input.held(), b"abcde".as_slice());
+    assert!(rt; input.fill(&mut source, 4) == Ok(Ahead::Whole));
+    assert!(rt; input.held() == b"abcde".as_slice());
     input.step(3);
-    assert_eq!(rt; input.fill(&mut source, 2), Ok(Ahead::PastLimit));
-    assert_eq!(rt; input.fill(&mut source, 1), Ok(Ahead::Whole));
+    assert!(rt; input.fill(&mut source, 2) == Ok(Ahead::PastLimit));
+    assert!(rt; input.fill(&mut source, 1) == Ok(Ahead::Whole));
     input.step(1);
-    assert_eq!(rt; input.fill(&mut source, 1), Ok(Ahead::PastLimit));
-    assert_eq!(rt; source.read(&mut [0; 2]), Ok(1));
+    assert!(rt; input.fill(&mut source, 1) == Ok(Ahead::PastLimit));
+    assert!(rt; source.read(&mut [0; 2]) == Ok(1));
     Ok(())
 }
 
@@ -58,11 +58,11 @@ fn reads_one_byte_past_the_limit(rt: HostRuntime) -> Result<(), Fail> {
 fn ends_at_the_limit(rt: HostRuntime) -> Result<(), Fail> {
     let mut source = MemSource::new(rt.alloc(), b"abcd", 6, &[])?;
     let mut input = InputBuffer::new(rt.alloc(), 4, 4, 8)?;
-    assert_eq!(rt; input.fill(&mut source, 3), Ok(Ahead::Whole));
+    assert!(rt; input.fill(&mut source, 3) == Ok(Ahead::Whole));
     input.step(3);
-    assert_eq!(rt; input.fill(&mut source, 2), Ok(Ahead::EndsInside));
+    assert!(rt; input.fill(&mut source, 2) == Ok(Ahead::EndsInside));
     input.step(1);
-    assert_eq!(rt; input.fill(&mut source, 1), Ok(Ahead::EndsHere));
+    assert!(rt; input.fill(&mut source, 1) == Ok(Ahead::EndsHere));
     Ok(())
 }
 
@@ -70,10 +70,10 @@ fn ends_at_the_limit(rt: HostRuntime) -> Result<(), Fail> {
 fn a_failed_read_loses_nothing(rt: HostRuntime) -> Result<(), Fail> {
     let mut source = MemSource::new(rt.alloc(), b"abcdef", 2, &[1])?;
     let mut input = InputBuffer::new(rt.alloc(), 8, 4, 8)?;
-    assert_eq!(rt; input.fill(&mut source, 4), Err(Fault::Read));
-    assert_eq!(rt; input.held(), b"ab".as_slice());
-    assert_eq!(rt; input.fill(&mut source, 4), Ok(Ahead::Whole));
-    assert_eq!(rt; input.held(), b"abcd".as_slice());
+    assert!(rt; input.fill(&mut source, 4) == Err(Fault::Read));
+    assert!(rt; input.held() == b"ab".as_slice());
+    assert!(rt; input.fill(&mut source, 4) == Ok(Ahead::Whole));
+    assert!(rt; input.held() == b"abcd".as_slice());
     Ok(())
 }
 

@@ -1,6 +1,6 @@
-use fg_io::{Failed, ReaderSource, Sink, Source, WriterSink};
+use super::{Given, Taken, gives, takes};
+use fg_io::{Failed, ReaderSource, WriterSink};
 use std::io::{self, ErrorKind, Read, Write};
-use std::test::Fail;
 
 // Is interrupted, would have to wait, has a byte, fails, and is at its end.
 #[derive(Drop)]
@@ -35,22 +35,23 @@ impl Write for Flaky {
     }
 }
 
-#[test]
-fn reads_again_after_what_passes(rt: HostRuntime) -> Result<(), Fail> {
-    let mut source = ReaderSource::new(Flaky(0), &rt);
-    let mut into = [0; 2];
-    assert_eq!(rt; source.read(&mut into), Ok(1));
-    assert_eq!(rt; source.read(&mut into), Err(Failed));
-    assert_eq!(rt; source.read(&mut into), Ok(0));
-    Ok(())
-}
+static GIVEN: [Given; 3] = [(Ok(1), b"----"), (Err(Failed), b"----"), (Ok(0), b"----")];
 
 #[test]
-fn writes_again_after_what_passes(rt: HostRuntime) -> Result<(), Fail> {
+fn reads_again_after_what_passes(rt: HostRuntime) {
+    let mut source = ReaderSource::new(Flaky(0), &rt);
+    assert!(rt; gives(&mut source, &GIVEN));
+}
+
+static TAKEN: [Taken; 4] = [
+    (b"ab", Ok(1)),
+    (b"b", Err(Failed)),
+    (b"b", Err(Failed)),
+    (b"", Ok(0)),
+];
+
+#[test]
+fn writes_again_after_what_passes(rt: HostRuntime) {
     let mut sink = WriterSink::new(Flaky(0), &rt);
-    assert_eq!(rt; sink.write(b"ab"), Ok(1));
-    assert_eq!(rt; sink.write(b"b"), Err(Failed));
-    assert_eq!(rt; sink.write(b"b"), Err(Failed));
-    assert_eq!(rt; sink.write(b""), Ok(0));
-    Ok(())
+    assert!(rt; takes(&mut sink, &TAKEN));
 }

@@ -30,47 +30,41 @@ impl<W: Wait + Sync> Gate for Holding<'_, W> {
     }
 }
 
-/// The block without its datagrams 1 and 6, which its parity gives.
-const TWO_LOST: Wanted<'static> = Wanted {
-    out: "flow 5000 shown 16 repaired 2 missing 0 windows 1 inconsistent 0
-media 5000 admitted 14 duplicate 0 conflict 0 late 0 bad 0
-column 5000 admitted 4 duplicate 0 conflict 0 late 0 notstarted 0 beforestart 0 ahead 0 crowded 0 bad 0
-row 5000 admitted 4 duplicate 0 conflict 0 late 0 notstarted 0 beforestart 0 ahead 0 crowded 0 bad 0
-other 0
-",
-    lane: Some(&ALL),
-    ..DONE
-};
-
 /// A point, and how many threads pass it at least: each of two workers starts, and the caller plays one window and looks for
 /// another. How many equations a worker settles is left to the schedule.
-const POINTS: [(u32, u64); 6] = [(0, 2), (1, 0), (2, 0), (3, 0), (4, 0), (5, 2)];
+static POINTS: [(u32, u64); 6] = [(0, 2), (1, 0), (2, 0), (3, 0), (4, 0), (5, 2)];
 
-/// Checks that two workers and a caller who are held at the point change nothing.
-fn check_point<W: Abort + Threads + Wait + Sync>(
+/// Whether two workers and a caller who are held at the point change nothing.
+fn is_unchanged<W: Threads + Wait + Sync>(
     rt: &W,
     alloc: Global,
+    bytes: &[u8],
     point: u32,
     least: u64,
-) -> Result<(), AllocError> {
+) -> Result<bool, AllocError> {
     let gate = Holding {
         wait: rt,
         point,
         held: AtomicU64::new(0),
         clock: AtomicU64::new(0),
     };
-    let bytes = trace(alloc, &BLOCK, &[1, 7])?;
-    let line = "repair flow=5000 workers=2";
-    let (ended, outside) = run_gated(rt, alloc, &PLAIN, line, &bytes, &gate)?;
-    TWO_LOST.check(rt, alloc, ended, &outside)?;
-    assert!(rt; gate.held.load(Ordering::SeqCst) >= least);
-    Ok(())
+    let ran = run_gated(
+        rt,
+        alloc,
+        &PLAIN,
+        "repair flow=5000 workers=2",
+        bytes,
+        &gate,
+    )?;
+    Ok(is_block(&ran, TWO_REPAIRED) && gate.held.load(Ordering::SeqCst) >= least)
 }
 
+// The block lacks its datagrams 1 and 6, which its parity gives.
 #[test]
 fn a_thread_held_at_any_point_changes_nothing(rt: HostRuntime) -> Result<(), Fail> {
-    for (point, least) in POINTS {
-        check_point(&rt, rt.alloc(), point, least)?;
+    let bytes = trace(rt.alloc(), &BLOCK, &[1, 7])?;
+    for (point, least) in &POINTS {
+        assert!(rt; is_unchanged(&rt, rt.alloc(), &bytes, *point, *least)?);
     }
     Ok(())
 }

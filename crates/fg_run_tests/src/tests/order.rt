@@ -5,7 +5,7 @@ use super::*;
 use fg_io::Failed;
 
 /// A change to a lane.
-#[derive(Clone, Copy, Debug, PartialEq, Eq)]
+#[derive(Clone, Copy, PartialEq)]
 enum Change {
     /// The lane of this port is made.
     Made(u16),
@@ -19,16 +19,6 @@ struct Changes {
     changes: Vec<Change>,
 }
 
-impl Changes {
-    /// Whether this is the last change so far.
-    fn is_last(&self, change: Change) -> bool {
-        match self.changes.last() {
-            Some(last) => *last == change,
-            None => false,
-        }
-    }
-}
-
 impl Outlet for Changes {
     ghost lanes = { λ _. None };
 
@@ -40,67 +30,95 @@ impl Outlet for Changes {
         } else {
             Change::Gained(port)
         };
-        if !self.is_last(change) {
+        if self.changes.last() != Some(&change) {
             let _ = self.changes.push(change);
         }
         Ok(())
     }
 }
 
-/// A trace with two media datagrams on each of three ports, in turn.
-fn in_turn(alloc: Global) -> Result<Vec<u8>, AllocError> {
-    let mut bytes = Vec::from_slice(alloc, b"FECTRAC1")?;
-    for (port, number) in [
-        (5000, 0),
-        (6000, 0),
-        (7000, 0),
-        (5000, 1),
-        (6000, 1),
-        (7000, 1),
-    ] {
-        push_sent(alloc, &mut bytes, port, Sent::Media(number))?;
-    }
-    Ok(bytes)
-}
+/// The words of a repair, and what changes in it.
+type Ordered = (&'static str, [Change; 6]);
 
-/// What changes in a repair of the bytes, as these words say.
-fn changes_of<W: Threads + Wait + Sync>(
+static ORDERS: [Ordered; 2] = [
+    (
+        "repair flow=5020 flow=5000 flow=5010",
+        [
+            Change::Made(5020),
+            Change::Made(5000),
+            Change::Made(5010),
+            Change::Gained(5020),
+            Change::Gained(5000),
+            Change::Gained(5010),
+        ],
+    ),
+    (
+        "repair flow=5010 flow=5020 flow=5000",
+        [
+            Change::Made(5010),
+            Change::Made(5020),
+            Change::Made(5000),
+            Change::Gained(5010),
+            Change::Gained(5020),
+            Change::Gained(5000),
+        ],
+    ),
+];
+
+/// Runs the words on these bytes.
+fn run_into<W: Threads + Wait + Sync>(
     rt: &W,
     alloc: Global,
-    line: &str,
+    words: &[String],
     bytes: &[u8],
-) -> Result<Vec<Change>, AllocError> {
-    let words = words_of(alloc, line)?;
+    lanes: &mut Changes,
+) -> Result<(), AllocError> {
     let mut outside = Outside::new(alloc, &PLAIN, bytes)?;
-    let mut lanes = Changes {
-        changes: Vec::new(alloc),
-    };
     let _ = run(
         rt,
         alloc,
-        &words,
+        words,
         &mut outside.input,
         &mut outside.out,
         &mut outside.err,
-        &mut lanes,
+        lanes,
         &NoGate,
     );
-    Ok(lanes.changes)
+    Ok(())
+}
+
+/// What changes in a repair of the bytes.
+fn changes_of<W: Threads + Wait + Sync>(
+    rt: &W,
+    alloc: Global,
+    words: &[String],
+    bytes: &[u8],
+) -> Result<Changes, AllocError> {
+    let mut lanes = Changes {
+        changes: Vec::new(alloc),
+    };
+    run_into(rt, alloc, words, bytes, &mut lanes)?;
+    Ok(lanes)
+}
+
+/// Whether the words change the lanes so.
+fn is_ordered<W: Threads + Wait + Sync>(
+    rt: &W,
+    alloc: Global,
+    ordered: &Ordered,
+    bytes: &[u8],
+) -> Result<bool, AllocError> {
+    let words = words_of(alloc, ordered.0)?;
+    let lanes = changes_of(rt, alloc, &words, bytes)?;
+    Ok(lanes.changes.as_slice() == ordered.1.as_slice())
 }
 
 // Nothing is due before the flushes.
 #[test]
 fn lanes_are_made_and_flushed_in_the_order_of_the_words(rt: HostRuntime) -> Result<(), Fail> {
-    let bytes = in_turn(rt.alloc())?;
-    for (line, ports) in [
-        ("repair flow=7000 flow=5000 flow=6000", [7000, 5000, 6000]),
-        ("repair flow=6000 flow=7000 flow=5000", [6000, 7000, 5000]),
-    ] {
-        let made = ports.map(Change::Made);
-        let gained = ports.map(Change::Gained);
-        let changes = changes_of(&rt, rt.alloc(), line, &bytes)?;
-        assert_eq!(rt; changes.get(..3), Some(made.as_slice()));
-        assert_eq!(rt; changes.get(3..), Some(gained.as_slice()));
+    let bytes = in_turn(rt.alloc(), &[5000, 5010, 5020], 0, 2)?;
+    for ordered in &ORDERS {
+        assert!(rt; is_ordered(&rt, rt.alloc(), ordered, &bytes)?);
     }
     Ok(())
 }

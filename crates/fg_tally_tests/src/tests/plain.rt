@@ -28,31 +28,29 @@ struct Counted {
     rest: u32,
 }
 
+/// What there is of a position: the word that was received, that which a play showed, and that which a tally gave.
+#[derive(Clone, Copy)]
+struct Place {
+    received: Option<u32>,
+    shown: Option<u32>,
+    solved: Option<u32>,
+}
+
+const NOTHING: Place = Place {
+    received: None,
+    shown: None,
+    solved: None,
+};
+
 #[derive(Drop)]
 pub(super) struct Plain {
     pub mark: usize,
     pub epoch: u64,
-    /// The words that were received, those that plays showed, and those that tallies gave.
-    received: Vec<Option<u32>>,
-    shown: Vec<Option<u32>>,
-    solved: Vec<Option<u32>>,
+    places: Vec<Place>,
     /// By their serial numbers.
     pub admitted: Vec<Sum>,
     /// By their places.
     tallies: Vec<Option<Counted>>,
-}
-
-fn at(words: &[Option<u32>], position: usize) -> Option<u32> {
-    match words.get(position) {
-        Some(word) => *word,
-        None => None,
-    }
-}
-
-fn put(words: &mut [Option<u32>], position: usize, word: Option<u32>) {
-    if let Some(entry) = words.get_mut(position) {
-        *entry = word;
-    }
 }
 
 impl Sum {
@@ -94,22 +92,33 @@ impl Plain {
         Ok(Plain {
             mark: 0,
             epoch: 0,
-            received: vec![in alloc; None; POSITIONS]?,
-            shown: vec![in alloc; None; POSITIONS]?,
-            solved: vec![in alloc; None; POSITIONS]?,
+            places: vec![in alloc; NOTHING; POSITIONS]?,
             admitted: Vec::new(alloc),
             tallies: vec![in alloc; None; PLACES as usize]?,
         })
     }
 
+    /// What there is of a position.
+    fn at(&self, position: usize) -> Place {
+        match self.places.get(position) {
+            Some(place) => *place,
+            None => NOTHING,
+        }
+    }
+
+    fn put(&mut self, position: usize, place: Place) {
+        if let Some(entry) = self.places.get_mut(position) {
+            *entry = place;
+        }
+    }
+
     /// The word known at a position.
     fn known(&self, position: usize) -> Option<u32> {
+        let place = self.at(position);
         if position < self.mark {
-            return at(&self.shown, position);
-        }
-        match at(&self.received, position) {
-            Some(word) => Some(word),
-            None => at(&self.solved, position),
+            place.shown
+        } else {
+            place.received.or(place.solved)
         }
     }
 
@@ -117,27 +126,43 @@ impl Plain {
     /// current then.
     pub(super) fn withdraw(&mut self) {
         self.epoch = self.epoch.wrapping_add(1);
-        for position in 0..POSITIONS {
-            put(&mut self.solved, position, None);
+        for place in self.places.iter_mut() {
+            place.solved = None;
         }
     }
 
     /// A word comes for a position. Whether it is admitted.
     pub(super) fn media(&mut self, position: usize, word: u32) -> bool {
-        if position < self.mark || at(&self.received, position).is_some() {
+        let place = self.at(position);
+        if position < self.mark || place.received.is_some() {
             return false;
         }
-        if at(&self.solved, position).is_some_and(|other| other != word) {
+        if place.solved.is_some() && place.solved != Some(word) {
             self.withdraw();
         }
-        put(&mut self.solved, position, None);
-        put(&mut self.received, position, Some(word));
+        let received = Some(word);
+        let solved = None;
+        self.put(
+            position,
+            Place {
+                received,
+                solved,
+                ..place
+            },
+        );
         true
     }
 
     /// A play shows this at the mark.
     pub(super) fn show(&mut self, word: Option<u32>) {
-        put(&mut self.shown, self.mark, word);
+        let place = self.at(self.mark);
+        self.put(
+            self.mark,
+            Place {
+                shown: word,
+                ..place
+            },
+        );
         self.mark = self.mark.wrapping_add(1);
     }
 
@@ -236,7 +261,9 @@ impl Plain {
         if self.known(slot as usize).is_some() {
             return (Some(Fate::Beaten(slot)), None);
         }
-        put(&mut self.solved, slot as usize, Some(word));
+        let place = self.at(slot as usize);
+        let solved = Some(word);
+        self.put(slot as usize, Place { solved, ..place });
         (Some(Fate::Done), Some((slot, word)))
     }
 

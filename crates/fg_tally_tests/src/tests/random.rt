@@ -1,9 +1,11 @@
 //! Random admissions, plays, starts, folds and settles over one board, beside plain counts and sums.
 
+ghost use Rattle.std.specs.Prelude.{◌≡◌, ◌≤◌};
+
 use super::plain::{Plain, Sum};
 use super::scene::{Feed, word_of};
 use super::stage::{Stage, open};
-use fg_board::{Fate, Look};
+use fg_board::{Admitter, Board, Fate, Look};
 use fg_desk::{Outcome, Played, Reply, Tray};
 use fg_shape::Shape;
 use fg_tally::{Begun, Folded};
@@ -334,6 +336,55 @@ fn steps(rt: &(impl Abort + Wait), both: &mut Both<'_>, random: &mut Pcg32) -> R
     Ok(())
 }
 
+/// What comes to a new board, its tallies, and what is plainly so of them.
+fn new_both<'b>(
+    alloc: Global,
+    board: &'b Board,
+    mut admitter: Admitter,
+    came: Came,
+) -> Result<Both<'b>, AllocError>
+    requires board { (admitter.seat.turn ≡ board.now.name) × (board.now.seats ≡ 514) }
+    requires made { admitter.seat.made ≡ 0 }
+    requires window { admitter.playout.window ≤ 100 }
+{
+    let stage = Stage::new(alloc, board, &mut admitter)?;
+    let plain = Plain::new(alloc)?;
+    Ok(Both {
+        feed: Feed::new(alloc, board, admitter),
+        stage,
+        plain,
+        next: 1,
+        came,
+    })
+}
+
+/// All steps. Which answers came.
+fn try_both(
+    rt: &(impl Abort + Wait),
+    both: &mut Both<'_>,
+    random: &mut Pcg32,
+) -> Result<Came, Fail> {
+    assert!(rt; take_media(rt, both, 0, sent(0))?);
+    steps(rt, both, random)?;
+    Ok(both.came)
+}
+
+fn try_board(
+    rt: &(impl Abort + Wait),
+    alloc: Global,
+    board: &Board,
+    admitter: Admitter,
+    came: Came,
+    random: &mut Pcg32,
+) -> Result<Came, Fail>
+    requires board { (admitter.seat.turn ≡ board.now.name) × (board.now.seats ≡ 514) }
+    requires made { admitter.seat.made ≡ 0 }
+    requires window { admitter.playout.window ≤ 100 }
+{
+    let mut both = new_both(alloc, board, admitter, came)?;
+    try_both(rt, &mut both, random)
+}
+
 /// The steps of a new board. Which answers came.
 fn try_flow(
     rt: &(impl Abort + Wait),
@@ -341,19 +392,8 @@ fn try_flow(
     came: Came,
     random: &mut Pcg32,
 ) -> Result<Came, Fail> {
-    let (board, mut admitter) = open(alloc, WINDOW, DEPTH)?;
-    let stage = Stage::new(alloc, &board, &mut admitter)?;
-    let plain = Plain::new(alloc)?;
-    let mut both = Both {
-        feed: Feed::new(alloc, &board, admitter),
-        stage,
-        plain,
-        next: 1,
-        came,
-    };
-    assert!(rt; take_media(rt, &mut both, 0, sent(0))?);
-    steps(rt, &mut both, random)?;
-    Ok(both.came)
+    let (board, admitter) = open(alloc, WINDOW, DEPTH)?;
+    try_board(rt, alloc, &board, admitter, came, random)
 }
 
 /// Each answer came.
@@ -366,18 +406,14 @@ fn have_come(rt: &impl Abort, came: &Came) -> Result<(), Fail> {
         stale,
         unknown,
     } = came.folds;
-    assert_eq!(rt;
-        [waiting, last, comes_out, left_over, stale, unknown],
-        [true; 6]
-    );
+    assert!(rt; waiting && last && comes_out && left_over && stale && unknown);
     let Fates {
         done,
         beaten,
         gone,
         withdrawn,
     } = came.fates;
-    assert_eq!(rt; [done, beaten, gone, withdrawn], [true; 4]);
-    assert!(rt; came.other && came.ended);
+    assert!(rt; done && beaten && gone && withdrawn && came.other && came.ended);
     Ok(())
 }
 

@@ -1,7 +1,10 @@
 //! A row of four slots of which one is missing.
 
+ghost use Rattle.std.specs.Prelude.{◌≡◌, ◌≤◌};
+
 use super::scene::{Feed, fold};
-use fg_board::{Board, Fate, Key};
+use super::stage::{PLACES, open};
+use fg_board::{Admitter, Board, Fate, Key};
 use fg_shape::Shape;
 use fg_tally::{Begun, Folded, Tallies, Tally};
 use std::alloc::{AllocError, Global};
@@ -80,22 +83,67 @@ fn folds_whole(
     )
 }
 
-// Whether the row's tally goes so, and the column's holds nothing.
-fn row_is_folded(wait: &impl Wait, alloc: Global) -> Result<bool, AllocError> {
-    let (board, mut admitter) = Board::new(alloc, 100, 100, 0, 512)?;
-    let tallies = Tallies::new(alloc, &board, &mut admitter)?;
-    let mut feed = Feed::new(alloc, &board, admitter);
-    let Some((row, column)) = admit_block(wait, &mut feed)? else {
-        return Ok(false);
-    };
-    if row.place >= 512 || column.place >= 512 {
+// Whether the tally of the row's place goes so.
+fn is_folded(
+    wait: &impl Wait,
+    alloc: Global,
+    tallies: &Tallies<'_>,
+    row: Key,
+) -> Result<bool, AllocError> {
+    if row.place >= PLACES {
         return Ok(false);
     }
     let mut tally = tallies.lock(wait, row.place);
-    let goes = folds_to_the_last(wait, alloc, &mut tally, row)?
-        && folds_whole(wait, alloc, &mut tally, row)?;
-    drop(tally);
-    Ok(goes && tallies.lock(wait, column.place).held().is_none())
+    goes(wait, alloc, &mut tally, row)
+}
+
+fn goes(
+    wait: &impl Wait,
+    alloc: Global,
+    tally: &mut Tally<'_>,
+    row: Key,
+) -> Result<bool, AllocError> {
+    Ok(folds_to_the_last(wait, alloc, tally, row)? && folds_whole(wait, alloc, tally, row)?)
+}
+
+// Whether the tally of a place holds nothing.
+fn holds_nothing(wait: &impl Wait, tallies: &Tallies<'_>, place: u32) -> bool {
+    place < PLACES && tallies.lock(wait, place).held().is_none()
+}
+
+// Whether the row's tally goes so, and the column's holds nothing.
+fn row_alone(
+    wait: &impl Wait,
+    alloc: Global,
+    tallies: &Tallies<'_>,
+    feed: &mut Feed<'_>,
+) -> Result<bool, AllocError> {
+    match admit_block(wait, feed)? {
+        Some((row, column)) => Ok(
+            is_folded(wait, alloc, tallies, row)? && holds_nothing(wait, tallies, column.place),
+        ),
+        None => Ok(false),
+    }
+}
+
+fn on_board(
+    wait: &impl Wait,
+    alloc: Global,
+    board: &Board,
+    mut admitter: Admitter,
+) -> Result<bool, AllocError>
+    requires board { (admitter.seat.turn ≡ board.now.name) × (board.now.seats ≡ 514) }
+    requires made { admitter.seat.made ≡ 0 }
+    requires window { admitter.playout.window ≤ 100 }
+{
+    let tallies = Tallies::new(alloc, board, &mut admitter)?;
+    let mut feed = Feed::new(alloc, board, admitter);
+    row_alone(wait, alloc, &tallies, &mut feed)
+}
+
+fn row_is_folded(wait: &impl Wait, alloc: Global) -> Result<bool, AllocError> {
+    let (board, admitter) = open(alloc, 100, 100)?;
+    on_board(wait, alloc, &board, admitter)
 }
 
 #[test]
