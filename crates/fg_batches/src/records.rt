@@ -1,15 +1,15 @@
 //! The repair of a trace in batches, over the windows of its flows.
-ghost use Rattle.std.specs.Prelude.{◌≡◌, [], ◌∷◌, length, All};
+ghost use Rattle.std.specs.Prelude.{◌≡◌, length, All};
 ghost use Rattle.fg_flows.specs.Plan.{PlanFits, playout_of};
 ghost use Rattle.fg_playout.specs.State.{opening};
-ghost use Rattle.fg_results.specs.Contract.{IsRepair};
-ghost use Rattle.fg_results.specs.Counted.{RepairCounts};
+ghost use Rattle.fg_results.specs.Contract.{Repairs};
 ghost use Rattle.fg_results.specs.Stops.{ByBatch};
 
 use crate::walking::take_in_batches;
 use fg_engine::{Begun, WindowState, begin, end};
 use fg_flows::Plan;
 use fg_io::{Outlet, Sink, Source};
+use fg_results::Ends;
 use fg_trace::Finish;
 use std::alloc::Global;
 use std::marker::Brand;
@@ -24,29 +24,16 @@ pub fn repair_in_batches<
     S: Source + Send,
     K: Sink,
     O: Outlet + Send,
->(
-    rt: &W,
-    alloc: Global,
-    plan: &Plan,
-    windows: Vec<D>,
-    input: &mut S,
-    out: &mut K,
-    lanes: &mut O,
-) -> Finish
+>(rt: &W, alloc: Global, plan: &Plan, windows: Vec<D>, ends: Ends<'_, S, K, O>) -> Finish
     requires fits { PlanFits plan.now }
     requires count { length windows.items ≡ length plan.now.table }
     requires empty { All (λ window. D.state window ≡ opening (playout_of plan.now)) windows.items }
-
-    ensures repairs { IsRepair ByBatch plan.now result (S.left input.old) (S.left input.new) O.lanes lanes.old lanes.new
-        K.written out.old out.new }
-
-    // A fault of the outside is answered only where it was counted in this call, and with no other answer was one of it counted, but
-    // for this: since batches are read while others are written, a call that breaks off may have counted faults of reading beside the
-    // one that it answers. No count falls.
-    ensures faults { RepairCounts ByBatch result ((S.faults input.old, S.faults input.new) ∷ [])
-        ((K.faults out.old, K.faults out.new) ∷ (O.faults lanes.old, O.faults lanes.new) ∷ []) }
-    ensures fixed { S.fixed input.new ≡ S.fixed input.old }
+    ensures { Repairs ByBatch plan.now result
+        S.left S.faults S.fixed ends.entry.input.now ends.exit.0.now
+        O.lanes O.faults ends.entry.lanes.now ends.exit.1.1.0.now
+        K.written K.faults ends.entry.out.now ends.exit.1.0.now }
 {
+    let Ends { input, out, lanes } = ends;
     match begin(alloc, plan, windows, input, out, lanes) {
         Ok(begun) => {
             let Begun {

@@ -115,8 +115,7 @@ pub(crate) fn take_in_batches<
     let taken = run_stages::<W, P, _, _, S, O>(
         rt,
         alloc,
-        batches,
-        rows,
+        Round { batches, rows },
         &mut giver,
         input,
         &mut player,
@@ -132,7 +131,14 @@ pub(crate) fn take_in_batches<
     }
 }
 
-/// Runs the three stages, and answers how the trace ends. They have the empty batches and rows to give on.
+/// The empty batches and rows that the stages give on.
+#[derive(Drop)]
+struct Round<P: Tabled> {
+    batches: Vec<Batch<P>>,
+    rows: Vec<Row<P>>,
+}
+
+/// Runs the three stages, and answers how the trace ends.
 ///
 /// # Errors
 ///
@@ -147,8 +153,7 @@ fn run_stages<
 >(
     rt: &W,
     alloc: Global,
-    batches: Vec<Batch<P>>,
-    rows: Vec<Row<P>>,
+    round: Round<P>,
     giver: &mut BatchReader,
     input: &mut S,
     player: &mut BatchPlayer<L, F>,
@@ -156,8 +161,8 @@ fn run_stages<
 ) -> Result<Tail, Fault>
     requires fits { PlanFits giver.old.plan.now }
     requires named { giver.old.plan.now.table ≡ P.table }
-    requires batches { All (λ sheaf. sheaf ≡ no_items (length P.table)) batches.items }
-    requires rows { All (λ row. row ≡ map nothing_waits P.table) rows.items }
+    requires batches { All (λ sheaf. sheaf ≡ no_items (length P.table)) round.batches.items }
+    requires rows { All (λ row. row ≡ map nothing_waits P.table) round.rows.items }
     requires ready { (first : Option (List ℕ)) × (before : Option Lanes)
         × IsReady giver.old.plan.now first (S.left input.old) giver.old.reader giver.old.gathering (L.seen player.old.flows) before (O.lanes lanes.old) }
     requires free { giver.old.gathering.sheaf ≡ no_items (length giver.old.plan.now.table) }
@@ -188,6 +193,7 @@ fn run_stages<
     one_trace();
     whole_records_are_answered();
     let mut putter = RowPutter { broken: false };
+    let Round { batches, rows } = round;
     match run_three(
         rt,
         alloc,

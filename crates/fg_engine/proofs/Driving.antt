@@ -90,3 +90,16 @@ ended_counts growth answer s s' report k k' h = by_record_counts_in_any_way grow
       rise = h.rise;
       sinks_rise = (omega arith, h.sinks_rise);
     })
+
+-- Where it has not begun for want of memory, nothing has.
+pub none_counted :
+    (growth : Growth) (s report k : ℕ) → RepairCounts growth finish.Memory ((s, s) ∷ []) ((report, report) ∷ (k, k) ∷ [])
+none_counted growth s report k = by_record_counts_in_any_way growth finish.Memory ((s, s) ∷ []) ((report, report) ∷ (k, k) ∷ [])
+    (record {
+      read = λ is. absurd (cc is);
+      write = λ is. absurd (cc is);
+      no_read = λ _. refl;
+      no_write = λ _. (refl, refl);
+      rise = omega arith;
+      sinks_rise = (omega arith, omega arith);
+    })

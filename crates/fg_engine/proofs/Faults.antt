@@ -1,9 +1,8 @@
 -- What a repair has counted, by what its parts have.
-use Rattle.std.proofs.Common.{◌≡◌, ℕ, List, Result, Ok, Err, IfOk, refl, sym, ap, subst}
+use Rattle.std.proofs.Common.{ℕ, List, Result, Ok, Err, IfOk, refl, sym, ap, subst}
 use Rattle.fg_io.specs.declared.fault.Fault.{Fault}
-use Rattle.fg_io.specs.Faults.{Counts, CountsFaults}
+use Rattle.fg_io.specs.Faults.{Counts}
 use Rattle.fg_trace.specs.declared.step.Finish.{Finish}
-use Rattle.fg_trace.specs.declared.step.Finish.TheVariants as finish
 use Rattle.fg_trace.specs.Finish.{IsFault, finish_after}
 use Rattle.fg_results.specs.Counted.{RepairCounts, CountsBeside}
 use Rattle.fg_results.specs.Stops.{Growth, ByRecord, ByBatch}
@@ -58,16 +57,3 @@ pub repair_counts :
     → PartCounts growth result sources sinks → RepairCounts growth (answer_of result) sources sinks
 repair_counts ByRecord result sources sinks sound h = counts_by_record result sources sinks sound h
 repair_counts ByBatch result sources sinks sound h = counts_by_batch result sources sinks sound h
-
--- Of a repair whose lanes grow record by record it is as told of one that counts a fault of reading only where it answers it.
-pub counts_alone :
-    (answer : Finish) (sources sinks : List (ℕ × ℕ)) → RepairCounts ByRecord answer sources sinks
-    → CountsFaults (answer ≡ finish.ReadFault) (answer ≡ finish.WriteFault) sources sinks
-counts_alone answer sources sinks h = record {
-  read = h.read;
-  write = h.write;
-  no_read = h.no_read;
-  no_write = h.no_write;
-  rise = h.rise;
-  sinks_rise = h.sinks_rise;
-}

@@ -1,9 +1,8 @@
 //! The repair on one thread, over a desk for each flow.
-ghost use Rattle.std.specs.Prelude.{◌≡◌, [], ◌∷◌, length, All, IfOk};
-ghost use Rattle.fg_io.specs.Faults.{CountsFaults};
+ghost use Rattle.std.specs.Prelude.{◌≡◌, length, All, IfOk};
 ghost use Rattle.fg_flows.specs.Plan.{PlanFits, playout_of};
 ghost use Rattle.fg_playout.specs.State.{opening};
-ghost use Rattle.fg_results.specs.Contract.{IsRepair};
+ghost use Rattle.fg_results.specs.Contract.{Repairs};
 ghost use Rattle.fg_results.specs.Stops.{ByRecord};
 
 use crate::records::{give_up, repair_windows};
@@ -130,16 +129,8 @@ pub fn repair_alone<S: Source, K: Sink, O: Outlet>(
     lanes: &mut O,
 ) -> Finish
     requires { PlanFits plan.now }
-
-    ensures repairs { IsRepair ByRecord plan.now result (S.left input.old) (S.left input.new) O.lanes lanes.old lanes.new
-        K.written out.old out.new }
-
-    // A fault of the outside is answered only where it was counted in this call, and with every other answer none was. No
-    // count falls.
-    ensures faults { CountsFaults (result ≡ Finish.ReadFault) (result ≡ Finish.WriteFault)
-        ((S.faults input.old, S.faults input.new) ∷ [])
-        ((K.faults out.old, K.faults out.new) ∷ (O.faults lanes.old, O.faults lanes.new) ∷ []) }
-    ensures fixed { S.fixed input.new ≡ S.fixed input.old }
+    ensures { Repairs ByRecord plan.now result S.left S.faults S.fixed input.old input.new
+        O.lanes O.faults lanes.old lanes.new K.written K.faults out.old out.new }
 {
     match open_desks(alloc, plan) {
         Ok(desks) => repair_windows(alloc, plan, desks, input, out, lanes),

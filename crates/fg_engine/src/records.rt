@@ -8,7 +8,7 @@ ghost use Rattle.fg_trace.specs.Finish.{IsFault, finish_after};
 ghost use Rattle.fg_flows.specs.Plan.{PlanFits, playout_of};
 ghost use Rattle.fg_playout.specs.State.{opening};
 ghost use Rattle.fg_report.specs.Text.{report_of};
-ghost use Rattle.fg_results.specs.Contract.{IsRepair};
+ghost use Rattle.fg_results.specs.Contract.{IsRepair, Repairs};
 ghost use Rattle.fg_results.specs.Counted.{RepairCounts};
 ghost use Rattle.fg_results.specs.Stops.{Growth, ByRecord, ByBatch};
 ghost use Rattle.fg_engine.specs.Driver.{PartCounts, HasBegun, HasTakenAll};
@@ -38,16 +38,8 @@ pub fn repair_windows<D: WindowState, S: Source, K: Sink, O: Outlet>(
     requires fits { PlanFits plan.now }
     requires count { length windows.items ≡ length plan.now.table }
     requires empty { All (λ window. D.state window ≡ opening (playout_of plan.now)) windows.items }
-
-    ensures repairs { IsRepair ByRecord plan.now result (S.left input.old) (S.left input.new) O.lanes lanes.old lanes.new
-        K.written out.old out.new }
-
-    // A fault of the outside is answered only where it was counted in this call, and with every other answer none was. No
-    // count falls.
-    ensures faults { CountsFaults (result ≡ Finish.ReadFault) (result ≡ Finish.WriteFault)
-        ((S.faults input.old, S.faults input.new) ∷ [])
-        ((K.faults out.old, K.faults out.new) ∷ (O.faults lanes.old, O.faults lanes.new) ∷ []) }
-    ensures fixed { S.fixed input.new ≡ S.fixed input.old }
+    ensures { Repairs ByRecord plan.now result S.left S.faults S.fixed input.old input.new
+        O.lanes O.faults lanes.old lanes.new K.written K.faults out.old out.new }
 {
     match begin(alloc, plan, windows, input, out, lanes) {
         Ok(mut begun) => {
@@ -60,24 +52,14 @@ pub fn repair_windows<D: WindowState, S: Source, K: Sink, O: Outlet>(
     }
 }
 
-/// Ends a repair for want of memory before it has begun, in whichever way its lanes would grow.
-pub fn give_up<S: Source, K: Sink, O: Outlet>(
-    plan: &Plan,
-    input: &mut S,
-    out: &mut K,
-    lanes: &mut O,
-) -> Finish
+/// Ends a repair for want of memory before it has begun, in whichever way its lanes would grow. It leaves all as it was.
+pub fn give_up<S: Source, K: Sink, O: Outlet>(plan: &Plan, input: &S, out: &K, lanes: &O) -> Finish
     requires { PlanFits plan.now }
     ensures answer { result ≡ Finish.Memory }
-    ensures by_record { IsRepair ByRecord plan.now result (S.left input.old) (S.left input.new) O.lanes lanes.old lanes.new
-        K.written out.old out.new }
-    ensures by_batch { IsRepair ByBatch plan.now result (S.left input.old) (S.left input.new) O.lanes lanes.old lanes.new
-        K.written out.old out.new }
-    ensures faults { CountsFaults (result ≡ Finish.ReadFault) (result ≡ Finish.WriteFault)
-        ((S.faults input.old, S.faults input.new) ∷ [])
-        ((K.faults out.old, K.faults out.new) ∷ (O.faults lanes.old, O.faults lanes.new) ∷ []) }
-    ensures fixed { S.fixed input.new ≡ S.fixed input.old }
-    ensures unchanged { (input.new ≡ input.old) × (out.new ≡ out.old) × (lanes.new ≡ lanes.old) }
+    ensures by_record { Repairs ByRecord plan.now result S.left S.faults S.fixed input.now input.now
+        O.lanes O.faults lanes.now lanes.now K.written K.faults out.now out.now }
+    ensures by_batch { Repairs ByBatch plan.now result S.left S.faults S.fixed input.now input.now
+        O.lanes O.faults lanes.now lanes.now K.written K.faults out.now out.now }
 {
     // Where lanes stop, they have gained parts of the results. And what was read is as far as this answer needs.
     stops_leave_parts();

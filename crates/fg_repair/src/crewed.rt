@@ -4,24 +4,24 @@
 //! its flows admit the datagrams and play the windows, and a third thread puts what they show to the lanes. The workers start
 //! tallies for the equations that are held, fold into them meanwhile what has arrived, and bring the word of the one slot that is
 //! missing. Whatever they do, the replies and the plays are those of desks that each flow has to itself.
-ghost use Rattle.std.specs.Prelude.{◌≡◌, [], ◌∷◌, length, All, IsOk, IfOk, OnErr};
+ghost use Rattle.std.specs.Prelude.{length};
 ghost use Rattle.std.specs.Thread.{IsSync};
 ghost use Rattle.fg_flows.specs.Plan.{PlanFits};
-ghost use Rattle.fg_results.specs.Contract.{IsRepair};
-ghost use Rattle.fg_results.specs.Counted.{RepairCounts};
+ghost use Rattle.fg_results.specs.Contract.{Repairs};
 ghost use Rattle.fg_results.specs.Stops.{ByBatch};
 ghost use Rattle.fg_workers.specs.Crewed.{CanBegin, IsCrew};
 
 mod board_window;
 mod repairing;
 
-use crate::crewed::repairing::repair_here;
-use fg_crew::{Chore, Gate, Hints, run_beside};
+use crate::crewed::repairing::over_boards;
+use fg_crew::{Gate, Hints, run_beside};
 use fg_engine::give_up;
 use fg_flows::Plan;
 use fg_io::{Outlet, Sink, Source};
+use fg_results::Ends;
 use fg_trace::Finish;
-use fg_workers::{Crew, FlowTallies, Helping, Host, Places, Post, Remembered, open, open_tallies};
+use fg_workers::{Crew, FlowTallies, Helping, Host, Places, Remembered, open, open_tallies};
 use std::alloc::{AllocError, Global};
 use std::sync::Wait;
 use std::thread::Threads;
@@ -43,25 +43,23 @@ pub fn repair<
     G: Gate,
 >(rt: &W, alloc: Global, plan: &Plan, input: &mut S, out: &mut K, lanes: &mut O, gate: &G) -> Finish
     requires { PlanFits plan.now }
-
-    ensures repairs { IsRepair ByBatch plan.now result (S.left input.old) (S.left input.new) O.lanes lanes.old lanes.new
-        K.written out.old out.new }
-
-    // A fault of the outside is answered only where it was counted in this call, and with no other answer was one of it counted, but
-    // for this: since a batch is read while another is written, a call that breaks off may have counted faults of reading beside the
-    // one that it answers. No count falls.
-    ensures faults { RepairCounts ByBatch result ((S.faults input.old, S.faults input.new) ∷ [])
-        ((K.faults out.old, K.faults out.new) ∷ (O.faults lanes.old, O.faults lanes.new) ∷ []) }
-    ensures fixed { S.fixed input.new ≡ S.fixed input.old }
+    ensures { Repairs ByBatch plan.now result S.left S.faults S.fixed input.old input.new
+        O.lanes O.faults lanes.old lanes.new K.written K.faults out.old out.new }
 {
+    let Ok(hints) = Hints::new(alloc) else {
+        return give_up(plan, input, out, lanes);
+    };
     match open(alloc, plan) {
-        Ok(made) => repair_with(rt, alloc, plan, made, input, out, lanes, gate),
+        Ok(made) => {
+            let ends = Ends { input, out, lanes };
+            with_tallies(rt, alloc, plan, made, &hints, ends, gate)
+        }
         Err(AllocError) => give_up(plan, input, out, lanes),
     }
 }
 
-/// Repairs the flows of a trace, with all who work at them, once their boards have tallies.
-fn repair_with<
+/// Repairs the flows of a trace with all who work at them, once their boards have tallies.
+fn with_tallies<
     W: Threads + Wait + Sync,
     S: Source + Send,
     K: Sink + Send,
@@ -72,18 +70,16 @@ fn repair_with<
     alloc: Global,
     plan: &Plan,
     made: Crew,
-    input: &mut S,
-    out: &mut K,
-    lanes: &mut O,
+    hints: &Hints,
+    ends: Ends<'_, S, K, O>,
     gate: &G,
 ) -> Finish
     requires fits { PlanFits plan.now }
     requires made { IsCrew plan.now (length plan.now.table) made }
-    ensures repairs { IsRepair ByBatch plan.now result (S.left input.old) (S.left input.new) O.lanes lanes.old lanes.new
-        K.written out.old out.new }
-    ensures faults { RepairCounts ByBatch result ((S.faults input.old, S.faults input.new) ∷ [])
-        ((K.faults out.old, K.faults out.new) ∷ (O.faults lanes.old, O.faults lanes.new) ∷ []) }
-    ensures fixed { S.fixed input.new ≡ S.fixed input.old }
+    ensures { Repairs ByBatch plan.now result
+        S.left S.faults S.fixed ends.entry.input.now ends.exit.0.now
+        O.lanes O.faults ends.entry.lanes.now ends.exit.1.1.0.now
+        K.written K.faults ends.entry.out.now ends.exit.1.0.now }
 {
     let Crew {
         posts,
@@ -100,14 +96,18 @@ fn repair_with<
                 gate,
                 alloc,
             };
-            repair_beside(rt, plan, &helping, hosts, &mut owns, input, out, lanes)
+            beside_workers(rt, plan, &helping, hints, &mut hosts, &mut owns, ends)
         }
-        Err(AllocError) => give_up(plan, input, out, lanes),
+        Err(AllocError) => {
+            let Ends { input, out, lanes } = ends;
+            give_up(plan, input, out, lanes)
+        }
     }
 }
 
-/// Repairs the flows of a trace, beside workers at their tallies.
-fn repair_beside<
+/// Repairs the flows of a trace in the caller's thread, beside one worker for each of `owns`. None is left of the hosts, which are
+/// those of the posts.
+fn beside_workers<
     W: Threads + Wait + Sync,
     P: Places + Sync,
     S: Source + Send,
@@ -118,97 +118,35 @@ fn repair_beside<
     rt: &W,
     plan: &Plan,
     helping: &Helping<'_, G, P>,
-    hosts: Vec<Host>,
+    hints: &Hints,
+    hosts: &mut Vec<Host>,
     owns: &mut [Vec<Remembered>],
-    input: &mut S,
-    out: &mut K,
-    lanes: &mut O,
+    ends: Ends<'_, S, K, O>,
 ) -> Finish
     requires fits { PlanFits plan.now }
-    requires begins { CanBegin plan.now helping.now.posts.now hosts.items }
-    ensures repairs { IsRepair ByBatch plan.now result (S.left input.old) (S.left input.new) O.lanes lanes.old lanes.new
-        K.written out.old out.new }
-    ensures faults { RepairCounts ByBatch result ((S.faults input.old, S.faults input.new) ∷ [])
-        ((K.faults out.old, K.faults out.new) ∷ (O.faults lanes.old, O.faults lanes.new) ∷ []) }
-    ensures fixed { S.fixed input.new ≡ S.fixed input.old }
+    requires begins { CanBegin plan.now helping.now.posts.now hosts.old.items }
+    ensures { Repairs ByBatch plan.now result
+        S.left S.faults S.fixed ends.entry.input.now ends.exit.0.now
+        O.lanes O.faults ends.entry.lanes.now ends.exit.1.1.0.now
+        K.written K.faults ends.entry.out.now ends.exit.1.0.now }
 {
-    let mut hosts = hosts;
-    match repair_with_crew(
+    let Ends { input, out, lanes } = ends;
+    run_beside(
         rt,
-        helping.alloc,
-        plan,
-        helping.posts,
-        &mut hosts,
+        hints,
         owns,
         helping,
-        input,
-        out,
-        lanes,
         helping.gate,
-    ) {
-        Ok(finish) => finish,
-        Err(AllocError) => give_up(plan, input, out, lanes),
-    }
-}
-
-/// Repairs the flows of a trace in the caller's thread, beside one worker for each of `owns`, who does the chore.
-///
-/// # Errors
-///
-/// There was no memory, before anything was done.
-fn repair_with_crew<
-    W: Threads + Wait + Sync,
-    C: Chore,
-    S: Source + Send,
-    K: Sink + Send,
-    O: Outlet + Send,
-    G: Gate,
->(
-    rt: &W,
-    alloc: Global,
-    plan: &Plan,
-    posts: &[Post],
-    hosts: &mut Vec<Host>,
-    owns: &mut [C::Own],
-    chore: &C,
-    input: &mut S,
-    out: &mut K,
-    lanes: &mut O,
-    gate: &G,
-) -> Result<Finish, AllocError>
-    requires fits { PlanFits plan.now }
-    requires begins { CanBegin plan.now posts.now hosts.old.items }
-    requires fit { All (C.fits chore.now) owns.old }
-    ensures repairs { IfOk result (λ finish. IsRepair ByBatch plan.now finish (S.left input.old) (S.left input.new)
-        O.lanes lanes.old lanes.new K.written out.old out.new) }
-    ensures faults { IfOk result (λ finish. RepairCounts ByBatch finish ((S.faults input.old, S.faults input.new) ∷ [])
-        ((K.faults out.old, K.faults out.new) ∷ (O.faults lanes.old, O.faults lanes.new) ∷ [])) }
-    ensures fixed { IsOk result → S.fixed input.new ≡ S.fixed input.old }
-    ensures refused { OnErr result ((input.new ≡ input.old) × (out.new ≡ out.old) × (lanes.new ≡ lanes.old)) }
-{
-    let hints = Hints::new(alloc)?;
-    let finish = run_beside(
-        rt,
-        &hints,
-        owns,
-        chore,
-        gate,
         &mut || -> Finish
             requires fits { PlanFits plan.now }
-            requires begins { CanBegin plan.now posts.now hosts.now.items }
+            requires begins { CanBegin plan.now helping.now.posts.now hosts.now.items }
             requires shared { IsSync W.row }
             requires gated { IsSync G.row }
-            ensures repairs { IsRepair ByBatch plan.entry.now result (S.left input.entry.now) (S.left input.exit.now)
-                O.lanes lanes.entry.now lanes.exit.now K.written out.entry.now out.exit.now }
-            ensures faults { RepairCounts ByBatch result ((S.faults input.entry.now, S.faults input.exit.now) ∷ [])
-                ((K.faults out.entry.now, K.faults out.exit.now)
-                ∷ (O.faults lanes.entry.now, O.faults lanes.exit.now) ∷ []) }
-            ensures fixed { S.fixed input.exit.now ≡ S.fixed input.entry.now }
+            ensures { Repairs ByBatch plan.entry.now result S.left S.faults S.fixed input.entry.now input.exit.now
+                O.lanes O.faults lanes.entry.now lanes.exit.now K.written K.faults out.entry.now out.exit.now }
         {
-            repair_here(
-                rt, alloc, plan, gate, posts, hosts, input, out, lanes, &hints,
-            )
+            let ends = Ends { input, out, lanes };
+            over_boards(rt, plan, helping, hints, hosts, ends)
         },
-    );
-    Ok(finish)
+    )
 }

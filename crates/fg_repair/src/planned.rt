@@ -1,8 +1,6 @@
 //! The repair that a plan asks for.
-ghost use Rattle.std.specs.Prelude.{◌≡◌, [], ◌∷◌};
 ghost use Rattle.fg_flows.specs.Plan.{PlanFits};
-ghost use Rattle.fg_results.specs.Contract.{IsRepair};
-ghost use Rattle.fg_results.specs.Counted.{RepairCounts};
+ghost use Rattle.fg_results.specs.Contract.{Repairs};
 ghost use Rattle.fg_results.specs.Stops.{growth_of};
 
 use crate::crewed::repair;
@@ -24,16 +22,8 @@ pub fn repair_as_planned<
     G: Gate,
 >(rt: &W, alloc: Global, plan: &Plan, input: &mut S, out: &mut K, lanes: &mut O, gate: &G) -> Finish
     requires { PlanFits plan.now }
-
-    ensures repairs { IsRepair (growth_of plan.now) plan.now result (S.left input.old) (S.left input.new) O.lanes lanes.old lanes.new
-        K.written out.old out.new }
-
-    // A fault of the outside is answered only where it was counted in this call, and with no other answer was one of it counted, but
-    // for this: with workers a batch is read while another is written, so a call that breaks off may have counted faults of reading
-    // beside the one that it answers. No count falls.
-    ensures faults { RepairCounts (growth_of plan.now) result ((S.faults input.old, S.faults input.new) ∷ [])
-        ((K.faults out.old, K.faults out.new) ∷ (O.faults lanes.old, O.faults lanes.new) ∷ []) }
-    ensures fixed { S.fixed input.new ≡ S.fixed input.old }
+    ensures { Repairs (growth_of plan.now) plan.now result S.left S.faults S.fixed input.old input.new
+        O.lanes O.faults lanes.old lanes.new K.written K.faults out.old out.new }
 {
     if plan.workers == 0 {
         repair_alone(alloc, plan, input, out, lanes)

@@ -17,7 +17,7 @@ use Rattle.fg_results.specs.Flow.{FlowResult}
 use Rattle.fg_results.specs.Lanes.{OthersStay, PutsAll}
 use Rattle.fg_results.specs.Laws.{OneFlowResult, StopsLeaveParts}
 use Rattle.fg_results.specs.Repair.{AreResults, Finishes, OutputsPart, lanes_of as lanes_of_results, report_text}
-use Rattle.fg_results.specs.Stops.{Growth, ByRecord, StandsAtRead, Stops, StopsIn}
+use Rattle.fg_results.specs.Stops.{Growth, StandsAtRead, Stops, StopsIn}
 use Rattle.fg_results.proofs.Fronts.{one_of_each}
 use Rattle.fg_results.proofs.StopLemmas.{stops_whole}
 

@@ -11,7 +11,7 @@ use Rattle.fg_flows.specs.Plan.{playout_of}
 use Rattle.fg_results.specs.Flow.{FlowResult, IsFlowResult}
 use Rattle.fg_results.specs.Lanes.{PutsAll}
 use Rattle.fg_results.specs.Repair.{AreResults, lanes_of}
-use Rattle.fg_results.specs.Stops.{Growth, ByRecord, ByBatch, Stage, Making, Taking, Emptying, Flushing, MayStopAt, Stops, HasGained, HasGainedPart}
+use Rattle.fg_results.specs.Stops.{Growth, ByRecord, ByBatch, Making, Taking, Flushing, MayStopAt, Stops, HasGained, HasGainedPart}
 
 -- Each port of a list is among the first of it that are as many as it has.
 pub first_all : (ports : List ℕ) (port : ℕ) → Contains ports port → Contains (take (length ports) ports) port

@@ -2,4 +2,7 @@
 //! that show this to be right, and what a repair promises.
 #![tactic(auto)]
 
+mod ends;
 pub mod laws;
+
+pub use ends::Ends;

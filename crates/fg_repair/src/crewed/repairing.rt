@@ -1,10 +1,9 @@
 //! What the workers help: the repair in batches.
-ghost use Rattle.std.specs.Prelude.{◌≡◌, ◌<◌, ◌^◌, [], ◌∷◌, length, All, IfOk};
+ghost use Rattle.std.specs.Prelude.{◌≡◌, ◌<◌, ◌^◌, length, All, IfOk};
 ghost use Rattle.fg_shape.specs.Playout.{Playout};
 ghost use Rattle.fg_flows.specs.Plan.{PlanFits};
 ghost use Rattle.fg_playout.specs.State.{opening};
-ghost use Rattle.fg_results.specs.Contract.{IsRepair};
-ghost use Rattle.fg_results.specs.Counted.{RepairCounts};
+ghost use Rattle.fg_results.specs.Contract.{Repairs};
 ghost use Rattle.fg_results.specs.Stops.{ByBatch};
 ghost use Rattle.fg_board.specs.Actors.{desk_of};
 ghost use Rattle.fg_workers.specs.Crewed.{HostAll, IsNewHost, CanBegin};
@@ -15,44 +14,45 @@ use fg_crew::{Gate, Hints};
 use fg_engine::give_up;
 use fg_flows::Plan;
 use fg_io::{Outlet, Sink, Source};
+use fg_results::Ends;
 use fg_trace::Finish;
-use fg_workers::{Hears, Host, Post, Progress};
+use fg_workers::{Hears, Helping, Host, Places, Post, Progress};
 use std::alloc::{AllocError, Global};
 use std::mem;
 use std::sync::Wait;
 use std::thread::Threads;
 
 /// Repairs the flows of a trace in this thread, over their boards. The hosts are those of the posts, and none is left of them.
-pub(crate) fn repair_here<
+pub(crate) fn over_boards<
     W: Threads + Wait + Sync,
     G: Gate,
+    P: Places,
     S: Source + Send,
     K: Sink,
     O: Outlet + Send,
 >(
     rt: &W,
-    alloc: Global,
     plan: &Plan,
-    gate: &G,
-    posts: &[Post],
-    hosts: &mut Vec<Host>,
-    input: &mut S,
-    out: &mut K,
-    lanes: &mut O,
+    helping: &Helping<'_, G, P>,
     hints: &Hints,
+    hosts: &mut Vec<Host>,
+    ends: Ends<'_, S, K, O>,
 ) -> Finish
     requires fits { PlanFits plan.now }
-    requires begins { CanBegin plan.now posts.now hosts.old.items }
-    ensures repairs { IsRepair ByBatch plan.now result (S.left input.old) (S.left input.new) O.lanes lanes.old lanes.new
-        K.written out.old out.new }
-    ensures faults { RepairCounts ByBatch result ((S.faults input.old, S.faults input.new) ∷ [])
-        ((K.faults out.old, K.faults out.new) ∷ (O.faults lanes.old, O.faults lanes.new) ∷ []) }
-    ensures fixed { S.fixed input.new ≡ S.fixed input.old }
+    requires begins { CanBegin plan.now helping.now.posts.now hosts.old.items }
+    ensures { Repairs ByBatch plan.now result
+        S.left S.faults S.fixed ends.entry.input.now ends.exit.0.now
+        O.lanes O.faults ends.entry.lanes.now ends.exit.1.1.0.now
+        K.written K.faults ends.entry.out.now ends.exit.1.0.now }
 {
+    let alloc = helping.alloc;
     let hosts = mem::replace(hosts, Vec::new(alloc));
-    match windows_on(rt, alloc, gate, hints, posts, hosts) {
-        Ok(windows) => repair_in_batches(rt, alloc, plan, windows, input, out, lanes),
-        Err(AllocError) => give_up(plan, input, out, lanes),
+    match windows_on(rt, alloc, helping.gate, hints, helping.posts, hosts) {
+        Ok(windows) => repair_in_batches(rt, alloc, plan, windows, ends),
+        Err(AllocError) => {
+            let Ends { input, out, lanes } = ends;
+            give_up(plan, input, out, lanes)
+        }
     }
 }
 

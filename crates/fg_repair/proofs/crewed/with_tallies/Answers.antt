@@ -9,10 +9,10 @@ use Rattle.fg_workers.specs.declared.post.Host.{Host}
 use Rattle.fg_workers.specs.Crewed.{IsNewHost}
 use Rattle.fg_workers.proofs.Crewing.{alike_long}
 use Rattle.fg_workers.proofs.Crossing.{flow_tallies_sync}
-use Rattle.fg_repair.proofs.crewed.repair_with.Goals as goal
+use Rattle.fg_repair.proofs.crewed.with_tallies.Goals as goal
 
-pub repair_beside-requires-clause-begins : goal.repair_beside-requires-clause-begins
-repair_beside-requires-clause-begins g c κs within =
+pub beside_workers-requires-clause-begins : goal.beside_workers-requires-clause-begins
+beside_workers-requires-clause-begins g c κs within =
     let made = c.args.made in
     let playout = playout_of c.args.plan.now in
     let lent = c.open_tallies.auto.hosts ∙ ap length c.deref_mut.ensures.value in
@@ -30,5 +30,5 @@ repair_beside-requires-clause-begins g c κs within =
           (subst (All (IsNewHost playout)) (sym c.deref_mut.ensures.value) c.requires.made.new_hosts));
     }
 
-pub repair_beside-requires-sync-P : goal.repair_beside-requires-sync-P
-repair_beside-requires-sync-P g c κs within = search (sendable, flow_tallies_sync) depth 10
+pub beside_workers-requires-sync-P : goal.beside_workers-requires-sync-P
+beside_workers-requires-sync-P g c κs within = search (sendable, flow_tallies_sync) depth 10

@@ -4,7 +4,7 @@ use Rattle.std.specs.List.{All}
 use Rattle.fg_flows.specs.Plan.{playout_of}
 use Rattle.fg_workers.specs.declared.post.Host.{Host}
 use Rattle.fg_workers.specs.Crewed.{IsNewHost}
-use Rattle.fg_repair.proofs.crewed.repairing.repair_here.Goals as goal
+use Rattle.fg_repair.proofs.crewed.repairing.over_boards.Goals as goal
 
 pub windows_on-requires-clause-new : goal.windows_on-requires-clause-new
 windows_on-requires-clause-new g c = (
