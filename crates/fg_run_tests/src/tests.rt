@@ -12,6 +12,7 @@ mod failing;
 mod gates;
 mod held;
 mod order;
+mod pieces;
 mod traces;
 
 use traces::{BLOCK, PAYLOAD, Sent, are_payloads, in_turn, stream, trace};
