@@ -57,15 +57,7 @@ fn answer_order<
     K: Sink + Send,
     O: Outlet + Send,
     G: Gate,
->(
-    rt: &W,
-    alloc: Global,
-    order: Order,
-    input: &mut S,
-    out: &mut K,
-    lanes: &mut O,
-    gate: &G,
-) -> Why
+>(rt: &W, alloc: Global, order: Order, input: &mut S, out: &mut K, lanes: &mut O, gate: &G) -> Why
     requires { OrderFits order }
     ensures answered { RequestAnswered (behaviour_of (Request.Ordered order)) result S.left S.faults input.old input.new
         O.lanes O.faults lanes.old lanes.new K.written K.faults out.old out.new }

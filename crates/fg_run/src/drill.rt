@@ -55,14 +55,7 @@ pub(crate) fn run_drill<
     K: Sink + Send,
     O: Outlet + Send,
     G: Gate,
->(
-    rt: &W,
-    alloc: Global,
-    plan: &Plan,
-    sending: Sending,
-    ends: Ends<'_, S, K, O>,
-    gate: &G,
-) -> Why
+>(rt: &W, alloc: Global, plan: &Plan, sending: Sending, ends: Ends<'_, S, K, O>, gate: &G) -> Why
     requires settings { CanEncode sending.settings }
     requires plan { PlanFits plan.now }
     requires flow { plan.now.table ≡ sending.settings.port ∷ [] }

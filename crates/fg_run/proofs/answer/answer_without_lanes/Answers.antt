@@ -27,4 +27,3 @@ returns-in-Survey-clause-answered g c = rw c.in-Survey.is (filter_answered _ _ c
 
 pub returns-in-Pick-clause-answered : goal.returns-in-Pick-clause-answered
 returns-in-Pick-clause-answered g c = rw c.in-Pick.is (filter_answered _ _ c.run_pick.ensures.answered)
-
