@@ -1,10 +1,14 @@
 -- What is true of each request's behaviour.
-use Rattle.std.proofs.Common.{◌≡◌, List, ℕ, sym, ◌∙◌}
+use Rattle.std.proofs.Common.{◌≡◌, List, ℕ, refl, sym, ◌∙◌}
 use Rattle.fg_io.specs.Laws.{NoneIsPart}
 use Rattle.fg_trace.specs.Laws.{OneTrace}
 use Rattle.fg_encode.specs.Stream.{OneCut}
 use Rattle.fg_check.specs.Laws.{OneCheck, OneListOfAnswers, OneTold}
 use Rattle.fg_pcap.specs.Laws.{OneCapture, OneSpelling}
+use Rattle.fg_shape.specs.declared.encoding.Losses.{Losses}
+use Rattle.fg_shape.specs.declared.encoding.Settings.{Settings}
+use Rattle.fg_flows.specs.declared.Plan.{Plan}
+use Rattle.fg_cli.specs.declared.Order.{Order}
 use Rattle.fg_cli.specs.declared.Order.TheVariants.{Repair, Encode, Drill, Inspect, Sample, FromCapture, ToCapture, Monitor, Prove, Check, ChooseMatrix, Survey, Pick}
 use Rattle.fg_commands.specs.declared.ended.Why.{Why}
 use Rattle.fg_commands.proofs.Encoded as encoded
@@ -64,3 +68,21 @@ one_answer t c p s o a l (Ordered (Check max)) bytes one other h k = judged.one_
 one_answer t c p s o a l (Ordered (ChooseMatrix burst most rows)) bytes one other h k = h ∙ sym k
 one_answer t c p s o a l (Ordered (Survey max json)) bytes one other h k = traces.one_answer t max bytes one other h k
 one_answer t c p s o a l (Ordered (Pick selection max)) bytes one other h k = traces.one_answer t max bytes one other h k
+
+-- An order that is none of those that make lanes makes none.
+pub no_lane : (order : Order) → ((plan : Plan) → order ≡ Repair plan → ⊥)
+    → ((settings : Settings) (plan : Plan) (losses : Losses) (max : ℕ) → order ≡ Drill settings plan losses max → ⊥)
+    → ((seed datagrams loss : ℕ) (plan : Plan) → order ≡ Sample seed datagrams loss plan → ⊥) → (behaviour_of (Ordered order)).makes_no_lane
+no_lane (Repair plan) repairs drills samples = absurd (repairs plan refl)
+no_lane (Encode settings max) repairs drills samples = tt
+no_lane (Drill settings plan losses max) repairs drills samples = absurd (drills settings plan losses max refl)
+no_lane (Inspect table max) repairs drills samples = tt
+no_lane (Sample seed datagrams loss plan) repairs drills samples = absurd (samples seed datagrams loss plan refl)
+no_lane (FromCapture max) repairs drills samples = tt
+no_lane (ToCapture max) repairs drills samples = tt
+no_lane (Monitor max) repairs drills samples = tt
+no_lane (Prove plan) repairs drills samples = tt
+no_lane (Check max) repairs drills samples = tt
+no_lane (ChooseMatrix burst most rows) repairs drills samples = tt
+no_lane (Survey max json) repairs drills samples = tt
+no_lane (Pick selection max) repairs drills samples = tt

@@ -22,6 +22,7 @@ use fg_flows::Plan;
 use fg_io::laws::parts_of_writes;
 use fg_io::{Failed, Outlet, Sink, Source};
 use fg_repair::repair_as_planned;
+use fg_results::Ends;
 use fg_results::laws::one_result;
 use fg_shape::{Losses, Settings};
 use fg_thin::laws::payloads::{payloads_are_the_cut, thinned_traces_are_traces};
@@ -32,8 +33,18 @@ use std::alloc::Global;
 use std::sync::Wait;
 use std::thread::Threads;
 
-/// Encodes the stream in the input, which may have at most `max` bytes, 8 to 2^40, leaves out the records that are lost, has the
-/// rest repaired, and tells why that ended.
+/// What is sent of a stream.
+#[derive(Drop)]
+pub(crate) struct Sending {
+    /// How the stream is encoded.
+    pub(crate) settings: Settings,
+    /// The records that are lost.
+    pub(crate) losses: Losses,
+    /// How many bytes the stream may have, 8 to 2^40.
+    pub(crate) max: u64,
+}
+
+/// Encodes the stream in the input, leaves out the records that are lost, has the rest repaired, and tells why that ended.
 ///
 /// The lanes and `out` gain what a repair gives for the rest. `NotTransport` and `TooLong` tell how the stream ends early; what comes
 /// before is sent and repaired all the same. After a fault the lanes have gained prefixes, and the report is begun only once all lanes
@@ -44,32 +55,29 @@ pub(crate) fn run_drill<
     K: Sink + Send,
     O: Outlet + Send,
     G: Gate,
->(
-    rt: &W,
-    alloc: Global,
-    settings: Settings,
-    plan: &Plan,
-    losses: Losses,
-    max: u64,
-    input: &mut S,
-    out: &mut K,
-    lanes: &mut O,
-    gate: &G,
-) -> Why
-    requires settings { CanEncode settings }
+>(rt: &W, alloc: Global, plan: &Plan, sending: Sending, ends: Ends<'_, S, K, O>, gate: &G) -> Why
+    requires settings { CanEncode sending.settings }
     requires plan { PlanFits plan.now }
-    requires flow { plan.now.table ≡ settings.port ∷ [] }
+    requires flow { plan.now.table ≡ sending.settings.port ∷ [] }
     requires inner { plan.now.max ≡ 2 ^ 42 }
-    requires losses { MayLose losses }
-    requires max { (8 ≤ max) × (max ≤ 2 ^ 40) }
-    ensures { RequestAnswered (drilling settings plan.now losses max) result S.left S.faults input.old input.new
-        O.lanes O.faults lanes.old lanes.new K.written K.faults out.old out.new }
+    requires losses { MayLose sending.losses }
+    requires max { (8 ≤ sending.max) × (sending.max ≤ 2 ^ 40) }
+    ensures { RequestAnswered (drilling sending.settings plan.now sending.losses sending.max) result
+        S.left S.faults ends.entry.input.now ends.exit.0.now
+        O.lanes O.faults ends.entry.lanes.now ends.exit.1.1.0.now
+        K.written K.faults ends.entry.out.now ends.exit.1.0.now }
 {
     // What the source gives is the trace of what is sent, so its repair is the stream's drill, and what comes back follows.
     repairs_are_drills();
     drills_come_back();
     payloads_are_the_cut();
     thinned_traces_are_traces();
+    let Ends { input, out, lanes } = ends;
+    let Sending {
+        settings,
+        losses,
+        max,
+    } = sending;
     let Ok(thinning) = Thinning::new(alloc, settings, losses, max) else {
         return Why::Memory;
     };

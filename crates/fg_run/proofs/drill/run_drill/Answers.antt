@@ -18,12 +18,12 @@ use Rattle.fg_run.proofs.drill.run_drill.Goals as goal
 pub returns-in_default : goal.returns-in_default
 returns-in_default g c =
     let a = c.args in
-    not_begun (drilling a.settings a.plan.now a.losses a.max) (lawful a.settings a.plan.now a.losses a.max) _ _ _ _ _ _ _ _ _
+    not_begun (drilling a.sending.settings a.plan.now a.sending.losses a.sending.max) (lawful a.sending.settings a.plan.now a.sending.losses a.sending.max) _ _ _ _ _ _ _ _ _
 
 pub returns : goal.returns
 returns g c =
     let a = c.args in
-    let input = g.S.Source.left a.input.now in
+    let input = g.S.Source.left a.ends.input.now in
     let source = c.of-source.result in
     let of = c.of-source.ensures in
     let answer = c.repair_sent-answer.result in
@@ -34,28 +34,28 @@ returns g c =
     let last : g.S.Source.left c.input-1.given.0 ≡ g.S.Source.left after.inner.now = first_of (search (rules), grind (arith)) in
     let same = same_stream _ _ sent.same in
     let limit = same_max _ _ sent.same ∙ of.max ∙ ap (λ (t : ThinningState). t.max) c.in-Ok.ensures in
-    let tells = drill_tells c.thinned_traces_are_traces.ensures.stream a.settings a.plan.now a.losses a.max answer input
+    let tells = drill_tells c.thinned_traces_are_traces.ensures.stream a.sending.settings a.plan.now a.sending.losses a.sending.max answer input
     (trace_left source) after.stream after.told after.fault c.requires.settings c.requires.inner max left (same ∙ of.stream) sent.tells in
-    let read = reads_of a.max answer after.stream input _ (same ∙ of.stream)
-    (drill_reads after.max a.max answer after.stream _ after.told after.fault limit tells c.into_inner-input.ensures.reads) in
+    let read = reads_of a.sending.max answer after.stream input _ (same ∙ of.stream)
+    (drill_reads after.max a.sending.max answer after.stream _ after.told after.fault limit tells c.into_inner-input.ensures.reads) in
     let rest : g.S.Source.left c.input-1.given.0 ≡ g.S.Source.left c.into_inner-input.result.now = first_of (search (rules), grind (arith)) in
-    rw c.why_of.ensures (drill_answered c.repairs_are_drills.ensures.exactly c.drills_come_back.ensures a.settings a.plan.now a.losses a.max answer
+    rw c.why_of.ensures (drill_answered c.repairs_are_drills.ensures.exactly c.drills_come_back.ensures a.sending.settings a.plan.now a.sending.losses a.sending.max answer
     c.requires.settings c.requires.plan c.requires.flow c.requires.losses max
-    (c.repairs_are_drills.ensures.whole a.settings a.plan.now a.losses a.max answer input _ _ _ _
+    (c.repairs_are_drills.ensures.whole a.sending.settings a.plan.now a.sending.losses a.sending.max answer input _ _ _ _
     c.requires.settings c.requires.inner max
-    (as_told a.plan.now answer _ _ _ _ source.settings.packets a.settings.packets source.max a.max source.stream input
-    (trace_left source) (trace_sent a.settings a.losses a.max input)
+    (as_told a.plan.now answer _ _ _ _ source.settings.packets a.sending.settings.packets source.max a.sending.max source.stream input
+    (trace_left source) (trace_sent a.sending.settings a.sending.losses a.sending.max input)
     (ap (λ (s : Settings). s.packets) (of.settings ∙ ap (λ (t : ThinningState). t.settings) c.in-Ok.ensures))
     (of.max ∙ ap (λ (t : ThinningState). t.max) c.in-Ok.ensures)
     of.stream left sent.whole))
     (subst (λ (o : Option (List ℕ)). IfSome (ending_of answer) (λ ending. LeavesNothing ending → IsAtEnd o)) (sym last) sent.all_read)
-    (subst (λ (o : Option (List ℕ)). IfSome input (λ bytes. IsStreamReadFor a.max (ending_of answer) bytes o)) (sym rest) read)
+    (subst (λ (o : Option (List ℕ)). IfSome input (λ bytes. IsStreamReadFor a.sending.max (ending_of answer) bytes o)) (sym rest) read)
     (λ fault. drills_part c.thinned_traces_are_traces.ensures.stream c.payloads_are_the_cut.ensures.cut
-    a.settings a.plan.now a.losses a.max input _ _ g.K.Sink.written _ _
+    a.sending.settings a.plan.now a.sending.losses a.sending.max input _ _ g.K.Sink.written _ _
     c.requires.settings c.requires.inner max
-    (part_as_told a.plan.now _ _ g.K.Sink.written _ _ (trace_left source) (trace_sent a.settings a.losses a.max input) left (sent.part fault)))
+    (part_as_told a.plan.now _ _ g.K.Sink.written _ _ (trace_left source) (trace_sent a.sending.settings a.sending.losses a.sending.max input) left (sent.part fault)))
     (λ fault. drill_stops c.thinned_traces_are_traces.ensures.stream c.payloads_are_the_cut.ensures.cut
-    a.settings a.plan.now a.losses a.max answer input _ _
+    a.sending.settings a.plan.now a.sending.losses a.sending.max answer input _ _
     c.requires.settings c.requires.inner max
-    (stops_as_told a.plan.now answer _ _ (trace_left source) (trace_sent a.settings a.losses a.max input) left (sent.stops fault)))
+    (stops_as_told a.plan.now answer _ _ (trace_left source) (trace_sent a.sending.settings a.sending.losses a.sending.max input) left (sent.stops fault)))
     (search rules))
