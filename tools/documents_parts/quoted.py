@@ -168,7 +168,7 @@ QUOTES = (
         (r"may be lost, and @ media records in", r"next ≤ slot \+ #"),
         (r"Behind a run of # the next", r"next ≤ slot \+ #")]),
     ("crates/fg_thin/proofs/FewLemmas.antt", [(r"of # media records in succession two", r"\(slot \+ #\)\) × \(list_any")]),
-    ("crates/fg_turn/src/tests/waking.rt", [
+    ("crates/fg_crew_tests/src/turn/waking.rt", [
         (r"lets # seats fall asleep and wants all back within # seconds", r"WAITERS: u32 = #;…for # seconds")]),
     ("crates/fg_shape/must-fail/a_product_of_102_accepted.edit", [(r"that limit accepts #", r"new: .*> # \{")]),
     ("crates/fg_report_tests/src/tests.rt", [

@@ -80,7 +80,8 @@ STATED = (
 
 # How documents state figures of benches, rounded as they like.
 MEASURED = (
-    ("proofs_processors", r"proofs took some # processor minutes"),
+    ("proving/first_command_clock", r"proofs took # minutes"),
+    ("proving/first_command_processors", r"# processor minutes on a virtual machine"),
     ("flows_1_lost_3_workers_4", r"one flow took # of the time without"),
     ("flows_4_lost_3_workers_4", r"of the time without workers, four took #,"),
     ("flows_16_lost_3_workers_4", r"four took [\d.]+, sixteen #"),
