@@ -1,8 +1,6 @@
 //! Desks that follow scripts: what comes, what the desk answers, and what its plays show.
 
-mod arriving;
 mod blocks;
-mod both;
 mod holds;
 mod plain;
 mod plays;

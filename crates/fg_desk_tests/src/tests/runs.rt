@@ -1,6 +1,6 @@
-//! A flow's run: what it shows, and the count of its replies.
+//! A flow's run, and the count of its replies.
 
-ghost use Rattle.std.specs.Prelude.{IsTrue};
+ghost use Rattle.std.specs.Prelude.{IsTrue, ◌≤◌};
 ghost use Rattle.std.specs.List.{All};
 ghost use Rattle.fg_plain.specs.Datagrams.{IsGiven};
 
@@ -8,60 +8,37 @@ use super::script::{sum_of, word_of};
 use fg_desk::{Outcome, Reply};
 use fg_plain::{Datagram, FlowRun, ShownPlay, run_flow};
 use fg_shape::{Kind, Shape};
-use std::alloc::{AllocError, Global};
+use std::alloc::Global;
+use std::process::Abort;
 use std::test::Fail;
 
-/// A datagram of a flow.
-#[derive(Clone, Copy)]
-enum Given {
-    /// Media: the time, the sequence number and the SSRC.
-    Media(u64, u16, u32),
-    /// A row of two: the time, and the sequence number of its base.
-    Row(u64, u16),
-    /// One that is refused: the time, and where it comes.
-    Refused(u64, Kind),
+fn media(seq: u16, ssrc: u32) -> Datagram {
+    media_at(0, seq, ssrc)
 }
 
-impl Given {
-    fn datagram(self) -> Datagram {
-        match self {
-            Given::Media(time, seq, ssrc) => Datagram::Media {
-                time,
-                seq,
-                ssrc,
-                word: word_of(u32::from(seq)),
-            },
-            Given::Row(time, base) => {
-                let shape = Shape { offset: 1, na: 2 };
-                Datagram::Parity {
-                    time,
-                    stream: Kind::Row,
-                    base,
-                    shape,
-                    word: sum_of(u32::from(base), shape),
-                }
-            }
-            Given::Refused(time, stream) => Datagram::Refused { time, stream },
-        }
+pub(super) fn media_at(time: u64, seq: u16, ssrc: u32) -> Datagram {
+    Datagram::Media {
+        time,
+        seq,
+        ssrc,
+        word: word_of(u32::from(seq)),
     }
 }
 
-/// A play that is wanted: its first position, how many it shows, which of them show no word, and which show
-/// a repaired one. The words have the positions' numbers.
-struct Wanted(u64, usize, u32, u32);
+/// A row of two.
+fn row(base: u16) -> Datagram {
+    row_at(0, base)
+}
 
-/// How many runs were begun, and how many words shown; of the media datagrams, how many were admitted, late and foreign; of the
-/// rows, how many are before the start of their run; and how many rows and columns were refused.
-type Counts = [u64; 8];
-
-/// Datagrams, which are run in windows of four with this depth and hold, and what comes of them. Plays are told where the numbers of
-/// words are those of positions.
-struct Flow {
-    depth: u32,
-    hold: u64,
-    given: &'static [Given],
-    plays: Option<&'static [Wanted]>,
-    counts: Counts,
+pub(super) fn row_at(time: u64, base: u16) -> Datagram {
+    let shape = Shape { offset: 1, na: 2 };
+    Datagram::Parity {
+        time,
+        stream: Kind::Row,
+        base,
+        shape,
+        word: sum_of(u32::from(base), shape),
+    }
 }
 
 fn are_given(datagrams: &[Datagram]) -> bool
@@ -75,45 +52,73 @@ fn are_given(datagrams: &[Datagram]) -> bool
     true
 }
 
-fn push_all(datagrams: &mut Vec<Datagram>, given: &[Given]) -> Result<(), AllocError> {
-    for given in given {
-        datagrams.push(given.datagram())?;
-    }
-    Ok(())
+/// The run of datagrams as readers give them, in windows of four.
+pub(super) fn run_of(
+    rt: &impl Abort,
+    alloc: Global,
+    depth: u32,
+    hold: u64,
+    datagrams: &[Datagram],
+) -> Result<FlowRun, Fail>
+    requires { (4 ≤ depth) × (depth ≤ 1000) }
+{
+    assert!(rt; are_given(datagrams) && datagrams.len() < 100);
+    Ok(run_flow(alloc, 4, depth, hold, datagrams)?)
 }
 
-fn datagrams_of(alloc: Global, given: &[Given]) -> Result<Vec<Datagram>, AllocError> {
-    let mut datagrams = Vec::new(alloc);
-    push_all(&mut datagrams, given)?;
-    Ok(datagrams)
-}
-
-fn is_wanted(play: &ShownPlay, want: &Wanted) -> bool {
-    let Wanted(first, count, missing, repaired) = *want;
+/// A play that shows so many positions, of which these are missing.
+fn shows(play: &ShownPlay, first: u64, count: usize, missing: u32) -> bool {
     if play.first != first || play.shown.len() != count || play.outcome != Outcome::Repaired {
         return false;
     }
-    for (i, shown) in play.shown.iter().enumerate() {
-        let i = (i % 32) as u32;
-        let is_missing = missing >> i & 1 == 1;
-        let right = match shown.word {
-            Some(word) => !is_missing && word.same(&word_of((first % 1000) as u32 + i)),
-            None => is_missing,
-        };
-        if !right || shown.repaired != (repaired >> i & 1 == 1) {
+    let mut rest = missing;
+    for shown in play.shown.iter() {
+        if shown.repaired || shown.word.is_none() != (rest % 2 == 1) {
             return false;
         }
+        rest /= 2;
     }
     true
 }
 
-fn are_wanted(plays: &[ShownPlay], want: &[Wanted]) -> bool {
-    for (play, want) in plays.iter().zip(want.iter()) {
-        if !is_wanted(play, want) {
-            return false;
-        }
-    }
-    plays.len() == want.len()
+/// How many datagrams of each kind came, of the replies that the test wants.
+fn counts(run: &FlowRun, datagrams: &[Datagram]) -> [u64; 4] {
+    [
+        run.count(datagrams, Kind::Media, Some(Reply::Admitted)),
+        run.count(datagrams, Kind::Media, Some(Reply::Late)),
+        run.count(datagrams, Kind::Row, None),
+        run.count(datagrams, Kind::Column, None),
+    ]
+}
+
+#[test]
+fn late_datagram(rt: HostRuntime) -> Result<(), Fail> {
+    // 4 plays 0 to 3, with a gap at 2. So 2 is late.
+    let datagrams = [
+        media(0, 0),
+        media(1, 0),
+        media(3, 0),
+        Datagram::Refused {
+            time: 0,
+            stream: Kind::Row,
+        },
+        media(4, 0),
+        media(2, 0),
+    ];
+    let run = run_of(&rt, rt.alloc(), 4, 0, &datagrams)?;
+    shows_all_but_a_late_one(&rt, &run, &datagrams)
+}
+
+fn shows_all_but_a_late_one(
+    rt: &impl Abort,
+    run: &FlowRun,
+    datagrams: &[Datagram],
+) -> Result<(), Fail> {
+    assert_eq!(rt; run.plays.len(), 2);
+    assert!(rt; shows(&run.plays[0], 0, 4, 0b0100));
+    assert!(rt; shows(&run.plays[1], 4, 1, 0));
+    assert!(rt; counts(run, datagrams) == [4, 1, 1, 0]);
+    Ok(())
 }
 
 /// How many words a run shows.
@@ -127,252 +132,42 @@ fn shown_words(run: &FlowRun) -> u64 {
     count
 }
 
-fn counts(run: &FlowRun, datagrams: &[Datagram]) -> Counts {
-    [
-        run.runs,
-        shown_words(run),
-        run.count(datagrams, Kind::Media, Some(Reply::Admitted)),
-        run.count(datagrams, Kind::Media, Some(Reply::Late)),
-        run.count(datagrams, Kind::Media, Some(Reply::Foreign)),
-        run.count(datagrams, Kind::Row, Some(Reply::BeforeStart)),
-        run.count(datagrams, Kind::Row, None),
-        run.count(datagrams, Kind::Column, None),
-    ]
+/// Datagrams are run. Wanted is how many runs of a sender they begin, how many words are shown, how many media
+/// datagrams are foreign, and how many rows lie before the start.
+fn restarts(
+    rt: &impl Abort,
+    alloc: Global,
+    datagrams: &[Datagram],
+    want: [u64; 4],
+) -> Result<(), Fail> {
+    let run = run_of(rt, alloc, 8, 0, datagrams)?;
+    let foreign = run.count(datagrams, Kind::Media, Some(Reply::Foreign));
+    let before = run.count(datagrams, Kind::Row, Some(Reply::BeforeStart));
+    assert!(rt; [run.runs, shown_words(&run), foreign, before] == want);
+    Ok(())
 }
-
-impl Flow {
-    /// Whether a run of its datagrams comes to this.
-    fn is_run(&self, run: &FlowRun, datagrams: &[Datagram]) -> bool {
-        let is_played = match self.plays {
-            Some(plays) => are_wanted(&run.plays, plays),
-            None => true,
-        };
-        is_played && counts(run, datagrams) == self.counts
-    }
-
-    /// Whether its datagrams, which are as readers give them, are run so.
-    fn runs(&self, alloc: Global, datagrams: &[Datagram]) -> Result<bool, AllocError> {
-        if self.depth < 4 || self.depth > 1000 || datagrams.len() >= 100 || !are_given(datagrams) {
-            return Ok(false);
-        }
-        let run = run_flow(alloc, 4, self.depth, self.hold, datagrams)?;
-        Ok(self.is_run(&run, datagrams))
-    }
-
-    fn is_met(&self, alloc: Global) -> Result<bool, AllocError> {
-        let datagrams = datagrams_of(alloc, self.given)?;
-        self.runs(alloc, &datagrams)
-    }
-}
-
-static FLOWS: [Flow; 15] = [
-    // 4 plays 0 to 3, with a gap at 2. So 2 is late.
-    Flow {
-        depth: 4,
-        hold: 0,
-        given: &[
-            Given::Media(0, 0, 0),
-            Given::Media(0, 1, 0),
-            Given::Media(0, 3, 0),
-            Given::Refused(0, Kind::Row),
-            Given::Media(0, 4, 0),
-            Given::Media(0, 2, 0),
-        ],
-        plays: Some(&[Wanted(0, 4, 0b0100, 0), Wanted(4, 1, 0, 0)]),
-        counts: [1, 4, 4, 1, 0, 0, 1, 0],
-    },
-    // It comes in time, and too late.
-    Flow {
-        depth: 8,
-        hold: 1000,
-        given: &[
-            Given::Media(0, 0, 0),
-            Given::Media(500, 1, 0),
-            Given::Media(900, 3, 0),
-            Given::Media(1500, 4, 0),
-            Given::Media(1600, 2, 0),
-        ],
-        plays: Some(&[Wanted(0, 2, 0, 0), Wanted(2, 3, 0, 0)]),
-        counts: [1, 5, 5, 0, 0, 0, 0, 0],
-    },
-    Flow {
-        depth: 8,
-        hold: 1000,
-        given: &[
-            Given::Media(0, 0, 0),
-            Given::Media(500, 1, 0),
-            Given::Media(900, 3, 0),
-            Given::Media(1500, 4, 0),
-            Given::Media(1900, 2, 0),
-        ],
-        plays: Some(&[
-            Wanted(0, 2, 0, 0),
-            Wanted(2, 2, 0b01, 0),
-            Wanted(4, 1, 0, 0),
-        ]),
-        counts: [1, 4, 4, 1, 0, 0, 0, 0],
-    },
-    Flow {
-        depth: 8,
-        hold: 0,
-        given: &[
-            Given::Media(0, 0, 0),
-            Given::Media(500, 1, 0),
-            Given::Media(900, 3, 0),
-            Given::Media(1500, 4, 0),
-            Given::Media(1900, 2, 0),
-        ],
-        plays: Some(&[Wanted(0, 4, 0, 0), Wanted(4, 1, 0, 0)]),
-        counts: [1, 5, 5, 0, 0, 0, 0, 0],
-    },
-    // Times that go back, that are one, and that are the greatest. Time and hold together may be past 64 bits.
-    Flow {
-        depth: 8,
-        hold: 1000,
-        given: &[
-            Given::Media(2000, 0, 0),
-            Given::Media(500, 1, 0),
-            Given::Media(2999, 2, 0),
-            Given::Media(3000, 3, 0),
-        ],
-        plays: Some(&[Wanted(0, 2, 0, 0), Wanted(2, 2, 0, 0)]),
-        counts: [1, 4, 4, 0, 0, 0, 0, 0],
-    },
-    Flow {
-        depth: 8,
-        hold: 1,
-        given: &[
-            Given::Media(5, 0, 0),
-            Given::Media(5, 1, 0),
-            Given::Media(5, 2, 0),
-        ],
-        plays: Some(&[Wanted(0, 3, 0, 0)]),
-        counts: [1, 3, 3, 0, 0, 0, 0, 0],
-    },
-    Flow {
-        depth: 8,
-        hold: 1,
-        given: &[
-            Given::Media(5, 0, 0),
-            Given::Media(5, 1, 0),
-            Given::Media(6, 2, 0),
-            Given::Media(7, 3, 0),
-        ],
-        plays: Some(&[Wanted(0, 2, 0, 0), Wanted(2, 1, 0, 0), Wanted(3, 1, 0, 0)]),
-        counts: [1, 4, 4, 0, 0, 0, 0, 0],
-    },
-    Flow {
-        depth: 8,
-        hold: u64::MAX,
-        given: &[
-            Given::Media(0, 0, 0),
-            Given::Media(1, 1, 0),
-            Given::Media(u64::MAX, 2, 0),
-        ],
-        plays: Some(&[Wanted(0, 1, 0, 0), Wanted(1, 2, 0, 0)]),
-        counts: [1, 3, 3, 0, 0, 0, 0, 0],
-    },
-    Flow {
-        depth: 8,
-        hold: 1,
-        given: &[Given::Media(u64::MAX, 0, 0), Given::Media(u64::MAX, 1, 0)],
-        plays: Some(&[Wanted(0, 2, 0, 0)]),
-        counts: [1, 2, 2, 0, 0, 0, 0, 0],
-    },
-    // More than a window is held.
-    Flow {
-        depth: 8,
-        hold: 1,
-        given: &[
-            Given::Media(0, 0, 0),
-            Given::Media(0, 6, 0),
-            Given::Media(1, 7, 0),
-        ],
-        plays: Some(&[
-            Wanted(0, 4, 0b1110, 0),
-            Wanted(4, 3, 0b011, 0),
-            Wanted(7, 1, 0, 0),
-        ]),
-        counts: [1, 3, 3, 0, 0, 0, 0, 0],
-    },
-    // What is refused tells its time. The row comes after the play of its first word, and gives the second.
-    Flow {
-        depth: 8,
-        hold: 1000,
-        given: &[
-            Given::Media(0, 0, 0),
-            Given::Media(0, 1, 0),
-            Given::Refused(1000, Kind::Column),
-            Given::Media(500, 2, 0),
-            Given::Row(2000, 2),
-        ],
-        plays: Some(&[Wanted(0, 2, 0, 0), Wanted(2, 1, 0, 0), Wanted(3, 1, 0, 0b1)]),
-        counts: [1, 4, 3, 0, 0, 0, 0, 1],
-    },
-    // A sender takes the place of another, and one that is back begins a run.
-    Flow {
-        depth: 8,
-        hold: 1000,
-        given: &[
-            Given::Media(0, 0, 1),
-            Given::Media(500, 1, 1),
-            Given::Media(600, 3, 1),
-            Given::Media(1500, 4, 2),
-        ],
-        plays: Some(&[
-            Wanted(0, 2, 0, 0),
-            Wanted(2, 2, 0b01, 0),
-            Wanted(4, 1, 0, 0),
-        ]),
-        counts: [2, 4, 4, 0, 0, 0, 0, 0],
-    },
-    Flow {
-        depth: 8,
-        hold: 0,
-        given: &[
-            Given::Media(0, 10, 1),
-            Given::Media(0, 11, 1),
-            Given::Media(0, 500, 2),
-            Given::Row(0, 499),
-            Given::Media(0, 501, 2),
-            Given::Media(0, 12, 1),
-            Given::Media(0, 502, 2),
-        ],
-        plays: None,
-        counts: [2, 5, 5, 0, 1, 1, 0, 0],
-    },
-    Flow {
-        depth: 8,
-        hold: 0,
-        given: &[
-            Given::Media(0, 10, 1),
-            Given::Media(0, 20, 2),
-            Given::Media(0, 30, 3),
-            Given::Media(0, 40, 1),
-        ],
-        plays: None,
-        counts: [4, 4, 4, 0, 0, 0, 0, 0],
-    },
-    Flow {
-        depth: 8,
-        hold: 0,
-        given: &[
-            Given::Media(0, 10, 1),
-            Given::Media(0, 20, 2),
-            Given::Media(0, 11, 1),
-            Given::Media(0, 21, 2),
-            Given::Media(0, 30, 3),
-            Given::Media(0, 40, 1),
-        ],
-        plays: None,
-        counts: [4, 5, 5, 0, 1, 0, 0, 0],
-    },
-];
 
 #[test]
-fn runs_of_flows(rt: HostRuntime) -> Result<(), Fail> {
-    for (i, flow) in FLOWS.iter().enumerate() {
-        assert!(rt; flow.is_met(rt.alloc())?, "flow {i}");
-    }
-    Ok(())
+fn senders_restart(rt: HostRuntime) -> Result<(), Fail> {
+    let one_restart = [
+        media(10, 1),
+        media(11, 1),
+        media(500, 2),
+        row(499),
+        media(501, 2),
+        media(12, 1),
+        media(502, 2),
+    ];
+    restarts(&rt, rt.alloc(), &one_restart, [2, 5, 1, 1])?;
+    let sender_again = [media(10, 1), media(20, 2), media(30, 3), media(40, 1)];
+    restarts(&rt, rt.alloc(), &sender_again, [4, 4, 0, 0])?;
+    let foreign_then_again = [
+        media(10, 1),
+        media(20, 2),
+        media(11, 1),
+        media(21, 2),
+        media(30, 3),
+        media(40, 1),
+    ];
+    restarts(&rt, rt.alloc(), &foreign_then_again, [4, 5, 1, 0])
 }

@@ -428,41 +428,40 @@ fn tells(desk: &Desk, step: Step) -> bool {
     }
 }
 
-/// A script of a desk, and how that plays: its window and depth, and how long a word may wait, or 0.
-pub(super) struct Script {
-    pub name: &'static str,
-    pub window: u32,
-    pub depth: u32,
-    pub hold: u64,
-    pub steps: &'static [Step],
+/// A desk follows a script.
+pub(super) fn follows(
+    rt: &impl Abort,
+    alloc: Global,
+    window: u32,
+    depth: u32,
+    script: &[Step],
+) -> Result<(), Fail> {
+    follows_within(rt, alloc, window, depth, 0, script)
 }
 
-/// A new desk follows a script.
-fn follows(rt: &impl Abort, alloc: Global, script: &Script) -> Result<(), Fail> {
-    let (window, depth) = (script.window, script.depth);
+/// A desk on which no word waits longer than this follows a script.
+pub(super) fn follows_within(
+    rt: &impl Abort,
+    alloc: Global,
+    window: u32,
+    depth: u32,
+    hold: u64,
+    script: &[Step],
+) -> Result<(), Fail> {
     assert!(rt; 1 <= window && window <= 100 && window <= depth && depth <= 1000);
-    let mut desk = Desk::new(alloc, window, depth, script.hold)?;
-    goes_on(rt, alloc, &mut desk, script.name, script.steps)
+    let mut desk = Desk::new(alloc, window, depth, hold)?;
+    goes_on(rt, alloc, &mut desk, script)
 }
 
-/// New desks follow the scripts.
-pub(super) fn follow(rt: &impl Abort, alloc: Global, scripts: &[Script]) -> Result<(), Fail> {
-    for script in scripts {
-        follows(rt, alloc, script)?;
-    }
-    Ok(())
-}
-
-/// A desk goes through the steps of a script.
-fn goes_on(
+/// A desk follows a script from here on.
+pub(super) fn goes_on(
     rt: &impl Abort,
     alloc: Global,
     desk: &mut Desk,
-    name: &str,
-    steps: &[Step],
+    script: &[Step],
 ) -> Result<(), Fail> {
-    for (i, step) in steps.iter().enumerate() {
-        assert!(rt; answers(desk, alloc, *step)?, "{name}: step {i}");
+    for (i, step) in script.iter().enumerate() {
+        assert!(rt; answers(desk, alloc, *step)?, "step {i}");
     }
     Ok(())
 }
