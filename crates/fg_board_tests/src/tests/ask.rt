@@ -5,7 +5,7 @@ ghost use Rattle.std.specs.Prelude.{◌≡◌, ◌≤◌};
 use super::admit;
 use super::scene::open;
 use super::script::{sum_of, word_of};
-use fg_board::{Admitter, Asked, Board, Key};
+use fg_board::{Admitter, Asked, Board, Key, Pass};
 use fg_shape::Shape;
 use std::alloc::{AllocError, Global};
 use std::sync::Wait;
@@ -45,19 +45,28 @@ fn is_row_of_four(answer: Asked) -> bool {
 }
 
 // Whether a pass is told the row.
+fn is_told(
+    wait: &impl Wait,
+    alloc: Global,
+    board: &Board,
+    admitter: &mut Admitter,
+    pass: &mut Pass,
+) -> Result<bool, AllocError>
+    requires turn { admitter.old.seat.turn ≡ board.now.name }
+    requires window { admitter.old.playout.window ≤ 100 }
+    requires pass { pass.old.turn ≡ board.now.name }
+{
+    match row_of_four(wait, alloc, board, admitter)? {
+        Some(key) => Ok(is_row_of_four(board.ask(wait, pass, key))),
+        None => Ok(false),
+    }
+}
+
+// Whether a pass of a new board is.
 fn row_is_told(wait: &impl Wait, alloc: Global) -> Result<bool, AllocError> {
     let (board, mut admitter) = open(alloc, 10, 40, 0)?;
     let mut pass = board.pass(&mut admitter);
-    let Some(key) = row_of_four(wait, alloc, &board, &mut admitter)? else {
-        return Ok(false);
-    };
-    let answer = board.ask(wait, &mut pass, key);
-    board.back(&mut admitter, pass);
-    if admitter.made() != 0 {
-        return Ok(false);
-    }
-    board.close(admitter);
-    Ok(is_row_of_four(answer))
+    is_told(wait, alloc, &board, &mut admitter, &mut pass)
 }
 
 #[test]

@@ -71,33 +71,10 @@ pub(super) enum Sight {
     Gone(u64, u64),
 }
 
-/// What a play shows: how many positions, which of them show no word, which show a repaired one, and
-/// which show the word with a bit flipped.
+/// What a play shows: its outcome, how many positions, which of them show no word, which show a repaired one, and which show the word
+/// with a bit flipped.
 #[derive(Clone, Copy)]
-pub(super) struct Shows {
-    pub outcome: Outcome,
-    pub count: u32,
-    pub missing: u128,
-    pub repaired: u128,
-    pub flipped: u128,
-}
-
-/// What a play shows, as `Shows` tells it.
-pub(super) fn to_show(
-    outcome: Outcome,
-    count: u32,
-    missing: u128,
-    repaired: u128,
-    flipped: u128,
-) -> Shows {
-    Shows {
-        outcome,
-        count,
-        missing,
-        repaired,
-        flipped,
-    }
-}
+pub(super) struct Shows(pub Outcome, pub u32, pub u128, pub u128, pub u128);
 
 /// A media word with this timestamp, of packets that say nothing.
 pub(super) fn stamped(timestamp: u32) -> Word {
@@ -201,16 +178,17 @@ fn seen(look: Look, number: u32) -> Option<Sight> {
 }
 
 /// Whether a play shows this, from the position 0 or a later one on.
-fn is_shown(done: Option<(Played, Tray)>, want: Shows) -> bool {
+fn is_shown(done: &Option<(Played, Tray)>, want: Shows) -> bool {
     let Some((played, tray)) = done else {
         return false;
     };
-    if played.count != want.count || played.verdict != want.outcome {
+    let Shows(outcome, count, ..) = want;
+    if played.count != count || played.verdict != outcome {
         return false;
     }
     let first = (played.first % u64::from(FLIPPED)) as u32;
     for i in 0..128u32 {
-        if !is_shown_at(&tray, i, first.wrapping_add(i) % FLIPPED, want) {
+        if !is_shown_at(tray, i, first.wrapping_add(i) % FLIPPED, want) {
             return false;
         }
     }
@@ -218,9 +196,9 @@ fn is_shown(done: Option<(Played, Tray)>, want: Shows) -> bool {
 }
 
 fn is_shown_at(tray: &Tray, i: u32, position: u32, want: Shows) -> bool {
-    let missing = i >= want.count || want.missing >> (i % 128) & 1 == 1;
-    let flipped = want.flipped >> (i % 128) & 1 == 1;
-    let number = if flipped {
+    let Shows(_, count, missing, repaired, flipped) = want;
+    let missing = i >= count || missing >> (i % 128) & 1 == 1;
+    let number = if flipped >> (i % 128) & 1 == 1 {
         position % FLIPPED + FLIPPED
     } else {
         position
@@ -229,7 +207,7 @@ fn is_shown_at(tray: &Tray, i: u32, position: u32, want: Shows) -> bool {
         Some(word) => !missing && word.same(&word_of(number)),
         None => missing,
     };
-    right && tray.repaired(i) == (want.repaired >> (i % 128) & 1 == 1)
+    right && tray.repaired(i) == (repaired >> (i % 128) & 1 == 1)
 }
 
 fn looks(scene: &mut Scene, wait: &impl Wait, who: Who, serial: usize, slot: u64) -> Option<Sight> {
@@ -237,22 +215,22 @@ fn looks(scene: &mut Scene, wait: &impl Wait, who: Who, serial: usize, slot: u64
     seen(look, (slot % u64::from(FLIPPED)) as u32)
 }
 
-/// Whether a held step shows this, or finds nothing where that is wanted.
-fn is_held(
+/// Whether a window shows this, or there is none where that is wanted.
+fn plays(
     scene: &mut Scene,
     wait: &impl Wait,
-    time: u64,
+    window: Window,
     want: Option<Shows>,
 ) -> Result<bool, AllocError> {
-    let done = scene.play(wait, Window::Held(time))?;
+    let done = scene.play(wait, window)?;
     Ok(match want {
-        Some(want) => is_shown(done, want),
+        Some(want) => is_shown(&done, want),
         None => done.is_none(),
     })
 }
 
-/// Whether a call of the admitter, or a look, answers as is wanted.
-fn answers(scene: &mut Scene, wait: &impl Wait, step: Step) -> Result<bool, AllocError> {
+/// Whether an admission is answered as is wanted.
+fn admits(scene: &mut Scene, wait: &impl Wait, step: Step) -> Result<bool, AllocError> {
     match step {
         Step::Media(seq, number, want) => {
             Ok(media_reply(scene, wait, seq, 0, number)? == Some(want))
@@ -261,18 +239,30 @@ fn answers(scene: &mut Scene, wait: &impl Wait, step: Step) -> Result<bool, Allo
             Ok(media_reply(scene, wait, seq, ssrc, number)? == Some(want))
         }
         Step::Run(seq, count, lost) => run_is_admitted(scene, wait, seq, count, lost),
-        Step::Block => block_is_admitted(scene, wait),
         Step::Parity(base, offset, na, number, want) => {
             let shape = Shape { offset, na };
             Ok(parity_reply(scene, wait, base, shape, number)? == Some(want))
         }
+        _ => block_is_admitted(scene, wait),
+    }
+}
+
+/// Whether a call is answered as is wanted.
+fn answers(scene: &mut Scene, wait: &impl Wait, step: Step) -> Result<bool, AllocError> {
+    match step {
+        Step::Media(..) | Step::From(..) | Step::Run(..) | Step::Block | Step::Parity(..) => {
+            admits(scene, wait, step)
+        }
         Step::Look(who, serial, slot, want) => {
             Ok(looks(scene, wait, who, serial, slot) == Some(want))
         }
-        Step::Play(seq, want) => Ok(is_shown(scene.play(wait, Window::Due(seq, 0))?, want)),
-        Step::Flush(want) => Ok(is_shown(scene.play(wait, Window::Rest)?, want)),
-        Step::Held(time, want) => is_held(scene, wait, time, want),
-        _ => Ok(passes(scene, wait, step) || is_brought(scene, wait, step)?),
+        Step::Play(seq, want) => plays(scene, wait, Window::Due(seq, 0), Some(want)),
+        Step::Flush(want) => plays(scene, wait, Window::Rest, Some(want)),
+        Step::Held(time, want) => plays(scene, wait, Window::Held(time), want),
+        Step::SkipDue(..) | Step::SkipRest(..) | Step::SkipHeld(..) => {
+            Ok(passes(scene, wait, step))
+        }
+        _ => is_brought(scene, wait, step),
     }
 }
 
@@ -306,26 +296,42 @@ fn is_brought(scene: &mut Scene, wait: &impl Wait, step: Step) -> Result<bool, A
     Ok(scene.bring(wait, who, way)? == Some(Brought { zero, back, fate }))
 }
 
-/// A new board follows a script, and ends. Its words may wait for ever.
-pub(super) fn follows(
-    rt: &(impl Abort + Wait),
-    alloc: Global,
-    script: &[Step],
-) -> Result<(), Fail> {
-    follows_with(rt, alloc, 0, script)
+/// A script of a board, on which words may wait for so many microseconds, or for ever.
+pub(super) struct Script {
+    pub name: &'static str,
+    pub hold: u64,
+    pub steps: &'static [Step],
 }
 
-/// As `follows`, where a word may wait for so many microseconds.
-pub(super) fn follows_with(
+/// A scene follows a script.
+fn goes_on(
+    rt: &(impl Abort + Wait),
+    scene: &mut Scene,
+    name: &str,
+    steps: &[Step],
+) -> Result<(), Fail> {
+    for (i, step) in steps.iter().enumerate() {
+        assert!(rt; answers(scene, rt, *step)?, "{name}: step {i}");
+    }
+    Ok(())
+}
+
+/// A new board follows a script, and ends.
+fn follows(rt: &(impl Abort + Wait), alloc: Global, script: &Script) -> Result<(), Fail> {
+    let mut scene = Scene::new(alloc, 100, 400, script.hold)?;
+    goes_on(rt, &mut scene, script.name, script.steps)?;
+    assert!(rt; scene.close());
+    Ok(())
+}
+
+/// New boards follow the scripts.
+pub(super) fn follow(
     rt: &(impl Abort + Wait),
     alloc: Global,
-    hold: u64,
-    script: &[Step],
+    scripts: &[Script],
 ) -> Result<(), Fail> {
-    let mut scene = Scene::new(alloc, 100, 400, hold)?;
-    for (i, step) in script.iter().enumerate() {
-        assert!(rt; answers(&mut scene, rt, *step)?, "step {i}");
+    for script in scripts {
+        follows(rt, alloc, script)?;
     }
-    assert!(rt; scene.close());
     Ok(())
 }

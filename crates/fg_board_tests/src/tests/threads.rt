@@ -96,18 +96,29 @@ fn parity_of(base: u16, offset: u8) -> Datagram {
 /// columns. One column of a matrix has none.
 fn flow(alloc: Global) -> Result<Vec<Datagram>, AllocError> {
     let mut all = Vec::new(alloc);
-    for number in 0..MATRICES.saturating_mul(25) {
-        if !is_lost(number) {
-            all.push(media_of(number))?;
-        }
-        if number % 5 == 4 {
-            all.push(parity_of(number.wrapping_sub(4), 1))?;
-        }
-        if number % 25 >= 21 {
-            all.push(parity_of(number.wrapping_sub(20), 5))?;
-        }
-    }
+    push_flow(&mut all)?;
     Ok(all)
+}
+
+fn push_flow(all: &mut Vec<Datagram>) -> Result<(), AllocError> {
+    for number in 0..MATRICES.saturating_mul(25) {
+        push_number(all, number)?;
+    }
+    Ok(())
+}
+
+/// Adds the media datagram of a number, and the parity that follows it.
+fn push_number(all: &mut Vec<Datagram>, number: u16) -> Result<(), AllocError> {
+    if !is_lost(number) {
+        all.push(media_of(number))?;
+    }
+    if number % 5 == 4 {
+        all.push(parity_of(number.wrapping_sub(4), 1))?;
+    }
+    if number % 25 >= 21 {
+        all.push(parity_of(number.wrapping_sub(20), 5))?;
+    }
+    Ok(())
 }
 
 // Plays such windows until there is none.
@@ -182,18 +193,17 @@ fn board_is_fed<R: Wait + Clock>(
     admitter: &mut Admitter,
     flow: &[Datagram],
     taken: &AtomicBool,
-) -> Result<Log, AllocError>
+    log: &mut Log,
+) -> Result<(), AllocError>
     requires turn { admitter.old.seat.turn ≡ board.now.name }
     requires window { admitter.old.playout.window ≤ 100 }
     ensures turn { admitter.new.seat.turn ≡ admitter.old.seat.turn }
 {
-    let mut log = Log::new(alloc);
     for datagram in flow {
-        board_takes(wait, alloc, board, admitter, datagram, &mut log)?;
+        board_takes(wait, alloc, board, admitter, datagram, log)?;
     }
     wait_for_a_take(wait, taken);
-    board_plays(wait, alloc, board, admitter, Window::Rest, &mut log)?;
-    Ok(log)
+    board_plays(wait, alloc, board, admitter, Window::Rest, log)
 }
 
 fn desk_plays(
@@ -227,15 +237,22 @@ fn desk_takes(
     Ok(())
 }
 
-/// The whole flow comes to a desk alone.
-fn desk_is_fed(alloc: Global, flow: &[Datagram]) -> Result<Log, AllocError> {
-    let mut desk = Desk::new(alloc, 10, 40, 0)?;
-    let mut log = Log::new(alloc);
+fn desk_takes_all(
+    desk: &mut Desk,
+    alloc: Global,
+    flow: &[Datagram],
+    log: &mut Log,
+) -> Result<(), AllocError> {
     for datagram in flow {
-        desk_takes(&mut desk, alloc, datagram, &mut log)?;
+        desk_takes(desk, alloc, datagram, log)?;
     }
-    desk_plays(&mut desk, alloc, Window::Rest, &mut log)?;
-    Ok(log)
+    desk_plays(desk, alloc, Window::Rest, log)
+}
+
+/// The whole flow comes to a desk alone.
+fn desk_is_fed(alloc: Global, flow: &[Datagram], log: &mut Log) -> Result<(), AllocError> {
+    let mut desk = Desk::new(alloc, 10, 40, 0)?;
+    desk_takes_all(&mut desk, alloc, flow, log)
 }
 
 // The admitter's thread. It tells the passes when it is done.
@@ -252,9 +269,10 @@ fn admitter_works<R: Wait + Clock>(
     requires window { admitter.playout.window ≤ 100 }
     ensures { result.0.seat.turn ≡ board.now.name }
 {
-    let log = board_is_fed(wait, alloc, board, &mut admitter, flow, taken);
+    let mut log = Log::new(alloc);
+    let fed = board_is_fed(wait, alloc, board, &mut admitter, flow, taken, &mut log);
     done.store(true, SeqCst);
-    (admitter, log)
+    (admitter, fed.map(|()| log))
 }
 
 // A job, where one is open, is done and brought. Where memory is short, it is done by nobody. Whether one was taken.
@@ -337,17 +355,23 @@ fn both_passes<R: Threads + Wait + Clock + Sync>(
     )
 }
 
-// The admitter and two passes are threads. What the admitter was answered, and whether some pass took a job.
-fn worked<R: Threads + Wait + Clock + Sync>(
+// The admitter and two passes of a new board are threads. What the admitter was answered.
+fn works<R: Threads + Wait + Clock + Sync>(
     rt: &R,
     alloc: Global,
+    board: Board,
+    mut admitter: Admitter,
     flow: &[Datagram],
-) -> Result<(Log, bool), AllocError> {
-    let (board, mut admitter) = open(alloc, 10, 40, 0)?;
+    taken: &AtomicBool,
+) -> Result<Log, AllocError>
+    requires turn { admitter.seat.turn ≡ board.name }
+    requires window { admitter.playout.window ≤ 100 }
+    requires room { (admitter.seat.made ≡ 0) × (board.seats ≡ 4) }
+{
     let one = pass_of(further_hand(&board, &mut admitter));
     let two = pass_of(further_hand(&board, &mut admitter));
-    let (done, taken) = (AtomicBool::new(false), AtomicBool::new(false));
-    let (shared, done, taken) = (&board, &done, &taken);
+    let done = AtomicBool::new(false);
+    let (shared, done) = (&board, &done);
     let ((mut admitter, log), (one, two)) = join(
         rt,
         move ||
@@ -364,7 +388,17 @@ fn worked<R: Threads + Wait + Clock + Sync>(
     if admitter.made() == 0 {
         board.close(admitter);
     }
-    Ok((log?, taken.load(SeqCst)))
+    log
+}
+
+fn worked<R: Threads + Wait + Clock + Sync>(
+    rt: &R,
+    alloc: Global,
+    flow: &[Datagram],
+    taken: &AtomicBool,
+) -> Result<Log, AllocError> {
+    let (board, admitter) = open(alloc, 10, 40, 0)?;
+    works(rt, alloc, board, admitter, flow, taken)
 }
 
 /// How many positions were shown with a word that was repaired, and how many without a word.
@@ -382,16 +416,32 @@ fn shown(log: &Log) -> (u32, u32) {
     (repaired, missing)
 }
 
+/// Whether the admitter of a board with passes is answered as a desk alone was, and some pass took a job.
+fn works_alike<R: Threads + Wait + Clock + Sync>(
+    rt: &R,
+    alloc: Global,
+    flow: &[Datagram],
+    alone: &Log,
+) -> Result<bool, AllocError> {
+    let taken = AtomicBool::new(false);
+    let shared = worked(rt, alloc, flow, &taken)?;
+    Ok(taken.load(SeqCst) && shared.replies.len() == flow.len() && shared.same(alone))
+}
+
+/// Whether a desk and a board come to the same. Ten matrices lose four words for good, and the others 128 words in all.
+fn come_to_the_same<R: Threads + Wait + Clock + Sync>(
+    rt: &R,
+    alloc: Global,
+    flow: &[Datagram],
+) -> Result<bool, AllocError> {
+    let mut alone = Log::new(alloc);
+    desk_is_fed(alloc, flow, &mut alone)?;
+    Ok(shown(&alone) == (128, 40) && works_alike(rt, alloc, flow, &alone)?)
+}
+
 #[test]
 fn admitter_and_passes_as_threads(rt: HostRuntime) -> Result<(), Fail> {
-    let alloc: Global = rt.alloc();
-    let flow = flow(alloc)?;
-    let alone = desk_is_fed(alloc, &flow)?;
-    let (shared, taken) = worked(&rt, alloc, &flow)?;
-    assert!(rt; taken);
-    assert_eq!(rt; shared.replies.len(), flow.len());
-    assert!(rt; shared.same(&alone));
-    // Ten matrices lose four words for good, and the others 128 words in all.
-    assert_eq!(rt; shown(&alone), (128, 40));
+    let flow = flow(rt.alloc())?;
+    assert!(rt; come_to_the_same(&rt, rt.alloc(), &flow)?);
     Ok(())
 }

@@ -23,18 +23,30 @@ fn two_passes(board: &Board, admitter: &mut Admitter) -> (Pass, Pass)
     (one, two)
 }
 
-// Whether two passes of an empty board are both given nothing, and both can be put back.
+// Whether two passes of an empty board are both given nothing.
+fn find_nothing(
+    wait: &impl Wait,
+    board: &Board,
+    one: &mut Pass,
+    two: &mut Pass,
+) -> Result<bool, AllocError>
+    requires turn { (one.old.turn ≡ board.now.name) × (two.old.turn ≡ board.now.name) }
+    ensures turn { (one.new.turn ≡ board.now.name) × (two.new.turn ≡ board.now.name) }
+{
+    Ok(board.take(wait, one)?.is_none() && board.take(wait, two)?.is_none())
+}
+
+// Whether they are, and both can be put back.
 fn both_find_nothing(wait: &impl Wait, alloc: Global) -> Result<bool, AllocError> {
     let (board, mut admitter) = open(alloc, 10, 40, 0)?;
     let (mut one, mut two) = two_passes(&board, &mut admitter);
-    let none = board.take(wait, &mut one)?.is_none() && board.take(wait, &mut two)?.is_none();
+    let found = find_nothing(wait, &board, &mut one, &mut two);
     board.back(&mut admitter, two);
     board.back(&mut admitter, one);
-    if admitter.made() != 0 {
-        return Ok(false);
+    if admitter.made() == 0 {
+        board.close(admitter);
     }
-    board.close(admitter);
-    Ok(none)
+    found
 }
 
 #[test]
