@@ -83,9 +83,10 @@ fn flows_play_beside_one_that_is_held(rt: HostRuntime) -> Result<(), Fail> {
     Ok(())
 }
 
-/// A repair of media datagrams on some flows in turn, of whose outside calls fail.
+/// Repairs of media datagrams on some flows in turn, of whose outside calls fail.
 struct Scene {
-    line: &'static str,
+    /// The command lines, which come to the same.
+    lines: &'static [&'static str],
     flows: &'static [u16],
     /// The number of the first datagram of each flow, and how many there are.
     first: u16,
@@ -104,6 +105,7 @@ impl Scene {
         &self,
         rt: &W,
         alloc: Global,
+        line: &str,
         bytes: &[u8],
         calls: &[u64],
         counts: &[Option<u16>],
@@ -113,13 +115,7 @@ impl Scene {
             lane: 100_000,
             ..PLAIN
         };
-        let ran = run_line(
-            rt,
-            alloc,
-            &self.part.failing(roomy, calls),
-            self.line,
-            bytes,
-        )?;
+        let ran = run_line(rt, alloc, &self.part.failing(roomy, calls), line, bytes)?;
         Ok(
             ran.ended.status == self.part.status()
                 && ran.outside.out.bytes().is_empty()
@@ -132,10 +128,11 @@ impl Scene {
         &self,
         rt: &W,
         alloc: Global,
+        line: &str,
         bytes: &[u8],
     ) -> Result<bool, AllocError> {
         for (calls, counts) in self.left {
-            if !self.is_left(rt, alloc, bytes, calls, counts)? {
+            if !self.is_left(rt, alloc, line, bytes, calls, counts)? {
                 return Ok(false);
             }
         }
@@ -144,7 +141,12 @@ impl Scene {
 
     fn is_met<W: Threads + Wait + Sync>(&self, rt: &W, alloc: Global) -> Result<bool, AllocError> {
         let bytes = in_turn(alloc, self.flows, self.first, self.count)?;
-        self.are_left(rt, alloc, &bytes)
+        for line in self.lines {
+            if !self.are_left(rt, alloc, line, &bytes)? {
+                return Ok(false);
+            }
+        }
+        Ok(true)
     }
 }
 
@@ -154,7 +156,7 @@ const THREE_FLOWS: &str = "repair flow=5000 flow=5010 flow=5020 window=4 depth=4
 static PUTS: [Scene; 2] = [
     // The whole trace is one batch.
     Scene {
-        line: "repair flow=5000 flow=5010 window=4 depth=4 workers=1",
+        lines: &["repair flow=5000 flow=5010 window=4 depth=4 workers=1"],
         flows: &[5000, 5010],
         first: 10,
         count: 5,
@@ -175,7 +177,7 @@ static PUTS: [Scene; 2] = [
     // Reads of 100,000 bytes make batches of 74, 75 and 31 records of 1,340 bytes, in turn of the flows. Puts to the second of three
     // lanes fail.
     Scene {
-        line: THREE_FLOWS,
+        lines: &[THREE_FLOWS],
         flows: &[5000, 5010, 5020],
         first: 0,
         count: 60,
@@ -200,50 +202,38 @@ fn puts_that_fail_leave_the_first_flows_ahead(rt: HostRuntime) -> Result<(), Fai
     Ok(())
 }
 
-// A read gives 5,000 bytes, and a record has 1,340. Before the fifth read 14 are whole, and before the sixth 18. The lanes have what
-// these show, with workers and without.
-static READS: [Scene; 4] = [
+/// A read gives 5,000 bytes, and a record has 1,340. Before the fifth read 14 are whole, and before the sixth 18.
+const A_READ_FAILS: Scene = Scene {
+    lines: &[],
+    flows: &[5000],
+    first: 0,
+    count: 20,
+    piece: 5_000,
+    part: Part::Input,
+    left: &[],
+};
+
+// The lanes have what the whole records show, with workers and without.
+static READS: [Scene; 2] = [
     Scene {
-        line: "repair flow=5000 window=4 depth=4 workers=0",
-        flows: &[5000],
-        first: 0,
-        count: 20,
-        piece: 5_000,
-        part: Part::Input,
+        lines: &[
+            "repair flow=5000 window=4 depth=4 workers=0",
+            "repair flow=5000 window=4 depth=4 workers=2",
+        ],
         left: &[(&[4], &[Some(12)]), (&[5], &[Some(16)])],
+        ..A_READ_FAILS
     },
     Scene {
-        line: "repair flow=5000 window=4 depth=4 workers=2",
-        flows: &[5000],
-        first: 0,
-        count: 20,
-        piece: 5_000,
-        part: Part::Input,
-        left: &[(&[4], &[Some(12)]), (&[5], &[Some(16)])],
-    },
-    Scene {
-        line: "repair flow=5000 flow=5010 flow=5020 window=4 depth=4 workers=0",
+        lines: &[
+            "repair flow=5000 flow=5010 flow=5020 window=4 depth=4 workers=0",
+            THREE_FLOWS,
+        ],
         flows: &[5000, 5010, 5020],
-        first: 0,
-        count: 20,
-        piece: 5_000,
-        part: Part::Input,
         left: &[
             (&[4], &[Some(4), Some(4), Some(0)]),
             (&[5], &[Some(4), Some(4), Some(4)]),
         ],
-    },
-    Scene {
-        line: "repair flow=5000 flow=5010 flow=5020 window=4 depth=4 workers=2",
-        flows: &[5000, 5010, 5020],
-        first: 0,
-        count: 20,
-        piece: 5_000,
-        part: Part::Input,
-        left: &[
-            (&[4], &[Some(4), Some(4), Some(0)]),
-            (&[5], &[Some(4), Some(4), Some(4)]),
-        ],
+        ..A_READ_FAILS
     },
 ];
 

@@ -162,6 +162,19 @@ other 0
 ";
 
 /// Whether the bytes come to this beside two workers, whom the gate holds.
+pub(super) fn come_to<W: Threads + Wait + Sync, G: Gate>(
+    rt: &W,
+    alloc: Global,
+    bytes: &[u8],
+    report: &str,
+    gate: &G,
+) -> Result<bool, AllocError> {
+    let line = "repair flow=5000 workers=2";
+    let ran = run_gated(rt, alloc, &PLAIN, line, bytes, gate)?;
+    Ok(is_block(&ran, report))
+}
+
+/// Whether they do where each equation is settled before a play.
 fn is_settled<W: Threads + Wait + Sync>(
     rt: &W,
     alloc: Global,
@@ -169,34 +182,14 @@ fn is_settled<W: Threads + Wait + Sync>(
     report: &str,
 ) -> Result<bool, AllocError> {
     let gate = Settling(Counts::new(rt));
-    let ran = run_gated(
-        rt,
-        alloc,
-        &PLAIN,
-        "repair flow=5000 workers=2",
-        bytes,
-        &gate,
-    )?;
-    Ok(is_block(&ran, report) && gate.0.all_met())
+    Ok(come_to(rt, alloc, bytes, report, &gate)? && gate.0.all_met())
 }
 
-/// Whether the bytes come to this where a worker settles last of all.
-fn is_outlasted<W: Threads + Wait + Sync>(
-    rt: &W,
-    alloc: Global,
-    bytes: &[u8],
-    report: &str,
-) -> Result<bool, AllocError> {
+/// Whether the block comes to this where a worker settles last of all.
+fn is_outlasted<W: Threads + Wait + Sync>(rt: &W, alloc: Global) -> Result<bool, AllocError> {
+    let bytes = trace(alloc, &BLOCK, &[1, 7])?;
     let gate = Outlasting(Counts::new(rt));
-    let ran = run_gated(
-        rt,
-        alloc,
-        &PLAIN,
-        "repair flow=5000 workers=2",
-        bytes,
-        &gate,
-    )?;
-    Ok(is_block(&ran, report) && gate.0.all_met())
+    Ok(come_to(rt, alloc, &bytes, TWO_REPAIRED, &gate)? && gate.0.all_met())
 }
 
 // The block lacks its datagrams 1 and 6, which its parity gives.
@@ -209,8 +202,7 @@ fn workers_settle_before_a_play(rt: HostRuntime) -> Result<(), Fail> {
 
 #[test]
 fn a_worker_settles_after_its_flow_has_ended(rt: HostRuntime) -> Result<(), Fail> {
-    let bytes = trace(rt.alloc(), &BLOCK, &[1, 7])?;
-    assert!(rt; is_outlasted(&rt, rt.alloc(), &bytes, TWO_REPAIRED)?);
+    assert!(rt; is_outlasted(&rt, rt.alloc())?);
     Ok(())
 }
 

@@ -1,4 +1,5 @@
 //! Threads that a gate holds at one of its points.
+use super::gates::come_to;
 use super::*;
 use std::sync::atomic::{AtomicU64, Ordering};
 use std::time::Duration;
@@ -48,15 +49,8 @@ fn is_unchanged<W: Threads + Wait + Sync>(
         held: AtomicU64::new(0),
         clock: AtomicU64::new(0),
     };
-    let ran = run_gated(
-        rt,
-        alloc,
-        &PLAIN,
-        "repair flow=5000 workers=2",
-        bytes,
-        &gate,
-    )?;
-    Ok(is_block(&ran, TWO_REPAIRED) && gate.held.load(Ordering::SeqCst) >= least)
+    let came = come_to(rt, alloc, bytes, TWO_REPAIRED, &gate)?;
+    Ok(came && gate.held.load(Ordering::SeqCst) >= least)
 }
 
 // The block lacks its datagrams 1 and 6, which its parity gives.
