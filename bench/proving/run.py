@@ -36,9 +36,11 @@ def spent(command, folder):
 
 
 def gate():
-    """The gate from nothing. Some kits keep what passed, and are told not to use it; others keep nothing."""
+    """The gate from nothing, with as many proofs at once as `.ci/run` allows. Some kits keep what passed, and are told not to use it."""
     told = subprocess.run(["rt", "help"], capture_output=True, text=True)
-    return "rt ci --anew" if "--anew" in told.stdout + told.stderr else "rt ci"
+    memory = next(int(it.split()[1]) for it in open("/proc/meminfo") if it.startswith("MemAvailable")) // 5_000_000
+    lanes = max(1, min(len(os.sched_getaffinity(0)), memory))
+    return f"RT_JOBS={lanes} rt ci {'--anew' if '--anew' in told.stdout + told.stderr else ''}"
 
 
 def unit(room):
