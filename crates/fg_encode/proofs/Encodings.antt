@@ -22,8 +22,8 @@ use Rattle.fg_encode.specs.Encoding.{encoding, records_at}
 use Rattle.fg_encode.specs.Laws.{OneMoreAdds}
 use Rattle.fg_encode.specs.Reading.{ReadsAsFar, ReadsLittle}
 use Rattle.fg_encode.specs.Stream.{payload_of, AreFirst, StreamEnding, IsCut, OneCut}
-use Rattle.fg_encode.specs.StreamReader.{StreamState, StandsAfter, Walks, IsPlaced}
-use Rattle.fg_encode.proofs.ReadLemmas.{any_ending_to, read_so_far}
+use Rattle.fg_encode.specs.StreamReader.{StreamState, StandsAfter, Walks, IsPlaced, new_reader}
+use Rattle.fg_encode.proofs.ReadLemmas.{any_ending_to, read_so_far, unread_to}
 use Rattle.fg_encode.proofs.CutLemmas.{refused}
 
 -- The first payloads, and all
@@ -112,6 +112,19 @@ within_limit reader next encoder payloads payload count placed packets goes stay
     omega (arith, at, size, step, within, max, limit)
 
 -- Where an encoding stands
+
+-- before the first payload
+pub new_here : (work : Encoding) (reader : StreamState) (first : Option (List ℕ)) (settings : Settings) (max : ℕ) → max ≤ 2 ^ 40 → reader ≡ new_reader settings.packets max → StandsAfter reader first first []
+    → work.encoder.settings ≡ settings → HasTaken work.encoder [] → work.trace ≡ [] → IsNew work reader first first
+new_here work reader first settings max limit new stands same taken trace = record {
+  stands = stands;
+  read = unread_to reader.max first;
+  untold = ap (λ (t : StreamState). t.kept) new;
+  limit = subst (λ (t : StreamState). t.max ≤ 2 ^ 40) (sym new) limit;
+  packets = ap (λ (s : Settings). s.packets) same ∙ sym (ap (λ (t : StreamState). t.packets) new);
+  taken = taken;
+  trace = trace;
+}
 
 -- the magic was added
 sent_first : (trace next : List ℕ) (before after : Option (List ℕ)) → trace ≡ [] → Sent before (trace ++ magic) next after → Sent before magic next after

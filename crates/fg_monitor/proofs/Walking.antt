@@ -161,13 +161,13 @@ begun max (Some bytes) = record {
   ending = tt;
 }
 
-pub new_here : (monitoring : Monitoring) (input : InputState) (first : Option (List ℕ)) → input.max ≤ 2 ^ 40 → input ≡ new_input input.max 188 65536 → HasSeen monitoring.monitor [] → monitoring.lines.held ≡ [] → monitoring.lines.faults ≡ 0
+pub new_here : (monitoring : Monitoring) (input : InputState) (first : Option (List ℕ)) (max : ℕ) → max ≤ 2 ^ 40 → input ≡ new_input max 188 65536 → HasSeen monitoring.monitor [] → monitoring.lines.held ≡ [] → monitoring.lines.faults ≡ 0
     → IsNew monitoring input first first
-new_here monitoring input first limit new seen held faults = λ written.
-    let buffer : IsBuffer (new_input input.max 188 65536) = record { longest = refl; small = omega arith; limit = limit; within = omega arith } in
+new_here monitoring input first max limit new seen held faults = λ written.
+    let buffer : IsBuffer (new_input max 188 65536) = record { longest = refl; small = omega arith; limit = limit; within = omega arith } in
     record {
       packets = [];
-      stands = subst (λ (t : InputState). StandsAfter (reader_of t) first first []) (sym new) (begun input.max first);
+      stands = subst (λ (t : InputState). StandsAfter (reader_of t) first first []) (sym new) (begun max first);
       buffer = subst IsBuffer (sym new) buffer;
       seen = seen;
       told = nothing_told monitoring.lines written held faults;

@@ -1,104 +1,34 @@
-use Rattle.std.proofs.Common.{◌≡◌, ◌≤◌, ◌^◌, ◌∙◌, ap, subst, sym}
+use Rattle.std.proofs.Common.{◌≡◌, ap}
 use Rattle.std.proofs.lemmas.Result.{IfOk-weaker}
 use Rattle.fg_io.proofs.FaultLemmas.{err_more}
-use Rattle.fg_shape.specs.declared.encoding.Settings.{Settings}
-use Rattle.fg_encode.specs.EncodeSteps.{IsNew}
 use Rattle.fg_encode.specs.StreamReader.{StreamState}
-use Rattle.fg_encode.proofs.Encodings.{breaks_as, encoded_as}
-use Rattle.fg_encode.proofs.ReadLemmas.{read_of, unread_to}
+use Rattle.fg_encode.proofs.Encodings.{breaks_as, encoded_as, new_here}
+use Rattle.fg_encode.proofs.ReadLemmas.{read_of}
 use Rattle.fg_encode.proofs.encoding.encode.Goals as goal
 
 pub walk-requires : goal.walk-requires
 walk-requires g c =
-    let reader = c.in_ok-reader.reader in
-    let work = c.in_ok-encoding.encoding in
+    let reader = c.in_ok-reader.ensures in
+    let work = c.in_ok-encoding.ensures in
     let left = g.S.Source.left c.args.input.now in
-    let begun = c.in_ok-reader.ensures.new in
-    let max : reader.max ≡ c.args.max = ap (λ (t : StreamState). t.max) begun in
-    let new : IsNew work reader left left = record {
-      stands = c.in_ok-reader.ensures.stands left;
-      read = unread_to reader.max left;
-      untold = ap (λ (t : StreamState). t.kept) begun;
-      limit = subst (λ n. n ≤ 2 ^ 40) (sym max) c.requires.limit;
-      packets = ap (λ (s : Settings). s.packets) c.in_ok-encoding.ensures.settings ∙ sym (ap (λ (t : StreamState). t.packets) begun);
-      taken = c.in_ok-encoding.ensures.taken;
-      trace = c.in_ok-encoding.ensures.trace;
-    } in
-    (left, new)
+    (left, new_here c.in_ok-encoding.encoding c.in_ok-reader.reader left c.args.settings.now c.args.max c.requires.limit reader.new (reader.stands left) work.settings work.taken work.trace)
 
-pub returns-clause-whole : goal.returns-clause-whole
-returns-clause-whole g c =
-    let reader = c.in_ok-reader.reader in
-    let work = c.in_ok-encoding.encoding in
+pub returns : goal.returns
+returns g c =
+    let reader = c.in_ok-reader.ensures in
+    let work = c.in_ok-encoding.ensures in
+    let found = c.in_ok-encoding.encoding.encoder.settings in
+    let limit = c.in_ok-reader.reader.max in
     let left = g.S.Source.left c.args.input.now in
-    let begun = c.in_ok-reader.ensures.new in
-    let max : reader.max ≡ c.args.max = ap (λ (t : StreamState). t.max) begun in
-    let new : IsNew work reader left left = record {
-      stands = c.in_ok-reader.ensures.stands left;
-      read = unread_to reader.max left;
-      untold = ap (λ (t : StreamState). t.kept) begun;
-      limit = subst (λ n. n ≤ 2 ^ 40) (sym max) c.requires.limit;
-      packets = ap (λ (s : Settings). s.packets) c.in_ok-encoding.ensures.settings ∙ sym (ap (λ (t : StreamState). t.packets) begun);
-      taken = c.in_ok-encoding.ensures.taken;
-      trace = c.in_ok-encoding.ensures.trace;
-    } in
-    let all = encoded_as work.encoder.settings c.args.settings.now reader.max c.args.max c.walk.result left _ _ _ c.in_ok-encoding.ensures.settings max (IfOk-weaker c.walk.result _ _ (λ ending h. h left new) c.walk.ensures.whole) in
-    IfOk-weaker c.walk.result _ _ (λ ending h. h.encodes) all
-
-pub returns-clause-all_read : goal.returns-clause-all_read
-returns-clause-all_read g c =
-    let reader = c.in_ok-reader.reader in
-    let work = c.in_ok-encoding.encoding in
-    let left = g.S.Source.left c.args.input.now in
-    let begun = c.in_ok-reader.ensures.new in
-    let max : reader.max ≡ c.args.max = ap (λ (t : StreamState). t.max) begun in
-    let new : IsNew work reader left left = record {
-      stands = c.in_ok-reader.ensures.stands left;
-      read = unread_to reader.max left;
-      untold = ap (λ (t : StreamState). t.kept) begun;
-      limit = subst (λ n. n ≤ 2 ^ 40) (sym max) c.requires.limit;
-      packets = ap (λ (s : Settings). s.packets) c.in_ok-encoding.ensures.settings ∙ sym (ap (λ (t : StreamState). t.packets) begun);
-      taken = c.in_ok-encoding.ensures.taken;
-      trace = c.in_ok-encoding.ensures.trace;
-    } in
-    let all = encoded_as work.encoder.settings c.args.settings.now reader.max c.args.max c.walk.result left _ _ _ c.in_ok-encoding.ensures.settings max (IfOk-weaker c.walk.result _ _ (λ ending h. h left new) c.walk.ensures.whole) in
-    IfOk-weaker c.walk.result _ _ (λ ending h. h.at_end) all
-
-pub returns-clause-reads : goal.returns-clause-reads
-returns-clause-reads g c =
-    let reader = c.in_ok-reader.reader in
-    let work = c.in_ok-encoding.encoding in
-    let left = g.S.Source.left c.args.input.now in
-    let begun = c.in_ok-reader.ensures.new in
-    let max : reader.max ≡ c.args.max = ap (λ (t : StreamState). t.max) begun in
-    let new : IsNew work reader left left = record {
-      stands = c.in_ok-reader.ensures.stands left;
-      read = unread_to reader.max left;
-      untold = ap (λ (t : StreamState). t.kept) begun;
-      limit = subst (λ n. n ≤ 2 ^ 40) (sym max) c.requires.limit;
-      packets = ap (λ (s : Settings). s.packets) c.in_ok-encoding.ensures.settings ∙ sym (ap (λ (t : StreamState). t.packets) begun);
-      taken = c.in_ok-encoding.ensures.taken;
-      trace = c.in_ok-encoding.ensures.trace;
-    } in
-    let all = encoded_as work.encoder.settings c.args.settings.now reader.max c.args.max c.walk.result left _ _ _ c.in_ok-encoding.ensures.settings max (IfOk-weaker c.walk.result _ _ (λ ending h. h left new) c.walk.ensures.whole) in
-    let broken = breaks_as work.encoder.settings c.args.settings.now reader.max c.args.max c.walk.result left _ _ _ c.in_ok-encoding.ensures.settings max (err_more c.walk.result _ _ (λ h. h left new) c.walk.ensures.part) in
-    read_of c.args.max c.walk.result left _ (IfOk-weaker c.walk.result _ _ (λ ending h. h.read) all) (err_more c.walk.result _ _ (λ h. h.1) broken)
-
-pub returns-clause-part : goal.returns-clause-part
-returns-clause-part g c =
-    let reader = c.in_ok-reader.reader in
-    let work = c.in_ok-encoding.encoding in
-    let left = g.S.Source.left c.args.input.now in
-    let begun = c.in_ok-reader.ensures.new in
-    let max : reader.max ≡ c.args.max = ap (λ (t : StreamState). t.max) begun in
-    let new : IsNew work reader left left = record {
-      stands = c.in_ok-reader.ensures.stands left;
-      read = unread_to reader.max left;
-      untold = ap (λ (t : StreamState). t.kept) begun;
-      limit = subst (λ n. n ≤ 2 ^ 40) (sym max) c.requires.limit;
-      packets = ap (λ (s : Settings). s.packets) c.in_ok-encoding.ensures.settings ∙ sym (ap (λ (t : StreamState). t.packets) begun);
-      taken = c.in_ok-encoding.ensures.taken;
-      trace = c.in_ok-encoding.ensures.trace;
-    } in
-    let broken = breaks_as work.encoder.settings c.args.settings.now reader.max c.args.max c.walk.result left _ _ _ c.in_ok-encoding.ensures.settings max (err_more c.walk.result _ _ (λ h. h left new) c.walk.ensures.part) in
-    err_more c.walk.result _ _ (λ h. h.0) broken
+    let max : limit ≡ c.args.max = ap (λ (t : StreamState). t.max) reader.new in
+    let new = new_here c.in_ok-encoding.encoding c.in_ok-reader.reader left c.args.settings.now c.args.max c.requires.limit reader.new (reader.stands left) work.settings work.taken work.trace in
+    let all = encoded_as found c.args.settings.now limit c.args.max c.walk.result left _ _ _ work.settings max (IfOk-weaker c.walk.result _ _ (λ ending h. h left new) c.walk.ensures.whole) in
+    let broken = breaks_as found c.args.settings.now limit c.args.max c.walk.result left _ _ _ work.settings max (err_more c.walk.result _ _ (λ h. h left new) c.walk.ensures.part) in
+    record {
+      whole = IfOk-weaker c.walk.result _ _ (λ ending h. h.encodes) all;
+      all_read = IfOk-weaker c.walk.result _ _ (λ ending h. h.at_end) all;
+      reads = read_of c.args.max c.walk.result left _ (IfOk-weaker c.walk.result _ _ (λ ending h. h.read) all) (err_more c.walk.result _ _ (λ h. h.1) broken);
+      part = err_more c.walk.result _ _ (λ h. h.0) broken;
+      faults = c.walk.ensures.faults;
+      fixed = c.walk.ensures.fixed;
+    }
