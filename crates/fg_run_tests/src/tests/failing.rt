@@ -96,30 +96,32 @@ impl Work {
     }
 }
 
-// The trace has 25,580 bytes, so 26 pieces, and a read gives nothing. Without workers the records are taken one by one, and with
-// some in batches.
+/// The trace has 25,580 bytes, so 26 pieces, and a read gives nothing. The lane is made, and then put to.
+const A_REPAIR: Work = Work {
+    line: "repair flow=5000",
+    head: 0,
+    least: [(Part::Input, 27), (Part::Out, 1), (Part::Lanes, 2)],
+};
+
+/// No lane is made.
+const AN_INSPECTION: Work = Work {
+    line: "inspect flow=5000",
+    least: [(Part::Input, 27), (Part::Out, 1), (Part::Lanes, 0)],
+    ..A_REPAIR
+};
+
+// Without workers the records are taken one by one, and with some in batches.
 static OVER_A_TRACE: [Work; 4] = [
-    // The lane is made, and then put to.
-    Work {
-        line: "repair flow=5000",
-        head: 0,
-        least: [(Part::Input, 27), (Part::Out, 1), (Part::Lanes, 2)],
-    },
+    A_REPAIR,
     Work {
         line: "repair flow=5000 workers=0",
-        head: 0,
-        least: [(Part::Input, 27), (Part::Out, 1), (Part::Lanes, 2)],
+        ..A_REPAIR
     },
-    Work {
-        line: "inspect flow=5000",
-        head: 0,
-        least: [(Part::Input, 27), (Part::Out, 1), (Part::Lanes, 0)],
-    },
+    AN_INSPECTION,
     // Each datagram is played alone, so that four cases are written.
     Work {
         line: "prove flow=5000 window=1 depth=1",
-        head: 0,
-        least: [(Part::Input, 27), (Part::Out, 1), (Part::Lanes, 0)],
+        ..AN_INSPECTION
     },
 ];
 
