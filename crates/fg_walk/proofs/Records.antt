@@ -11,7 +11,7 @@ use Rattle.fg_trace.specs.declared.step.TraceFault.{TraceFault}
 use Rattle.fg_trace.specs.Finish.{ReadsAll, finish_after, finish_of}
 use Rattle.fg_trace.specs.Laws.{AfterIsReadFor, OneTrace, WalksTheFront}
 use Rattle.fg_trace.specs.Reached.{IsReadTo}
-use Rattle.fg_trace.specs.Reader.{Answer, ReaderState, StandsAfter, Walks}
+use Rattle.fg_trace.specs.Reader.{Answer, ReaderState, StandsAfter, Walks, new_reader}
 use Rattle.fg_trace.specs.Reading.{HasReached, ReachesFor}
 use Rattle.fg_trace.specs.Trace.{Record, Ending, IsTrace, NotTrace, trace_of}
 use Rattle.fg_trace.proofs.Opening.{few_spelled, stands_still}
@@ -92,6 +92,16 @@ walked_none Whole telling first found max place written same h told = record {
 }
 
 -- From the first record
+
+-- a reader that was made with this limit stands behind the magic once its start has found it
+pub opened_at : (max : ℕ) (made reader : ReaderState) (first now : Option (List ℕ)) → made ≡ new_reader max → max ≤ 2 ^ 40 → reader.max ≡ made.max → reader.kept ≡ made.kept → reader.place + length reader.held ≤ reader.max + 1 → StandsAfter reader first now []
+    → IsOpened reader first now
+opened_at max made reader first now new limit same kept bounded stands = record {
+  stands = stands;
+  untold = kept ∙ ap (λ (t : ReaderState). t.kept) new;
+  limit = subst (λ n. n ≤ 2 ^ 40) (sym (same ∙ ap (λ (t : ReaderState). t.max) new)) limit;
+  bounded = bounded;
+}
 
 pub begun : {A : Type 0} (HasTold : Told A) (telling : A) (reader : ReaderState) (first now before after : Option (List ℕ)) → IsOpened reader first now → HasTold telling [] before after → IsUnderway HasTold telling reader first now before after
 begun HasTold telling reader first now before after h told = record { records = []; stands = h.stands; untold = h.untold; limit = h.limit; told = told }

@@ -58,8 +58,7 @@ pub fn walk_trace<T: Telling, S: Source, K: Sink>(
         Ok(()) => walk(telling, &mut reader, input, out),
         Err(TraceFault::NotTrace(place)) => Ok(Finish::NotTrace(place)),
         Err(TraceFault::ReadFault) => Err(Fault::Read),
-        Err(TraceFault::Cut(_)) => unreachable!(),
-        Err(TraceFault::TooLong(_)) => unreachable!(),
+        Err(TraceFault::Cut(_) | TraceFault::TooLong(_)) => unreachable!(),
     }
 }
 

@@ -1,4 +1,4 @@
-use Rattle.std.proofs.Common.{◌≡◌, ◌≤◌, ◌^◌, ◌∙◌, ℕ, Ok, Err, IsNone, ap, refl, subst, sym}
+use Rattle.std.proofs.Common.{◌≡◌, ◌∙◌, ℕ, Ok, Err, IsNone, ap, refl, subst, sym, rules}
 use Rattle.std.specs.Prelude.{IsOk}
 use Rattle.std.proofs.lemmas.Result.{IfOk-weaker}
 use Rattle.fg_io.proofs.FaultLemmas.{err_more, on_err}
@@ -8,9 +8,8 @@ use Rattle.fg_trace.specs.Reader.{ReaderState}
 use Rattle.fg_trace.specs.Reached.{IsReadTo}
 use Rattle.fg_trace.proofs.Opening.{never_refused}
 use Rattle.fg_trace.proofs.Reached.{differs_at, failed_at}
-use Rattle.fg_walk.specs.Steps.{IsOpened}
 use Rattle.fg_walk.specs.Walk.{Walked, WalkedPart}
-use Rattle.fg_walk.proofs.Records.{breaks_as, of_any, read_of, walked_at, walked_none}
+use Rattle.fg_walk.proofs.Records.{breaks_as, of_any, opened_at, read_of, walked_at, walked_none}
 use Rattle.fg_walk.proofs.trace.walk_trace.Goals as goal
 
 pub returns-in_err-reader-clause-part : goal.returns-in_err-reader-clause-part
@@ -23,80 +22,26 @@ returns-in_err-reader-clause-part g c =
 pub walk-requires : goal.walk-requires
 walk-requires g c =
     let left = g.S.Source.left c.args.input.now in
-    let begun = g.S.Source.left c.start.new.from in
-    let max : c.start.new.self.max ≡ c.args.max = c.start.ensures.max ∙ ap (λ (t : ReaderState). t.max) c.in_ok-reader.ensures.new in
-    let opened : IsOpened c.start.new.self left begun = record {
-      stands = c.in-Ok.ensures.opens left (c.in_ok-reader.ensures.opening left);
-      untold = c.start.ensures.kept (subst IsOk (sym c.in-Ok.is) refl) ∙ ap (λ (t : ReaderState). t.kept) c.in_ok-reader.ensures.new;
-      limit = subst (λ n. n ≤ 2 ^ 40) (sym max) c.requires.limit;
-      bounded = c.start.ensures.bounded;
-    } in
-    (left, (c.requires.new, opened))
+    (left, (c.requires.new, opened_at c.args.max c.in_ok-reader.reader c.start.new.self left _ c.in_ok-reader.ensures.new c.requires.limit c.start.ensures.max (c.start.ensures.kept (subst IsOk (sym c.in-Ok.is) refl)) c.start.ensures.bounded (c.in-Ok.ensures.opens left (c.in_ok-reader.ensures.opening left))))
 
-pub returns-in-Ok-clause-whole : goal.returns-in-Ok-clause-whole
-returns-in-Ok-clause-whole g c =
+pub returns-in-Ok : goal.returns-in-Ok
+returns-in-Ok g c =
+    let given = g.T.Telling.given c.args.telling.now in
     let left = g.S.Source.left c.args.input.now in
-    let begun = g.S.Source.left c.start.new.from in
+    let opened = opened_at c.args.max c.in_ok-reader.reader c.start.new.self left _ c.in_ok-reader.ensures.new c.requires.limit c.start.ensures.max (c.start.ensures.kept (subst IsOk (sym c.in-Ok.is) refl)) c.start.ensures.bounded (c.in-Ok.ensures.opens left (c.in_ok-reader.ensures.opening left)) in
     let max : c.start.new.self.max ≡ c.args.max = c.start.ensures.max ∙ ap (λ (t : ReaderState). t.max) c.in_ok-reader.ensures.new in
-    let opened : IsOpened c.start.new.self left begun = record {
-      stands = c.in-Ok.ensures.opens left (c.in_ok-reader.ensures.opening left);
-      untold = c.start.ensures.kept (subst IsOk (sym c.in-Ok.is) refl) ∙ ap (λ (t : ReaderState). t.kept) c.in_ok-reader.ensures.new;
-      limit = subst (λ n. n ≤ 2 ^ 40) (sym max) c.requires.limit;
-      bounded = c.start.ensures.bounded;
-    } in
     let all = walked_at g.T.Telling.whole c.walk.new.walking _ c.args.max c.walk.result left _ _ _ max (IfOk-weaker c.walk.result _ _ (λ answer h. h left (c.requires.new, opened)) c.walk.ensures.whole) in
-    IfOk-weaker c.walk.result _ _ (λ answer h. h.walked) all
-
-pub returns-in-Ok-clause-all_read : goal.returns-in-Ok-clause-all_read
-returns-in-Ok-clause-all_read g c =
-    let left = g.S.Source.left c.args.input.now in
-    let begun = g.S.Source.left c.start.new.from in
-    let max : c.start.new.self.max ≡ c.args.max = c.start.ensures.max ∙ ap (λ (t : ReaderState). t.max) c.in_ok-reader.ensures.new in
-    let opened : IsOpened c.start.new.self left begun = record {
-      stands = c.in-Ok.ensures.opens left (c.in_ok-reader.ensures.opening left);
-      untold = c.start.ensures.kept (subst IsOk (sym c.in-Ok.is) refl) ∙ ap (λ (t : ReaderState). t.kept) c.in_ok-reader.ensures.new;
-      limit = subst (λ n. n ≤ 2 ^ 40) (sym max) c.requires.limit;
-      bounded = c.start.ensures.bounded;
-    } in
-    let all = walked_at g.T.Telling.whole c.walk.new.walking _ c.args.max c.walk.result left _ _ _ max (IfOk-weaker c.walk.result _ _ (λ answer h. h left (c.requires.new, opened)) c.walk.ensures.whole) in
-    IfOk-weaker c.walk.result _ _ (λ answer h. h.at_end) all
-
-pub returns-in-Ok-clause-part : goal.returns-in-Ok-clause-part
-returns-in-Ok-clause-part g c =
-    let left = g.S.Source.left c.args.input.now in
-    let begun = g.S.Source.left c.start.new.from in
-    let max : c.start.new.self.max ≡ c.args.max = c.start.ensures.max ∙ ap (λ (t : ReaderState). t.max) c.in_ok-reader.ensures.new in
-    let opened : IsOpened c.start.new.self left begun = record {
-      stands = c.in-Ok.ensures.opens left (c.in_ok-reader.ensures.opening left);
-      untold = c.start.ensures.kept (subst IsOk (sym c.in-Ok.is) refl) ∙ ap (λ (t : ReaderState). t.kept) c.in_ok-reader.ensures.new;
-      limit = subst (λ n. n ≤ 2 ^ 40) (sym max) c.requires.limit;
-      bounded = c.start.ensures.bounded;
-    } in
-    let broken = breaks_as g.T.Telling.part (g.T.Telling.given c.args.telling.now) _ c.args.max c.walk.result left _ _ _ max (err_more c.walk.result _ _ (λ h. h left (c.requires.new, opened)) c.walk.ensures.part) in
-    err_more c.walk.result _ _ (λ h. h.part) broken
-
-pub returns-in-Ok-clause-given : goal.returns-in-Ok-clause-given
-returns-in-Ok-clause-given g c = ap (λ (t : g.T.Telling.Given × ℕ). t.0) c.walk.ensures.given
-
-pub returns-in-Ok-clause-reached : goal.returns-in-Ok-clause-reached
-returns-in-Ok-clause-reached g c =
-    let left = g.S.Source.left c.args.input.now in
-    let begun = g.S.Source.left c.start.new.from in
-    let max : c.start.new.self.max ≡ c.args.max = c.start.ensures.max ∙ ap (λ (t : ReaderState). t.max) c.in_ok-reader.ensures.new in
-    let opened : IsOpened c.start.new.self left begun = record {
-      stands = c.in-Ok.ensures.opens left (c.in_ok-reader.ensures.opening left);
-      untold = c.start.ensures.kept (subst IsOk (sym c.in-Ok.is) refl) ∙ ap (λ (t : ReaderState). t.kept) c.in_ok-reader.ensures.new;
-      limit = subst (λ n. n ≤ 2 ^ 40) (sym max) c.requires.limit;
-      bounded = c.start.ensures.bounded;
-    } in
-    let all = walked_at g.T.Telling.whole c.walk.new.walking _ c.args.max c.walk.result left _ _ _ max (IfOk-weaker c.walk.result _ _ (λ answer h. h left (c.requires.new, opened)) c.walk.ensures.whole) in
-    let broken = breaks_as g.T.Telling.part (g.T.Telling.given c.args.telling.now) _ c.args.max c.walk.result left _ _ _ max (err_more c.walk.result _ _ (λ h. h left (c.requires.new, opened)) c.walk.ensures.part) in
-    read_of c.args.max c.walk.result left _ (IfOk-weaker c.walk.result _ _ (λ answer h. h.read) all) (err_more c.walk.result _ _ (λ h. h.read) broken)
-
-pub returns-in-Ok-clause-refused : goal.returns-in-Ok-clause-refused
-returns-in-Ok-clause-refused g c =
-    let left = g.S.Source.left c.args.input.now in
-    never_refused _ left _ c.start.new.self c.args.max (c.in-Ok.ensures.opens left (c.in_ok-reader.ensures.opening left))
+    let broken = breaks_as g.T.Telling.part given _ c.args.max c.walk.result left _ _ _ max (err_more c.walk.result _ _ (λ h. h left (c.requires.new, opened)) c.walk.ensures.part) in
+    record {
+      whole = IfOk-weaker c.walk.result _ _ (λ answer h. h.walked) all;
+      all_read = IfOk-weaker c.walk.result _ _ (λ answer h. h.at_end) all;
+      part = err_more c.walk.result _ _ (λ h. h.part) broken;
+      refused = never_refused _ left _ c.start.new.self c.args.max opened.stands;
+      given = ap (λ (t : g.T.Telling.Given × ℕ). t.0) c.walk.ensures.given;
+      reached = read_of c.args.max c.walk.result left _ (IfOk-weaker c.walk.result _ _ (λ answer h. h.read) all) (err_more c.walk.result _ _ (λ h. h.read) broken);
+      faults = search rules;
+      fixed = c.walk.ensures.fixed ∙ c.start.ensures.fixed;
+    }
 
 pub returns-in-Err-NotTrace-clause-whole : goal.returns-in-Err-NotTrace-clause-whole
 returns-in-Err-NotTrace-clause-whole g c =
@@ -126,13 +71,3 @@ returns-in-Err-ReadFault-clause-reached g c =
     let max : c.start.new.self.max ≡ c.args.max = c.start.ensures.max ∙ ap (λ (t : ReaderState). t.max) c.in_ok-reader.ensures.new in
     let opens = rw c.in-Err-ReadFault.field-0-is at (c.in-Err-ReadFault.ensures.opens left (c.in_ok-reader.ensures.opening left)) in
     failed_at c.read_as_far_as_needed.ensures.before c.args.max c.start.new.self left _ max opens c.start.ensures.bounded
-
-pub unreachable-requires : goal.unreachable-requires
-unreachable-requires g c =
-    let left = g.S.Source.left c.args.input.now in
-    rw c.in-Err-Cut.field-0-is at (c.in-Err-Cut.ensures.opens left (c.in_ok-reader.ensures.opening left))
-
-pub unreachable-requires-in-Err-TooLong : goal.unreachable-requires-in-Err-TooLong
-unreachable-requires-in-Err-TooLong g c =
-    let left = g.S.Source.left c.args.input.now in
-    rw c.in-Err-TooLong.field-0-is at (c.in-Err-TooLong.ensures.opens left (c.in_ok-reader.ensures.opening left))
