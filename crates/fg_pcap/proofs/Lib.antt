@@ -8,6 +8,7 @@ pub mod Fronts
 pub mod Numbers
 pub mod Packets
 pub mod Reaching
+pub mod ReadFor
 pub mod RoundTrips
 pub mod Sending
 pub mod Standing

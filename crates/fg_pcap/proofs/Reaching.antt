@@ -1,8 +1,7 @@
 -- How far the input is read, whatever the writing of a capture comes to.
-use Rattle.std.proofs.Common.{◌≡◌, ◌⊎◌, inl, inr, ℕ, ◌+◌, ◌<◌, ◌≤◌, Option, None, Some, IfSome, IfOk, OnErr, Result, Ok, Err, List, ◌++◌, length, refl, subst, arith, length-append}
+use Rattle.std.proofs.Common.{◌≡◌, ◌⊎◌, inl, inr, ℕ, ◌+◌, ◌<◌, ◌≤◌, Option, None, Some, IfSome, Err, List, ◌++◌, length, refl, subst, arith, length-append}
 use Rattle.std.specs.Io.KnownBytes.{IsAtEnd}
 use Rattle.fg_io.proofs.SourceLemmas.{Gives-told}
-use Rattle.fg_io.specs.declared.fault.Fault.{Fault}
 use Rattle.fg_trace.specs.declared.step.Finish.{Finish}
 use Rattle.fg_trace.specs.declared.step.Finish.TheVariants as finish
 use Rattle.fg_trace.specs.declared.step.TraceFault.TheVariants as fault
@@ -13,7 +12,6 @@ use Rattle.fg_trace.specs.Reading.{most_held}
 use Rattle.fg_trace.specs.Trace.{Record, trace_of}
 use Rattle.fg_pcap.specs.declared.writer.SpellingEnding.{SpellingEnding}
 use Rattle.fg_pcap.specs.declared.writer.SpellingEnding.TheVariants.{Done, NotTrace, Unfit, Cut, TooLong}
-use Rattle.fg_pcap.specs.ReadFor.{ending_of}
 use Rattle.fg_pcap.specs.Steps.{IsReadTo}
 use Rattle.fg_pcap.specs.ToCapture.{ReachesFor}
 
@@ -66,23 +64,6 @@ read_to ending reader (Some bytes) now records h few r =
       reaches = reached_for ending reader (Some bytes) now records told.0 h (subst (λ (left : Option (List ℕ)). HasReachedFor ending reader left records) told.1 r);
       bounded = omega (arith, few, h.place, length-append (trace_of records) reader.held);
     }
-
--- what was read for any ending is read for a fault
-pub fault_read : (max : ℕ) (ending : Option SpellingEnding) (first now : Option (List ℕ)) → IsReadTo max ending first now → IsReadTo max None first now
-fault_read max ending None now h = tt
-fault_read max ending (Some bytes) now h = record {
-  read = h.read;
-  rest = h.rest;
-  now_is = h.now_is;
-  all = h.all;
-  reaches = tt;
-  bounded = h.bounded;
-}
-
-pub read_for : (max : ℕ) (came : Result SpellingEnding Fault) (first now : Option (List ℕ)) → IfOk came (λ ending. IsReadTo max (Some ending) first now) → OnErr came (IsReadTo max None first now)
-    → IsReadTo max (ending_of came) first now
-read_for max (Ok ending) first now h k = h
-read_for max (Err fault) first now h k = k
 
 -- From where the reader looks for the magic
 

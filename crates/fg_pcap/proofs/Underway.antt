@@ -18,12 +18,14 @@ use Rattle.fg_pcap.specs.declared.file_header.Format.{Format}
 use Rattle.fg_pcap.specs.declared.file_header.TimeUnit.{TimeUnit}
 use Rattle.fg_pcap.specs.declared.packet_header.PacketHeader.{PacketHeader}
 use Rattle.fg_pcap.specs.Capture.{Packet, Frame, Begins, frame_of, microseconds, place_after}
-use Rattle.fg_pcap.specs.FromCapture.{Converts, LeavesNothing, ReachesFor}
+use Rattle.fg_pcap.specs.FromCapture.{ComesTo, Converts, ConvertsPart, LeavesNothing, ReachesFor}
 use Rattle.fg_pcap.specs.Frame.{IsDatagramsOf}
+use Rattle.fg_pcap.specs.Laws.{OneCapture}
 use Rattle.fg_pcap.specs.ReadFor.{ending_of}
 use Rattle.fg_pcap.specs.Reading.{Breaks, EndsAt, EndsHere, GoesOn, HasEnded, HasPart, HasReached, HasRead, HasSent, HasSentAll, HoldsPacket, IsConverted, IsNew, IsReadTo, IsReading, IsUnderway, SendsFrames, SendsPart, StandsAfter}
-use Rattle.fg_pcap.proofs.Captures.{converts_part}
+use Rattle.fg_pcap.proofs.Captures.{converts_part, exactly}
 use Rattle.fg_pcap.proofs.Datagrams.{datagrams_more}
+use Rattle.fg_pcap.proofs.ReadFor.{fault_read}
 use Rattle.fg_pcap.proofs.Standing.{packet_at, passes, read_more, read_passed, takes_in, stands_more, stands_taking, stands_begin}
 
 -- The frame of a record that is held
@@ -229,27 +231,11 @@ read_to end input (Some bytes) now bounded reached h =
       bounded = omega (arith, bounded, h.size);
     }
 
--- what was read for an ending is read for a fault
-fault_read : (max : ℕ) (end : CaptureEnding) (first now : Option (List ℕ)) → IsReadTo max (Some end) first now → IsReadTo max None first now
-fault_read max end None now h = tt
-fault_read max end (Some bytes) now h = record {
-  read = h.read;
-  rest = h.rest;
-  now_is = h.now_is;
-  all = h.all;
-  reaches = tt;
-  bounded = h.bounded;
-}
-
 pub ends_there_read : (end : CaptureEnding) (input : InputState) (now : Option (List ℕ)) → HasReached end input now → LeavesNothing end → IsAtEnd now
 ends_there_read Ended input now h all = h
 ends_there_read (Cut n) input now h all = h
 ends_there_read (TooLong n) input now h all = absurd all
 ends_there_read (NotCapture n) input now h all = absurd all
-
-pub read_of : (max : ℕ) (came : Result CaptureEnding Fault) (first now : Option (List ℕ)) → IfOk came (λ ending. IsReadTo max (Some ending) first now) → OnErr came (IsReadTo max None first now) → IsReadTo max (ending_of came) first now
-read_of max (Ok ending) first now h k = h
-read_of max (Err fault) first now h k = k
 
 -- What a fault leaves
 
@@ -283,19 +269,29 @@ ended format input first now end held before at bounded ends reached h = record 
 pub breaks_at_end : (format : Format) (input : InputState) (first now : Option (List ℕ)) (end : CaptureEnding) (held : List ℕ) (before at after : Option (List ℕ)) → GainsPart at held after → HasEnded format held input end first now before at
     → Breaks input.max first now before after
 breaks_at_end format input first now end held before at after part h =
-    (converts_part format input.max first before after (part_last format input.max first end held before at after h.sent part), fault_read input.max end first now h.read)
+    (converts_part format input.max first before after (part_last format input.max first end held before at after h.sent part), fault_read (ReachesFor input.max) input.max (Some end) first now h.read)
 
 pub converted : (format : Format) (input : InputState) (first now : Option (List ℕ)) (end : CaptureEnding) (held : List ℕ) (before at after : Option (List ℕ)) → Gains at held after → HasEnded format held input end first now before at
     → IsConverted input.max end first now before after
 converted format input first now end held before at after gained h =
     record { converts = converts format input.max first end held before at after h.sent gained; read = h.read; at_end = h.at_end }
 
--- Under the limit that the buffer was made with
+-- What the walk comes to, under the limit that the buffer was made with
 
-pub converted_at : (found max : ℕ) (came : Result CaptureEnding Fault) (first now before after : Option (List ℕ)) → found ≡ max
-    → IfOk came (λ ending. IsConverted found ending first now before after) → IfOk came (λ ending. IsConverted max ending first now before after)
-converted_at found max came first now before after same h = subst (λ n. IfOk came (λ ending. IsConverted n ending first now before after)) same h
+pub record Comes (max : ℕ) (came : Result CaptureEnding Fault) (first now before after : Option (List ℕ)) : Type 0 where
+  pub whole : IfOk came (λ ending. Converts max ending first before after)
+  pub exactly : IfOk came (λ ending. IfSome first (λ bytes. (trace : List ℕ) (due : CaptureEnding) → ComesTo bytes max trace due → ending ≡ due))
+  pub all_read : IfOk came (λ ending. LeavesNothing ending → IsAtEnd now)
+  pub reads : IsReadTo max (ending_of came) first now
+  pub part : OnErr came (ConvertsPart max first before after)
 
-pub breaks_as : (found max : ℕ) (came : Result CaptureEnding Fault) (first now before after : Option (List ℕ)) → found ≡ max
-    → OnErr came (Breaks found first now before after) → OnErr came (Breaks max first now before after)
-breaks_as found max came first now before after same h = subst (λ n. OnErr came (Breaks n first now before after)) same h
+pub comes : OneCapture → (New : Option (List ℕ) → Type 0) (found max : ℕ) (came : Result CaptureEnding Fault) (first now before after : Option (List ℕ)) → found ≡ max → New first
+    → IfOk came (λ ending. (first : Option (List ℕ)) → New first → IsConverted found ending first now before after)
+    → OnErr came ((first : Option (List ℕ)) → New first → Breaks found first now before after)
+    → Comes max came first now before after
+comes law New found max (Ok ending) first now before after same new h k =
+    let all = subst (λ n. IsConverted n ending first now before after) same (h first new) in
+    record { whole = all.converts; exactly = exactly law max ending first before after all.converts; all_read = all.at_end; reads = all.read; part = tt }
+comes law New found max (Err fault) first now before after same new h k =
+    let broken = subst (λ n. Breaks n first now before after) same (k first new) in
+    record { whole = tt; exactly = tt; all_read = tt; reads = broken.1; part = broken.0 }

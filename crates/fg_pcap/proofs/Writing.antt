@@ -19,12 +19,15 @@ use Rattle.fg_trace.specs.Trace.{Record, Begins, Ending, IsTrace, trace_of}
 use Rattle.fg_pcap.specs.declared.writer.Spelling.{Spelling}
 use Rattle.fg_pcap.specs.declared.writer.SpellingEnding.{SpellingEnding}
 use Rattle.fg_pcap.specs.declared.writer.SpellingEnding.TheVariants.{NotTrace, Unfit}
-use Rattle.fg_pcap.specs.Laws.{OneSpelling}
+use Rattle.fg_pcap.specs.Laws.{OneSpelling, WrittenIsReadBack}
+use Rattle.fg_pcap.specs.ReadFor.{ending_of}
 use Rattle.fg_pcap.specs.Spelling.{FitsCapture, capture_of, file_header, most_datagram, seconds_end, spelling}
-use Rattle.fg_pcap.specs.Steps.{Breaks, HasSpelled, IsNew, IsUnderway, IsWritten}
-use Rattle.fg_pcap.specs.ToCapture.{IsSpelled, LeavesNothing, Spells, SpellsPart, StopsWith, text_of}
+use Rattle.fg_pcap.specs.Steps.{Breaks, HasSpelled, IsNew, IsReadTo, IsUnderway, IsWritten}
+use Rattle.fg_pcap.specs.ToCapture.{ComesBack, IsSpelled, LeavesNothing, ReachesFor, Spells, SpellsPart, StopsWith, WritesCapture, text_of}
+use Rattle.fg_pcap.proofs.ComingBack.{comes_back}
 use Rattle.fg_pcap.proofs.Fronts.{answer_for, written_front}
-use Rattle.fg_pcap.proofs.Reaching.{HasReached, fault_read, read_to}
+use Rattle.fg_pcap.proofs.Reaching.{HasReached, read_to}
+use Rattle.fg_pcap.proofs.ReadFor.{fault_read}
 
 -- Lists
 
@@ -226,17 +229,7 @@ spells_part law (Some bytes) now reader ending work before at after part h = λ 
 pub breaks_at_end : OneSpelling → (first now : Option (List ℕ)) (reader : ReaderState) (ending : SpellingEnding) (work : Spelling) (before at after : Option (List ℕ)) → GainsPart at work.held after → HasSpelled work reader ending first now before at
     → Breaks reader.max first now before after
 breaks_at_end law first now reader ending work before at after part h =
-    (spells_part law first now reader ending work before at after part h, fault_read reader.max (Some ending) first now h.read)
-
--- Under the limit that the reader was made with
-
-pub written_at : (found max : ℕ) (came : Result SpellingEnding Fault) (first now before after : Option (List ℕ)) → found ≡ max
-    → IfOk came (λ ending. IsWritten found ending first now before after) → IfOk came (λ ending. IsWritten max ending first now before after)
-written_at found max came first now before after same h = subst (λ n. IfOk came (λ ending. IsWritten n ending first now before after)) same h
-
-pub breaks_as : (found max : ℕ) (came : Result SpellingEnding Fault) (first now before after : Option (List ℕ)) → found ≡ max
-    → OnErr came (Breaks found first now before after) → OnErr came (Breaks max first now before after)
-breaks_as found max came first now before after same h = subst (λ n. OnErr came (Breaks n first now before after)) same h
+    (spells_part law first now reader ending work before at after part h, fault_read (ReachesFor reader.max) reader.max (Some ending) first now h.read)
 
 -- Nothing is written
 
@@ -256,3 +249,31 @@ pub one_ending : OneSpelling → (max : ℕ) (first : Option (List ℕ)) (ending
     → IfSome first (λ bytes. (due : SpellingEnding) (records : List Record) → IsSpelled due bytes max records → ending ≡ due)
 one_ending law max None ending before after h = tt
 one_ending law max (Some bytes) ending before after h = λ due records is. (law bytes max h.records records ending due h.of_input is).1
+
+-- What the walk comes to, under the limit that the reader was made with
+
+pub record Comes (max : ℕ) (came : Result SpellingEnding Fault) (first now before after : Option (List ℕ)) : Type 0 where
+  pub whole : IfOk came (λ ending. Spells max ending first before after)
+  pub exactly : IfOk came (λ ending. IfSome first (λ bytes. (due : SpellingEnding) (records : List Record) → IsSpelled due bytes max records → ending ≡ due))
+  pub all_read : IfOk came (λ ending. LeavesNothing ending → IsAtEnd now)
+  pub comes_back : IfOk came (λ ending. IfSome first (λ bytes. WritesCapture ending → ComesBack max ending bytes before after))
+  pub reads : IsReadTo max (ending_of came) first now
+  pub part : OnErr came (SpellsPart max first before after)
+
+pub comes : OneSpelling → WrittenIsReadBack → (New : Option (List ℕ) → Type 0) (found max : ℕ) (came : Result SpellingEnding Fault) (first now before after : Option (List ℕ)) → found ≡ max → New first
+    → IfOk came (λ ending. (first : Option (List ℕ)) → New first → IsWritten found ending first now before after)
+    → OnErr came ((first : Option (List ℕ)) → New first → Breaks found first now before after)
+    → Comes max came first now before after
+comes law back New found max (Ok ending) first now before after same new h k =
+    let all = subst (λ n. IsWritten n ending first now before after) same (h first new) in
+    record {
+      whole = all.spells;
+      exactly = one_ending law max first ending before after all.spells;
+      all_read = all.at_end;
+      comes_back = comes_back law back max ending first before after all.spells;
+      reads = all.read;
+      part = tt;
+    }
+comes law back New found max (Err fault) first now before after same new h k =
+    let broken = subst (λ n. Breaks n first now before after) same (k first new) in
+    record { whole = tt; exactly = tt; all_read = tt; comes_back = tt; reads = broken.1; part = broken.0 }

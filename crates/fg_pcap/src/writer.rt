@@ -16,7 +16,7 @@ use fg_io::{Fault, OutputBuffer, Sink, Source};
 use fg_trace::laws::read_as_far_as_needed;
 use fg_trace::{Reader, Step, TraceFault};
 use fg_walk::{Walking, walk};
-use std::alloc::{AllocError, Global};
+use std::alloc::Global;
 
 /// How many bytes of the capture are held at most.
 const ROOM: usize = 262_144;
@@ -89,57 +89,22 @@ pub fn to_capture<S: Source, K: Sink>(
 {
     one_spelling();
     written_is_read_back();
-    let mut spelling = Spelling::new(alloc)?;
-    spelling.spell_trace(alloc, max, input, out)
+    read_as_far_as_needed();
+    let held = OutputBuffer::new(alloc, ROOM)?;
+    let mut reader = Reader::new(alloc, max)?;
+    match reader.start(input) {
+        Ok(()) => {
+            let mut spelling = Spelling { held, number: 0 };
+            walk(&mut spelling, &mut reader, input, out)
+        }
+        Err(TraceFault::NotTrace(place)) => Ok(SpellingEnding::NotTrace(place)),
+        Err(TraceFault::ReadFault) => Err(Fault::Read),
+        Err(TraceFault::Cut(_)) => unreachable!(),
+        Err(TraceFault::TooLong(_)) => unreachable!(),
+    }
 }
 
 impl Spelling {
-    /// Nothing is spelled. The memory for what is held is taken here.
-    fn new(alloc: Global) -> Result<Spelling, AllocError>
-        ensures held { IfOk result (λ spelling. spelling.held ≡ []) }
-        ensures number { IfOk result (λ spelling. spelling.number ≡ 0) }
-    {
-        Ok(Spelling {
-            held: OutputBuffer::new(alloc, ROOM)?,
-            number: 0,
-        })
-    }
-
-    /// Writes the capture of a trace of which nothing is read yet, and answers how that ends.
-    fn spell_trace<S: Source, K: Sink>(
-        &mut self,
-        alloc: Global,
-        max: u64,
-        input: &mut S,
-        out: &mut K,
-    ) -> Result<SpellingEnding, Fault>
-        requires held { self.old.held ≡ [] }
-        requires number { self.old.number ≡ 0 }
-        requires least { 8 ≤ max }
-        requires limit { max ≤ 2 ^ 40 }
-        ensures whole { IfOk result (λ ending. Spells max ending (S.left input.old)
-            (K.written out.old) (K.written out.new)) }
-        ensures all_read { IfOk result (λ ending. LeavesNothing ending → IsAtEnd (S.left input.new)) }
-        ensures reads { IfSome (S.left input.old) (λ bytes.
-            IsReadFor (ReachesFor max) max (ending_of result) bytes (S.left input.new)) }
-        ensures refused { IfSome (S.left input.old) (λ bytes. (place : ℕ)
-            → IsTrace bytes max [] (NoMagic place) → out.new ≡ out.old) }
-        ensures part { OnErr result (SpellsPart max (S.left input.old)
-            (K.written out.old) (K.written out.new)) }
-        ensures faults { Counts result ((S.faults input.old, S.faults input.new) ∷ [])
-            ((K.faults out.old, K.faults out.new) ∷ []) }
-    {
-        read_as_far_as_needed();
-        let mut reader = Reader::new(alloc, max)?;
-        match reader.start(input) {
-            Ok(()) => walk(self, &mut reader, input, out),
-            Err(TraceFault::NotTrace(place)) => Ok(SpellingEnding::NotTrace(place)),
-            Err(TraceFault::ReadFault) => Err(Fault::Read),
-            Err(TraceFault::Cut(_)) => unreachable!(),
-            Err(TraceFault::TooLong(_)) => unreachable!(),
-        }
-    }
-
     /// Spells a record that fits.
     fn add<K: Sink>(
         &mut self,
