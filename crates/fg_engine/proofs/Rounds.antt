@@ -16,7 +16,7 @@ use Rattle.fg_desk.specs.declared.desk.Played.{Played}
 use Rattle.fg_report.specs.declared.flow_sum.FlowSum.{FlowSum}
 use Rattle.fg_results.specs.Flow.{lane_of}
 use Rattle.fg_engine.specs.declared.window.Skipped.{Skipped}
-use Rattle.fg_engine.specs.Steps.{with_plays, played_as, CountsWithin, Grows, BreakOff}
+use Rattle.fg_engine.specs.Steps.{with_plays, played_as, CountsWithin, SkipsWithin, Grows, BreakOff}
 use Rattle.fg_engine.proofs.Showing.{HavePlayedOn, one_more_shown, one_play_more, within_one_more, keeps_playout, due_after, step_after, held_after, step_shows, held_shows}
 use Rattle.fg_engine.proofs.Skipping.{Moves, due_moves, flush_moves, held_moves, many_empty, skip_on, some_each}
 
@@ -61,11 +61,11 @@ module _
   some_window : 1 ≤ to.playout.window
   some_window = subst (λ (p : Playout). 1 ≤ p.window) (sym played_on) round.window
 
-  pub each_has_positions : skipped.windows ≤ skipped.positions
+  each_has_positions : skipped.windows ≤ skipped.positions
   each_has_positions =
       let each = some_each skipped.windows to.playout.window some_window in let is = round.positions in omega (arith, each, is)
 
-  pub positions_fit : played.first + played.count + skipped.positions ≤ 2 ^ 62
+  positions_fit : played.first + played.count + skipped.positions ≤ 2 ^ 62
   positions_fit =
       let long = many_empty skipped.windows to.playout.window to.mark in
       let mark = round.moves.0 in let at = behind in let is = round.positions in let below = round.below in
@@ -84,11 +84,15 @@ module _
     keeps = round.moves.1 ∙ played_on ∙ h.playout
 
     module _ {next : FlowSum} (counted : next ≡ with_plays so_far played.first (played_as played shown ∷ [])) where
-      pub counts_behind : CountsWithin next (played.first + played.count)
-      counts_behind =
-          subst (CountsWithin next) (sym behind)
-          (within_one_more round.count round.on to so_far next (played_as played shown) (subst (CountsWithin so_far) (sym round.mark) h.counts)
-          round.play round.some counted)
+      pub skips_within : SkipsWithin next (played.first + played.count) skipped
+      skips_within = record {
+        within =
+            subst (CountsWithin next) (sym behind)
+            (within_one_more round.count round.on to so_far next (played_as played shown) (subst (CountsWithin so_far) (sym round.mark) h.counts)
+            round.play round.some counted);
+        limit = positions_fit;
+        some = each_has_positions;
+      }
 
       module _ {after : Option Lanes} (grows : Grows middle so_far.port (lane_of (played_as played shown ∷ [])) after) where
         -- A fault behind the play.

@@ -7,6 +7,7 @@ use Rattle.fg_trace.specs.Trace.{Record}
 use Rattle.fg_shape.specs.declared.kind.Kind.{Kind}
 use Rattle.fg_shape.specs.declared.kind.Kind.TheVariants as kind
 use Rattle.fg_shape.specs.Playout.{Playout, PlayoutFits}
+use Rattle.fg_shape.specs.Shape.{position_limit}
 use Rattle.fg_desk.specs.declared.desk.Played.{Played}
 use Rattle.fg_playout.specs.declared.reply.Reply.{Reply}
 use Rattle.fg_playout.specs.declared.reply.Reply.TheVariants.{Admitted, Duplicate, Conflict, Late, NotStarted, BeforeStart, Ahead, Crowded, Foreign}
@@ -19,6 +20,7 @@ use Rattle.fg_report.specs.declared.flow_sum.FlowSum.{FlowSum}
 use Rattle.fg_report.specs.Gaps.{gaps_end}
 use Rattle.fg_results.specs.Flow.{FlowResult, IsFlowResult, IsReadAs, Arrives, records_of, all_shown, shows_word, is_inconsistent, lane_of, gaps_from, sum_of}
 use Rattle.fg_results.specs.Stops.{HasShown}
+use Rattle.fg_engine.specs.declared.window.Skipped.{Skipped}
 
 -- The port's lane has gained the piece, and is still there if it was. All others are as they were.
 pub record LaneGrows (before : Lanes) (port : ℕ) (piece : List ℕ) (after : Lanes) : Type 0 where
@@ -144,6 +146,18 @@ pub record CountsWithin (sum : FlowSum) (mark : ℕ) : Type 0 where
   pub windows : sum.windows ≤ mark
   pub inconsistent : sum.inconsistent ≤ mark
   pub gaps : gaps_end sum.gaps ≤ mark
+
+-- From this position on there is room to count these windows as skipped.
+pub record SkipsWithin (sum : FlowSum) (behind : ℕ) (skipped : Skipped) : Type 0 where
+  pub within : CountsWithin sum behind
+  pub limit : behind + skipped.positions ≤ position_limit
+  pub some : skipped.windows ≤ skipped.positions
+
+-- What plays leave as it was: the flow's port and, as these say, its player, which may still be given the flow's plays.
+pub record Stays (old new : FlowSum) (Player Still : Type 0) : Type 0 where
+  pub port : new.port ≡ old.port
+  pub player : Player
+  pub still : Still
 
 -- A play, as its answer and what it shows tell it.
 abbrev pub played_as : Played → List Shown → Play

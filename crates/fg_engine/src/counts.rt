@@ -6,7 +6,7 @@ ghost use Rattle.fg_shape.specs.Shape.{position_limit};
 ghost use Rattle.fg_playout.specs.Play.{Play};
 ghost use Rattle.fg_playout.specs.Empty.{empty_plays};
 ghost use Rattle.fg_results.specs.Flow.{is_inconsistent, shown_payload};
-ghost use Rattle.fg_engine.specs.Steps.{MarksHaveRoom, RepliesHaveRoom, CountsWithin, with_reply, with_answer, with_shown, with_plays};
+ghost use Rattle.fg_engine.specs.Steps.{MarksHaveRoom, RepliesHaveRoom, CountsWithin, SkipsWithin, with_reply, with_answer, with_shown, with_plays};
 
 use crate::play::{TakesPayloads, payload};
 use crate::window::Skipped;
@@ -69,9 +69,7 @@ pub(crate) fn count_skipped(
     played: Played,
     skipped: Skipped,
 ) -> Result<(), AllocError>
-    requires within { CountsWithin sum.old (played.first + played.count) }
-    requires limit { played.first + played.count + skipped.positions ≤ position_limit }
-    requires some { skipped.windows ≤ skipped.positions }
+    requires { SkipsWithin sum.old (played.first + played.count) skipped }
     ensures counts { OnOk result ((window : ℕ) → skipped.positions ≡ skipped.windows * window
         → sum.new ≡ with_plays sum.old (played.first + played.count)
         (empty_plays skipped.windows window (played.first + played.count))) }

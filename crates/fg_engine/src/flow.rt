@@ -16,7 +16,7 @@ ghost use Rattle.fg_playout.specs.Laws.{HavePlayed, HavePlayedBefore, AreFlushSt
 ghost use Rattle.fg_desk.specs.Arrivals.{StaysWithin, HeldWithin, FlushesWithin, ThenStaysWithin};
 ghost use Rattle.fg_results.specs.Flow.{IsReadAs, lane_of};
 ghost use Rattle.fg_engine.specs.Steps.{HasTaken, IsUnderway, TakesRecord, BreaksAtRecord, EndsFlow, BreaksAtEnd};
-ghost use Rattle.fg_engine.specs.Steps.{CountsWithin, Grows, GrowsPart, HaveShown, HaveHeld, BreakOff, AdmitsDatagram, AdmitsThen, BreaksAtDatagram, BreaksThen, with_plays, played_as};
+ghost use Rattle.fg_engine.specs.Steps.{CountsWithin, Stays, Grows, GrowsPart, HaveShown, HaveHeld, BreakOff, AdmitsDatagram, AdmitsThen, BreaksAtDatagram, BreaksThen, with_plays, played_as};
 
 use crate::counts::{count_answer, count_skipped};
 use crate::player::Player;
@@ -184,9 +184,7 @@ impl<D: WindowState> Flow<D> {
             (P.lanes lanes.old) reply self.new.state self.new.sum (P.lanes lanes.new)) }
         ensures breaks { OnErr result (BreaksAtDatagram kind time datagram.now self.old.state self.old.sum.port
             (P.lanes lanes.old) (P.lanes lanes.new)) }
-        ensures port { self.new.sum.port ≡ self.old.sum.port }
-        ensures still { P.takes lanes.new self.old.sum.port }
-        ensures player { player.new ≡ player.old }
+        ensures stays { Stays self.old.sum self.new.sum (player.new ≡ player.old) (P.takes lanes.new self.old.sum.port) }
         ensures playout { self.new.state.playout ≡ self.old.state.playout }
         ensures faults { Counts result [] ((P.faults lanes.old, P.faults lanes.new) ∷ []) }
     {
@@ -209,9 +207,7 @@ impl<D: WindowState> Flow<D> {
         ensures counts { OnOk result (CountsWithin self.new.sum self.new.state.mark) }
         ensures breaks { OnErr result (BreakOff (HaveHeld self.old.state time) self.old.sum.port
             (P.lanes lanes.old) (P.lanes lanes.new)) }
-        ensures port { self.new.sum.port ≡ self.old.sum.port }
-        ensures still { P.takes lanes.new self.old.sum.port }
-        ensures player { player.new ≡ player.old }
+        ensures stays { Stays self.old.sum self.new.sum (player.new ≡ player.old) (P.takes lanes.new self.old.sum.port) }
         ensures playout { self.new.state.playout ≡ self.old.state.playout }
         ensures faults { Counts result [] ((P.faults lanes.old, P.faults lanes.new) ∷ []) }
     {
@@ -243,9 +239,7 @@ impl<D: WindowState> Flow<D> {
             (P.lanes lanes.old) reply self.new.state self.new.sum (P.lanes lanes.new)) }
         ensures breaks { OnErr result ((time : ℕ) → BreaksThen kind time datagram.now self.old.state self.old.sum.port
             (P.lanes lanes.old) (P.lanes lanes.new)) }
-        ensures port { self.new.sum.port ≡ self.old.sum.port }
-        ensures still { P.takes lanes.new self.old.sum.port }
-        ensures player { player.new ≡ player.old }
+        ensures stays { Stays self.old.sum self.new.sum (player.new ≡ player.old) (P.takes lanes.new self.old.sum.port) }
         ensures playout { self.new.state.playout ≡ self.old.state.playout }
         ensures faults { Counts result [] ((P.faults lanes.old, P.faults lanes.new) ∷ []) }
     {
@@ -284,9 +278,7 @@ impl<D: WindowState> Flow<D> {
         ensures room { OnOk result (HasRoom self.new.state) }
         ensures breaks { OnErr result (BreakOff (HavePlayedBefore self.old.state seq ssrc) self.old.sum.port
             (P.lanes lanes.old) (P.lanes lanes.new)) }
-        ensures port { self.new.sum.port ≡ self.old.sum.port }
-        ensures still { P.takes lanes.new self.old.sum.port }
-        ensures player { player.new ≡ player.old }
+        ensures stays { Stays self.old.sum self.new.sum (player.new ≡ player.old) (P.takes lanes.new self.old.sum.port) }
         ensures playout { self.new.state.playout ≡ self.old.state.playout }
         ensures faults { Counts result [] ((P.faults lanes.old, P.faults lanes.new) ∷ []) }
     {
@@ -307,9 +299,9 @@ impl<D: WindowState> Flow<D> {
         ssrc: u32,
         lanes: &mut L,
     ) -> Result<(), Fault>
+        requires stale { ¬ IsFresh self.old.state ssrc }
         requires player { P.takes lanes.old self.old.sum.port }
         requires within { ThenStaysWithin self.old.state }
-        requires stale { ¬ IsFresh self.old.state ssrc }
         requires counts { CountsWithin self.old.sum self.old.state.mark }
         ensures plays { OnOk result (HaveShown (ArePlaysDue self.old.state seq ssrc) self.old.state
             self.old.sum (P.lanes lanes.old) self.new.state self.new.sum (P.lanes lanes.new)) }
@@ -317,9 +309,7 @@ impl<D: WindowState> Flow<D> {
         ensures room { OnOk result (HasRoom self.new.state) }
         ensures breaks { OnErr result (BreakOff (HavePlayed self.old.state seq ssrc) self.old.sum.port
             (P.lanes lanes.old) (P.lanes lanes.new)) }
-        ensures port { self.new.sum.port ≡ self.old.sum.port }
-        ensures still { P.takes lanes.new self.old.sum.port }
-        ensures player { player.new ≡ player.old }
+        ensures stays { Stays self.old.sum self.new.sum (player.new ≡ player.old) (P.takes lanes.new self.old.sum.port) }
         ensures playout { self.new.state.playout ≡ self.old.state.playout }
         ensures faults { Counts result [] ((P.faults lanes.old, P.faults lanes.new) ∷ []) }
     {
@@ -343,9 +333,7 @@ impl<D: WindowState> Flow<D> {
             self.old.sum (P.lanes lanes.old) empty self.new.sum (P.lanes lanes.new)) }
         ensures breaks { OnErr result (BreakOff (AreFlushSteps self.old.state) self.old.sum.port
             (P.lanes lanes.old) (P.lanes lanes.new)) }
-        ensures port { self.new.sum.port ≡ self.old.sum.port }
-        ensures still { P.takes lanes.new self.old.sum.port }
-        ensures player { player.new ≡ player.old }
+        ensures stays { Stays self.old.sum self.new.sum (player.new ≡ player.old) (P.takes lanes.new self.old.sum.port) }
         ensures playout { self.new.state.playout ≡ self.old.state.playout }
         ensures faults { Counts result [] ((P.faults lanes.old, P.faults lanes.new) ∷ []) }
     {

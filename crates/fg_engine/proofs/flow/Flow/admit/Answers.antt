@@ -22,7 +22,7 @@ returns-clause-admits g c =
     let old = c.args.self.now in
     IfOk-weaker _ _ _ (λ reply admits. admitted_whole c.args.kind c.args.time c.args.datagram.now old.state c.play_held.new.self.state
     c.admit_then.new.self.state old.sum c.play_held.new.self.sum c.admit_then.new.self.sum (g.P.Player.lanes c.args.lanes.now)
-    (g.P.Player.lanes c.play_held.new.lanes) (g.P.Player.lanes c.admit_then.new.lanes) reply c.play_held.ensures.port
+    (g.P.Player.lanes c.play_held.new.lanes) (g.P.Player.lanes c.admit_then.new.lanes) reply c.play_held.ensures.stays.port
     c.in_ok-play_held.ensures.plays admits) c.admit_then.ensures.admits
 
 pub returns-clause-breaks : goal.returns-clause-breaks
@@ -30,4 +30,4 @@ returns-clause-breaks g c =
     let old = c.args.self.now in
     on_err_weaker _ (then_breaks_off c.args.kind c.args.time c.args.datagram.now old.state c.play_held.new.self.state old.sum
     c.play_held.new.self.sum (g.P.Player.lanes c.args.lanes.now) (g.P.Player.lanes c.play_held.new.lanes) (g.P.Player.lanes c.admit_then.new.lanes)
-    c.play_held.ensures.port c.in_ok-play_held.ensures.plays) c.admit_then.ensures.breaks
+    c.play_held.ensures.stays.port c.in_ok-play_held.ensures.plays) c.admit_then.ensures.breaks

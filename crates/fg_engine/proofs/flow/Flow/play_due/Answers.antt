@@ -4,7 +4,7 @@ use Rattle.fg_playout.specs.Admission.{IsDue}
 use Rattle.fg_playout.specs.Laws.{HavePlayed}
 use Rattle.fg_playout.specs.Play.{Play}
 use Rattle.fg_playout.specs.Run.{ArePlaysDue}
-use Rattle.fg_engine.proofs.Rounds.{IsRound, broken, counts_behind, due_round, each_has_positions, farther, goes_on, keeps, positions_fit}
+use Rattle.fg_engine.proofs.Rounds.{IsRound, broken, due_round, farther, goes_on, keeps, skips_within}
 use Rattle.fg_engine.proofs.Showing.{retold, breaks_off, due_after, fails}
 use Rattle.fg_engine.proofs.flow.Flow.play_due.Goals as goal
 use Rattle.fg_engine.proofs.flow.Flow.play_due.Goals.{After-skip_due-skipped}
@@ -20,49 +20,23 @@ round g c =
     c.args.ssrc c.runs_join.ensures.plays c.requires.within c.requires.stale c.loop-self.invariant (c.loop-self-test.ensures.0 refl)
     c.play-played.ensures.play c.skip_due-skipped.ensures.plays
 
-pub put_play-requires-clause-player : goal.put_play-requires-clause-player
-put_play-requires-clause-player g c =
-    let now = c.loop-self in
-    subst (g.P.Player.takes now.lanes) (sym now.invariant.port) now.invariant.still
-
-pub count_skipped-requires-clause-within : goal.count_skipped-requires-clause-within
-count_skipped-requires-clause-within g c =
-    let r = (goal.at.count_skipped-requires-clause-within g c).After-skip_due-skipped in
-    counts_behind (round g r) c.loop-self.invariant c.in_ok-put_play.ensures.counts
-
-pub count_skipped-requires-clause-some : goal.count_skipped-requires-clause-some
-count_skipped-requires-clause-some g c =
-    each_has_positions (round g (goal.at.count_skipped-requires-clause-some g c).After-skip_due-skipped)
-
-pub count_skipped-requires-clause-limit : goal.count_skipped-requires-clause-limit
-count_skipped-requires-clause-limit g c =
-    positions_fit (round g (goal.at.count_skipped-requires-clause-limit g c).After-skip_due-skipped)
-
-pub loop-self-preserved : goal.loop-self-preserved
-loop-self-preserved g c =
-    let r = (goal.at.loop-self-preserved g c).After-skip_due-skipped in
-    goes_on (round g r) c.loop-self.invariant c.in_ok-put_play.ensures.counts c.in_ok-put_play.ensures.puts c.in_ok-put_play.ensures.port
-    (c.put_play.ensures.player ∙ c.loop-self.invariant.player)
-    (subst (g.P.Player.takes c.put_play.new.to) c.loop-self.invariant.port c.put_play.ensures.still)
-    (c.in_ok-put_play.ensures.faults.no_write (λ e. e) ∙ c.loop-self.invariant.faults)
-    c.in_ok-count_skipped.ensures.counts c.in_ok-count_skipped.ensures.port
-
 pub loop-self-smaller : goal.loop-self-smaller
 loop-self-smaller g c = farther (round g (goal.at.loop-self-smaller g c).After-skip_due-skipped)
 
-pub returns-in_err-count_skipped-clause-breaks : goal.returns-in_err-count_skipped-clause-breaks
-returns-in_err-count_skipped-clause-breaks g c =
-    let r = (goal.at.returns-in_err-count_skipped-clause-breaks g c).After-skip_due-skipped in
-    on_err _ _ (broken (round g r) c.loop-self.invariant c.in_ok-put_play.ensures.counts c.in_ok-put_play.ensures.puts)
-
 pub returns-in_err-count_skipped-clause-playout : goal.returns-in_err-count_skipped-clause-playout
-returns-in_err-count_skipped-clause-playout g c =
-    keeps (round g (goal.at.returns-in_err-count_skipped-clause-playout g c).After-skip_due-skipped) c.loop-self.invariant
+returns-in_err-count_skipped-clause-playout g c = keeps (round g (goal.at.returns-in_err-count_skipped-clause-playout g c).After-skip_due-skipped) c.loop-self.invariant
 
 pub returns-in_err-put_play-clause-breaks : goal.returns-in_err-put_play-clause-breaks
 returns-in_err-put_play-clause-breaks g c =
     let join = due_after _ _ _ c.args.seq c.args.ssrc _ c.runs_join.ensures.plays (c.loop-self-test.ensures.0 refl) c.play-played.ensures.play in
     on_err _ _ (breaks_off c.loop-self.invariant join c.in_err-put_play.ensures.part)
+
+pub count_skipped-requires : goal.count_skipped-requires
+count_skipped-requires g c = skips_within (round g (goal.at.count_skipped-requires g c).After-skip_due-skipped) c.loop-self.invariant c.in_ok-put_play.ensures.counts
+
+pub returns-in_err-count_skipped-clause-breaks : goal.returns-in_err-count_skipped-clause-breaks
+returns-in_err-count_skipped-clause-breaks g c =
+    on_err _ _ (broken (round g (goal.at.returns-in_err-count_skipped-clause-breaks g c).After-skip_due-skipped) c.loop-self.invariant c.in_ok-put_play.ensures.counts c.in_ok-put_play.ensures.puts)
 
 pub returns-clause-plays : goal.returns-clause-plays
 returns-clause-plays g c =
@@ -74,3 +48,10 @@ returns-clause-plays g c =
     (g.P.Player.lanes c.args.lanes.now) (g.P.Player.lanes now.lanes)
     (λ (plays : List Play) played. (c.runs_join.ensures.all_due old.state from c.args.seq c.args.ssrc plays).1 (played, none))
     now.invariant.so
+
+pub loop-self-preserved : goal.loop-self-preserved
+loop-self-preserved g c =
+    goes_on (round g (goal.at.loop-self-preserved g c).After-skip_due-skipped) c.loop-self.invariant c.in_ok-put_play.ensures.counts
+    c.in_ok-put_play.ensures.puts c.in_ok-put_play.ensures.port (c.put_play.ensures.player ∙ c.loop-self.invariant.player)
+    (subst (g.P.Player.takes c.put_play.new.to) (sym (c.in_ok-count_skipped.ensures.port ∙ c.in_ok-put_play.ensures.port)) c.put_play.ensures.still)
+    (c.in_ok-put_play.ensures.faults.no_write (λ e. e) ∙ c.loop-self.invariant.faults) c.in_ok-count_skipped.ensures.counts c.in_ok-count_skipped.ensures.port

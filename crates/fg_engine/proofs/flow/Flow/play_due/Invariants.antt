@@ -8,7 +8,7 @@ abbrev pub invariant-loop-self : goal.invariant-loop-self
 invariant-loop-self g l =
     HavePlayedOn (HavePlayed l.fn.self.state l.seq l.ssrc) l.fn.self.state l.fn.self.sum (g.P.Player.lanes l.fn.lanes)
     (g.D.WindowState.state l.self-inside.window) l.self-inside.sum (g.P.Player.lanes l.lanes)
-    (l.player ≡ l.fn.player) (g.P.Player.takes l.lanes l.fn.self.sum.port) (g.P.Player.faults l.lanes ≡ g.P.Player.faults l.fn.lanes)
+    (l.player ≡ l.fn.player) (g.P.Player.takes l.lanes l.self-inside.sum.port) (g.P.Player.faults l.lanes ≡ g.P.Player.faults l.fn.lanes)
 
 abbrev pub decreases-loop-self : goal.decreases-loop-self
 decreases-loop-self g l = farthest_limit - (g.D.WindowState.state l.self-inside.window).mark

@@ -8,7 +8,7 @@ abbrev pub invariant-loop-played : goal.invariant-loop-played
 invariant-loop-played g l =
     HavePlayedOn (AreHeldSteps l.fn.self.state l.time) l.fn.self.state l.fn.self.sum (g.P.Player.lanes l.fn.lanes)
     (g.D.WindowState.state l.self-inside.window) l.self-inside.sum (g.P.Player.lanes l.lanes)
-    (l.player ≡ l.fn.player) (g.P.Player.takes l.lanes l.fn.self.sum.port) (g.P.Player.faults l.lanes ≡ g.P.Player.faults l.fn.lanes)
+    (l.player ≡ l.fn.player) (g.P.Player.takes l.lanes l.self-inside.sum.port) (g.P.Player.faults l.lanes ≡ g.P.Player.faults l.fn.lanes)
 
 abbrev pub decreases-loop-played : goal.decreases-loop-played
 decreases-loop-played g l = farthest_limit - (g.D.WindowState.state l.self-inside.window).mark
