@@ -20,6 +20,3 @@ pub use ending::CaptureEnding;
 pub use file_header::{ByteOrder, TimeUnit};
 pub use spelling::fit;
 pub use writer::{SpellingEnding, to_capture};
-
-#[cfg(test)]
-mod tests;

@@ -1,4 +1,0 @@
-//! What no clause says, by worked captures.
-
-mod reading;
-mod writing;
