@@ -12,7 +12,7 @@ use fg_trace::Finish;
 use fg_ts::TsFault;
 
 /// Why the program ended.
-#[derive(Clone, Copy, Debug, PartialEq, Eq)]
+#[derive(Clone, Copy, PartialEq, Eq)]
 pub enum Why {
     /// All was done, and the outputs are whole.
     Done,
