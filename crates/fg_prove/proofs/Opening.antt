@@ -1,11 +1,5 @@
--- What is told where a reader found no magic.
-use Rattle.std.proofs.Common.{◌≡◌, ◌∙◌, ℕ, Bool, true, false, cond, nat_lt, sym, Option, Some, None, IfSome, List, [], slice_index, refl, subst}
-use Rattle.std.proofs.lemmas.List.Elements.{All-nil}
-use Rattle.fg_io.proofs.SinkLemmas.{Gains-nil}
-use Rattle.fg_trace.specs.declared.step.Finish.TheVariants as finish
-use Rattle.fg_trace.specs.Trace.{IsTrace, NotTrace}
-use Rattle.fg_flows.specs.declared.Plan.{Plan}
-use Rattle.fg_flows.specs.Plan.{playout_of}
+-- No records have no cases.
+use Rattle.std.proofs.Common.{◌≡◌, ◌∙◌, ℕ, Bool, true, false, cond, nat_lt, sym, Option, Some, None, [], refl}
 use Rattle.fg_shape.specs.Playout.{Playout}
 use Rattle.fg_words.specs.declared.Word.{Word}
 use Rattle.fg_playout.specs.State.{opening, known}
@@ -15,10 +9,7 @@ use Rattle.fg_peel.specs.Live.{Live}
 use Rattle.fg_prove.proofs.Missing.{not_some}
 use Rattle.std.specs.Ordering.{nat_cmp}
 use Rattle.std.specs.FinMap.{get-empty}
-use Rattle.fg_proof.specs.declared.judging.Answer.TheVariants.{Yes}
-use Rattle.fg_proof.specs.Judgement.{IsAnswer}
-use Rattle.fg_proof.specs.Text.{cases_text}
-use Rattle.fg_prove.specs.Proved.{AreProved, Proves, ProvesPart}
+use Rattle.fg_prove.specs.Proved.{AreProved}
 
 -- Nothing is known of a desk at first, and nothing follows.
 none_either : (b : Bool) (x y : Option Word) → x ≡ None → y ≡ None → cond b x y ≡ None
@@ -34,7 +25,6 @@ nothing_follows playout (derived equation {position} live slot ahead others) =
     let none : ◌≡◌ {A = Option Live} None (Some stands.1) = sym (get-empty nat_cmp stands.0) ∙ stands.2 in
     cc
 
--- No records have no cases.
 pub none_proved : (playout : Playout) (flow : ℕ) → AreProved playout [] flow []
 none_proved playout flow = record {
   arrivals = [];
@@ -52,22 +42,3 @@ none_proved playout flow = record {
   };
   cases_are = refl;
 }
-
--- Nothing is told
-pub proves_none :
-    (plan : Plan) (first : Option (List ℕ)) (found place : ℕ) (written : Option (List ℕ)) → found ≡ plan.max
-    → IfSome first (λ bytes. IsTrace bytes found [] (NotTrace place)) → Proves plan (finish.NotTrace place) first written written
-proves_none plan first found place written same h = record {
-  records = [];
-  end = NotTrace place;
-  cases = [];
-  answer_is = refl;
-  of_input = subst (λ n. IfSome first (λ bytes. IsTrace bytes n [] (NotTrace place))) same h;
-  are_proved = none_proved (playout_of plan) (slice_index plan.table 0);
-  judged = All-nil (λ case. IsAnswer case Yes);
-  gained = Gains-nil written;
-}
-
-pub none_is_part : (plan : Plan) (first written : Option (List ℕ)) → ProvesPart plan first written written
-none_is_part plan None written = tt
-none_is_part plan (Some bytes) written = λ records end cases trace are. ([], (cases_text cases, refl), Gains-nil written)

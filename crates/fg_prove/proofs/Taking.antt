@@ -1,7 +1,6 @@
 -- What was taken of a trace, and what comes next of it.
-use Rattle.std.proofs.Common.{◌≡◌, ◌+◌, ◌<◌, ◌^◌, ◌++◌, ℕ, Bool, false, cond, List, [], ◌∷◌, length, slice_index, Option, refl, sym, ap, subst, ◌∙◌, arith, append_assoc, append-nil}
+use Rattle.std.proofs.Common.{◌≡◌, ◌<◌, ◌^◌, ◌++◌, ℕ, Bool, cond, List, [], ◌∷◌, length, slice_index, Option, refl, sym, ap, subst, ◌∙◌, arith, append_assoc, append-nil}
 use Rattle.std.specs.List.{All, AllZip}
-use Rattle.std.proofs.lemmas.Bool.Decides.{nat_tests}
 use Rattle.std.proofs.lemmas.List.Elements.{filter-append}
 use Rattle.fg_io.specs.Sink.{GainsPart}
 use Rattle.fg_io.specs.Sent.{Sent}
@@ -10,7 +9,6 @@ use Rattle.fg_rtp.specs.Laws.{ReadsOneWay as MediaReadsOneWay}
 use Rattle.fg_fechead.specs.Laws.{ReadsOneWay as ParityReadsOneWay}
 use Rattle.fg_trace.specs.Trace.{Record}
 use Rattle.fg_shape.specs.declared.kind.Kind.{Kind}
-use Rattle.fg_shape.specs.declared.kind.Kind.TheVariants as kind
 use Rattle.fg_shape.specs.Kind.{port_of}
 use Rattle.fg_flows.specs.Flows.{IsPortOf}
 use Rattle.fg_shape.specs.Playout.{Playout, PlayoutFits}

@@ -1,16 +1,11 @@
 -- How far a proof has come. No public contract cites what stands here.
-use Rattle.std.specs.Prelude.{◌≡◌, ◌≢◌, ◌++◌, ◌<◌, ◌^◌, ℕ, List, [], ◌∷◌, length, slice_index, Option, IfSome, Result, Ok, Err}
+use Rattle.std.specs.Prelude.{◌≡◌, ◌≢◌, ◌++◌, ℕ, List, [], ◌∷◌, length, slice_index, Option}
 use Rattle.std.specs.List.{All, AllZip}
-use Rattle.fg_io.specs.declared.fault.Fault.{Fault}
-use Rattle.fg_io.specs.Sink.{GainsPart}
+use Rattle.fg_io.specs.Sink.{Gains, GainsPart}
 use Rattle.fg_io.specs.Sent.{Sent}
-use Rattle.fg_trace.specs.declared.step.Finish.{Finish}
-use Rattle.fg_trace.specs.Finish.{finish_of, finish_after}
-use Rattle.fg_trace.specs.Reader.{ReaderState, StandsAfter}
-use Rattle.fg_trace.specs.Reading.{IsReadFor}
-use Rattle.fg_trace.specs.Trace.{Record, Ending, IsTrace}
+use Rattle.fg_trace.specs.Trace.{Record}
 use Rattle.fg_flows.specs.declared.Plan.{Plan}
-use Rattle.fg_flows.specs.Plan.{playout_of}
+use Rattle.fg_flows.specs.Plan.{PlanFits, playout_of}
 use Rattle.fg_shape.specs.declared.kind.Kind.{Kind}
 use Rattle.fg_shape.specs.Playout.{Playout}
 use Rattle.fg_playout.specs.declared.reply.Reply.{Reply}
@@ -22,7 +17,6 @@ use Rattle.fg_playout.specs.Run.{Arrival, time_of, Takes, TakesThen, TakesAll}
 use Rattle.fg_playout.specs.Laws.{AreHeldSteps, HavePlayedFor, HavePlayedThen}
 use Rattle.fg_playout.specs.PlayedOn.{PlayOn, taken_then_on, taken_on, all_taken_on}
 use Rattle.fg_playout.specs.DesksJoin.{held_steps_on, played_then_on, played_for_on}
-use Rattle.fg_desk.specs.Arrivals.{BeforeWithin}
 use Rattle.fg_results.specs.Flow.{IsReadAs, Arrives, records_of}
 use Rattle.fg_closure.specs.Holes.{HasMissing}
 use Rattle.fg_proof.specs.declared.case.Case.{Case}
@@ -30,7 +24,7 @@ use Rattle.fg_proof.specs.declared.judging.Answer.TheVariants.{Yes}
 use Rattle.fg_proof.specs.Case.{IsCase}
 use Rattle.fg_proof.specs.Judgement.{IsAnswer}
 use Rattle.fg_proof.specs.Text.{case_text, cases_text}
-use Rattle.fg_prove.specs.Proved.{AreCases, AreProved}
+use Rattle.fg_prove.specs.Proved.{AreCases, AreProved, AreProvedFor}
 
 -- What is told
 
@@ -176,19 +170,32 @@ abbrev pub FirstHasTaken : Plan → List Record → State → Option (List ℕ) 
 FirstHasTaken plan records state before held after =
     HasTaken (playout_of plan) (slice_index plan.table 0) records state before held after
 
--- The reader stands after the records that the flow has taken.
-pub record IsUnderway
-    (plan : Plan) (first now : Option (List ℕ)) (reader : ReaderState) (state : State) (before : Option (List ℕ)) (held : List ℕ) (after : Option (List ℕ)) : Type 0 where
-  pub records : List Record
-  pub stands : StandsAfter reader first now records
+-- A proof of gaps under way
+
+-- No record is taken, and nothing is told. The plan fits and has one flow, this one.
+pub record IsNew (plan : Plan) (flow : ℕ) (state : State) (held : List ℕ) : Type 0 where
+  pub fits : PlanFits plan
+  pub one : length plan.table ≡ 1
+  pub flow_is : flow ≡ slice_index plan.table 0
+  pub opens : state ≡ opening (playout_of plan)
+  pub empty : held ≡ []
+
+-- The plan's one flow, this one, has taken its part of these records.
+pub record HasTold
+    (plan : Plan) (flow : ℕ) (records : List Record) (state : State) (before : Option (List ℕ)) (held : List ℕ) (after : Option (List ℕ)) : Type 0 where
+  pub fits : PlanFits plan
+  pub one : length plan.table ≡ 1
+  pub flow_is : flow ≡ slice_index plan.table 0
   pub taken : FirstHasTaken plan records state before held after
 
--- The flow has taken all records of the trace, and this is the answer to its ending.
-pub record HasTakenAll
-    (plan : Plan) (first : Option (List ℕ)) (answer : Finish) (state : State) (before : Option (List ℕ)) (held : List ℕ) (after : Option (List ℕ)) : Type 0 where
-  pub records : List Record
-  pub end : Ending
-  pub few : length records < 2 ^ 43
-  pub answer_is : answer ≡ finish_of end
-  pub of_input : IfSome first (λ bytes. IsTrace bytes plan.max records end)
-  pub taken : FirstHasTaken plan records state before held after
+-- The sink has gained the text of the cases of these records, and the judge says `Yes` of each.
+pub record HasProved (plan : Plan) (records : List Record) (before after : Option (List ℕ)) : Type 0 where
+  pub cases : List Case
+  pub are_proved : AreProvedFor plan records cases
+  pub judged : All (λ case. IsAnswer case Yes) cases
+  pub gained : Gains before (cases_text cases) after
+
+-- It has gained a prefix of that text.
+abbrev pub HasProvedPart : Plan → List Record → Option (List ℕ) → Option (List ℕ) → Type 0
+HasProvedPart plan records before after =
+    (cases : List Case) → AreProvedFor plan records cases → GainsPart before (cases_text cases) after

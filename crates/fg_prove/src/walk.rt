@@ -1,22 +1,18 @@
 //! Walking a trace, and proving the gaps of its one flow.
-ghost use Rattle.std.specs.Prelude.{◌≡◌, ◌⊎◌, ◌+◌, ◌≤◌, ◌<◌, ◌++◌, ℕ, Option, List, [], ◌∷◌, length, slice_index, None, IfOk, IfSome, IfNone, OnOk, OnErr};
+ghost use Rattle.std.specs.Prelude.{◌≡◌, ◌⊎◌, ◌≤◌, ◌^◌, ℕ, List, [], ◌∷◌, length, IfOk, IfSome, OnErr};
 ghost use Rattle.std.specs.Io.KnownBytes.{IsAtEnd};
 ghost use Rattle.fg_io.specs.Faults.{Counts, CountsFaults};
-ghost use Rattle.fg_trace.specs.Reader.{StandsAfter};
 ghost use Rattle.fg_trace.specs.Trace.{Record, Ending, NotTrace as NoMagic, IsTrace};
 ghost use Rattle.fg_trace.specs.Finish.{IsFault, ReadsAll, finish_of};
-ghost use Rattle.fg_trace.specs.Reading.{HasReached, IsReadFor};
-ghost use Rattle.fg_trace.specs.Reached.{IsReadTo, Stands, answer_to};
-ghost use Rattle.fg_flows.specs.Plan.{PlanFits, playout_of};
+ghost use Rattle.fg_trace.specs.Reading.{IsReadFor};
+ghost use Rattle.fg_trace.specs.Reached.{IsReadTo};
+ghost use Rattle.fg_flows.specs.Plan.{PlanFits};
 ghost use Rattle.fg_rtp.specs.Laws.{ReadsOneWay as MediaReadsOneWay};
 ghost use Rattle.fg_fechead.specs.Laws.{ReadsOneWay as ParityReadsOneWay};
 ghost use Rattle.fg_playout.specs.DesksJoin.{DesksBeforeComeNextInRuns, FlushDesksComeNext, TakenDesksComeFirst};
 ghost use Rattle.fg_playout.specs.Laws.{FlushesStayWithin, RunsStayWithin};
-ghost use Rattle.fg_playout.specs.State.{opening};
-ghost use Rattle.fg_desk.specs.Arrivals.{StaysWithin};
 ghost use Rattle.fg_prove.specs.Laws.{OneListOfCases, OneProof};
 ghost use Rattle.fg_prove.specs.Proved.{Proves, ProvesPart};
-ghost use Rattle.fg_prove.specs.Steps.{FirstHasTaken, HasPart, IsUnderway, HasTakenAll};
 
 use crate::laws::one_proof;
 use crate::prover::Prover;
@@ -25,11 +21,13 @@ use fg_flows::Plan;
 use fg_io::{Fault, Sink, Source};
 use fg_playout::laws::{desks_come_in_order, desks_end, desks_join, runs_stay_within};
 use fg_rtp::laws::media_datagrams_read_one_way;
-use fg_trace::laws::{one_trace, read_as_far_as_needed, walks_on, walks_the_front};
-use fg_trace::{Finish, Reader, Step, TraceFault};
+use fg_trace::Finish;
+use fg_trace::laws::{one_trace, read_as_far_as_needed};
+use fg_walk::{Telling, walk_trace};
 use std::alloc::Global;
 
-/// Proves the gaps of a trace's one flow: writes the case of each play that is repaired and shows a position as missing.
+/// Proves the gaps of a trace's one flow: writes the case of each play that is repaired and shows a position as missing. The trace
+/// may have at most 2^40 bytes.
 ///
 /// The flow is repaired as the plan says, by one desk and without workers, and nothing of what it shows is written. The trace is
 /// read to its end, to the first byte that differs from the magic, or past the limit, and `out` gains the cases in the order of
@@ -43,6 +41,7 @@ pub fn prove_flow<S: Source, K: Sink>(
 ) -> Finish
     requires fits { PlanFits plan.now }
     requires one { length plan.now.table ≡ 1 }
+    requires limit { plan.now.max ≤ 2 ^ 40 }
 
     // Every answer but a fault's or want of memory's is that of the trace's ending, and then the cases of all plays are written.
     ensures whole { IsFault result ⊎ Proves plan.now result (S.left input.old)
@@ -86,35 +85,7 @@ fn prove_trace<S: Source, K: Sink>(
 ) -> Result<Finish, Fault>
     requires fits { PlanFits plan.now }
     requires one { length plan.now.table ≡ 1 }
-    ensures whole { IfOk result (λ finish. Proves plan.now finish (S.left input.old)
-        (K.written out.old) (K.written out.new)) }
-    ensures part { OnErr result (ProvesPart plan.now (S.left input.old)
-        (K.written out.old) (K.written out.new)) }
-    ensures refused { IfSome (S.left input.old) (λ bytes. (place : ℕ)
-        → IsTrace bytes plan.now.max [] (NoMagic place) → out.new ≡ out.old) }
-    ensures all_read { IfOk result (λ finish. ReadsAll finish → IsAtEnd (S.left input.new)) }
-    ensures reached { IsReadTo plan.now.max result (S.left input.old) (S.left input.new) }
-    ensures faults { Counts result ((S.faults input.old, S.faults input.new) ∷ [])
-        ((K.faults out.old, K.faults out.new) ∷ []) }
-    ensures fixed { S.fixed input.new ≡ S.fixed input.old }
-{
-    let mut prover = Prover::new(alloc, plan)?;
-    prove_from_start(&mut prover, alloc, plan, input, out)
-}
-
-/// Proves the gaps of a trace of which nothing is read yet, and answers how it ends.
-fn prove_from_start<S: Source, K: Sink>(
-    prover: &mut Prover,
-    alloc: Global,
-    plan: &Plan,
-    input: &mut S,
-    out: &mut K,
-) -> Result<Finish, Fault>
-    requires fits { PlanFits plan.now }
-    requires one { length plan.now.table ≡ 1 }
-    requires port { prover.old.gaps.port ≡ slice_index plan.now.table 0 }
-    requires desk { prover.old.desk.state ≡ opening (playout_of plan.now) }
-    requires held { prover.old.gaps.text.held ≡ [] }
+    requires limit { plan.now.max ≤ 2 ^ 40 }
     ensures whole { IfOk result (λ finish. Proves plan.now finish (S.left input.old)
         (K.written out.old) (K.written out.new)) }
     ensures part { OnErr result (ProvesPart plan.now (S.left input.old)
@@ -128,219 +99,69 @@ fn prove_from_start<S: Source, K: Sink>(
     ensures fixed { S.fixed input.new ≡ S.fixed input.old }
 {
     read_as_far_as_needed();
-    let mut reader = Reader::new(alloc, plan.max)?;
-    match reader.start(input) {
-        Ok(()) => prove_records(prover, alloc, plan, &mut reader, input, out),
-        Err(TraceFault::NotTrace(place)) => Ok(Finish::NotTrace(place)),
-        Err(TraceFault::ReadFault) => Err(Fault::Read),
-        Err(TraceFault::Cut(_)) => unreachable!(),
-        Err(TraceFault::TooLong(_)) => unreachable!(),
+    let prover = Prover::new(alloc, plan)?;
+    let mut proving = Proving {
+        alloc,
+        plan,
+        prover,
+    };
+    walk_trace(alloc, plan.max, &mut proving, input, out)
+}
+
+/// A proof of a trace's gaps under way.
+#[derive(Drop)]
+struct Proving<'a> {
+    alloc: Global,
+    plan: &'a Plan,
+    prover: Prover,
+}
+
+impl<'a> Telling for Proving<'a> {
+    ghost use Rattle.fg_flows.specs.declared.Plan.{Plan};
+    ghost use Rattle.fg_prove.specs.Steps.{HasProved, HasProvedPart, HasTold, IsNew};
+
+    ghost Given = { Plan };
+
+    ghost given = { λ work. work.plan.now };
+
+    ghost is_new = { λ work. IsNew work.plan.now work.prover.gaps.port work.prover.desk.state
+        work.prover.gaps.text.held };
+
+    ghost has_told = { λ work records before after. HasTold work.plan.now work.prover.gaps.port records
+        work.prover.desk.state before work.prover.gaps.text.held after };
+
+    ghost whole = { λ work records _. HasProved work.plan.now records };
+
+    ghost part = { HasProvedPart };
+
+    fn begin<K: Sink>(&mut self, _out: &mut K) -> Result<(), Fault> {
+        Ok(())
     }
-}
 
-/// Proves the gaps in all records of a trace, whose magic the reader has found, and answers how it ends.
-fn prove_records<S: Source, K: Sink>(
-    prover: &mut Prover,
-    alloc: Global,
-    plan: &Plan,
-    reader: &mut Reader,
-    input: &mut S,
-    out: &mut K,
-) -> Result<Finish, Fault>
-    requires fits { PlanFits plan.now }
-    requires one { length plan.now.table ≡ 1 }
-    requires port { prover.old.gaps.port ≡ slice_index plan.now.table 0 }
-    requires desk { prover.old.desk.state ≡ opening (playout_of plan.now) }
-    requires held { prover.old.gaps.text.held ≡ [] }
-    requires begun { (first : Option (List ℕ)) × StandsAfter reader.old first (S.left input.old) [] }
-    requires open { reader.old.kept ≡ None }
-    requires max { reader.old.max ≡ plan.now.max }
-    ensures whole { IfOk result (λ finish. (first : Option (List ℕ))
-        → StandsAfter reader.old first (S.left input.old) []
-        → Proves plan.now finish first (K.written out.old) (K.written out.new)) }
-    ensures part { OnErr result ((first : Option (List ℕ))
-        → StandsAfter reader.old first (S.left input.old) []
-        → ProvesPart plan.now first (K.written out.old) (K.written out.new)) }
-    ensures all_read { IfOk result (λ finish. ReadsAll finish → IsAtEnd (S.left input.new)) }
-    ensures reached { (first : Option (List ℕ)) → StandsAfter reader.old first (S.left input.old) []
-        → IsReadTo plan.now.max result first (S.left input.new) }
-    ensures faults { Counts result ((S.faults input.old, S.faults input.new) ∷ [])
-        ((K.faults out.old, K.faults out.new) ∷ []) }
-    ensures fixed { S.fixed input.new ≡ S.fixed input.old }
-{
-    one_trace();
-    one_proof();
-    read_as_far_as_needed();
-    let finish = take_all(prover, alloc, plan, reader, input, out)?;
-    end(prover, alloc, plan, finish, out)?;
-    Ok(finish)
-}
-
-/// Plays all that is left once all records are taken, and writes all that is held.
-fn end<K: Sink>(
-    prover: &mut Prover,
-    alloc: Global,
-    plan: &Plan,
-    finish: Finish,
-    out: &mut K,
-) -> Result<(), Fault>
-    requires fits { PlanFits plan.now }
-    requires port { prover.old.gaps.port ≡ slice_index plan.now.table 0 }
-    requires taken { (first : Option (List ℕ)) × (before : Option (List ℕ))
-        × HasTakenAll plan.now first finish prover.old.desk.state before prover.old.gaps.text.held
-        (K.written out.old) }
-    ensures whole { OnOk result ((first : Option (List ℕ)) (before : Option (List ℕ))
-        → HasTakenAll plan.now first finish prover.old.desk.state before prover.old.gaps.text.held (K.written out.old)
-        → Proves plan.now finish first before (K.written out.new)) }
-    ensures part { OnErr result ((first : Option (List ℕ)) (before : Option (List ℕ))
-        → HasTakenAll plan.now first finish prover.old.desk.state before prover.old.gaps.text.held (K.written out.old)
-        → ProvesPart plan.now first before (K.written out.new)) }
-    ensures faults { Counts result [] ((K.faults out.old, K.faults out.new) ∷ []) }
-{
-    one_trace();
-    records_are_told();
-    desks_end();
-    prover.play_rest(alloc, out)?;
-    prover.gaps.text.held.flush(out)
-}
-
-/// Takes the records that are left, and answers how the trace ends.
-fn take_all<S: Source, K: Sink>(
-    prover: &mut Prover,
-    alloc: Global,
-    plan: &Plan,
-    reader: &mut Reader,
-    input: &mut S,
-    out: &mut K,
-) -> Result<Finish, Fault>
-    requires fits { PlanFits plan.now }
-    requires one { length plan.now.table ≡ 1 }
-    requires port { prover.old.gaps.port ≡ slice_index plan.now.table 0 }
-    requires underway { (first : Option (List ℕ)) × (before : Option (List ℕ))
-        × IsUnderway plan.now first (S.left input.old) reader.old prover.old.desk.state before
-        prover.old.gaps.text.held (K.written out.old) }
-    requires open { reader.old.kept ≡ None }
-    requires max { reader.old.max ≡ plan.now.max }
-    ensures whole { IfOk result (λ finish. (first : Option (List ℕ)) (before : Option (List ℕ))
-        → IsUnderway plan.now first (S.left input.old) reader.old prover.old.desk.state before
-        prover.old.gaps.text.held (K.written out.old)
-        → HasTakenAll plan.now first finish prover.new.desk.state before prover.new.gaps.text.held
-        (K.written out.new)) }
-    ensures part { OnErr result ((first : Option (List ℕ)) (before : Option (List ℕ))
-        → IsUnderway plan.now first (S.left input.old) reader.old prover.old.desk.state before
-        prover.old.gaps.text.held (K.written out.old)
-        → ProvesPart plan.now first before (K.written out.new)) }
-    ensures all_read { IfOk result (λ finish. ReadsAll finish → IsAtEnd (S.left input.new)) }
-    ensures stands { (first : Option (List ℕ))
-        → Stands reader.old first (S.left input.old) → Stands reader.new first (S.left input.new) }
-    ensures max { reader.new.max ≡ reader.old.max }
-    ensures bounded { reader.new.place + length reader.new.held ≤ reader.new.max + 1 }
-    ensures reached { HasReached (answer_to result) reader.new (S.left input.new) }
-    ensures port { prover.new.gaps.port ≡ prover.old.gaps.port }
-    ensures faults { Counts result ((S.faults input.old, S.faults input.new) ∷ [])
-        ((K.faults out.old, K.faults out.new) ∷ []) }
-    ensures fixed { S.fixed input.new ≡ S.fixed input.old }
-{
-    loop {
-        if let Some(finish) = take_next(prover, alloc, plan, reader, input, out)? {
-            return Ok(finish);
+    fn tell<K: Sink>(
+        &mut self,
+        time: u64,
+        port: u16,
+        datagram: &[u8],
+        out: &mut K,
+    ) -> Result<(), Fault> {
+        records_are_told();
+        desks_join();
+        match self.plan.table.find(port) {
+            Some((_, kind)) => self.prover.take(self.alloc, kind, time, datagram, out),
+            None => Ok(()),
         }
     }
-}
 
-/// Takes the next record, where there is one; else it answers how the trace ends.
-fn take_next<S: Source, K: Sink>(
-    prover: &mut Prover,
-    alloc: Global,
-    plan: &Plan,
-    reader: &mut Reader,
-    input: &mut S,
-    out: &mut K,
-) -> Result<Option<Finish>, Fault>
-    requires fits { PlanFits plan.now }
-    requires one { length plan.now.table ≡ 1 }
-    requires port { prover.old.gaps.port ≡ slice_index plan.now.table 0 }
-    requires underway { (first : Option (List ℕ)) × (before : Option (List ℕ))
-        × IsUnderway plan.now first (S.left input.old) reader.old prover.old.desk.state before
-        prover.old.gaps.text.held (K.written out.old) }
-    requires open { reader.old.kept ≡ None }
-    requires max { reader.old.max ≡ plan.now.max }
-    ensures more { IfOk result (λ end. IfNone end ((first : Option (List ℕ)) (before : Option (List ℕ))
-        → IsUnderway plan.now first (S.left input.old) reader.old prover.old.desk.state before
-        prover.old.gaps.text.held (K.written out.old)
-        → IsUnderway plan.now first (S.left input.new) reader.new prover.new.desk.state before
-        prover.new.gaps.text.held (K.written out.new))) }
-    ensures ends { IfOk result (λ end. IfSome end (λ finish. (first : Option (List ℕ)) (before : Option (List ℕ))
-        → IsUnderway plan.now first (S.left input.old) reader.old prover.old.desk.state before
-        prover.old.gaps.text.held (K.written out.old)
-        → HasTakenAll plan.now first finish prover.new.desk.state before prover.new.gaps.text.held
-        (K.written out.new))) }
-    ensures part { OnErr result ((first : Option (List ℕ)) (before : Option (List ℕ))
-        → IsUnderway plan.now first (S.left input.old) reader.old prover.old.desk.state before
-        prover.old.gaps.text.held (K.written out.old)
-        → ProvesPart plan.now first before (K.written out.new)) }
-    ensures all_read { IfOk result (λ end. IfSome end (λ finish. ReadsAll finish → IsAtEnd (S.left input.new))) }
-    ensures stands { (first : Option (List ℕ))
-        → Stands reader.old first (S.left input.old) → Stands reader.new first (S.left input.new) }
-    ensures bounded { reader.new.place + length reader.new.held ≤ reader.new.max + 1 }
-    ensures reached { IfOk result (λ end. IfSome end (λ finish.
-        HasReached finish reader.new (S.left input.new))) }
-    ensures open { IfOk result (λ end. IfNone end (reader.new.kept ≡ None)) }
-    ensures max { reader.new.max ≡ reader.old.max }
-    ensures place { IfOk result (λ end. IfNone end (reader.old.place < reader.new.place)) }
-    ensures within { reader.new.place ≤ reader.new.max }
-    ensures port { prover.new.gaps.port ≡ prover.old.gaps.port }
-    ensures faults { Counts result ((S.faults input.old, S.faults input.new) ∷ [])
-        ((K.faults out.old, K.faults out.new) ∷ []) }
-    ensures fixed { S.fixed input.new ≡ S.fixed input.old }
-{
-    walks_the_front();
-    walks_on();
-    records_are_told();
-    match reader.next(input) {
-        Ok(Step::Datagram { time, port, .. }) => {
-            take_record(prover, alloc, plan, port, time, reader.payload(), out)?;
-            Ok(None)
-        }
-        Ok(Step::End) => Ok(Some(Finish::Done)),
-        Err(TraceFault::Cut(place)) => Ok(Some(Finish::Cut(place))),
-        Err(TraceFault::TooLong(place)) => Ok(Some(Finish::TooLong(place))),
-        Err(TraceFault::ReadFault) => Err(Fault::Read),
-        Err(TraceFault::NotTrace(_)) => unreachable!(),
+    fn end<K: Sink>(&mut self, _finish: Finish, out: &mut K) -> Result<(), Fault> {
+        records_are_told();
+        desks_end();
+        self.prover.play_rest(self.alloc, out)?;
+        self.prover.gaps.text.held.flush(out)
     }
-}
 
-/// Takes a record: its datagram, where its port is the flow's, and else nothing.
-fn take_record<K: Sink>(
-    prover: &mut Prover,
-    alloc: Global,
-    plan: &Plan,
-    port: u16,
-    time: u64,
-    datagram: &[u8],
-    out: &mut K,
-) -> Result<(), Fault>
-    requires one { length plan.now.table ≡ 1 }
-    requires port { prover.old.gaps.port ≡ slice_index plan.now.table 0 }
-    requires within { StaysWithin prover.old.desk.state }
-    ensures takes { OnOk result ((before : Option (List ℕ)) (records : List Record) (r : Record)
-        → FirstHasTaken plan.now records prover.old.desk.state before prover.old.gaps.text.held (K.written out.old)
-        → r.port ≡ port → r.time ≡ time → r.datagram ≡ datagram.now
-        → FirstHasTaken plan.now (records ++ r ∷ []) prover.new.desk.state before prover.new.gaps.text.held
-        (K.written out.new)) }
-    ensures breaks { OnErr result ((before : Option (List ℕ)) (records : List Record) (r : Record)
-        → FirstHasTaken plan.now records prover.old.desk.state before prover.old.gaps.text.held (K.written out.old)
-        → r.port ≡ port → r.time ≡ time → r.datagram ≡ datagram.now
-        → HasPart (playout_of plan.now) (slice_index plan.now.table 0) (records ++ r ∷ []) before
-        (K.written out.new)) }
-    ensures port { prover.new.gaps.port ≡ prover.old.gaps.port }
-    ensures faults { Counts result [] ((K.faults out.old, K.faults out.new) ∷ []) }
-{
-    records_are_told();
-    desks_join();
-    match plan.table.find(port) {
-        Some((_, kind)) => prover.take(alloc, kind, time, datagram, out),
-        None => Ok(()),
+    fn stops(&self) {
+        records_are_told();
     }
 }
 
