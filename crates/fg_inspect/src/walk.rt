@@ -85,6 +85,8 @@ impl<'a> Telling for Inspection<'a> {
 
     ghost given = { λ work. work.table.now };
 
+    ghost most = { 2 ^ 40 };
+
     ghost is_new = { λ work. IsNew work.table.now work.lines };
 
     ghost has_told = { λ work records before after.

@@ -130,6 +130,8 @@ impl<'a> Telling for Picking<'a> {
 
     ghost given = { λ work. work.selection.now };
 
+    ghost most = { 2 ^ 40 };
+
     ghost is_new = { λ work. IsNew work.selection.now work.table.entries.items work.held };
 
     ghost has_told = { λ work records before after.

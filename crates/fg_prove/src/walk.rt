@@ -26,8 +26,7 @@ use fg_trace::laws::{one_trace, read_as_far_as_needed};
 use fg_walk::{Telling, walk_trace};
 use std::alloc::Global;
 
-/// Proves the gaps of a trace's one flow: writes the case of each play that is repaired and shows a position as missing. The trace
-/// may have at most 2^40 bytes.
+/// Proves the gaps of a trace's one flow: writes the case of each play that is repaired and shows a position as missing.
 ///
 /// The flow is repaired as the plan says, by one desk and without workers, and nothing of what it shows is written. The trace is
 /// read to its end, to the first byte that differs from the magic, or past the limit, and `out` gains the cases in the order of
@@ -41,7 +40,6 @@ pub fn prove_flow<S: Source, K: Sink>(
 ) -> Finish
     requires fits { PlanFits plan.now }
     requires one { length plan.now.table ≡ 1 }
-    requires limit { plan.now.max ≤ 2 ^ 40 }
 
     // Every answer but a fault's or want of memory's is that of the trace's ending, and then the cases of all plays are written.
     ensures whole { IsFault result ⊎ Proves plan.now result (S.left input.old)
@@ -85,7 +83,6 @@ fn prove_trace<S: Source, K: Sink>(
 ) -> Result<Finish, Fault>
     requires fits { PlanFits plan.now }
     requires one { length plan.now.table ≡ 1 }
-    requires limit { plan.now.max ≤ 2 ^ 40 }
     ensures whole { IfOk result (λ finish. Proves plan.now finish (S.left input.old)
         (K.written out.old) (K.written out.new)) }
     ensures part { OnErr result (ProvesPart plan.now (S.left input.old)
@@ -123,6 +120,8 @@ impl<'a> Telling for Proving<'a> {
     ghost Given = { Plan };
 
     ghost given = { λ work. work.plan.now };
+
+    ghost most = { 2 ^ 42 };
 
     ghost is_new = { λ work. IsNew work.plan.now work.prover.gaps.port work.prover.desk.state
         work.prover.gaps.text.held };

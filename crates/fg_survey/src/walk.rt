@@ -149,6 +149,8 @@ impl Telling for Surveying {
 
     ghost given = { λ _. tt };
 
+    ghost most = { 2 ^ 40 };
+
     ghost is_new = { λ work. IsSheet work.sheet [] };
 
     ghost has_told = { λ work records _ _. IsSheet work.sheet records };

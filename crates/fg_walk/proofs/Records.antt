@@ -1,5 +1,5 @@
 -- How the records of a trace are told, from where the reader stands.
-use Rattle.std.proofs.Common.{◌≡◌, ℕ, ◌+◌, ◌<◌, ◌≤◌, ◌^◌, Option, Some, None, IfSome, IfOk, OnErr, Result, Ok, Err, List, [], ◌∷◌, ◌++◌, length, take, drop, sym, ap, ◌∙◌, subst, arith, refl}
+use Rattle.std.proofs.Common.{◌≡◌, ℕ, ◌+◌, ◌<◌, ◌≤◌, Option, Some, None, IfSome, IfOk, OnErr, Result, Ok, Err, List, [], ◌∷◌, ◌++◌, length, take, drop, sym, ap, ◌∙◌, subst, arith, refl}
 use Rattle.std.specs.Io.KnownBytes.{IsAtEnd}
 use Rattle.std.proofs.lemmas.List.{take-append-drop}
 use Rattle.fg_io.specs.declared.fault.Fault.{Fault}
@@ -24,7 +24,7 @@ abbrev Told : Type 0 → Type 1
 Told A = A → List Record → Option (List ℕ) → Option (List ℕ) → Type 0
 
 -- the records that a reader stands after are few
-pub few_told : {A : Type 0} (HasTold : Told A) (telling : A) (reader : ReaderState) (first now before after : Option (List ℕ)) → (h : IsUnderway HasTold telling reader first now before after) → length h.records < 2 ^ 40
+pub few_told : {A : Type 0} {most : ℕ} (HasTold : Told A) (telling : A) (reader : ReaderState) (first now before after : Option (List ℕ)) → (h : IsUnderway most HasTold telling reader first now before after) → length h.records < most
 few_told HasTold telling reader first now before after h =
     let limit = h.limit in
     let within : length (trace_of h.records) ≤ reader.max = subst (λ n. n ≤ reader.max) h.stands.place h.stands.within in
@@ -74,8 +74,8 @@ of_any Part given max None before after h = tt
 of_any Part given max (Some bytes) before after h = λ records end trace. h records
 
 -- what holds of the records that were told holds of the trace's
-of_told : {A G : Type 0} → OneTrace → (HasTold : Told A) (Part : Told G) (telling : A) (given : G) (reader : ReaderState) (finish : Finish) (first now before at after : Option (List ℕ))
-    → (h : HasToldAll HasTold telling reader finish first now before at) → Part given h.records before after → WalkedPart Part given reader.max first before after
+of_told : {A G : Type 0} {most : ℕ} → OneTrace → (HasTold : Told A) (Part : Told G) (telling : A) (given : G) (reader : ReaderState) (finish : Finish) (first now before at after : Option (List ℕ))
+    → (h : HasToldAll most HasTold telling reader finish first now before at) → Part given h.records before after → WalkedPart Part given reader.max first before after
 of_told law HasTold Part telling given reader finish None now before at after h part = tt
 of_told law HasTold Part telling given reader finish (Some bytes) now before at after h part = λ records end trace.
     subst (λ (rs : List Record). Part given rs before after) (law bytes reader.max h.records records h.end end h.of_input trace).0 part
@@ -94,19 +94,19 @@ walked_none Whole telling first found max place written same h told = record {
 -- From the first record
 
 -- a reader that was made with this limit stands behind the magic once its start has found it
-pub opened_at : (max : ℕ) (made reader : ReaderState) (first now : Option (List ℕ)) → made ≡ new_reader max → max ≤ 2 ^ 40 → reader.max ≡ made.max → reader.kept ≡ made.kept → reader.place + length reader.held ≤ reader.max + 1 → StandsAfter reader first now []
-    → IsOpened reader first now
-opened_at max made reader first now new limit same kept bounded stands = record {
+pub opened_at : {most : ℕ} (max : ℕ) (made reader : ReaderState) (first now : Option (List ℕ)) → made ≡ new_reader max → max ≤ most → reader.max ≡ made.max → reader.kept ≡ made.kept → reader.place + length reader.held ≤ reader.max + 1 → StandsAfter reader first now []
+    → IsOpened most reader first now
+opened_at {most = most} max made reader first now new limit same kept bounded stands = record {
   stands = stands;
   untold = kept ∙ ap (λ (t : ReaderState). t.kept) new;
-  limit = subst (λ n. n ≤ 2 ^ 40) (sym (same ∙ ap (λ (t : ReaderState). t.max) new)) limit;
+  limit = subst (λ n. n ≤ most) (sym (same ∙ ap (λ (t : ReaderState). t.max) new)) limit;
   bounded = bounded;
 }
 
-pub begun : {A : Type 0} (HasTold : Told A) (telling : A) (reader : ReaderState) (first now before after : Option (List ℕ)) → IsOpened reader first now → HasTold telling [] before after → IsUnderway HasTold telling reader first now before after
+pub begun : {A : Type 0} {most : ℕ} (HasTold : Told A) (telling : A) (reader : ReaderState) (first now before after : Option (List ℕ)) → IsOpened most reader first now → HasTold telling [] before after → IsUnderway most HasTold telling reader first now before after
 begun HasTold telling reader first now before after h told = record { records = []; stands = h.stands; untold = h.untold; limit = h.limit; told = told }
 
-pub breaks_at_begin : {G : Type 0} → AfterIsReadFor → (Part : Told G) (given : G) (reader : ReaderState) (first now before after : Option (List ℕ)) → IsOpened reader first now → ((records : List Record) → Part given records before after)
+pub breaks_at_begin : {G : Type 0} {most : ℕ} → AfterIsReadFor → (Part : Told G) (given : G) (reader : ReaderState) (first now before after : Option (List ℕ)) → IsOpened most reader first now → ((records : List Record) → Part given records before after)
     → Breaks Part given reader.max first now before after
 breaks_at_begin law Part given reader first now before after h part = record {
   part = of_any Part given reader.max first before after part;
@@ -116,24 +116,24 @@ breaks_at_begin law Part given reader first now before after h part = record {
 -- A record
 
 pub underway_more :
-    {A : Type 0} (HasTold : Told A) (telling after_it : A) (reader next : ReaderState) (first left now before at after : Option (List ℕ)) (answer : Answer) (time port size : ℕ)
+    {A : Type 0} {most : ℕ} (HasTold : Told A) (telling after_it : A) (reader next : ReaderState) (first left now before at after : Option (List ℕ)) (answer : Answer) (time port size : ℕ)
     → answer ≡ Ok (Datagram time port size) → next.kept ≡ None → next.max ≡ reader.max → ((records : List Record) → StandsAfter reader first left records → Walks answer next first now records)
     → ((records : List Record) → HasTold telling records before at → HasTold after_it (records ++ (record { time = time; port = port; datagram = next.payload }) ∷ []) before after)
-    → IsUnderway HasTold telling reader first left before at → IsUnderway HasTold after_it next first now before after
-underway_more HasTold telling after_it reader next first left now before at after answer time port size is untold max walks tell h = record {
+    → IsUnderway most HasTold telling reader first left before at → IsUnderway most HasTold after_it next first now before after
+underway_more {most = most} HasTold telling after_it reader next first left now before at after answer time port size is untold max walks tell h = record {
   records = h.records ++ (record { time = time; port = port; datagram = next.payload }) ∷ [];
   stands = stands_more reader next first left now h.records answer time port size is walks h.stands;
   untold = untold;
-  limit = subst (λ n. n ≤ 2 ^ 40) (sym max) h.limit;
+  limit = subst (λ n. n ≤ most) (sym max) h.limit;
   told = tell h.records h.told;
 }
 
 pub breaks_at_record :
-    {A G : Type 0} → WalksTheFront → AfterIsReadFor → (HasTold : Told A) (Part : Told G) (telling : A) (given : G) (reader next : ReaderState) (first left now before at after : Option (List ℕ)) (answer : Answer) (time port size : ℕ)
+    {A G : Type 0} {most : ℕ} → WalksTheFront → AfterIsReadFor → (HasTold : Told A) (Part : Told G) (telling : A) (given : G) (reader next : ReaderState) (first left now before at after : Option (List ℕ)) (answer : Answer) (time port size : ℕ)
     → next.max ≡ reader.max → next.place + length next.held ≤ next.max + 1
     → answer ≡ Ok (Datagram time port size) → ((records : List Record) → StandsAfter reader first left records → Walks answer next first now records)
     → ((records later : List Record) → HasTold telling records before at → Part given ((records ++ (record { time = time; port = port; datagram = next.payload }) ∷ []) ++ later) before after)
-    → IsUnderway HasTold telling reader first left before at → Breaks Part given reader.max first now before after
+    → IsUnderway most HasTold telling reader first left before at → Breaks Part given reader.max first now before after
 breaks_at_record law far HasTold Part telling given reader next first left now before at after answer time port size max few is walks part h =
     let more : List Record = h.records ++ (record { time = time; port = port; datagram = next.payload }) ∷ [] in
     let stands = stands_more reader next first left now h.records answer time port size is walks h.stands in
@@ -145,11 +145,11 @@ breaks_at_record law far HasTold Part telling given reader next first left now b
 -- A read fault
 
 pub breaks_at_fault :
-    {A G : Type 0} → WalksTheFront → AfterIsReadFor → (HasTold : Told A) (Part : Told G) (telling : A) (given : G) (reader next : ReaderState) (first left now before at : Option (List ℕ)) (why : TraceFault)
+    {A G : Type 0} {most : ℕ} → WalksTheFront → AfterIsReadFor → (HasTold : Told A) (Part : Told G) (telling : A) (given : G) (reader next : ReaderState) (first left now before at : Option (List ℕ)) (why : TraceFault)
     → next.max ≡ reader.max → next.place + length next.held ≤ next.max + 1
     → ((records : List Record) → StandsAfter reader first left records → Walks (Err why) next first now records)
     → ((records later : List Record) → HasTold telling records before at → Part given (records ++ later) before at)
-    → IsUnderway HasTold telling reader first left before at → Breaks Part given reader.max first now before at
+    → IsUnderway most HasTold telling reader first left before at → Breaks Part given reader.max first now before at
 breaks_at_fault law far HasTold Part telling given reader next first left now before at why max few walks part h =
     let stands = stands_still next first now h.records why (walks h.records h.stands) in
     record {
@@ -160,10 +160,10 @@ breaks_at_fault law far HasTold Part telling given reader next first left now be
 -- The end
 
 pub told_all :
-    {A : Type 0} → AfterIsReadFor → (HasTold : Told A) (telling : A) (reader next : ReaderState) (first left now before at : Option (List ℕ)) (end : Ending) (finish : Finish)
+    {A : Type 0} {most : ℕ} → AfterIsReadFor → (HasTold : Told A) (telling : A) (reader next : ReaderState) (first left now before at : Option (List ℕ)) (end : Ending) (finish : Finish)
     → next.place + length next.held ≤ next.max + 1 → finish ≡ finish_of end → IsBegun finish → HasReached finish next now → (ReadsAll finish → IsAtEnd now)
     → ((records : List Record) → StandsAfter reader first left records → StandsAfter next first now records × IfSome first (λ bytes. IsTrace bytes next.max records end))
-    → IsUnderway HasTold telling reader first left before at → HasToldAll HasTold telling next finish first now before at
+    → IsUnderway most HasTold telling reader first left before at → HasToldAll most HasTold telling next finish first now before at
 told_all far HasTold telling reader next first left now before at end finish bounded is begun reached at_end walks h = record {
   records = h.records;
   few = few_told HasTold telling reader first left before at h;
@@ -177,16 +177,16 @@ told_all far HasTold telling reader next first left now before at end finish bou
 }
 
 pub walked_whole :
-    {A : Type 0} (HasTold : Told A) (Whole : A → List Record → Ending → Option (List ℕ) → Option (List ℕ) → Type 0) (telling ended : A) (reader : ReaderState) (finish : Finish) (first now before at after : Option (List ℕ))
-    → (h : HasToldAll HasTold telling reader finish first now before at) → Whole ended h.records h.end before after → HasWalked Whole reader.max ended finish first now before after
+    {A : Type 0} {most : ℕ} (HasTold : Told A) (Whole : A → List Record → Ending → Option (List ℕ) → Option (List ℕ) → Type 0) (telling ended : A) (reader : ReaderState) (finish : Finish) (first now before at after : Option (List ℕ))
+    → (h : HasToldAll most HasTold telling reader finish first now before at) → Whole ended h.records h.end before after → HasWalked Whole reader.max ended finish first now before after
 walked_whole HasTold Whole telling ended reader finish first now before at after h whole = record {
   walked = record { records = h.records; end = h.end; answer_is = h.answer_is; of_input = h.of_input; told = whole };
   read = h.read;
   at_end = h.at_end;
 }
 
-pub breaks_at_end : {A G : Type 0} → OneTrace → (HasTold : Told A) (Part : Told G) (telling : A) (given : G) (reader : ReaderState) (finish : Finish) (first now before at after : Option (List ℕ))
-    → (h : HasToldAll HasTold telling reader finish first now before at) → Part given h.records before after → Breaks Part given reader.max first now before after
+pub breaks_at_end : {A G : Type 0} {most : ℕ} → OneTrace → (HasTold : Told A) (Part : Told G) (telling : A) (given : G) (reader : ReaderState) (finish : Finish) (first now before at after : Option (List ℕ))
+    → (h : HasToldAll most HasTold telling reader finish first now before at) → Part given h.records before after → Breaks Part given reader.max first now before after
 breaks_at_end law HasTold Part telling given reader finish first now before at after h part = record {
   part = of_told law HasTold Part telling given reader finish first now before at after h part;
   read = any_fault reader.max finish first now h.read;

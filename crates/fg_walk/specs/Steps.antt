@@ -1,5 +1,5 @@
 -- How far a walk over a trace has come. No public contract cites what stands here.
-use Rattle.std.specs.Prelude.{◌≡◌, ◌+◌, ◌<◌, ◌≤◌, ◌^◌, ℕ, List, [], Option, None, IfSome, Ok, Err, length}
+use Rattle.std.specs.Prelude.{◌≡◌, ◌+◌, ◌<◌, ◌≤◌, ℕ, List, [], Option, None, IfSome, Ok, Err, length}
 use Rattle.std.specs.Io.KnownBytes.{IsAtEnd}
 use Rattle.fg_io.specs.declared.fault.Fault.{Fault}
 use Rattle.fg_trace.specs.declared.step.Finish.{Finish}
@@ -9,29 +9,29 @@ use Rattle.fg_trace.specs.Reader.{ReaderState, StandsAfter}
 use Rattle.fg_trace.specs.Trace.{Record, Ending, IsTrace}
 use Rattle.fg_walk.specs.Walk.{IsBegun, Walked, WalkedPart}
 
--- The reader stands behind the magic.
-pub record IsOpened (reader : ReaderState) (first now : Option (List ℕ)) : Type 0 where
+-- The reader stands behind the magic, of a trace of so many bytes at most.
+pub record IsOpened (most : ℕ) (reader : ReaderState) (first now : Option (List ℕ)) : Type 0 where
   pub stands : StandsAfter reader first now []
   pub untold : reader.kept ≡ None
-  pub limit : reader.max ≤ 2 ^ 40
+  pub limit : reader.max ≤ most
   pub bounded : reader.place + length reader.held ≤ reader.max + 1
 
 -- The reader stands after the records that are told, and has told no ending.
 pub record IsUnderway
-    {A : Type 0} (HasTold : A → List Record → Option (List ℕ) → Option (List ℕ) → Type 0) (telling : A)
+    {A : Type 0} (most : ℕ) (HasTold : A → List Record → Option (List ℕ) → Option (List ℕ) → Type 0) (telling : A)
     (reader : ReaderState) (first now before after : Option (List ℕ)) : Type 0 where
   pub records : List Record
   pub stands : StandsAfter reader first now records
   pub untold : reader.kept ≡ None
-  pub limit : reader.max ≤ 2 ^ 40
+  pub limit : reader.max ≤ most
   pub told : HasTold telling records before after
 
 -- All records of the trace are told, this is the answer to its ending, and it was read for that.
 pub record HasToldAll
-    {A : Type 0} (HasTold : A → List Record → Option (List ℕ) → Option (List ℕ) → Type 0) (telling : A)
+    {A : Type 0} (most : ℕ) (HasTold : A → List Record → Option (List ℕ) → Option (List ℕ) → Type 0) (telling : A)
     (reader : ReaderState) (answer : Finish) (first now before after : Option (List ℕ)) : Type 0 where
   pub records : List Record
-  pub few : length records < 2 ^ 40
+  pub few : length records < most
   pub end : Ending
   pub answer_is : answer ≡ finish_of end
   pub begun : IsBegun answer

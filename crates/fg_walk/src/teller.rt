@@ -15,6 +15,9 @@ pub trait Telling {
 
     ghost given: { Self → Given };
 
+    // How many bytes a trace has at most that is told.
+    ghost most: { ℕ };
+
     // Nothing is told yet.
     ghost is_new: { Self → Type 0 };
 
@@ -47,7 +50,7 @@ pub trait Telling {
     ) -> Result<(), Fault>
         requires size { length datagram.now < 2 ^ 16 }
         requires told { (records : List Record) × (before : Option (List ℕ))
-            × (length records < 2 ^ 40) × has_told self.old records before (K.written out.old) }
+            × (length records < most) × has_told self.old records before (K.written out.old) }
         ensures told { OnOk result ((records : List Record) (before : Option (List ℕ))
             → has_told self.old records before (K.written out.old)
             → has_told self.new (records ++ (record { time = time; port = port; datagram = datagram.now }) ∷ [])
@@ -63,7 +66,7 @@ pub trait Telling {
     fn end<K: Sink>(&mut self, finish: Finish, out: &mut K) -> Result<(), Fault>
         requires begun { IsBegun finish }
         requires told { (records : List Record) × (before : Option (List ℕ))
-            × (length records < 2 ^ 40) × has_told self.old records before (K.written out.old) }
+            × (length records < most) × has_told self.old records before (K.written out.old) }
         ensures whole { OnOk result ((records : List Record) (end : Ending) (before : Option (List ℕ))
             → finish ≡ finish_of end → has_told self.old records before (K.written out.old)
             → whole self.new records end before (K.written out.new)) }

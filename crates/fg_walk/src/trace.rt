@@ -14,8 +14,8 @@ use fg_trace::laws::{one_trace, read_as_far_as_needed, walks_the_front};
 use fg_trace::{Finish, Reader, Step, TraceFault};
 use std::alloc::Global;
 
-/// Walks the trace in the input, which may have at most `max` bytes, 8 to 2^40, and tells its records. It answers how the
-/// trace ends.
+/// Walks the trace in the input, which may have at most `max` bytes, at least 8, and tells its records. It answers how the trace
+/// ends.
 ///
 /// The trace is read to its end, to the first byte that differs from the magic, or past the limit. Where the input is no trace
 /// nothing is begun.
@@ -27,7 +27,7 @@ pub fn walk_trace<T: Telling, S: Source, K: Sink>(
     out: &mut K,
 ) -> Result<Finish, Fault>
     requires least { 8 ≤ max }
-    requires limit { max ≤ 2 ^ 40 }
+    requires limit { max ≤ T.most }
     requires new { T.is_new telling.old }
 
     // Where nothing fails the answer is that of the trace's ending, and all its records are told.
@@ -76,11 +76,11 @@ impl<T: Telling> Walking for T {
     ghost given = { λ telling reader. (T.given telling, reader.max) };
 
     ghost is_new = { λ telling reader first now.
-        T.is_new telling × IsOpened reader first now };
+        T.is_new telling × IsOpened T.most reader first now };
 
-    ghost is_underway = { IsUnderway T.has_told };
+    ghost is_underway = { IsUnderway T.most T.has_told };
 
-    ghost has_ended = { HasToldAll T.has_told };
+    ghost has_ended = { HasToldAll T.most T.has_told };
 
     ghost whole = { λ given. HasWalked T.whole given.1 };
 

@@ -9,6 +9,9 @@ use Rattle.fg_prove.proofs.walk.prove_trace.Goals as goal
 pub returns-in_err-prover-clause-part : goal.returns-in_err-prover-clause-part
 returns-in_err-prover-clause-part g c = on_err _ _ (proves_nothing c.args.plan.now _ (g.K.Sink.written c.args.out.now))
 
+pub walk_trace-requires-clause-limit : goal.walk_trace-requires-clause-limit
+walk_trace-requires-clause-limit g c = c.requires.fits.max.1
+
 pub walk_trace-requires-clause-new : goal.walk_trace-requires-clause-new
 walk_trace-requires-clause-new g c = record {
   fits = c.requires.fits;

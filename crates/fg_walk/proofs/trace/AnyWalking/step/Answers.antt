@@ -18,7 +18,7 @@ pub returns-in_err-tell-in-Ok-Datagram-clause-part : goal.returns-in_err-tell-in
 returns-in_err-tell-in-Ok-Datagram-clause-part g c =
     let given = g.T.Telling.given c.args.self.now in
     let now = g.S.Source.left c.next.new.from in
-    let part : (first before : Option (List ℕ)) → IsUnderway g.T.Telling.has_told c.args.self.now c.args.reader.now first (g.S.Source.left c.args.input.now) before (g.K.Sink.written c.args.out.now)
+    let part : (first before : Option (List ℕ)) → IsUnderway g.T.Telling.most g.T.Telling.has_told c.args.self.now c.args.reader.now first (g.S.Source.left c.args.input.now) before (g.K.Sink.written c.args.out.now)
     → Breaks g.T.Telling.part given c.args.reader.now.max first now before (g.K.Sink.written c.tell.new.out) = λ first before h.
     breaks_at_record c.walks_the_front.ensures c.read_as_far_as_needed.ensures.after g.T.Telling.has_told g.T.Telling.part c.args.self.now given c.args.reader.now c.next.new.self first _ now before _ _ c.next.result c.in-Ok-Datagram.time c.in-Ok-Datagram.port _
     c.next.ensures.max c.next.ensures.bounded (c.in-Ok-Datagram.is ∙ ap Ok c.in-Ok-Datagram.field-0-is) (c.next.ensures.walks first)
