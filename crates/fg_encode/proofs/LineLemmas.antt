@@ -23,16 +23,6 @@ use Rattle.fg_shape.proofs.LayoutLemmas.{column_last}
 use Rattle.fg_encode.proofs.PlaceLemmas.{column_ends}
 use Rattle.fg_encode.proofs.SlotLemmas.{sum_more}
 
--- A column begins at a slot exactly where one ends a column's length behind it.
-pub begins_from : (layout : Layout) (slot end : ℕ) (o : Option ℕ) → end ≡ slot + (layout.d - 1) * layout.l
-    → MatchOption o ((base : ℕ) → ColumnEnds layout end base → ⊥) (ColumnEnds layout end)
-    → (is_some o ≡ true → (m c : ℕ) × (c < layout.l) × (slot ≡ column_base layout m c)) × (((m c : ℕ) × (c < layout.l) × (slot ≡ column_base layout m c)) → is_some o ≡ true)
-begins_from layout slot end None far none = (λ t. absurd (cc), λ t. absurd (none slot (column_ends layout end slot (sym far) t)))
-begins_from layout slot end (Some base) far e =
-    let last = column_last layout end base e in
-    let same : slot ≡ base = omega arith in
-    (λ t. (e.matrix, e.column, e.is_column, same ∙ e.first), λ t. refl)
-
 -- Two numbers with the same rest are not less than a whole apart.
 apart : (a b l r : ℕ) → a * l + r < b * l + r → b * l + r < a * l + r + l → ⊥
 apart a b l r less near = ⊎_elim

@@ -17,7 +17,7 @@ use crate::clock::{sequence_at, time_after, timestamp_after};
 use crate::laws::ends_are_the_layouts;
 use crate::lines::add_to_lines;
 use fg_fechead::Parity;
-use fg_shape::{Kind, LAST_PORT, Layout, Settings, Shape};
+use fg_shape::{Ends, Kind, LAST_PORT, Layout, Settings, Shape};
 use fg_ts::PACKET_LENGTH;
 use fg_words::Word;
 use std::alloc::{AllocError, Global};
@@ -103,8 +103,16 @@ impl Encoder {
             at.ts,
             payload,
         );
-        self.columns_sent = send_column(&self.columns, &settings, at, self.columns_sent, into);
-        self.rows_sent = send_row(&self.row, &settings, at, self.rows_sent, into);
+        let Ends { column, row } = ends_at(&settings.layout, at.slot);
+        self.columns_sent = send_column(
+            &self.columns,
+            &settings,
+            at,
+            column,
+            self.columns_sent,
+            into,
+        );
+        self.rows_sent = send_row(&self.row, &settings, at, row, self.rows_sent, into);
         self.taken += 1;
     }
 }
@@ -135,24 +143,16 @@ fn next_moment(settings: &Settings, taken: u64) -> Moment
     }
 }
 
-/// The first slot of the column that ends at the slot.
-fn column_ending(layout: &Layout, slot: u64) -> Option<u64>
+/// The first slots of the column and of the row that end at the slot, of those that do.
+fn ends_at(layout: &Layout, slot: u64) -> Ends
     requires { slot ≤ 2 ^ 60 }
-    ensures list { columns_ending layout.now slot ≡ option_to_list result }
-    ensures ends { IfSome result (ColumnEnds layout.now slot) }
+    ensures columns { columns_ending layout.now slot ≡ option_to_list result.column }
+    ensures rows { rows_ending layout.now slot ≡ option_to_list result.row }
+    ensures column { IfSome result.column (ColumnEnds layout.now slot) }
+    ensures row { IfSome result.row (RowEnds layout.now slot) }
 {
     ends_are_the_layouts();
-    layout.ending_at(slot).column
-}
-
-/// The first slot of the row that ends at the slot.
-fn row_ending(layout: &Layout, slot: u64) -> Option<u64>
-    requires { slot ≤ 2 ^ 60 }
-    ensures list { rows_ending layout.now slot ≡ option_to_list result }
-    ensures ends { IfSome result (RowEnds layout.now slot) }
-{
-    ends_are_the_layouts();
-    layout.ending_at(slot).row
+    layout.ending_at(slot)
 }
 
 /// Sends a parity of this kind, with the next number of its stream. Answers the number after it.
@@ -187,11 +187,13 @@ fn send_column(
     columns: &[Parity],
     settings: &Settings,
     at: Moment,
+    ending: Option<u64>,
     sent: u16,
     into: &mut Batch,
 ) -> u16
     requires width { length columns.now ≡ settings.now.layout.l }
-    requires limit { at.slot ≤ 2 ^ 60 }
+    requires list { columns_ending settings.now.layout at.slot ≡ option_to_list ending }
+    requires ends { IfSome ending (ColumnEnds settings.now.layout at.slot) }
     requires port { settings.now.port ≤ LAST_PORT }
     requires packets { settings.now.packets ≤ 7 }
     requires can { (base : ℕ) (d : Parity) → ColumnEnds settings.now.layout at.slot base
@@ -207,7 +209,7 @@ fn send_column(
     ensures one { length into.new ≤ length into.old + 1 }
     ensures more { length into.old ≤ length into.new }
 {
-    if column_ending(&settings.layout, at.slot).is_none() {
+    if ending.is_none() {
         return sent;
     }
     let column = (at.slot % u64::from(settings.layout.l)) as usize;
@@ -215,8 +217,16 @@ fn send_column(
 }
 
 /// Sends the parity of the row that ends at the slot, if one does. Answers the next number of its stream.
-fn send_row(row: &Parity, settings: &Settings, at: Moment, sent: u16, into: &mut Batch) -> u16
-    requires limit { at.slot ≤ 2 ^ 60 }
+fn send_row(
+    row: &Parity,
+    settings: &Settings,
+    at: Moment,
+    ending: Option<u64>,
+    sent: u16,
+    into: &mut Batch,
+) -> u16
+    requires list { rows_ending settings.now.layout at.slot ≡ option_to_list ending }
+    requires ends { IfSome ending (RowEnds settings.now.layout at.slot) }
     requires port { settings.now.port ≤ LAST_PORT }
     requires packets { settings.now.packets ≤ 7 }
     requires can { (base : ℕ) → RowEnds settings.now.layout at.slot base
@@ -230,7 +240,7 @@ fn send_row(row: &Parity, settings: &Settings, at: Moment, sent: u16, into: &mut
     }) (rows_ending settings.now.layout at.slot) }
     ensures sent { result ≡ (sent + length (rows_ending settings.now.layout at.slot)) % 2 ^ 16 }
 {
-    if row_ending(&settings.layout, at.slot).is_none() {
+    if ending.is_none() {
         return sent;
     }
     send(row, settings, Kind::Row, at, sent, into)

@@ -49,16 +49,6 @@ fn add(
     }
 }
 
-/// Whether a column begins at the slot.
-fn begins_column(layout: &Layout, slot: u64) -> bool
-    requires { slot ≤ 2 ^ 60 }
-    ensures { IsTrue result
-        ↔ ((m c : ℕ) × (c < layout.now.l) × (slot ≡ column_base layout.now m c)) }
-{
-    let end = slot + u64::from(layout.d - 1) * u64::from(layout.l);
-    layout.ending_at(end).column.is_some()
-}
-
 /// Adds the payload of a slot, with this timestamp, to the parity under way of its column, and to that of the row where rows
 /// are sent. Where neither begins, one pass over the payload is enough.
 pub fn add_to_lines(
@@ -79,7 +69,7 @@ pub fn add_to_lines(
         → ((s : ℕ) → HasRoom (words s)) → RowIsUnderWay settings.now words slot row.old
         → RowIsUnderWay settings.now words (slot + 1) row.new }
 {
-    let begins = begins_column(&settings.layout, slot);
+    let begins = settings.layout.begins_column(slot);
     if both_go_on(&settings.layout, begins, slot) {
         let column = (slot % u64::from(settings.layout.l)) as usize;
         xor_is_a_group();

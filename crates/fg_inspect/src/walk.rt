@@ -14,7 +14,7 @@ use fg_flows::Table;
 use fg_io::{Fault, Sink, Source};
 use fg_trace::Finish;
 use fg_trace::laws::{one_trace, read_as_far_as_needed};
-use fg_walk::{Telling, walk_trace};
+use fg_walk::{Datagram, Telling, walk_trace};
 use std::alloc::Global;
 
 /// Tells the records of a trace, a line for each.
@@ -100,17 +100,12 @@ impl<'a> Telling for Inspection<'a> {
         Ok(())
     }
 
-    fn tell<K: Sink>(
-        &mut self,
-        time: u64,
-        port: u16,
-        datagram: &[u8],
-        out: &mut K,
-    ) -> Result<(), Fault> {
+    fn tell<K: Sink>(&mut self, datagram: Datagram<'_>, out: &mut K) -> Result<(), Fault> {
         one_text();
-        let reading = read_record(self.table, port, datagram);
+        let Datagram { time, port, bytes } = datagram;
+        let reading = read_record(self.table, port, bytes);
         self.lines
-            .add(time, port, datagram.len() as u16, reading, out)?;
+            .add(time, port, bytes.len() as u16, reading, out)?;
         Ok(())
     }
 

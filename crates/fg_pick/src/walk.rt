@@ -19,7 +19,7 @@ use fg_flows::Selection;
 use fg_io::{Fault, OutputBuffer, Sink, Source};
 use fg_trace::laws::{one_trace, read_as_far_as_needed, spelled_is_read};
 use fg_trace::{Finish, MAGIC, record_header};
-use fg_walk::{Telling, walk_trace};
+use fg_walk::{Datagram, Telling, walk_trace};
 use std::alloc::Global;
 
 /// How many bytes of the trace are gathered before they are written.
@@ -148,21 +148,16 @@ impl<'a> Telling for Picking<'a> {
         Ok(())
     }
 
-    fn tell<K: Sink>(
-        &mut self,
-        time: u64,
-        port: u16,
-        datagram: &[u8],
-        out: &mut K,
-    ) -> Result<(), Fault> {
+    fn tell<K: Sink>(&mut self, datagram: Datagram<'_>, out: &mut K) -> Result<(), Fault> {
         one_picked();
         picked_exist();
+        let Datagram { time, port, bytes } = datagram;
         pick_record(
             self.selection,
             &self.table,
             time,
             port,
-            datagram,
+            bytes,
             &mut self.held,
             out,
         )?;

@@ -23,7 +23,7 @@ use fg_playout::laws::{desks_come_in_order, desks_end, desks_join, runs_stay_wit
 use fg_rtp::laws::media_datagrams_read_one_way;
 use fg_trace::Finish;
 use fg_trace::laws::{one_trace, read_as_far_as_needed};
-use fg_walk::{Telling, walk_trace};
+use fg_walk::{Datagram, Telling, walk_trace};
 use std::alloc::Global;
 
 /// Proves the gaps of a trace's one flow: writes the case of each play that is repaired and shows a position as missing.
@@ -137,17 +137,12 @@ impl<'a> Telling for Proving<'a> {
         Ok(())
     }
 
-    fn tell<K: Sink>(
-        &mut self,
-        time: u64,
-        port: u16,
-        datagram: &[u8],
-        out: &mut K,
-    ) -> Result<(), Fault> {
+    fn tell<K: Sink>(&mut self, datagram: Datagram<'_>, out: &mut K) -> Result<(), Fault> {
         records_are_told();
         desks_join();
+        let Datagram { time, port, bytes } = datagram;
         match self.plan.table.find(port) {
-            Some((_, kind)) => self.prover.take(self.alloc, kind, time, datagram, out),
+            Some((_, kind)) => self.prover.take(self.alloc, kind, time, bytes, out),
             None => Ok(()),
         }
     }

@@ -105,14 +105,14 @@ impl Layout {
         Some(slot - length)
     }
 
-    /// Whether a column of some matrix begins at the slot.
-    fn begins_column(&self, base: u64) -> bool
+    /// Whether a column of some matrix begins at the slot, of the stream's slots counted from 0.
+    pub fn begins_column(&self, slot: u64) -> bool
         ensures { IsTrue result
-            ↔ ((m c : ℕ) × (c < self.now.l) × (base ≡ column_base self.now m c)) }
+            ↔ ((m c : ℕ) × (c < self.now.l) × (slot ≡ column_base self.now m c)) }
     {
         let columns = u64::from(self.l);
         let rows = u64::from(self.d);
-        let place = base % (columns * rows);
+        let place = slot % (columns * rows);
         place / columns == self.first_row(place % columns)
     }
 

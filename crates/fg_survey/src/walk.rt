@@ -17,7 +17,7 @@ use fg_io::{Fault, SafeSink, Sink, Source, write_all};
 use fg_report::Tail;
 use fg_trace::Finish;
 use fg_trace::laws::{one_trace, read_as_far_as_needed};
-use fg_walk::{Telling, walk_trace};
+use fg_walk::{Datagram, Telling, walk_trace};
 use std::alloc::Global;
 
 /// Surveys a trace, and writes what it holds to `out`: its totals, each port with a record, each stream of media datagrams,
@@ -163,15 +163,10 @@ impl Telling for Surveying {
         Ok(())
     }
 
-    fn tell<K: Sink>(
-        &mut self,
-        time: u64,
-        port: u16,
-        datagram: &[u8],
-        _out: &mut K,
-    ) -> Result<(), Fault> {
+    fn tell<K: Sink>(&mut self, datagram: Datagram<'_>, _out: &mut K) -> Result<(), Fault> {
+        let Datagram { time, port, bytes } = datagram;
         self.sheet
-            .take(self.alloc, time, port, datagram.len() as u16, datagram)?;
+            .take(self.alloc, time, port, bytes.len() as u16, bytes)?;
         Ok(())
     }
 

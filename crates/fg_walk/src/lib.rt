@@ -5,6 +5,6 @@ mod teller;
 mod trace;
 mod walking;
 
-pub use teller::Telling;
+pub use teller::{Datagram, Telling};
 pub use trace::walk_trace;
 pub use walking::{Walking, walk};

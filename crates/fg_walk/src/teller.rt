@@ -8,6 +8,17 @@ ghost use Rattle.fg_walk.specs.Walk.{IsBegun};
 use fg_io::{Fault, Sink};
 use fg_trace::Finish;
 
+/// What a record of a trace holds.
+#[derive(Clone, Copy)]
+pub struct Datagram<'a> {
+    /// When the datagram came, in microseconds.
+    pub time: u64,
+    /// The port that it came on.
+    pub port: u16,
+    /// Its bytes, fewer than 2^16.
+    pub bytes: &'a [u8],
+}
+
 /// Tells the records of a trace, one after another, to a sink.
 pub trait Telling {
     // What no call changes.
@@ -15,7 +26,7 @@ pub trait Telling {
 
     ghost given: { Self → Given };
 
-    // How many bytes a trace has at most that is told.
+    // How many bytes a trace may have at most.
     ghost most: { ℕ };
 
     // Nothing is told yet.
@@ -40,25 +51,25 @@ pub trait Telling {
         ensures given { given self.new ≡ given self.old }
         ensures faults { Counts result [] ((K.faults out.old, K.faults out.new) ∷ []) };
 
-    /// Tells the next record. Its time is in microseconds.
-    fn tell<K: Sink>(
-        &mut self,
-        time: u64,
-        port: u16,
-        datagram: &[u8],
-        out: &mut K,
-    ) -> Result<(), Fault>
-        requires size { length datagram.now < 2 ^ 16 }
+    /// Tells the next record.
+    fn tell<K: Sink>(&mut self, datagram: Datagram<'_>, out: &mut K) -> Result<(), Fault>
+        requires size { length datagram.bytes.now < 2 ^ 16 }
         requires told { (records : List Record) × (before : Option (List ℕ))
             × (length records < most) × has_told self.old records before (K.written out.old) }
         ensures told { OnOk result ((records : List Record) (before : Option (List ℕ))
             → has_told self.old records before (K.written out.old)
-            → has_told self.new (records ++ (record { time = time; port = port; datagram = datagram.now }) ∷ [])
-            before (K.written out.new)) }
+            → has_told self.new (records ++ (record {
+              time = datagram.entry.time;
+              port = datagram.entry.port;
+              datagram = datagram.entry.bytes.now;
+            }) ∷ []) before (K.written out.new)) }
         ensures part { OnErr result ((records later : List Record) (before : Option (List ℕ))
             → has_told self.old records before (K.written out.old)
-            → part (given self.old) ((records ++ (record { time = time; port = port; datagram = datagram.now }) ∷ []) ++ later)
-            before (K.written out.new)) }
+            → part (given self.old) ((records ++ (record {
+              time = datagram.entry.time;
+              port = datagram.entry.port;
+              datagram = datagram.entry.bytes.now;
+            }) ∷ []) ++ later) before (K.written out.new)) }
         ensures given { given self.new ≡ given self.old }
         ensures faults { Counts result [] ((K.faults out.old, K.faults out.new) ∷ []) };
 

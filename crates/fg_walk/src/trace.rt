@@ -7,7 +7,7 @@ ghost use Rattle.fg_trace.specs.Finish.{ReadsAll};
 ghost use Rattle.fg_trace.specs.Reached.{IsReadTo};
 ghost use Rattle.fg_walk.specs.Walk.{Walked, WalkedPart};
 
-use crate::teller::Telling;
+use crate::teller::{Datagram, Telling};
 use crate::walking::{Walking, walk};
 use fg_io::{Fault, Sink, Source};
 use fg_trace::laws::{one_trace, read_as_far_as_needed, walks_the_front};
@@ -104,7 +104,8 @@ impl<T: Telling> Walking for T {
         self.stops();
         match reader.next(input) {
             Ok(Step::Datagram { time, port, .. }) => {
-                self.tell(time, port, reader.payload(), out)?;
+                let bytes = reader.payload();
+                self.tell(Datagram { time, port, bytes }, out)?;
                 Ok(None)
             }
             Ok(Step::End) => Ok(Some(Finish::Done)),

@@ -16,12 +16,8 @@ use Rattle.fg_prove.proofs.walk.ProvingTelling.end.Goals as goal
 
 pub play_rest-requires : goal.play_rest-requires
 play_rest-requires g c =
-    let work = c.args.self.now in
-    let told = c.requires.told.3 in
-    record {
-      within = flushes_within c.records_are_told.ensures.flushing (playout_of work.plan.now) _ c.requires.told.0 work.prover.desk.state c.requires.told.1
-          work.prover.gaps.text.held (g.K.Sink.written c.args.out.now) told.fits.playout (omega (arith, c.requires.told.2)) told.taken;
-    }
+    let h = c.requires.told.3 in
+    record { within = flushes_within c.records_are_told.ensures.flushing _ _ _ _ _ _ _ h.fits.playout (omega (arith, c.requires.told.2)) h.taken }
 
 pub returns-in_err-play_rest-clause-part : goal.returns-in_err-play_rest-clause-part
 returns-in_err-play_rest-clause-part g c =

@@ -8,12 +8,8 @@ use Rattle.fg_prove.proofs.walk.ProvingTelling.tell.Goals as goal
 
 pub take-requires : goal.take-requires
 take-requires g c =
-    let work = c.args.self.now in
-    let told = c.requires.told.3 in
-    record {
-      within = stays_within c.records_are_told.ensures.taking (playout_of work.plan.now) _ c.requires.told.0 work.prover.desk.state c.requires.told.1
-          work.prover.gaps.text.held (g.K.Sink.written c.args.out.now) told.fits.playout (omega (arith, c.requires.told.2)) told.taken;
-    }
+    let h = c.requires.told.3 in
+    record { within = stays_within c.records_are_told.ensures.taking _ _ _ _ _ _ _ h.fits.playout (omega (arith, c.requires.told.2)) h.taken }
 
 pub returns-in-Some-clause-told : goal.returns-in-Some-clause-told
 returns-in-Some-clause-told g c =
@@ -22,7 +18,7 @@ returns-in-Some-clause-told g c =
     let new = c.take.new.self in
     let flow = slice_index plan.table 0 in
     let kind = c.in-Some.kind in
-    let r : Record = record { time = c.args.time; port = c.args.port; datagram = c.args.datagram.now } in
+    let r : Record = record { time = c.args.datagram.time; port = c.args.datagram.port; datagram = c.args.datagram.bytes.now } in
     let at = g.K.Sink.written c.args.out.now in
     let after = g.K.Sink.written c.take.new.out in
     on_ok_weaker c.take.result (λ admits records before h. record {
@@ -41,7 +37,7 @@ returns-in-Some-clause-part g c =
     let old = c.args.self.now.prover in
     let flow = slice_index plan.table 0 in
     let kind = c.in-Some.kind in
-    let r : Record = record { time = c.args.time; port = c.args.port; datagram = c.args.datagram.now } in
+    let r : Record = record { time = c.args.datagram.time; port = c.args.datagram.port; datagram = c.args.datagram.bytes.now } in
     let laws = c.records_are_told.ensures in
     let at = g.K.Sink.written c.args.out.now in
     let after = g.K.Sink.written c.take.new.out in
@@ -54,7 +50,7 @@ pub returns-in-None-clause-told : goal.returns-in-None-clause-told
 returns-in-None-clause-told g c = λ records before h.
     let plan = c.args.self.now.plan.now in
     let old = c.args.self.now.prover in
-    let r : Record = record { time = c.args.time; port = c.args.port; datagram = c.args.datagram.now } in
+    let r : Record = record { time = c.args.datagram.time; port = c.args.datagram.port; datagram = c.args.datagram.bytes.now } in
     record {
       fits = h.fits;
       one = h.one;

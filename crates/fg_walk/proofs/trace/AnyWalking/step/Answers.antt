@@ -22,7 +22,7 @@ returns-in_err-tell-in-Ok-Datagram-clause-part g c =
     → Breaks g.T.Telling.part given c.args.reader.now.max first now before (g.K.Sink.written c.tell.new.out) = λ first before h.
     breaks_at_record c.walks_the_front.ensures c.read_as_far_as_needed.ensures.after g.T.Telling.has_told g.T.Telling.part c.args.self.now given c.args.reader.now c.next.new.self first _ now before _ _ c.next.result c.in-Ok-Datagram.time c.in-Ok-Datagram.port _
     c.next.ensures.max c.next.ensures.bounded (c.in-Ok-Datagram.is ∙ ap Ok c.in-Ok-Datagram.field-0-is) (c.next.ensures.walks first)
-    (λ records later told. subst (λ (b : List ℕ). g.T.Telling.part given ((records ++ (record { time = c.in-Ok-Datagram.time; port = c.in-Ok-Datagram.port; datagram = b }) ∷ []) ++ later) before (g.K.Sink.written c.tell.new.out)) c.payload.ensures
+    (λ records later told. subst (λ (b : List ℕ). g.T.Telling.part given ((records ++ (record { time = c.in-Ok-Datagram.time; port = c.in-Ok-Datagram.port; datagram = b }) ∷ []) ++ later) before (g.K.Sink.written c.tell.new.out)) c.payload-bytes.ensures
     (c.in_err-tell-in-Ok-Datagram.ensures.part records later before told)) h in
     on_err _ _ part
 
@@ -30,7 +30,7 @@ pub returns-in_ok-tell-in-Ok-Datagram-clause-more : goal.returns-in_ok-tell-in-O
 returns-in_ok-tell-in-Ok-Datagram-clause-more g c = λ first before h.
     underway_more g.T.Telling.has_told c.args.self.now c.tell.new.self c.args.reader.now c.next.new.self first _ _ before _ _ c.next.result c.in-Ok-Datagram.time c.in-Ok-Datagram.port _
     (c.in-Ok-Datagram.is ∙ ap Ok c.in-Ok-Datagram.field-0-is) (rw (c.in-Ok-Datagram.is ∙ ap Ok c.in-Ok-Datagram.field-0-is) at c.next.ensures.kept) c.next.ensures.max (c.next.ensures.walks first)
-    (λ records told. subst (λ (b : List ℕ). g.T.Telling.has_told c.tell.new.self (records ++ (record { time = c.in-Ok-Datagram.time; port = c.in-Ok-Datagram.port; datagram = b }) ∷ []) before (g.K.Sink.written c.tell.new.out)) c.payload.ensures
+    (λ records told. subst (λ (b : List ℕ). g.T.Telling.has_told c.tell.new.self (records ++ (record { time = c.in-Ok-Datagram.time; port = c.in-Ok-Datagram.port; datagram = b }) ∷ []) before (g.K.Sink.written c.tell.new.out)) c.payload-bytes.ensures
     (c.in_ok-tell-in-Ok-Datagram.ensures.told records before told)) h
 
 pub returns-in-Ok-End-clause-ends : goal.returns-in-Ok-End-clause-ends
