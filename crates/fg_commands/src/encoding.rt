@@ -17,6 +17,8 @@ use std::alloc::Global;
 /// The stream is cut into payloads of so many packets as the settings say, the last one as it comes. `NotTransport` and
 /// `TooLong` tell the first that isn't whole packets, or isn't whole within the limit, and the trace of those before it is
 /// written. After a fault `out` has gained a prefix of the trace.
+// Compiled apart, so that its loop has all registers.
+#[inline(never)]
 pub fn run_encode<S: Source, K: Sink>(
     alloc: Global,
     settings: &Settings,

@@ -14,6 +14,8 @@ use std::alloc::Global;
 ///
 /// `NotTransport` and `TooLong` tell the first packet that isn't one, or isn't whole within the limit. The lines of those before
 /// it are then written, and not the last. After a fault `out` has gained a prefix of the text.
+// Compiled apart, so that its loop has all registers.
+#[inline(never)]
 pub fn run_monitor<S: Source, K: Sink>(alloc: Global, max: u64, input: &mut S, out: &mut K) -> Ended
     requires max { (8 ≤ max) × (max ≤ 2 ^ 40) }
     ensures { FilterEnded (monitoring max) result S.left S.faults input.old input.new

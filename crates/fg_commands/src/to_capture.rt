@@ -12,6 +12,8 @@ use std::alloc::Global;
 ///
 /// `Unfit` tells the first record whose time or size a capture can't tell. The records before it are then written, as they are
 /// before `Cut` and `TooLong`. After a fault `out` has gained a prefix of the capture.
+// Compiled apart, so that its loop has all registers.
+#[inline(never)]
 pub fn run_tocap<S: Source, K: Sink>(alloc: Global, max: u64, input: &mut S, out: &mut K) -> Ended
     requires max { (8 ≤ max) × (max ≤ 2 ^ 40) }
     ensures { FilterEnded (spelling max) result S.left S.faults input.old input.new
