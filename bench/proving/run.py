@@ -5,7 +5,8 @@ run.py [gate]
 
 In one run: the check of the kit's `examples/worked/bikes` with one job, which is the unit; then the first command of README.md on
 a copy of the checkout with nothing kept. With `gate`, also the gate on such a copy. Each is told in seconds of the clock and
-in seconds of processors, its children's counted in, and as a multiple of the unit. It wants a machine that does nothing else.
+in seconds of processors, its children's counted in, and as a multiple of the unit: of the mean of one before it and one behind,
+which differ by a fifth on some machines. It wants a machine that does nothing else.
 """
 import os
 import resource
@@ -44,8 +45,11 @@ def gate():
 
 
 def unit(room):
-    shutil.copytree(f"{KIT}/{EXAMPLE}", f"{room}/unit")
-    return spent("rt check --jobs 1", f"{room}/unit")
+    """The unit, from nothing."""
+    folder = f"{room}/unit"
+    shutil.rmtree(folder, ignore_errors=True)
+    shutil.copytree(f"{KIT}/{EXAMPLE}", folder)
+    return spent("rt check --jobs 1", folder)
 
 
 def checkout(room, name):
@@ -67,11 +71,13 @@ def main():
         sys.exit(__doc__)
     with tempfile.TemporaryDirectory(prefix="proving-") as room:
         print(f"{len(os.sched_getaffinity(0))} processors")
-        one = unit(room)
-        tell("the unit", *one, one)
-        tell("the first command", *spent(FIRST, checkout(room, "first")), one)
-        if words:
-            tell("the gate", *spent(gate(), checkout(room, "gate")), one)
+        before = unit(room)
+        tell("the unit", *before, before)
+        for what, command in [("first command", FIRST), *([("gate", gate())] if words else [])]:
+            took = spent(command, checkout(room, what.split()[0]))
+            behind = unit(room)
+            tell(f"the {what}", *took, [(one + other) / 2 for one, other in zip(before, behind)])
+            before = behind
 
 
 main()
