@@ -33,7 +33,7 @@ KINDS = (
      r"The second one's 13 comes back as the sum of that row and the second one's 12, 14 and 15\.",
      r"^\d{4}-\d\d-.* flow 5000 in .* silent \d\.\d$"),
     ("what a machine has to have, and rules of the house",
-     r"12 GB of memory, 5 GB of disk", r"has 180 minutes on two processors", r"stack below 128 KB", r"functions under 40 lines",
+     r"12 GB of memory, 5 GB of disk", r"minutes of 180\b", r"stack below 128 KB", r"functions under 40 lines",
      r"about ten a crate, none"),
     ("measured or tried by hand, and kept in no bench",
      r"machine of four processors(?: of 2\.7 GHz)?", r"sixteen(?= 0)", r"sixty-four(?= 0)", r"takes 16 kB more",
