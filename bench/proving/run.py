@@ -6,7 +6,7 @@ run.py [gate]
 In one run: the check of the kit's `examples/worked/bikes` with one job, which is the unit; then the first command of README.md on
 a copy of the checkout with nothing kept. With `gate`, also the gate on such a copy. Each is told in seconds of the clock and
 in seconds of processors, its children's counted in, and as a multiple of the unit: of the mean of one before it and one behind,
-which differ by a fifth on some machines. It wants a machine that does nothing else.
+which have differed by a third. It wants a machine that does nothing else.
 """
 import os
 import resource

@@ -36,7 +36,7 @@ KINDS = (
      r"12 GB of memory, 5 GB of disk", r"minutes of 180\b", r"stack below 128 KB", r"functions under 40 lines",
      r"about ten a crate, none"),
     ("measured or tried by hand, and kept in no bench",
-     r"machine of four processors(?: of 2\.7 GHz)?", r"sixteen(?= 0)", r"sixty-four(?= 0)", r"takes 16 kB more",
+     r"machine of four processors(?: of 2\.7 GHz)?", r"On four processors\b", r"sixteen(?= 0)", r"sixty-four(?= 0)", r"takes 16 kB more",
      r"two million gaps take 34 MB", r"rows with 3 percent lost", r"`workers=0` 5, 10, 30 and 110 MB were enough for 1, 4, 16 and "
      r"64 flows at `depth=400`\. With `workers=4` 220, 300, 260 and 420 were, and with less",
      r"stream of a thousand datagrams, here with about one record in a hundred", r"a depth of 100 loses all columns",

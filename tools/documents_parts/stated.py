@@ -82,7 +82,7 @@ STATED = (
 MEASURED = (
     ("proving/first_command_clock", r"proofs took # minutes"),
     ("proving/first_command_processors", r"# processor minutes on a virtual machine"),
-    ("proving/gate_clock", r"It took # minutes of 180"),
+    ("proving/gate_clock", r"it took # minutes of 180"),
     ("proving/gate_processors", r"of 180 and # processor minutes"),
     ("flows_1_lost_3_workers_4", r"one flow took # of the time without"),
     ("flows_4_lost_3_workers_4", r"of the time without workers, four took #,"),

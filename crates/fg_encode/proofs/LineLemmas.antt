@@ -1,6 +1,5 @@
 -- A word more for the parities under way.
-use Rattle.std.proofs.Common.{◌≡◌, ◌≢◌, ℕ, zero, suc, ◌+◌, ◌-◌, ◌*◌, ◌/◌, ◌<◌, ◌≤◌, ◌%◌, Bool, true, false, Option, Some, None, MatchOption, List, length, map, get_or, set, refl, sym, ap, ⊎_elim, ◌∙◌, arith}
-use Rattle.std.specs.Option.{is_some}
+use Rattle.std.proofs.Common.{◌≡◌, ◌≢◌, ℕ, zero, suc, ◌+◌, ◌-◌, ◌*◌, ◌/◌, ◌<◌, ◌≤◌, ◌%◌, Bool, true, false, List, length, map, get_or, set, refl, sym, ap, ⊎_elim, ◌∙◌, arith}
 use Rattle.std.proofs.Math.Nat.{mul-le-mul_right}
 use Rattle.std.proofs.lemmas.Bool.{cases_lt}
 use Rattle.std.proofs.lemmas.List.{get_or-set_other}
@@ -12,15 +11,13 @@ use Rattle.fg_words.specs.Laws.{SumAppends, XorHasZero}
 use Rattle.fg_shape.specs.declared.Shape.{Shape}
 use Rattle.fg_shape.specs.declared.layouts.Layout.{Layout}
 use Rattle.fg_shape.specs.declared.encoding.Settings.{Settings}
-use Rattle.fg_shape.specs.Layout.{column_base, first_row, ColumnEnds}
+use Rattle.fg_shape.specs.Layout.{column_base, first_row}
 use Rattle.fg_shape.specs.Shape.{slots_of}
 use Rattle.fg_fechead.specs.declared.Parity.{Parity}
 use Rattle.fg_encode.specs.Encoder.{ColumnsAreUnderWay, RowIsUnderWay}
 use Rattle.fg_encode.specs.Encoding.{column_shape, parity_over, row_shape, sequence_of}
 use Rattle.fg_encode.specs.Lines.{added}
 use Rattle.fg_encode.proofs.ListLemmas.{bool_cases}
-use Rattle.fg_shape.proofs.LayoutLemmas.{column_last}
-use Rattle.fg_encode.proofs.PlaceLemmas.{column_ends}
 use Rattle.fg_encode.proofs.SlotLemmas.{sum_more}
 
 -- Two numbers with the same rest are not less than a whole apart.

@@ -14,11 +14,6 @@ use Rattle.fg_prove.proofs.Taking.{flushes_within, flush_breaks_whole, flushed_w
 use Rattle.fg_prove.proofs.Walking.{FirstHasEnded, part_of_all, proved_all}
 use Rattle.fg_prove.proofs.walk.ProvingTelling.end.Goals as goal
 
-pub play_rest-requires : goal.play_rest-requires
-play_rest-requires g c =
-    let h = c.requires.told.3 in
-    record { within = flushes_within c.records_are_told.ensures.flushing _ _ _ _ _ _ _ h.fits.playout (omega (arith, c.requires.told.2)) h.taken }
-
 pub returns-in_err-play_rest-clause-part : goal.returns-in_err-play_rest-clause-part
 returns-in_err-play_rest-clause-part g c =
     let plan = c.args.self.now.plan.now in
@@ -61,3 +56,8 @@ returns-clause-part g c =
     let held = c.play_rest.new.self.gaps.text.held in
     on_err_weaker c.flush.result (λ part records before h.
     part_of_all c.records_are_told.ensures.records plan records before held (g.K.Sink.written c.play_rest.new.out) (g.K.Sink.written c.flush.new.out) (ended g c records before h) part) c.flush.ensures.part
+
+pub play_rest-requires : goal.play_rest-requires
+play_rest-requires g c =
+    let h = c.requires.told.3 in
+    record { within = flushes_within c.records_are_told.ensures.flushing _ _ _ _ _ _ _ h.fits.playout (omega (arith, c.requires.told.2)) h.taken }
