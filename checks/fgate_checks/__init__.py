@@ -1,0 +1,1 @@
+"""What builders of fgate check their code, proofs and documents with."""

@@ -1,0 +1,1 @@
+"""Trials of the built program and of what stands around it."""

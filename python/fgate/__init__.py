@@ -1,0 +1,1 @@
+"""Commands around fgate for its users."""
