@@ -200,8 +200,8 @@ fn ask_inside(wait: &impl Wait, turn: &Turn<Flow>, seat: &mut Seat<Flow>, key: K
 
 impl Board {
     /// A new board for a flow whose plays close `window` positions, and for which a play is due where a datagram lies
-    /// `depth` positions past the mark, with its admitter. No word waits longer than `hold` microseconds by the times that are
-    /// told, or for 0 as long as it has to. The board can have up to `passes` passes at once.
+    /// `depth` positions past the mark, with its admitter. A word is played once a time is told that is at least `hold`
+    /// microseconds past its own, and with 0 no time plays it. The board can have up to `passes` passes at once.
     pub fn new(
         alloc: Global,
         window: u32,
@@ -270,6 +270,9 @@ impl Board {
     ///
     /// An equation is open where nobody else has it, a share of each word known at its slots can be lent, and either one
     /// slot has no word, or all have one and nobody found that it comes out.
+    ///
+    /// Jobs are for who builds on a board with workers of his own, by this call, `publish`, `vouch` and `give_back`. The
+    /// program's workers help by key, by `see`, `offer` and `attest`.
     pub fn take(&self, wait: &impl Wait, pass: &mut Pass) -> Result<Option<Job>, AllocError>
         requires { pass.old.turn ≡ self.now.name }
         ensures taken { IfOk result (λ job. TakesTurn (take (option_map (λ (j : TakenJob). j.job) job)) pass.old pass.new) }
@@ -285,7 +288,7 @@ impl Board {
         }
     }
 
-    /// Brings the word of a job's one slot that had none, in one turn, and gives the job back.
+    /// Brings the word of a job's one slot that had none, in one turn, and gives the job back. No command calls it, as `take`.
     pub fn publish(&self, wait: &impl Wait, pass: &mut Pass, job: Job, share: Shared) -> Fate
         requires board { pass.old.turn ≡ self.now.name }
         requires taken { IsLater job.taken pass.old }
@@ -299,7 +302,7 @@ impl Board {
     }
 
     /// Brings whether the equation of a job comes out, whose slots all had words, in one turn. The job is given back where
-    /// it does.
+    /// it does. No command calls it, as `take`.
     pub fn vouch(&self, wait: &impl Wait, pass: &mut Pass, job: Job, zero: bool) -> Fate
         requires board { pass.old.turn ≡ self.now.name }
         requires taken { IsLater job.taken pass.old }
@@ -312,7 +315,7 @@ impl Board {
         check_inside(wait, &self.turn, &mut pass.seat, job.key(), zero, true)
     }
 
-    /// Gives a job back as it is, in one turn.
+    /// Gives a job back as it is, in one turn. No command calls it, as `take`.
     pub fn give_back(&self, wait: &impl Wait, pass: &mut Pass, job: Job) -> Fate
         requires board { pass.old.turn ≡ self.now.name }
         requires taken { job.taken.turn ≡ self.now.name }

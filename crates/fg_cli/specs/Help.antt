@@ -74,10 +74,11 @@ intro =
     ∷ codes "       fgate --help"
     ∷ codes "       fgate --version"
     ∷ codes ""
-    ∷ codes "Standard input is a trace; for encode, drill and monitor a stream, for fromcap a"
-    ∷ codes "capture, for check the text of prove. Standard output is the report, for encode,"
-    ∷ codes "fromcap or pick a trace, for tocap a capture. Each flow goes to the file PORT.ts"
-    ∷ codes "of this folder."
+    ∷ codes "repair, inspect, tocap, prove, survey and pick read a trace from standard input,"
+    ∷ codes "encode, drill and monitor a stream, fromcap a capture, and check the text of"
+    ∷ codes "prove; sample and plan read nothing. repair, drill and sample write each flow to"
+    ∷ codes "the file PORT.ts of this folder, and the report to standard output. encode,"
+    ∷ codes "fromcap and pick write a trace there, tocap a capture, and the others lines."
     ∷ [])
 
 -- The lines that name the first rule that the words break.
@@ -108,9 +109,9 @@ outro =
     ∷ codes "  0  all was done"
     ∷ codes "  1  the words are faulty, and nothing was read"
     ∷ codes "  2  reading failed"
-    ∷ codes "  3  writing failed"
+    ∷ codes "  3  writing failed, or a lane is the input, the output or another lane"
     ∷ codes "  4  the input is no trace, or ends inside a record"
-    ∷ codes "  5  the input is longer than max"
+    ∷ codes "  5  the input is longer than its max, where the command has one"
     ∷ codes "  6  there was no memory"
     ∷ codes "  7  the stream is not of whole transport packets"
     ∷ codes "  8  the input is no capture, or a record does not fit one"

@@ -22,10 +22,11 @@ usage: fgate COMMAND NAME=VALUE ..
        fgate --help
        fgate --version
 
-Standard input is a trace; for encode, drill and monitor a stream, for fromcap a
-capture, for check the text of prove. Standard output is the report, for encode,
-fromcap or pick a trace, for tocap a capture. Each flow goes to the file PORT.ts
-of this folder.
+repair, inspect, tocap, prove, survey and pick read a trace from standard input,
+encode, drill and monitor a stream, fromcap a capture, and check the text of
+prove; sample and plan read nothing. repair, drill and sample write each flow to
+the file PORT.ts of this folder, and the report to standard output. encode,
+fromcap and pick write a trace there, tocap a capture, and the others lines.
 ";
 
 /// The lines that name the first rule that the words break.
@@ -51,9 +52,9 @@ status:
   0  all was done
   1  the words are faulty, and nothing was read
   2  reading failed
-  3  writing failed
+  3  writing failed, or a lane is the input, the output or another lane
   4  the input is no trace, or ends inside a record
-  5  the input is longer than max
+  5  the input is longer than its max, where the command has one
   6  there was no memory
   7  the stream is not of whole transport packets
   8  the input is no capture, or a record does not fit one

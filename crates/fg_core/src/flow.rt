@@ -87,8 +87,8 @@ fn is_held(desk: &Desk, key: Key) -> bool
 }
 
 impl Flow {
-    /// A new board's state. No word waits longer than `hold` microseconds by the times that are told, or for 0 as long as it
-    /// has to. All its memory is taken here.
+    /// A new board's state. A word is played once a time is told that is at least `hold` microseconds past its own, and with
+    /// 0 no time plays it. All its memory is taken here.
     pub fn new(alloc: Global, window: u32, depth: u32, hold: u64) -> Result<Flow, AllocError>
         requires window { (1 ≤ window) × (window ≤ 100) }
         requires depth { (window ≤ depth) × (depth ≤ 1000) }

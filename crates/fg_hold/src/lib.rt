@@ -49,8 +49,8 @@ impl Model for Waiting {
 }
 
 impl Waiting {
-    /// No word waits, and the clock is 0. A word waits no longer than `hold` microseconds. For 0 no
-    /// word may be put, and no memory is taken.
+    /// No word waits, and the clock is 0. A word has waited for too long once the clock is at least
+    /// `hold` microseconds past its time. For 0 no word may be put, and no memory is taken.
     pub fn new(alloc: Global, hold: u64) -> Result<Waiting, AllocError>
         ensures hold { IfOk result (λ waiting. waiting.hold ≡ hold) }
         ensures clock { IfOk result (λ waiting. waiting.clock ≡ 0) }

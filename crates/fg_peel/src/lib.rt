@@ -110,6 +110,9 @@ pub enum Verdict {
 /// one XOR in place for each other slot of its equation, and each equation without an `Empty` slot
 /// is summed once more for the verdict. Each equation is looked at twice, and once more for each of
 /// its slots that is filled.
+///
+/// No command calls it: a desk knows which of its words are media words, and peels what a play needs.
+/// It is for who has words and equations at hand, whoever brought them.
 pub fn peel(low: i64, slots: &mut [Slot], lines: &Slab<Line>) -> Verdict
     requires first { negsuc 99 ≤ℤ low }
     requires last { (low +ℤ pos (length slots.old)) ≤ℤ pos position_limit }

@@ -1,5 +1,5 @@
--- What became of each datagram of a stream, and how many had each fate. Expected and lost are those of RFC 3550 (appendix A.3),
--- reordered is that of RFC 4737.
+-- What became of each datagram of a stream, and how many had each fate. Expected and lost follow RFC 3550 (appendix A.3), but for
+-- jumps: positions count on behind one, where RFC 3550 begins anew. Reordered follows RFC 4737, over the datagrams received.
 use Rattle.std.specs.Prelude.{ℕ, ◌+◌, ◌-◌, max, nat_lt, if◌then◌else◌, Bool, true, false, count_by, Option, None, Some, List, [], ◌∷◌}
 use Rattle.fg_streams.specs.declared.fates.Fate.{Fate}
 use Rattle.fg_streams.specs.declared.fates.Fate.TheVariants.{Late, Duplicate, Behind, Ahead}
