@@ -45,7 +45,7 @@ KINDS = (
     ("what proofs cost, tried crate by crate",
      r"above 3 a function is worth", r"made four, in 143 seconds and 9\.9 MB; four functions with one each have 1 to 2\.4 MB",
      r"took 287 seconds with one job and 489 with four", r"30 rows as arms of a `match` had 6\.0 MB, and 0\.5 so",
-     r"from 2\.7 to 1\.2 MB", r"had 17 MB, in four parts at most 4\.5\.", r"An edit costs 15 seconds",
+     r"from 2\.7 to 1\.2 MB", r"had 17 MB, in four parts at most 4\.5\.", r"An edit costs 8 to 16 seconds", r"17 to 18 seconds in `fg_words`, 34 to 48 in `fg_engine`",
      r"costs 10 to 20 seconds", r"costs 0\.9 seconds a function"),
     ("a matrix of so many by so many, as an example takes it",
      r"\b(\w+) columns and \1 rows\b", r"\b(?:ten|four|six|\d+) by (?:ten|four|seven|\d+)\b"),
