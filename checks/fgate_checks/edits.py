@@ -171,7 +171,7 @@ def results_of_examples(copy: Path, cases: dict[str, Example]) -> dict[str, bool
     for name, ended, rest in re.findall(r"^case=(\S+) (\S+)(.*)$", said, re.M):
         status = re.search(r"status=(\d+)", ended + rest)
         right = status is not None and int(status[1]) == cases[name].status
-        found[name] = right and "wrong" not in rest
+        found[name] = right and "output=differs" not in rest
     if not found:
         raise Unusable(f"no example ran: {said.strip()[-300:]}")
     return found
