@@ -1,5 +1,5 @@
 -- Which lines have to be looked at, and which two slots each of the others watches.
-use Rattle.std.specs.Prelude.{◌≡◌, ◌≢◌, ◌⊎◌, ◌-◌, ◌^◌, ◌<◌, ◌≤◌, ℕ, Bool, true, false, List, length, slice_index, slice_index_or, slice_set, refl}
+use Rattle.std.specs.Prelude.{◌≡◌, ◌≢◌, ◌⊎◌, ◌-◌, ◌/◌, ◌^◌, ◌<◌, ◌≤◌, ℕ, Bool, true, false, List, length, slice_index, slice_index_or, slice_set, refl}
 use Rattle.std.specs.Coded.{Coded, code_by, coded×, coded_ℕ, coded_bool, coded_list}
 
 -- The two watched positions by place, and whether the line there has to be looked at.
@@ -66,9 +66,13 @@ pub record Closes (mark : ℕ) (old new : WatchState) : Type 0 where
 abbrev pub nowhere : ℕ
 nowhere = 2 ^ 64 - 1
 
+-- Of each 32 places in a row none has a first position before their bound.
+abbrev pub AreBounds : List ℕ → List ℕ → Type 0
+AreBounds leasts first = (place : ℕ) → place < 512 → slice_index leasts (place / 32) ≤ slice_index first place
+
 -- What is true of the fields: there is one of each for 512 places, all queued places lie from one on and below another, no
--- place from an end on watches anything, and all watched positions lie between two.
-pub record AreWatches (first second : List ℕ) (queued : List Bool) (low high end least latest : ℕ) : Type 0 where
+-- place from an end on watches anything, all watched positions lie between two, and the first ones keep to their bounds.
+pub record AreWatches (first second : List ℕ) (queued : List Bool) (leasts : List ℕ) (low high end least latest : ℕ) : Type 0 where
   pub first_count : length first ≡ 512
   pub second_count : length second ≡ 512
   pub queued_count : length queued ≡ 512
@@ -77,6 +81,9 @@ pub record AreWatches (first second : List ℕ) (queued : List Bool) (low high e
   pub within : end ≤ 512
   pub first_past : (place : ℕ) → end ≤ place → place < 512 → slice_index first place ≡ nowhere
   pub second_past : (place : ℕ) → end ≤ place → place < 512 → slice_index second place ≡ nowhere
+  pub leasts_count : length leasts ≡ 16
+  pub leasts_most : (block : ℕ) → slice_index leasts block ≤ nowhere
+  pub bounds : AreBounds leasts first
   pub not_before : (place : ℕ) → place < 512 → least ≤ slice_index first place
   pub first_before : (place : ℕ) → place < 512 → (slice_index first place ≤ latest) ⊎ (slice_index first place ≡ nowhere)
   pub second_before : (place : ℕ) → place < 512 → (slice_index second place ≤ latest) ⊎ (slice_index second place ≡ nowhere)

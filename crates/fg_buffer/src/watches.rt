@@ -1,7 +1,7 @@
 //! Which lines have to be looked at: a line is, where one of the two slots that it watches got a word.
 
 ghost use Rattle.std.specs.Prelude.{◌≡◌, ◌≢◌, ◌+◌, ◌<◌, ◌≤◌, ℕ, true, false, length, slice_index, slice_index_or, IsTrue, IfSome, IfNone};
-ghost use Rattle.fg_buffer.specs.Watches.{IsQueued, IsWatching, Adds, TakesOut, WatchesAt, Wakes, first_of, nowhere};
+ghost use Rattle.fg_buffer.specs.Watches.{IsQueued, IsWatching, Adds, TakesOut, WatchesAt, Wakes, AreBounds, first_of, nowhere};
 
 use crate::LIVE_LIMIT;
 use std::alloc::{AllocError, Global};
@@ -9,6 +9,11 @@ use std::marker::Model;
 
 /// What a line watches that watches no position.
 const NOWHERE: u64 = u64::MAX;
+
+/// How many places in a row make a block, and how many blocks there are.
+const BLOCK: usize = 32;
+
+const BLOCKS: usize = LIVE_LIMIT / BLOCK;
 
 /// For the line at each place whether it has to be looked at, and two positions that it watches.
 #[derive(Drop)]
@@ -21,6 +26,9 @@ pub struct Watches {
     high: usize,
     /// No place from this one on ever watched a position: passes end here.
     end: usize,
+    /// No first watched position of a block lies before this one: passes go over those blocks alone that the mark
+    /// has come to.
+    leasts: Vec<u64>,
     /// No first watched position lies before this one, and no watched one past the other: most passes are
     /// spared by that.
     least: u64,
@@ -36,7 +44,7 @@ impl Model for Watches {
 
     ghost view = { λ a. record { first = a.first.items; second = a.second.items; queued = a.queued.items } };
 
-    ghost invariant = { λ a. AreWatches a.first.items a.second.items a.queued.items a.low a.high a.end a.least a.latest };
+    ghost invariant = { λ a. AreWatches a.first.items a.second.items a.queued.items a.leasts.items a.low a.high a.end a.least a.latest };
 }
 
 impl Watches {
@@ -46,6 +54,7 @@ impl Watches {
             first: vec![in alloc; NOWHERE; LIVE_LIMIT]?,
             second: vec![in alloc; NOWHERE; LIVE_LIMIT]?,
             queued: vec![in alloc; false; LIVE_LIMIT]?,
+            leasts: vec![in alloc; NOWHERE; BLOCKS]?,
             low: LIVE_LIMIT,
             high: 0,
             end: 0,
@@ -145,6 +154,7 @@ impl Watches {
         self.first[place] = first;
         self.second[place] = second;
         self.end = self.end.max(place + 1);
+        self.leasts[place / BLOCK] = self.leasts[place / BLOCK].min(first);
         self.least = self.least.min(first);
         self.latest = self.latest.max(first).max(second);
     }
@@ -170,15 +180,16 @@ impl Watches {
         if mark <= self.least {
             return None;
         }
-        next_below(&self.first, from as usize, self.end, mark)
+        next_closed(&self.first, &self.leasts, from as usize, self.end, mark)
     }
 
-    /// Seeks the least first watched position anew, where the mark has passed the one before.
+    /// Seeks the least first watched positions anew that the mark has passed.
     pub(crate) fn renew(&mut self, mark: u64)
         ensures { self.new ≡ self.old }
     {
         if mark > self.least {
-            self.least = least_of(&self.first, self.end);
+            renew_passed(&mut self.leasts, &self.first, mark);
+            self.least = least_of(&self.leasts, 0, BLOCKS);
         }
     }
 }
@@ -252,15 +263,57 @@ fn next_queued(queued: &[bool], from: usize, end: usize) -> Option<usize>
     None
 }
 
-/// The least of the positions before an end.
-fn least_of(first: &[u64], end: usize) -> u64
-    requires { end ≤ length first.now }
-    ensures least { (place : ℕ) → place < end → result ≤ slice_index first.now place }
+/// The next place from one on and below an end that has a position before the mark. Blocks are passed over that have
+/// none.
+fn next_closed(first: &[u64], leasts: &[u64], from: usize, end: usize, mark: u64) -> Option<u32>
+    requires within { end ≤ length first.now }
+    requires few { end ≤ 512 }
+    requires blocks { length leasts.now ≡ 16 }
+    requires bounds { AreBounds leasts.now first.now }
+    ensures some { IfSome result (λ place. (from ≤ place) × (place < end) × (slice_index first.now place < mark)
+        × ((other : ℕ) → from ≤ other → other < place → mark ≤ slice_index first.now other)) }
+    ensures none { IfNone result ((other : ℕ) → from ≤ other → other < end
+        → mark ≤ slice_index first.now other) }
+{
+    let mut place = from;
+    while place < end {
+        let block = place / BLOCK;
+        let stop = end.min((block + 1) * BLOCK);
+        if leasts[block] < mark {
+            if let Some(found) = next_below(first, place, stop, mark) {
+                return Some(found);
+            }
+        }
+        place = stop;
+    }
+    None
+}
+
+/// Seeks the least position of each block anew whose least the mark has passed.
+fn renew_passed(leasts: &mut [u64], first: &[u64], mark: u64)
+    requires blocks { length leasts.old ≡ 16 }
+    requires places { length first.now ≡ 512 }
+    requires bounds { AreBounds leasts.old first.now }
+    requires most { (block : ℕ) → slice_index leasts.old block ≤ nowhere }
+    ensures bounds { AreBounds leasts.new first.now }
+    ensures most { (block : ℕ) → slice_index leasts.new block ≤ nowhere }
+{
+    for block in 0..BLOCKS {
+        if leasts[block] < mark {
+            leasts[block] = least_of(first, block * BLOCK, (block + 1) * BLOCK);
+        }
+    }
+}
+
+/// The least of the positions from one number on and before an end.
+fn least_of(positions: &[u64], from: usize, end: usize) -> u64
+    requires { end ≤ length positions.now }
+    ensures least { (place : ℕ) → from ≤ place → place < end → result ≤ slice_index positions.now place }
     ensures most { result ≤ nowhere }
 {
     let mut least = NOWHERE;
-    for place in 0..end {
-        least = least.min(first[place]);
+    for place in from..end {
+        least = least.min(positions[place]);
     }
     least
 }

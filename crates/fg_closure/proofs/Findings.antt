@@ -16,7 +16,7 @@ use Rattle.fg_playout.specs.Solution.{InClosure, given}
 use Rattle.fg_playout.specs.Facts.{Holds}
 use Rattle.fg_closure.specs.declared.search.LineSlots.{LineSlots}
 use Rattle.fg_closure.specs.declared.closure.Closure.{Closure}
-use Rattle.fg_closure.specs.Flags.{IsFlagged, slots_at, IsLineAt, IsTold, AllHaveFlags, NothingFollows, IsOnTheWay, NonePast}
+use Rattle.fg_closure.specs.Flags.{IsFlagged, slots_at, IsLineAt, IsTold, AllHaveFlags, NothingFollows, IsOnTheWay}
 use Rattle.fg_closure.specs.Found.{IsFoundOf}
 use Rattle.fg_closure.specs.Holes.{IsLookedAt, IsHole, HasMissing}
 use Rattle.fg_closure.proofs.Searches.{all_flagged, true_within}
@@ -74,28 +74,29 @@ pub record AreFound (desk : State) (first : ℕ) (knows flags : List Bool) (tabl
   pub closed : (position : ℕ) → IsFlagged first flags position ↔ InClosure desk position
   pub lines : (place : ℕ) (line : LineSlots) → (get_or table place None ≡ Some line) ↔ IsLineAt desk place line
 
-pub found : (desk : State) (first used : ℕ) (knows knows' begin flags flags' : List Bool) (table table' seen : List (Option LineSlots)) → Holds desk
+pub found : (desk : State) (first : ℕ) (knows knows' begin flags flags' : List Bool) (table table' seen : List (Option LineSlots)) → Holds desk
     → ((position : ℕ) → IsFlagged first knows position ↔ IsSome (known desk position))
     → ((place : ℕ) (line : LineSlots) → (get_or table place None ≡ Some line) ↔ IsLineAt desk place line)
-    → NonePast table used
     → (IsOnTheWay desk first seen begin → IsOnTheWay desk first seen flags)
-    → ((place : ℕ) (line : LineSlots) → place < used → get_or seen place None ≡ Some line → NothingFollows first flags line)
-    → begin ≡ knows → seen ≡ table → knows' ≡ knows → flags' ≡ flags → table' ≡ table → AreFound desk first knows' flags' table'
-found desk first used knows knows' begin flags flags' table table' seen facts told lines past goes done begins same known_is flags_are table_is =
-    let start : IsOnTheWay desk first table knows = record {
+    → ((place : ℕ) (line : LineSlots) → get_or seen place None ≡ Some line → NothingFollows first flags line)
+    → ((position : ℕ) → IsFlagged first knows position → IsFlagged first begin position)
+    → ((position : ℕ) → IsFlagged first begin position → IsFlagged first knows position ⊎ InClosure desk position)
+    → seen ≡ table → knows' ≡ knows → flags' ≡ flags → table' ≡ table → AreFound desk first knows' flags' table'
+found desk first knows knows' begin flags flags' table table' seen facts told lines goes done kept follow same known_is flags_are table_is =
+    let start : IsOnTheWay desk first table begin = record {
       facts = facts;
       lines = λ place line is. (lines place line).0 is;
-      given = λ position some. (told position).1 some;
-      within = λ position flagged. given ((told position).0 flagged);
+      given = λ position some. kept position ((told position).1 some);
+      within = λ position flagged. ⊎_elim (λ (was : IsFlagged first knows position). given ((told position).0 was)) (λ inside. inside) (follow position flagged);
     } in
     let way : IsOnTheWay desk first table flags = subst (λ t. IsOnTheWay desk first t flags) same
-    (goes (subst (λ t. IsOnTheWay desk first t begin) (sym same) (subst (λ f. IsOnTheWay desk first table f) (sym begins) start))) in
+    (goes (subst (λ t. IsOnTheWay desk first t begin) (sym same) start)) in
     let here : AreFound desk first knows flags table = record {
       known = told;
       closed = λ position. (
         way.within position,
-        all_flagged desk first used table flags way past (λ place line. (lines place line).1)
-            (λ place line below is. done place line below (subst (λ (t : List (Option LineSlots)). get_or t place None ≡ Some line) (sym same) is)) position,
+        all_flagged desk first table flags way (λ place line. (lines place line).1)
+            (λ place line is. done place line (subst (λ (t : List (Option LineSlots)). get_or t place None ≡ Some line) (sym same) is)) position,
       );
       lines = lines;
     } in

@@ -5,3 +5,4 @@ pub mod Misses
 pub mod Readings
 pub mod Running
 pub mod Searches
+pub mod Watching

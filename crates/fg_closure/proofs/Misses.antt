@@ -4,8 +4,8 @@ use Rattle.std.proofs.lemmas.List.Elements.{Contains-get_or}
 use Rattle.std.proofs.lemmas.Bool.{cases_eq}
 use Rattle.fg_shape.proofs.ShapeLemmas.{length-slots_of, get_or-slots_of, slots_apart, number_of_slot}
 use Rattle.fg_peel.proofs.Misses.{place_of}
-use Rattle.fg_peel.specs.declared.span.Missing.TheVariants.{Nothing, One, Several}
 use Rattle.fg_closure.specs.declared.search.LineSlots.{LineSlots}
+use Rattle.fg_closure.specs.declared.search.Lacking.TheVariants.{Nothing, One, Several}
 use Rattle.fg_closure.specs.Flags.{IsFlagged, slots_at, HasFlags, AreWithout}
 
 -- A flag's position.
@@ -52,15 +52,13 @@ misses_this P xs j position (Some other) here none is below = absurd (cc)
 
 module _ (P : ℕ → Type 0) (line : LineSlots) where
   -- a second slot that is without
-  misses_two :
+  pub misses_two :
       (j position second : ℕ) → 1 ≤ line.shape.offset → j < line.shape.na → get_or (slots_at line) j 0 ≡ second → (¬ P second)
-      → MissesBelow P (slots_at line) j (Some position) → AreWithout P (slots_at line) Several
+      → MissesBelow P (slots_at line) j (Some position) → AreWithout P (slots_at line) (Several position second)
   misses_two j position second some within here none below =
       let size = length-slots_of line.base line.shape.offset line.shape.na in
       let first : below.0 < length (slots_at line) = omega (arith, below.1, size) in
       let next : j < length (slots_at line) = omega (arith, size) in (
-        position,
-        second,
         rw below.2 at (Contains-get_or (slots_at line) below.0 0 first),
         rw here at (Contains-get_or (slots_at line) j 0 next),
         λ same. (let equal : below.0 ≡ j = slots_apart line.base line.shape.offset below.0 j some
@@ -72,10 +70,10 @@ module _ (P : ℕ → Type 0) (line : LineSlots) where
       )
 
   pub misses_several :
-      (j second : ℕ) (found : Option ℕ) → 1 ≤ line.shape.offset → j < line.shape.na → get_or (slots_at line) j 0 ≡ second → (¬ P second)
-      → is_some found ≡ true → MissesBelow P (slots_at line) j found → AreWithout P (slots_at line) Several
-  misses_several j second None some within here none is below = absurd (cc)
-  misses_several j second (Some position) some within here none is below = misses_two j position second some within here none below
+      (j position second : ℕ) (found : Option ℕ) → 1 ≤ line.shape.offset → j < line.shape.na → get_or (slots_at line) j 0 ≡ second → (¬ P second)
+      → found ≡ Some position → MissesBelow P (slots_at line) j found → AreWithout P (slots_at line) (Several position second)
+  misses_several j position second found some within here none is below =
+      misses_two j position second some within here none (rw is at below)
 
   -- all slots were looked at
   pub misses_nothing : (j : ℕ) (found : Option ℕ) → line.shape.na ≤ j → found ≡ None → MissesBelow P (slots_at line) j found
@@ -133,3 +131,11 @@ slot_within first count line slot has c =
 pub at_slot : (first count : ℕ) (line : LineSlots) (j number step : ℕ) → HasFlags first count line → j < line.shape.na → number ≡ j
     → step ≡ line.shape.offset → get_or (slots_at line) j 0 ≡ first + ((line.base - first) + number * step)
 at_slot first count line j number step has within same same' = rw (same, same') (sym (is_slot first count line j has within).position)
+
+-- It can be watched.
+pub slot_limit : (first count : ℕ) (line : LineSlots) (slot : ℕ) → HasFlags first count line → Contains (slots_at line) slot → slot < 2 ^ 63
+slot_limit first count line slot has c =
+    let n = number_of_slot line.base line.shape.offset line.shape.na slot c in
+    let limit = (is_slot first count line n.0 has n.1).limit in
+    let at = get_or-slots_of line.base line.shape.offset line.shape.na n.0 0 n.1 in let e = n.2 in
+    omega (arith, e, at, limit)

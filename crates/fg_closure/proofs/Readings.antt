@@ -12,9 +12,10 @@ use Rattle.fg_peel.proofs.Lists.{Contains-map, Contains-here, Contains-there, Co
 use Rattle.fg_peel.proofs.Options.{value_of}
 use Rattle.fg_buffer.specs.LiveEquations.{live_of, IsAmong}
 use Rattle.fg_playout.specs.State.{State, Live, known}
+use Rattle.fg_playout.specs.Solution.{InClosure}
 use Rattle.fg_playout.specs.Facts.{Holds}
 use Rattle.fg_closure.specs.declared.search.LineSlots.{LineSlots}
-use Rattle.fg_closure.specs.Flags.{IsFlagged, IsLineAt, AreCopied, AllWait, NonePast, slots_of_line}
+use Rattle.fg_closure.specs.Flags.{IsFlagged, IsLineAt, AreCopied, slots_of_line}
 
 -- A known position lies at most 100 before the mark, and less than the depth past it.
 pub record IsAround (desk : State) (position : ℕ) : Type 0 where
@@ -134,24 +135,6 @@ copying_ends slab old new rest none copying = record {
   kept = copying.kept;
 }
 
-pub waits_more : (lines : List (Option LineSlots)) (waiting : List Bool) (place : ℕ) (copy : LineSlots) → place < length waiting
-    → AllWait lines waiting → AllWait (set lines place (Some copy)) (set waiting place true)
-waits_more lines waiting place copy within waits other line is = ⊎_elim
-    (λ same. ap (λ p. get_or (set waiting place true) p false) same ∙ get_or-set_same waiting place true false within)
-    (λ differ. get_or-set_other waiting place other true false differ
-    ∙ waits other line (sym (get_or-set_other lines place other (Some copy) None differ) ∙ is))
-    (cases_eq other place)
-
-pub none_past : (lines : List (Option LineSlots)) (place used more : ℕ) (copy : Option LineSlots) → more ≡ max used (place + 1)
-    → NonePast lines used → NonePast (set lines place copy) more
-none_past lines place used more copy is past other beyond =
-    let differ : other ≢ place = λ same. omega (arith, same, is, beyond) in
-    get_or-set_other lines place other copy None differ ∙ past other (omega (arith, is, beyond))
-
-pub used_within : (lines : List (Option LineSlots)) (place used more : ℕ) (copy : Option LineSlots) → more ≡ max used (place + 1)
-    → place < length lines → used ≤ length lines → more ≤ length (set lines place copy)
-used_within lines place used more copy is within all = rw length-set (omega (arith, is, within, all))
-
 -- All lines of a desk stand at their places after both of its slabs are copied into an empty table.
 module _ (desk : State) (unsettled settled : Slab Line) (none half lines : List (Option LineSlots)) (facts : Holds desk)
     (empty : (place : ℕ) → get_or none place None ≡ None)
@@ -219,3 +202,28 @@ pub live_within : (desk : State) (unsettled settled : Slab Line) (count : ℕ) �
     → (line : Line) → IsAmong unsettled settled line → line.place < count
 live_within desk unsettled settled count facts counted live line among =
     let below = (facts.live line.serial (live_of line) ((live line).0 among)).placed in omega (arith, below, counted)
+
+-- Flags of what a desk found, beside those that were set before.
+pub record AreBeside (desk : State) (first : ℕ) (start flags : List Bool) : Type 0 where
+  pub kept : (position : ℕ) → IsFlagged first start position → IsFlagged first flags position
+  pub follow : (position : ℕ) → IsFlagged first flags position → IsFlagged first start position ⊎ InClosure desk position
+
+-- One more flag, of a position that follows.
+pub one_beside : (desk : State) (first k : ℕ) (start flags : List Bool) → k < length flags → InClosure desk (first + k)
+    → AreBeside desk first start flags → AreBeside desk first start (set flags k true)
+one_beside desk first k start flags within here beside = record {
+  kept = λ position flagged.
+      (let was = beside.kept position flagged in (
+        was.0,
+        ⊎_elim
+            (λ same. ap (λ n. get_or (set flags k true) n false) same ∙ get_or-set_same flags k true false within)
+            (λ differ. get_or-set_other flags k (position - first) true false differ ∙ was.1)
+            (cases_eq (position - first) k),
+      ));
+  follow = λ position flagged.
+      (let from = flagged.0 in
+      ⊎_elim
+      (λ same. inr (let at : first + k ≡ position = omega (arith, same, from) in subst (λ (q : ℕ). InClosure desk q) at here))
+      (λ differ. beside.follow position (from, sym (get_or-set_other flags k (position - first) true false differ) ∙ flagged.1))
+      (cases_eq (position - first) k));
+}

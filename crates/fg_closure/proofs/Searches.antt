@@ -5,8 +5,6 @@ use Rattle.std.proofs.lemmas.Grind.{common_steps}
 use Rattle.std.proofs.lemmas.Bool.{cases_lt, cases_eq}
 use Rattle.std.proofs.lemmas.Option.{none-some, same_Some}
 use Rattle.std.specs.FinMap.{get, entries}
-use Rattle.fg_peel.specs.declared.span.Missing.{Missing}
-use Rattle.fg_peel.specs.declared.span.Missing.TheVariants.{Nothing, One, Several}
 use Rattle.fg_peel.specs.Equation.{Equation, slots}
 use Rattle.fg_peel.proofs.Lists.{Contains-from_map}
 use Rattle.fg_peel.proofs.Maps.{get_of_entry}
@@ -14,7 +12,9 @@ use Rattle.fg_playout.proofs.Equations.{live_at}
 use Rattle.fg_playout.specs.State.{State, Live, known, live_equations}
 use Rattle.fg_playout.specs.Solution.{InClosure, given, derived}
 use Rattle.fg_closure.specs.declared.search.LineSlots.{LineSlots}
-use Rattle.fg_closure.specs.Flags.{IsFlagged, slots_at, IsLineAt, HasFlags, AreWithout, IsFilled, NothingFollows, OthersAreComplete, IsOnTheWay, NonePast}
+use Rattle.fg_closure.specs.declared.search.Lacking.{Lacking}
+use Rattle.fg_closure.specs.declared.search.Lacking.TheVariants.{Nothing, One, Several}
+use Rattle.fg_closure.specs.Flags.{IsFlagged, slots_at, IsLineAt, HasFlags, AreWithout, IsFilled, NothingFollows, IsOnTheWay}
 use Rattle.fg_closure.proofs.Misses.{slot_within}
 
 -- A flag is one of the list.
@@ -47,21 +47,21 @@ set_was first position other flags from differ flagged =
     (flagged.0, sym (get_or-set_other flags (position - first) (other - first) true false differs) ∙ flagged.1)
 
 -- What is flagged stays so.
-pub filled_keeps : (first count : ℕ) (line : LineSlots) (old new : List Bool) (missing : Missing) → HasFlags first count line
+pub filled_keeps : (first count : ℕ) (line : LineSlots) (old new : List Bool) (missing : Lacking) → HasFlags first count line
     → AreWithout (IsFlagged first old) (slots_at line) missing → IsFilled first old missing new
     → (position : ℕ) → IsFlagged first old position → IsFlagged first new position
 filled_keeps first count line old new Nothing has told filled position flagged = rw filled flagged
-filled_keeps first count line old new Several has told filled position flagged = rw filled flagged
+filled_keeps first count line old new (Several one other) has told filled position flagged = rw filled flagged
 filled_keeps first count line old new (One slot) has told filled position flagged =
     let from = (slot_within first count line slot has told.0).0 in
     subst (λ flags. IsFlagged first flags position) (sym filled) (set_keeps first slot position old from flagged)
 
 -- The line is complete then, where it lacked one flag at most.
-pub complete_now : (first : ℕ) (line : LineSlots) (old new : List Bool) (missing : Missing) → HasFlags first (length old) line
+pub complete_now : (first : ℕ) (line : LineSlots) (old new : List Bool) (missing : Lacking) → HasFlags first (length old) line
     → AreWithout (IsFlagged first old) (slots_at line) missing → IsFilled first old missing new
-    → (missing ≡ Several → ⊥) → AreWithout (IsFlagged first new) (slots_at line) Nothing
+    → ((one other : ℕ) → missing ≡ Several one other → ⊥) → AreWithout (IsFlagged first new) (slots_at line) Nothing
 complete_now first line old new Nothing has told filled few slot c = rw filled (told slot c)
-complete_now first line old new Several has told filled few slot c = absurd (few refl)
+complete_now first line old new (Several one other) has told filled few slot c = absurd (few one other refl)
 complete_now first line old new (One missing) has told filled few slot c =
     let within = slot_within first (length old) line missing has told.0 in
     subst (λ flags. IsFlagged first flags slot) (sym filled)
@@ -69,30 +69,6 @@ complete_now first line old new (One missing) has told filled few slot c =
     (λ same. rw same (set_here first missing old within.0 within.1))
     (λ differ. set_keeps first missing slot old within.0 (told.2 slot c differ))
     (cases_eq slot missing))
-
--- The lines that don't wait stay complete,
-pub others_complete : (first count : ℕ) (line : LineSlots) (lines : List (Option LineSlots)) (waiting old new : List Bool) (missing : Missing)
-    → HasFlags first count line → AreWithout (IsFlagged first old) (slots_at line) missing → IsFilled first old missing new
-    → OthersAreComplete first lines waiting old → OthersAreComplete first lines waiting new
-others_complete first count line lines waiting old new missing has told filled complete place other is waits slot c =
-    filled_keeps first count line old new missing has told filled slot (complete place other is waits slot c)
-
--- and so is the line that waits no more.
-pub one_complete : (first place : ℕ) (line : LineSlots) (lines : List (Option LineSlots)) (waiting old new : List Bool) (missing : Missing)
-    → HasFlags first (length old) line → get_or lines place None ≡ Some line → AreWithout (IsFlagged first old) (slots_at line) missing
-    → IsFilled first old missing new → (missing ≡ Several → ⊥)
-    → OthersAreComplete first lines waiting old → OthersAreComplete first lines (set waiting place false) new
-one_complete first place line lines waiting old new missing has here told filled few complete place' other is waits slot c = ⊎_elim
-    (λ same. (
-    let one : Some line ≡ Some other = sym here ∙ ap (λ p. get_or lines p None) (sym same) ∙ is in
-    let line_is : line ≡ other = same_Some line other one in
-    complete_now first line old new missing has told filled few slot (subst (λ (l : LineSlots). Contains (slots_at l) slot) (sym line_is) c)
-    ))
-    (λ differ. (
-    let still = sym (get_or-set_other waiting place place' false false differ) ∙ waits in
-    filled_keeps first (length old) line old new missing has told filled slot (complete place' other is still slot c)
-    ))
-    (cases_eq place' place)
 
 -- A line's slots are those of its equation.
 pub same_slots : (desk : State) (place : ℕ) (line : LineSlots) (at : IsLineAt desk place line) → slots_at line ≡ slots at.live.equation
@@ -103,11 +79,11 @@ pub known_below : (desk : State) (position : ℕ) → position < desk.mark → I
 known_below desk position below some = rw (lt-ltb position desk.mark below) some
 
 -- The flags stay on the way.
-pub way_on : (desk : State) (first place : ℕ) (line : LineSlots) (lines : List (Option LineSlots)) (old new : List Bool) (missing : Missing)
+pub way_on : (desk : State) (first place : ℕ) (line : LineSlots) (lines : List (Option LineSlots)) (old new : List Bool) (missing : Lacking)
     → HasFlags first (length old) line → get_or lines place None ≡ Some line → AreWithout (IsFlagged first old) (slots_at line) missing
     → IsFilled first old missing new → IsOnTheWay desk first lines old → IsOnTheWay desk first lines new
 way_on desk first place line lines old new Nothing has here told filled way = subst (λ flags. IsOnTheWay desk first lines flags) (sym filled) way
-way_on desk first place line lines old new Several has here told filled way = subst (λ flags. IsOnTheWay desk first lines flags) (sym filled) way
+way_on desk first place line lines old new (Several one other) has here told filled way = subst (λ flags. IsOnTheWay desk first lines flags) (sym filled) way
 way_on desk first place line lines old new (One slot) has here told filled way =
     let from = (slot_within first (length old) line slot has told.0).0 in
     let at = way.lines place line here in
@@ -133,10 +109,10 @@ way_on desk first place line lines old new (One slot) has here told filled way =
     subst (λ flags. IsOnTheWay desk first lines flags) (sym filled) after
 
 -- Where nothing follows from any line, all of the closure is flagged.
-module _ (desk : State) (first used : ℕ) (lines : List (Option LineSlots)) (flags : List Bool)
-    (way : IsOnTheWay desk first lines flags) (past : NonePast lines used)
+module _ (desk : State) (first : ℕ) (lines : List (Option LineSlots)) (flags : List Bool)
+    (way : IsOnTheWay desk first lines flags)
     (placed : (place : ℕ) (line : LineSlots) → IsLineAt desk place line → get_or lines place None ≡ Some line)
-    (done : (place : ℕ) (line : LineSlots) → place < used → get_or lines place None ≡ Some line → NothingFollows first flags line) where
+    (done : (place : ℕ) (line : LineSlots) → get_or lines place None ≡ Some line → NothingFollows first flags line) where
   equation_done : (equation : Equation) → Contains (live_equations desk) equation
       → (line : LineSlots) × (slots_at line ≡ slots equation) × NothingFollows first flags line
   equation_done equation c =
@@ -147,12 +123,7 @@ module _ (desk : State) (first used : ℕ) (lines : List (Option LineSlots)) (fl
       record { serial = found.0.0; base = live.equation.base; shape = record { offset = live.equation.offset; na = live.equation.count } } in
       let at : IsLineAt desk live.place line =
       record { live = live; listed = is; placed = refl; base_is = refl; offset_is = refl; count_is = refl } in
-      let here = placed live.place line at in
-      let low : live.place < used = ⊎_elim
-      (λ below. below)
-      (λ above. absurd (none-some line (sym (past live.place above) ∙ here)))
-      (cases_lt live.place used) in
-      (line, ap slots found.2, done live.place line low here)
+      (line, ap slots found.2, done live.place line (placed live.place line at))
 
   pub all_flagged : (position : ℕ) → InClosure desk position → IsFlagged first flags position
   all_flagged position (given some) = way.given position some
@@ -162,7 +133,7 @@ module _ (desk : State) (first used : ℕ) (lines : List (Option LineSlots)) (fl
       ⊎_elim
       (λ all. all position (subst (λ (s : List ℕ). Contains s position) (sym line.1) slot))
       (λ two. ⊎_elim
-      (λ same. absurd (two.6 (all_flagged two.1 (others two.1 (in_line two.1 two.3) (λ equal. two.4 (same ∙ sym equal))))))
-      (λ differ. absurd (two.5 (all_flagged two.0 (others two.0 (in_line two.0 two.2) differ))))
+      (λ same. absurd (two.2.4 (all_flagged two.1 (others two.1 (in_line two.1 two.2.1) (λ equal. two.2.2 (same ∙ sym equal))))))
+      (λ differ. absurd (two.2.3 (all_flagged two.0 (others two.0 (in_line two.0 two.2.0) differ))))
       (cases_eq two.0 position))
       line.2

@@ -1,19 +1,19 @@
 -- Flags of successive positions, and the slots of live equations, for a search of what follows. No public contract cites these
 -- but through what is found.
-use Rattle.std.specs.Prelude.{◌≡◌, ◌≢◌, ◌⊎◌, ◌+◌, ◌-◌, ◌*◌, ◌<◌, ◌≤◌, ℕ, Bool, true, false, List, Option, Some, None, IsSome, slice_index_or, slice_set, count_by}
+use Rattle.std.specs.Prelude.{◌≡◌, ◌≢◌, ◌⊎◌, ◌+◌, ◌-◌, ◌*◌, ◌<◌, ◌≤◌, ℕ, Bool, true, false, List, Option, Some, None, IsSome, slice_index_or, slice_set}
 use Rattle.std.specs.List.{Contains}
 use Rattle.std.specs.FinMap.{get}
 use Rattle.slab.specs.Slab.{Slab}
 use Rattle.fg_shape.specs.declared.Shape.{Shape}
 use Rattle.fg_shape.specs.Shape.{IsShape, slots_of, position_limit}
 use Rattle.fg_peel.specs.declared.Line.{Line}
-use Rattle.fg_peel.specs.declared.span.Missing.{Missing}
-use Rattle.fg_peel.specs.declared.span.Missing.TheVariants.{Nothing, One, Several}
 use Rattle.fg_peel.specs.Slots.{lines_of}
 use Rattle.fg_playout.specs.State.{State, Live, known}
 use Rattle.fg_playout.specs.Solution.{InClosure}
 use Rattle.fg_playout.specs.Facts.{Holds}
 use Rattle.fg_closure.specs.declared.search.LineSlots.{LineSlots}
+use Rattle.fg_closure.specs.declared.search.Lacking.{Lacking}
+use Rattle.fg_closure.specs.declared.search.Lacking.TheVariants.{Nothing, One, Several}
 
 -- A position is flagged, where the first of the flags is for the position `first` and each other one for the next.
 abbrev pub IsFlagged : ℕ → List Bool → ℕ → Type 0
@@ -48,34 +48,25 @@ abbrev pub AllHaveFlags : ℕ → ℕ → List (Option LineSlots) → Type 0
 AllHaveFlags first count lines =
     (place : ℕ) (line : LineSlots) → slice_index_or lines place None ≡ Some line → HasFlags first count line
 
--- Which of these positions are not among those with `P`: none, just one, or at least two.
-abbrev pub AreWithout : (ℕ → Type 0) → List ℕ → Missing → Type 0
+-- Which of these positions are not among those with `P`: none, just one, or at least these two.
+abbrev pub AreWithout : (ℕ → Type 0) → List ℕ → Lacking → Type 0
 AreWithout P slots Nothing = (slot : ℕ) → Contains slots slot → P slot
 AreWithout P slots (One slot) =
     Contains slots slot × (¬ P slot) × ((other : ℕ) → Contains slots other → other ≢ slot → P other)
-AreWithout P slots Several =
-    (one : ℕ) × (other : ℕ) × Contains slots one × Contains slots other × (one ≢ other) × (¬ P one) × (¬ P other)
+AreWithout P slots (Several one other) =
+    Contains slots one × Contains slots other × (one ≢ other) × (¬ P one) × (¬ P other)
 
 -- The flags after the one missing slot of a line is flagged, where it was just one.
-abbrev pub IsFilled : ℕ → List Bool → Missing → List Bool → Type 0
+abbrev pub IsFilled : ℕ → List Bool → Lacking → List Bool → Type 0
 IsFilled first old (One position) new = new ≡ slice_set old (position - first) true
 IsFilled first old Nothing new = new ≡ old
-IsFilled first old Several new = new ≡ old
-
--- How many lines wait.
-abbrev pub waiting_count : List Bool → ℕ
-waiting_count waiting = count_by (λ waits. waits) waiting
+IsFilled first old (Several one other) new = new ≡ old
 
 -- Nothing follows from a line: all its slots are flagged, or two of them aren't.
 abbrev pub NothingFollows : ℕ → List Bool → LineSlots → Type 0
 NothingFollows first flags line =
-    AreWithout (IsFlagged first flags) (slots_at line) Nothing ⊎ AreWithout (IsFlagged first flags) (slots_at line) Several
-
--- All slots of each line are flagged that doesn't wait.
-abbrev pub OthersAreComplete : ℕ → List (Option LineSlots) → List Bool → List Bool → Type 0
-OthersAreComplete first lines waiting flags =
-    (place : ℕ) (line : LineSlots) → slice_index_or lines place None ≡ Some line → slice_index_or waiting place false ≡ false
-    → AreWithout (IsFlagged first flags) (slots_at line) Nothing
+    AreWithout (IsFlagged first flags) (slots_at line) Nothing
+    ⊎ ((one : ℕ) × (other : ℕ) × AreWithout (IsFlagged first flags) (slots_at line) (Several one other))
 
 -- The flags of a desk on the way to its closure: the known positions are flagged, and no others than those of the closure.
 pub record IsOnTheWay (desk : State) (first : ℕ) (table : List (Option LineSlots)) (flags : List Bool) : Type 0 where
@@ -96,15 +87,6 @@ pub record AreCopied (slab : Slab Line) (old new : List (Option LineSlots)) : Ty
       ⊎ ((line : Line) × Contains (lines_of slab) line × (line.place ≡ place) × (copy ≡ slots_of_line line))
   pub copied : (line : Line) → Contains (lines_of slab) line → IsSome (slice_index_or new line.place None)
   pub kept : (place : ℕ) → IsSome (slice_index_or old place None) → IsSome (slice_index_or new place None)
-
--- Each line waits.
-abbrev pub AllWait : List (Option LineSlots) → List Bool → Type 0
-AllWait lines waiting =
-    (place : ℕ) (line : LineSlots) → slice_index_or lines place None ≡ Some line → slice_index_or waiting place false ≡ true
-
--- No line stands at this place or past it.
-abbrev pub NonePast : List (Option LineSlots) → ℕ → Type 0
-NonePast lines used = (place : ℕ) → used ≤ place → slice_index_or lines place None ≡ None
 
 -- A position has a flag, whose number is `start` or greater and below `end`, and it is as wanted.
 pub record IsTold (first start end : ℕ) (flags : List Bool) (wanted : Bool) (position : ℕ) : Type 0 where

@@ -2,3 +2,4 @@
 pub mod Flags
 pub mod Found
 pub mod Holes
+pub mod Watched

@@ -2,9 +2,10 @@
 ghost use Rattle.std.specs.Prelude.{◌≡◌, ◌+◌, ◌<◌, ◌≤◌, ◌^◌, ◌↔◌, ℕ, IsTrue, IsSome, IfOk, vec_len};
 
 use crate::ordering::{lines_by_place, rules_from};
-use crate::reading::{read_lines, read_words};
+use crate::reading::{read_found, read_lines, read_words};
 use crate::runs_of::runs_of;
 use crate::search::{LineSlots, follow_all};
+use fg_buffer::Watches;
 use fg_desk::Desk;
 use fg_runs::{Rules, Runs};
 use fg_shape::last;
@@ -32,12 +33,11 @@ pub struct Closure {
     closed: Vec<bool>,
     /// The slots of the live equation at each place.
     lines: Vec<Option<LineSlots>>,
-    /// The places of those that aren't known to be complete.
-    waiting: Vec<bool>,
+    /// Which of them have to be looked at.
+    watches: Watches,
     ghost known_count: { vec_len known ≡ 1200 },
     ghost closed_count: { vec_len closed ≡ 1200 },
     ghost places: { vec_len lines ≡ 512 },
-    ghost waiting_places: { vec_len waiting ≡ 512 },
     ghost ahead: { first ≤ mark },
     ghost near: { mark ≤ first + 100 },
     ghost limit: { mark < 2 ^ 62 },
@@ -57,7 +57,7 @@ impl Closure {
             known: vec![in alloc; false; REACH]?,
             closed: vec![in alloc; false; REACH]?,
             lines: vec![in alloc; None; PLACES]?,
-            waiting: vec![in alloc; false; PLACES]?,
+            watches: Watches::new(alloc)?,
         })
     }
 
@@ -72,14 +72,15 @@ impl Closure {
         self.first = first;
         read_words(desk, first, count, &mut self.known);
         self.closed.copy_from_slice(&self.known);
-        let used = read_lines(desk, &mut self.lines, &mut self.waiting);
-        follow_all(
+        read_found(
+            desk,
             first,
-            used,
-            &self.lines,
-            &mut self.waiting,
+            (mark - first) as usize,
+            count,
             &mut self.closed,
         );
+        read_lines(desk, &mut self.lines, &mut self.watches);
+        follow_all(first, &self.lines, &mut self.watches, &mut self.closed);
     }
 
     /// The mark of the desk that was found.

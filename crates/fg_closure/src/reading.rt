@@ -1,14 +1,17 @@
 //! Reading a desk: which positions around its mark have words, and the slots of its live equations.
-ghost use Rattle.std.specs.Prelude.{◌≡◌, ◌+◌, ◌-◌, ◌<◌, ◌≤◌, ◌^◌, ◌↔◌, ℕ, length, IsSome, Some, None, slice_index_or};
+ghost use Rattle.std.specs.Prelude.{◌≡◌, ◌+◌, ◌-◌, ◌<◌, ◌≤◌, ◌^◌, ◌↔◌, ◌⊎◌, ℕ, length, IsSome, Some, None, slice_index_or};
 ghost use Rattle.std.specs.List.{Contains};
 ghost use Rattle.fg_peel.specs.declared.Line.{Line as LiveLine};
 ghost use Rattle.fg_peel.specs.Slots.{lines_of};
 ghost use Rattle.fg_playout.specs.State.{known};
+ghost use Rattle.fg_playout.specs.Solution.{InClosure};
 ghost use Rattle.fg_playout.specs.Facts.{Holds};
 ghost use Rattle.fg_closure.specs.declared.search.LineSlots.{LineSlots as Slots};
-ghost use Rattle.fg_closure.specs.Flags.{IsFlagged, IsLineAt, AreCopied, AllWait, NonePast};
+ghost use Rattle.fg_closure.specs.Flags.{IsFlagged, IsLineAt, AreCopied};
+ghost use Rattle.fg_closure.specs.Watched.{EachIsQueued};
 
 use crate::search::LineSlots;
+use fg_buffer::Watches;
 use fg_desk::Desk;
 use fg_peel::Line;
 use slab::Slab;
@@ -29,26 +32,34 @@ pub(crate) fn read_words(desk: &Desk, first: u64, count: usize, flags: &mut [boo
     }
 }
 
-/// Copies the slots of a desk's live equations, each to its place, where it waits. Tells a place at which none stands,
-/// and past which none does.
-pub(crate) fn read_lines(
-    desk: &Desk,
-    lines: &mut [Option<LineSlots>],
-    waiting: &mut [bool],
-) -> usize
+/// Flags also those of the positions from number `start` on and before number `count` at which a desk found a word before: so
+/// nothing is sought twice.
+pub(crate) fn read_found(desk: &Desk, first: u64, start: usize, count: usize, flags: &mut [bool])
+    requires within { count ≤ length flags.old }
+    requires limit { first + count < 2 ^ 64 }
+    ensures kept { (position : ℕ) → IsFlagged first flags.old position → IsFlagged first flags.new position }
+    ensures follow { (position : ℕ) → IsFlagged first flags.new position
+        → IsFlagged first flags.old position ⊎ InClosure desk.now.state position }
+{
+    for k in start..count {
+        if desk.has_found(first + k as u64) {
+            flags[k] = true;
+        }
+    }
+}
+
+/// Copies the slots of a desk's live equations, each to its place, which is queued.
+pub(crate) fn read_lines(desk: &Desk, lines: &mut [Option<LineSlots>], watches: &mut Watches)
     requires facts { Holds desk.now.state }
     requires places { length lines.old ≡ 512 }
-    requires same { length waiting.old ≡ 512 }
     ensures lines { (place : ℕ) (line : Slots) → (slice_index_or lines.new place None ≡ Some line)
         ↔ IsLineAt desk.now.state place line }
-    ensures waits { AllWait lines.new waiting.new }
-    ensures used { result ≤ 512 }
-    ensures past { NonePast lines.new result }
+    ensures queued { EachIsQueued lines.new watches.new }
 {
     clear(lines);
     let (unsettled, settled) = desk.live_lines();
-    let used = copy_lines(unsettled, 0, lines, waiting);
-    copy_lines(settled, used, lines, waiting)
+    copy_lines(unsettled, lines, watches);
+    copy_lines(settled, lines, watches);
 }
 
 /// Leaves no line at any place.
@@ -60,34 +71,20 @@ fn clear(lines: &mut [Option<LineSlots>])
     }
 }
 
-/// Copies the slots of the lines of a slab, each to its place, where it waits. Tells a place at which none stands, and
-/// past which none does, where that was so of `used`.
-fn copy_lines(
-    live: &Slab<Line>,
-    used: usize,
-    lines: &mut [Option<LineSlots>],
-    waiting: &mut [bool],
-) -> usize
+/// Copies the slots of the lines of a slab, each to its place, which is queued.
+fn copy_lines(live: &Slab<Line>, lines: &mut [Option<LineSlots>], watches: &mut Watches)
     requires places { (line : LiveLine) → Contains (lines_of live.now) line → line.place < length lines.old }
-    requires same { length waiting.old ≡ length lines.old }
-    requires used { used ≤ length lines.old }
-    requires past { NonePast lines.old used }
-    requires waits { AllWait lines.old waiting.old }
+    requires count { length lines.old ≡ 512 }
+    requires queued { EachIsQueued lines.old watches.old }
     ensures copied { AreCopied live.now lines.old lines.new }
-    ensures waits { AllWait lines.new waiting.new }
-    ensures used { result ≤ length lines.old }
-    ensures past { NonePast lines.new result }
+    ensures queued { EachIsQueued lines.new watches.new }
 {
-    let mut used = used;
     for (_, line) in live.iter() {
-        let place = line.place as usize;
-        lines[place] = Some(LineSlots {
+        lines[line.place as usize] = Some(LineSlots {
             serial: line.serial,
             base: line.base,
             shape: line.shape,
         });
-        waiting[place] = true;
-        used = used.max(place + 1);
+        watches.add(line.place);
     }
-    used
 }

@@ -1,10 +1,12 @@
 //! A search of what follows: flags of successive positions, and the slots of equations.
-ghost use Rattle.std.specs.Prelude.{◌≡◌, ◌<◌, ◌≤◌, ℕ, true, false, length, Some, None, IsTrue, slice_index_or};
+ghost use Rattle.std.specs.Prelude.{◌≡◌, ◌<◌, ◌≤◌, ◌^◌, ℕ, length, Some, None, slice_index_or};
+ghost use Rattle.fg_buffer.specs.Watches.{nowhere};
 ghost use Rattle.fg_playout.specs.State.{State};
 ghost use Rattle.fg_closure.specs.declared.search.LineSlots.{LineSlots as Slots};
-ghost use Rattle.fg_closure.specs.Flags.{IsFlagged, slots_at, HasFlags, AllHaveFlags, AreWithout, IsFilled, NothingFollows, OthersAreComplete, IsOnTheWay, waiting_count};
+ghost use Rattle.fg_closure.specs.Flags.{IsFlagged, slots_at, HasFlags, AllHaveFlags, AreWithout, IsFilled, NothingFollows, IsOnTheWay};
+ghost use Rattle.fg_closure.specs.Watched.{EachIsWatched, EachIsWatchedBut, left_to_look, IsNear, Follows};
 
-use fg_peel::Missing;
+use fg_buffer::Watches;
 use fg_shape::Shape;
 
 /// The positions that a live equation speaks of, and its serial number.
@@ -18,114 +20,99 @@ pub(crate) struct LineSlots {
     pub(crate) shape: Shape,
 }
 
+/// Which slots of a line have no flag.
+#[derive(Clone, Copy)]
+pub(crate) enum Lacking {
+    /// None.
+    Nothing,
+    /// Just this one.
+    One(u64),
+    /// At least these two.
+    Several(u64, u64),
+}
+
 /// Flags each position that follows: the one slot of a line without a flag, where it has just one, until no line
 /// has just one.
 ///
-/// The flags begin at the position `first`. Lines stand below the place `used`. Those that don't wait are known to be
-/// complete, and aren't looked at.
+/// The flags begin at the position `first`. Lines are looked at that are queued, and each one again where one of the two
+/// slots that it watches is flagged.
 pub(crate) fn follow_all(
     first: u64,
-    used: usize,
     lines: &[Option<LineSlots>],
-    waiting: &mut [bool],
+    watches: &mut Watches,
     flags: &mut [bool],
 )
-    requires used { used ≤ length lines.now }
-    requires same { length waiting.old ≡ length lines.now }
+    requires places { length lines.now ≡ 512 }
     requires flags { AllHaveFlags first (length flags.old) lines.now }
-    requires complete { OthersAreComplete first lines.now waiting.old flags.old }
+    requires watched { EachIsWatched first lines.now watches.old flags.old }
     ensures way { (desk : State) → IsOnTheWay desk first lines.now flags.old
         → IsOnTheWay desk first lines.now flags.new }
-    ensures done { (place : ℕ) (line : Slots) → place < used
-        → slice_index_or lines.now place None ≡ Some line → NothingFollows first flags.new line }
+    ensures done { (place : ℕ) (line : Slots) → slice_index_or lines.now place None ≡ Some line
+        → NothingFollows first flags.new line }
 {
-    while follow(first, used, lines, waiting, flags) {}
-}
-
-/// One pass over the lines. Tells whether some position was flagged.
-fn follow(
-    first: u64,
-    used: usize,
-    lines: &[Option<LineSlots>],
-    waiting: &mut [bool],
-    flags: &mut [bool],
-) -> bool
-    requires used { used ≤ length lines.now }
-    requires same { length waiting.old ≡ length lines.now }
-    requires flags { AllHaveFlags first (length flags.old) lines.now }
-    requires complete { OthersAreComplete first lines.now waiting.old flags.old }
-    ensures complete { OthersAreComplete first lines.now waiting.new flags.new }
-    ensures way { (desk : State) → IsOnTheWay desk first lines.now flags.old
-        → IsOnTheWay desk first lines.now flags.new }
-    ensures fewer { IsTrue result → waiting_count waiting.new < waiting_count waiting.old }
-    ensures done { result ≡ false → (place : ℕ) (line : Slots) → place < used
-        → slice_index_or lines.now place None ≡ Some line → NothingFollows first flags.new line }
-{
-    let mut flagged = false;
-    for place in 0..used {
-        if look_at(first, place, lines, waiting, flags) {
-            flagged = true;
-        }
+    while let Some(place) = watches.next() {
+        look_at(first, place, lines, watches, flags);
     }
-    flagged
 }
 
-/// Looks at the line of a place, where one waits there: flags what follows from it, and tells whether something did. A
-/// line that is complete then waits no more.
+/// Looks at the line of a place, where one stands there, and flags what follows from it.
 fn look_at(
     first: u64,
-    place: usize,
+    place: u32,
     lines: &[Option<LineSlots>],
-    waiting: &mut [bool],
+    watches: &mut Watches,
     flags: &mut [bool],
-) -> bool
-    requires place { place < length lines.now }
-    requires same { length waiting.old ≡ length lines.now }
+)
+    requires place { place < 512 }
+    requires places { length lines.now ≡ 512 }
+    requires queue { length watches.old.queued ≡ 512 }
     requires flags { AllHaveFlags first (length flags.old) lines.now }
-    requires complete { OthersAreComplete first lines.now waiting.old flags.old }
-    ensures complete { OthersAreComplete first lines.now waiting.new flags.new }
+    requires watched { EachIsWatchedBut place first lines.now watches.old flags.old }
+    ensures watched { EachIsWatched first lines.now watches.new flags.new }
     ensures way { (desk : State) → IsOnTheWay desk first lines.now flags.old
         → IsOnTheWay desk first lines.now flags.new }
-    ensures fewer { IsTrue result → waiting_count waiting.new < waiting_count waiting.old }
-    ensures no_more { waiting_count waiting.new ≤ waiting_count waiting.old }
-    ensures unchanged { result ≡ false → flags.new ≡ flags.old }
-    ensures done { result ≡ false → (line : Slots)
-        → slice_index_or lines.now place None ≡ Some line → NothingFollows first flags.new line }
+    ensures left { left_to_look flags.new watches.new ≤ left_to_look flags.old watches.old }
 {
-    if !waiting[place] {
-        return false;
-    }
-    let Some(line) = lines[place] else {
-        return false;
+    let Some(line) = lines[place as usize] else {
+        return;
     };
-    match flag_missing(first, line, flags) {
-        Missing::Several => false,
-        Missing::Nothing => {
-            waiting[place] = false;
-            false
+    let missing = flag_missing(first, line, flags);
+    follow(missing, place, watches);
+}
+
+/// What follows for the queue from which slots of a line had no flag: it watches two of them, or each line is looked at that
+/// watches the one, which is flagged now.
+fn follow(missing: Lacking, place: u32, watches: &mut Watches)
+    requires place { place < 512 }
+    requires near { IsNear missing }
+    ensures { Follows missing place watches.old watches.new }
+{
+    match missing {
+        Lacking::Nothing => watches.leave(place),
+        Lacking::One(position) => {
+            watches.leave(place);
+            watches.wake(position);
         }
-        Missing::One(_) => {
-            waiting[place] = false;
-            true
-        }
+        Lacking::Several(one, other) => watches.watch(place, one, other),
     }
 }
 
 /// Flags the one slot of a line that has no flag, where it is just one. Tells which had none before.
-fn flag_missing(first: u64, line: LineSlots, flags: &mut [bool]) -> Missing
+fn flag_missing(first: u64, line: LineSlots, flags: &mut [bool]) -> Lacking
     requires { HasFlags first (length flags.old) line }
     ensures told { AreWithout (IsFlagged first flags.old) (slots_at line) result }
     ensures filled { IsFilled first flags.old result flags.new }
+    ensures near { IsNear result }
 {
     let missing = missing(first, line, flags);
-    if let Missing::One(position) = missing {
+    if let Lacking::One(position) = missing {
         flags[(position - first) as usize] = true;
     }
     missing
 }
 
 /// Which slots of a line have no flag.
-fn missing(first: u64, line: LineSlots, flags: &[bool]) -> Missing
+fn missing(first: u64, line: LineSlots, flags: &[bool]) -> Lacking
     requires { HasFlags first (length flags.now) line }
     ensures { AreWithout (IsFlagged first flags.now) (slots_at line) result }
 {
@@ -135,14 +122,14 @@ fn missing(first: u64, line: LineSlots, flags: &[bool]) -> Missing
     for j in 0..line.shape.na {
         let index = start + usize::from(j) * step;
         if !flags[index] {
-            if found.is_some() {
-                return Missing::Several;
+            if let Some(position) = found {
+                return Lacking::Several(position, first + index as u64);
             }
             found = Some(first + index as u64);
         }
     }
     match found {
-        Some(position) => Missing::One(position),
-        None => Missing::Nothing,
+        Some(position) => Lacking::One(position),
+        None => Lacking::Nothing,
     }
 }

@@ -30,6 +30,7 @@ pub mod Within
 pub mod WatchedLines
 pub mod Findings
 pub mod FoundAll
+pub mod FoundClosure
 pub mod LookCounts
 pub mod ClosedLines
 pub mod PutWords

@@ -1,6 +1,6 @@
 //! A desk: one flow's window state, and what it tells of itself.
 
-ghost use Rattle.std.specs.Prelude.{◌≡◌, ◌≢◌, ◌+◌, ◌-◌, ◌↔◌, ◌<◌, ◌≤◌, ◌^◌, ℕ, min, Option, Some, None, IsTrue, IfOk, IfSome, IfNone, option_map};
+ghost use Rattle.std.specs.Prelude.{◌≡◌, ◌≢◌, ◌+◌, ◌-◌, ◌↔◌, ◌<◌, ◌≤◌, ◌^◌, ℕ, min, Option, Some, None, IsSome, IsTrue, IfOk, IfSome, IfNone, option_map};
 ghost use Rattle.std.specs.Option.{option_copied};
 ghost use Rattle.std.specs.FinMap.{get, len, empty};
 ghost use Rattle.std.specs.FinSet.{contains};
@@ -9,6 +9,7 @@ ghost use Rattle.fg_peel.specs.Equation.{IsSettled};
 ghost use Rattle.fg_peel.specs.declared.Line.{Line as LiveLine};
 ghost use Rattle.fg_playout.specs.State.{known, current, Live};
 ghost use Rattle.fg_playout.specs.Facts.{Holds};
+ghost use Rattle.fg_playout.specs.Solution.{InClosure};
 ghost use Rattle.fg_buffer.specs.LiveEquations.{live_of, no_equations, IsAmong};
 ghost use Rattle.fg_buffer.specs.PlayoutBuffer.{opened_buffer};
 ghost use Rattle.fg_hold.specs.Waiting.{Waits, since};
@@ -28,6 +29,7 @@ use fg_buffer::{LiveEquations, PlayoutBuffer, Watches};
 use fg_hold::Waiting;
 use fg_peel::Line;
 use fg_peel::laws::peelings_fill_the_closure;
+use fg_playout::laws::mark_makes_no_difference;
 use fg_playout::{CALL_LIMIT, FARTHEST_LIMIT, Outcome};
 use fg_unwrap::position;
 use fg_words::laws::xor_is_a_group;
@@ -218,6 +220,17 @@ impl Desk {
         } else {
             self.buffer.received(slot)
         }
+    }
+
+    /// Whether a word is kept at a position, was received there, or follows there as far as was looked. A word
+    /// that follows need not be known: plays find words ahead of the window that they close.
+    pub fn has_found(&self, slot: u64) -> bool
+        ensures known { IsSome (known_in self.now slot) → IsTrue result }
+        ensures closure { IsTrue result → InClosure self.now.state slot }
+    {
+        peelings_fill_the_closure();
+        mark_makes_no_difference();
+        self.buffer.any_word(slot).is_some()
     }
 
     /// The share of the word known at a position. None exactly where none is known or it stands

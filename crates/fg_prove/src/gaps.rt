@@ -1,7 +1,8 @@
 //! The gaps of a flow: which plays show a loss, and their cases.
-ghost use Rattle.std.specs.Prelude.{◌≡◌, ◌↔◌, ◌+◌, ◌<◌, ◌≤◌, ◌^◌, ℕ, IsSome, [], ◌∷◌, IfOk, OnOk, OnErr, IsTrue, IsFalse};
+ghost use Rattle.std.specs.Prelude.{◌≡◌, ◌↔◌, ◌+◌, ◌<◌, ◌≤◌, ◌^◌, ℕ, [], ◌∷◌, IfOk, OnOk, OnErr, IsTrue, IsFalse};
 ghost use Rattle.fg_io.specs.Faults.{Counts};
-ghost use Rattle.fg_playout.specs.State.{State, known};
+ghost use Rattle.fg_playout.specs.State.{State};
+ghost use Rattle.fg_playout.specs.Solution.{InClosure};
 ghost use Rattle.fg_playout.specs.Facts.{Holds};
 ghost use Rattle.fg_closure.specs.Holes.{HasMissing};
 ghost use Rattle.fg_closure.specs.Found.{IsFoundOf};
@@ -49,7 +50,7 @@ impl Gaps {
         ensures depth { desk.now.state.playout.depth ≤ 1000 }
     {
         let _depth = desk.depth();
-        if has_all_words(desk, count) {
+        if all_follow(desk, count) {
             return false;
         }
         self.closure.find(desk);
@@ -102,15 +103,15 @@ impl Gaps {
     }
 }
 
-/// Whether each of so many positions from the mark on has a word that was received.
-fn has_all_words(desk: &Desk, count: u32) -> bool
+/// Whether each of so many positions from the mark on is known to follow: its word was received, or a play before found it.
+fn all_follow(desk: &Desk, count: u32) -> bool
     requires { desk.now.state.mark < 2 ^ 62 }
     ensures { IsTrue result → (position : ℕ) → desk.now.state.mark ≤ position
-        → position < desk.now.state.mark + count → IsSome (known desk.now.state position) }
+        → position < desk.now.state.mark + count → InClosure desk.now.state position }
 {
     let mark = desk.mark();
     for i in 0..count {
-        if desk.own_word(mark + u64::from(i)).is_none() {
+        if !desk.has_found(mark + u64::from(i)) {
             return false;
         }
     }

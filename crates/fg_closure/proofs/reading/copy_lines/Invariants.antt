@@ -1,5 +1,4 @@
-use Rattle.std.proofs.Common.{◌≤◌, length}
-use Rattle.fg_closure.specs.Flags.{AllWait, NonePast}
+use Rattle.fg_closure.specs.Watched.{EachIsQueued}
 use Rattle.fg_closure.proofs.Readings.{IsCopying}
 use Rattle.fg_closure.proofs.reading.copy_lines.Given as goal
 
@@ -7,4 +6,4 @@ abbrev pub invariant-loop-line : goal.invariant-loop-line
 invariant-loop-line l =
     (goal.iterator-loop-line).can_next l.line-iterator ×
     (goal.iterator-loop-line).is_finite l.line-iterator ×
-    IsCopying l.live l.initial.lines l.lines l.line-iterator × AllWait l.lines l.waiting × (l.used ≤ length l.lines) × NonePast l.lines l.used
+    IsCopying l.live l.initial.lines l.lines l.line-iterator × EachIsQueued l.lines l.watches

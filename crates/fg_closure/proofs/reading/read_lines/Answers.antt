@@ -3,23 +3,20 @@ use Rattle.std.proofs.lemmas.Option.{none-some}
 use Rattle.fg_closure.proofs.Readings.{all_lines, live_within}
 use Rattle.fg_closure.proofs.reading.read_lines.Goals as goal
 
-pub copy_lines-used-requires-clause-places : goal.copy_lines-used-requires-clause-places
-copy_lines-used-requires-clause-places c line listed =
+pub copy_lines-requires-clause-places : goal.copy_lines-requires-clause-places
+copy_lines-requires-clause-places c line listed =
     live_within c.args.desk.now.state c.live_lines.result.0.now c.live_lines.result.1.now (length c.clear.new.lines) c.requires.facts
     (c.clear.auto.lines ∙ c.requires.places) c.live_lines.ensures.live line (inl listed)
 
-pub copy_lines-used-requires-clause-past : goal.copy_lines-used-requires-clause-past
-copy_lines-used-requires-clause-past c place beyond = c.clear.ensures place
+pub copy_lines-requires-clause-queued : goal.copy_lines-requires-clause-queued
+copy_lines-requires-clause-queued c place line is = absurd (none-some line (sym (c.clear.ensures place) ∙ is))
 
-pub copy_lines-used-requires-clause-waits : goal.copy_lines-used-requires-clause-waits
-copy_lines-used-requires-clause-waits c place line is = absurd (none-some line (sym (c.clear.ensures place) ∙ is))
-
-pub copy_lines-requires-clause-places : goal.copy_lines-requires-clause-places
-copy_lines-requires-clause-places c line listed =
-    live_within c.args.desk.now.state c.live_lines.result.0.now c.live_lines.result.1.now (length c.copy_lines-used.new.lines) c.requires.facts
-    (c.copy_lines-used.auto.lines ∙ c.clear.auto.lines ∙ c.requires.places) c.live_lines.ensures.live line (inr listed)
+pub copy_lines-requires-2-clause-places : goal.copy_lines-requires-2-clause-places
+copy_lines-requires-2-clause-places c line listed =
+    live_within c.args.desk.now.state c.live_lines.result.0.now c.live_lines.result.1.now (length c.copy_lines.new.lines) c.requires.facts
+    (c.copy_lines.auto.lines ∙ c.clear.auto.lines ∙ c.requires.places) c.live_lines.ensures.live line (inr listed)
 
 pub returns-clause-lines : goal.returns-clause-lines
 returns-clause-lines c =
-    all_lines c.args.desk.now.state c.live_lines.result.0.now c.live_lines.result.1.now c.clear.new.lines c.copy_lines-used.new.lines
-    c.copy_lines.new.lines c.requires.facts c.clear.ensures c.live_lines.ensures.live c.copy_lines-used.ensures.copied c.copy_lines.ensures.copied
+    all_lines c.args.desk.now.state c.live_lines.result.0.now c.live_lines.result.1.now c.clear.new.lines c.copy_lines.new.lines
+    c.copy_lines-2.new.lines c.requires.facts c.clear.ensures c.live_lines.ensures.live c.copy_lines.ensures.copied c.copy_lines-2.ensures.copied
