@@ -18,6 +18,8 @@ use Rattle.fg_playout.specs.Laws.{IsRead}
 use Rattle.fg_playout.specs.Existence.{RunsExist}
 use Rattle.fg_results.specs.Flow.{FlowResult, IsFlowResult, IsReadAs, Arrives, is_of, lane_of, parity_of, records_of, sum_of}
 use Rattle.fg_results.specs.Existence.{FlowResultExists, ResultsExist}
+use Rattle.fg_results.specs.Gaps.{gaps_of}
+use Rattle.fg_results.proofs.GapsTold.{gaps_are_told}
 
 -- How a record of a flow arrives.
 record IsTaken (flow : ℕ) (r : Record) : Type 0 where

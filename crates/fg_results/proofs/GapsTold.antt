@@ -1,5 +1,5 @@
 -- The plain program for gaps gives them, and there is one list of them.
-use Rattle.std.proofs.Common.{◌≡◌, ◌⊎◌, ◌↔◌, ◌+◌, ◌<◌, ◌≤◌, ℕ, suc, Bool, true, false, cond, Option, Some, None, is_some, List, [], ◌∷◌, refl, sym, ap, ◌∙◌, subst, inl, inr, ⊎_elim, arith}
+use Rattle.std.proofs.Common.{◌≡◌, ◌⊎◌, ◌↔◌, ◌+◌, ◌<◌, ◌≤◌, ℕ, zero, suc, Bool, true, false, cond, Option, Some, None, is_some, List, [], ◌∷◌, refl, sym, ap, ◌∙◌, subst, inl, inr, ⊎_elim, arith}
 use Rattle.std.specs.List.{slice_get}
 use Rattle.fg_words.specs.declared.Word.{Word}
 use Rattle.fg_playout.specs.Play.{Play, Shown}
@@ -37,7 +37,7 @@ none_cases : (one : Shown) (shown : List Shown) (first position : ℕ) → NoneF
 none_cases one shown first position h = go h.place h.is h.at
   where
     go : (place : ℕ) → slice_get (one ∷ shown) place ≡ Some h.one → position ≡ first + place → ((one.word ≡ None) × (position ≡ first)) ⊎ NoneFrom shown (first + 1) position
-    go 0 is at = let same : one ≡ h.one = cc in inl (subst (λ (s : Shown). s.word ≡ None) (sym same) h.none, omega (arith, at))
+    go zero is at = let same : one ≡ h.one = cc in inl (subst (λ (s : Shown). s.word ≡ None) (sym same) h.none, omega (arith, at))
     go (suc place) is at = inr (record { place = place; one = h.one; is = is; none = h.none; at = omega (arith, at) })
 
 -- runs that have what they had, and the positions from a first one on that show no word
@@ -70,17 +70,21 @@ so_none gaps told one shown first word so = record {
   );
 }
 
+told_next :
+    (gaps : List (ℕ × ℕ)) (first : ℕ) (one : Shown) (shown : List Shown) (b : Bool) → shows_word one ≡ b → AreApart gaps → gaps_end gaps ≤ first
+    → ((next : List (ℕ × ℕ)) → AreApart next → gaps_end next ≤ first + 1 → AreSo next (gaps_from next (first + 1) shown) shown (first + 1))
+    → AreSo gaps (gaps_from (cond b gaps (with_gap gaps first 1)) (first + 1) shown) (one ∷ shown) first
+told_next gaps first one shown true word apart end rest = so_word gaps _ one shown first word (rest gaps apart (omega (arith, end)))
+told_next gaps first one shown false word apart end rest = so_none gaps _ one shown first word
+    (rest (with_gap gaps first 1) (apart_with gaps first 1 apart (omega arith) end) (let e = gaps_end-with gaps first 1 in omega (arith, e)))
+
 told_from : (gaps : List (ℕ × ℕ)) (first : ℕ) (shown : List Shown) → AreApart gaps → gaps_end gaps ≤ first → AreSo gaps (gaps_from gaps first shown) shown first
 told_from gaps first [] apart end = record {
   apart = apart;
   inside = λ position. (λ inside. inl inside, λ both. ⊎_elim (λ before. before) (λ none. absurd (let is = none.is in cc)) both);
 }
-told_from gaps first (one ∷ shown) apart end = go (shows_word one) refl
-  where
-    go : (b : Bool) → shows_word one ≡ b → AreSo gaps (gaps_from (cond b gaps (with_gap gaps first 1)) (first + 1) shown) (one ∷ shown) first
-    go true word = so_word gaps _ one shown first word (told_from gaps (first + 1) shown apart (omega (arith, end)))
-    go false word = so_none gaps _ one shown first word
-        (told_from (with_gap gaps first 1) (first + 1) shown (apart_with gaps first 1 apart (omega arith) end) (let e = gaps_end-with gaps first 1 in omega (arith, e)))
+told_from gaps first (one ∷ shown) apart end =
+    told_next gaps first one shown (shows_word one) refl apart end (λ next so within. told_from next (first + 1) shown so within)
 
 pub gaps_are_told : GapsAreTold
 gaps_are_told plays =

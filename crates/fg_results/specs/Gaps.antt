@@ -1,5 +1,5 @@
 -- A plain program for the gaps of plays, position after position. No result is defined by it.
-use Rattle.std.specs.Prelude.{◌+◌, ℕ, List, [], ◌∷◌, if◌then◌else◌}
+use Rattle.std.specs.Prelude.{◌≡◌, ◌+◌, ℕ, List, [], ◌∷◌, if◌then◌else◌}
 use Rattle.fg_playout.specs.Play.{Play, Shown}
 use Rattle.fg_report.specs.Gaps.{with_gap}
 use Rattle.fg_results.specs.Flow.{AreGaps, all_shown, shows_word}
