@@ -26,3 +26,4 @@ pub mod Repairs
 pub mod Samples
 pub mod DrillReading
 pub mod PartLemmas
+pub mod FailedReads

@@ -1,5 +1,5 @@
 -- What a drill of a stream comes to. This project's own.
-use Rattle.std.specs.Prelude.{◌≡◌, ◌⊎◌, ℕ, List, length, Option, None, Some, IfSome, Result, Ok, Err}
+use Rattle.std.specs.Prelude.{◌≡◌, ◌⊎◌, ℕ, List, length, take, Option, None, Some, IfSome, Result, Ok, Err}
 use Rattle.fg_io.specs.Outlet.{Lanes, Puts, WhereTold}
 use Rattle.fg_io.specs.Sink.{GainsPart}
 use Rattle.fg_shape.specs.declared.encoding.Losses.{Losses}
@@ -15,7 +15,7 @@ use Rattle.fg_encode.specs.Stream.{StreamEnding, IsCut}
 use Rattle.fg_results.specs.Flow.{FlowResult, IsFlowResult}
 use Rattle.fg_results.specs.Lanes.{OthersStay, PutsAll, PutsAllPart}
 use Rattle.fg_results.specs.Repair.{AreResults, Gain, Outputs, lanes_of, report_text}
-use Rattle.fg_results.specs.Stops.{Stops, growth_of}
+use Rattle.fg_results.specs.Stops.{LanesShow, Stops, growth_of}
 use Rattle.fg_drill.specs.ComesBack.{stream_of}
 use Rattle.fg_drill.specs.Repaired.{Peels, stream_shown}
 use Rattle.fg_thin.specs.Thinned.{is_lost, thinned}
@@ -96,6 +96,14 @@ pub record DrillsPart {K : Type 0}
 abbrev pub StopsLanes : Plan → Answer → List Record → Option Lanes → Option Lanes → Type 0
 StopsLanes plan answer records lanes lanes' =
     (finish : Finish) × (answer ≡ Ok finish) × Stops (growth_of plan) plan finish records lanes lanes'
+
+-- What a failed read leaves of the lanes of a drill that sends these records, in all: none was made; or each has gained exactly what the
+-- first so many of them show; or all were sent, and each lane is whole. So no lane is broken, and none is flushed before the others.
+pub data LeavesAtRead (plan : Plan) (sent : List Record) (before after : Option Lanes) : Type 0 where
+  none_made : after ≡ before → LeavesAtRead plan sent before after
+  first_shown : (count : ℕ) → LanesShow plan (take count sent) before after → LeavesAtRead plan sent before after
+  all_whole : (results : List FlowResult) → AreResults plan sent results → PutsAll before plan.table (lanes_of results) after
+      → LeavesAtRead plan sent before after
 
 -- What comes back of a stream: no play is inconsistent, and the lane at the flow's port gains the stream without the slots
 -- that no play shows. Where what is sent peels, these are all payloads, one after another; and where the stream ends with its

@@ -6,7 +6,7 @@ use Rattle.fg_trace.specs.Trace.{Record, IsTrace, Ending, Ended, NotTrace, Cut, 
 use Rattle.fg_flows.specs.declared.Plan.{Plan}
 use Rattle.fg_encode.specs.Stream.{StreamEnding}
 use Rattle.fg_results.specs.Repair.{Outputs}
-use Rattle.fg_drill.specs.Drill.{Answer, IsFault, StopsLanes, answer_to}
+use Rattle.fg_drill.specs.Drill.{Answer, IsFault, LeavesAtRead, StopsLanes, answer_to}
 use Rattle.fg_thin.specs.ThinnedSource.{EndsFor, ending_told}
 
 -- The answer is that of the stream's ending, where it tells its bytes, and else that of some ending.
@@ -44,3 +44,8 @@ abbrev pub StopsTrace : Plan → Option (List ℕ) → Answer → Option Lanes �
 StopsTrace plan trace answer lanes lanes' =
     IfSome trace (λ bytes. (records : List Record) (end : Ending) → IsTrace bytes plan.max records end
     → StopsLanes plan answer records lanes lanes')
+
+-- A read failed while the trace was repaired, or behind it.
+abbrev pub LeavesTrace : Plan → Option (List ℕ) → Option Lanes → Option Lanes → Type 0
+LeavesTrace plan trace lanes lanes' =
+    IfSome trace (λ bytes. (records : List Record) → IsTrace bytes plan.max records Ended → LeavesAtRead plan records lanes lanes')

@@ -9,8 +9,8 @@ use Rattle.fg_playout.specs.Run.{Arrival, carries, protects, refused, came_by, k
 use Rattle.fg_playout.specs.Laws.{CountsAdd}
 use Rattle.fg_report.specs.declared.marks.Marks.{Marks}
 use Rattle.fg_report.specs.declared.flow_sum.FlowSum.{FlowSum}
-use Rattle.fg_results.specs.Flow.{IsReadAsMedia, IsReadAsParity, IsReadAs, marks_of, sum_of}
-use Rattle.fg_engine.specs.Steps.{with_reply, with_answer}
+use Rattle.fg_results.specs.Flow.{IsReadAsMedia, IsReadAsParity, IsReadAs, marks_of}
+use Rattle.fg_engine.specs.Steps.{with_reply, with_answer, sum_so_far}
 
 -- Marks with so many more of each reply.
 abbrev plus : Marks → (Option Reply → ℕ) → Marks
@@ -120,13 +120,13 @@ came_by_its_stream kind.Row bytes arrival read = came_on_parity kind.Row bytes a
 pub answer_added :
     CountsAdd → (flow runs : ℕ) (came : Kind) (bytes : List ℕ) (arrivals : List Arrival) (arrival : Arrival) (plays : List Play)
     (replies : List (Option Reply)) (answer : Option Reply) → length arrivals ≡ length replies → IsReadAs came bytes arrival
-    → with_answer came (sum_of flow runs arrivals plays replies) answer
-    ≡ sum_of flow runs (arrivals ++ arrival ∷ []) plays (replies ++ answer ∷ [])
+    → with_answer came (sum_so_far flow runs arrivals plays replies) answer
+    ≡ sum_so_far flow runs (arrivals ++ arrival ∷ []) plays (replies ++ answer ∷ [])
 answer_added add flow runs came bytes arrivals arrival plays replies answer same read =
-    let sum = sum_of flow runs arrivals plays replies in
+    let sum = sum_so_far flow runs arrivals plays replies in
     let media = marks_more add kind.Media arrivals arrival replies answer same in
     let column = marks_more add kind.Column arrivals arrival replies answer same in
     let row = marks_more add kind.Row arrivals arrival replies answer same in
-    let more : sum_of flow runs (arrivals ++ arrival ∷ []) plays (replies ++ answer ∷ []) ≡ adds_all (came_by arrival) answer sum =
+    let more : sum_so_far flow runs (arrivals ++ arrival ∷ []) plays (replies ++ answer ∷ []) ≡ adds_all (came_by arrival) answer sum =
     λ i. record sum { media = media i; column = column i; row = row i } in
     sym (more ∙ ap (λ (by : Kind). adds_all by answer sum) (came_by_its_stream came bytes arrival read) ∙ answered came answer sum)

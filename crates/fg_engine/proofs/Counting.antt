@@ -6,7 +6,8 @@ use Rattle.fg_playout.specs.Play.{Play, Shown}
 use Rattle.fg_report.specs.Gaps.{gaps_end, with_gap}
 use Rattle.fg_report.proofs.GapLemmas.{gaps_end-with}
 use Rattle.fg_report.specs.declared.flow_sum.FlowSum.{FlowSum}
-use Rattle.fg_results.specs.Flow.{all_shown, shows_word, is_inconsistent, gaps_from}
+use Rattle.fg_results.specs.Flow.{all_shown, shows_word, is_inconsistent}
+use Rattle.fg_results.specs.Gaps.{gaps_from}
 use Rattle.fg_results.proofs.ShownLemmas.{all_shown_more}
 use Rattle.fg_engine.specs.Steps.{with_shown, with_plays, CountsWithin}
 

@@ -12,7 +12,8 @@ use Rattle.fg_playout.specs.Empty.{empty_plays}
 use Rattle.fg_report.specs.Gaps.{with_gap}
 use Rattle.fg_report.proofs.GapLemmas.{touching}
 use Rattle.fg_report.specs.declared.flow_sum.FlowSum.{FlowSum}
-use Rattle.fg_results.specs.Flow.{all_shown, shown_payload, shows_word, is_inconsistent, gaps_from, lane_of}
+use Rattle.fg_results.specs.Flow.{all_shown, shown_payload, shows_word, is_inconsistent, lane_of}
+use Rattle.fg_results.specs.Gaps.{gaps_from}
 use Rattle.fg_results.proofs.ShownLemmas.{all_shown_more, lane_more}
 use Rattle.fg_engine.specs.Steps.{with_plays, CountsWithin, Grows}
 use Rattle.fg_engine.proofs.Counting.{gaps_more, plays_more, shown_within}

@@ -18,11 +18,13 @@ use Rattle.fg_playout.specs.Play.{Play}
 use Rattle.fg_playout.specs.Run.{Arrival, time_of, TakesAll, IsFlush, IsRun}
 use Rattle.fg_playout.specs.Laws.{PlaysBeforeComeNext, AreFlushSteps, TakingsJoin, FlushStepsComeNext, PlaysReachTheMark, EachGetsAReply, CountsAdd}
 use Rattle.fg_report.specs.declared.flow_sum.FlowSum.{FlowSum}
-use Rattle.fg_results.specs.Flow.{FlowResult, IsFlowResult, IsReadAs, Arrives, records_of, all_shown, marks_of, lane_of, sum_of}
-use Rattle.fg_engine.specs.Steps.{HasTaken, HaveShown, BreakOff, AdmitsDatagram, BreaksAtDatagram, TakesRecord, BreaksAtRecord, EndsFlow, BreaksAtEnd, with_plays, with_answer}
+use Rattle.fg_results.specs.Flow.{FlowResult, IsFlowResult, IsReadAs, Arrives, records_of, all_shown, marks_of, lane_of}
+use Rattle.fg_engine.specs.Steps.{HasTaken, HaveShown, BreakOff, AdmitsDatagram, BreaksAtDatagram, TakesRecord, BreaksAtRecord, EndsFlow, BreaksAtEnd, with_plays, with_answer, sum_so_far}
+use Rattle.fg_results.specs.Gaps.{gaps_of}
 use Rattle.fg_results.specs.Stops.{HasShown}
 use Rattle.fg_results.proofs.ArrivalLemmas.{one_kind, one_more_record, arrivals_are_read, arrivals_begin, one_list_arrives}
 use Rattle.fg_engine.proofs.Answering.{answer_added}
+use Rattle.fg_results.proofs.GapsTold.{gaps_are_told}
 use Rattle.fg_results.proofs.ShownLemmas.{lane_more}
 use Rattle.fg_engine.proofs.Counting.{plays_more}
 use Rattle.fg_engine.proofs.Underway.{mark_is_shown}
@@ -47,10 +49,10 @@ replies_alone flow runs arrivals replies = record {
 -- The others are those of the plays.
 sum_is_with_plays :
     (flow runs : ℕ) (arrivals : List Arrival) (plays : List Play) (replies : List (Option Reply))
-    → sum_of flow runs arrivals plays replies ≡ with_plays (replies_alone flow runs arrivals replies) 0 plays
+    → sum_so_far flow runs arrivals plays replies ≡ with_plays (replies_alone flow runs arrivals replies) 0 plays
 sum_is_with_plays flow runs arrivals plays replies =
     let zero : (n : ℕ) → n ≡ 0 + n = λ n. omega arith in
-    let sum = sum_of flow runs arrivals plays replies in
+    let sum = sum_so_far flow runs arrivals plays replies in
     λ i. record sum {
       shown = zero sum.shown i;
       repaired = zero sum.repaired i;
@@ -61,8 +63,8 @@ sum_is_with_plays flow runs arrivals plays replies =
 
 pub plays_added :
     (flow runs : ℕ) (arrivals : List Arrival) (plays more : List Play) (replies : List (Option Reply))
-    → with_plays (sum_of flow runs arrivals plays replies) (length (all_shown plays)) more
-    ≡ sum_of flow runs arrivals (plays ++ more) replies
+    → with_plays (sum_so_far flow runs arrivals plays replies) (length (all_shown plays)) more
+    ≡ sum_so_far flow runs arrivals (plays ++ more) replies
 plays_added flow runs arrivals plays more replies =
     let place : length (all_shown plays) ≡ 0 + length (all_shown plays) = omega arith in
     (λ i. with_plays (sum_is_with_plays flow runs arrivals plays replies i) (place i) more)
@@ -72,7 +74,7 @@ plays_added flow runs arrivals plays more replies =
 pub sum_after_plays :
     PlaysReachTheMark → (playout : Playout) (flow : ℕ) (records : List Record) (state : State) (sum sum' : FlowSum) (lane : List ℕ)
     → 1 ≤ playout.window → (taken : HasTaken playout flow records state sum lane) → (plays : List Play)
-    → sum' ≡ with_plays sum state.mark plays → sum' ≡ sum_of flow state.runs taken.arrivals (taken.plays ++ plays) taken.replies
+    → sum' ≡ with_plays sum state.mark plays → sum' ≡ sum_so_far flow state.runs taken.arrivals (taken.plays ++ plays) taken.replies
 sum_after_plays reach playout flow records state sum sum' lane some taken plays counts =
     let mark = mark_is_shown reach playout taken.arrivals taken.plays taken.replies state some taken.takes in
     counts
@@ -119,6 +121,8 @@ flow_ends reach playout state new sum sum' before after some (empty, counts, sho
       flush = shown.are;
       plays_are = refl;
     };
+    gaps = gaps_of (taken.plays ++ shown.plays);
+    are_gaps = gaps_are_told (taken.plays ++ shown.plays);
     lane = ap (λ (bytes : List ℕ). bytes ++ lane_of shown.plays) taken.lane_is ∙ sym (lane_more taken.plays shown.plays);
     sum = sum_after_plays reach playout sum.port records state sum sum' lane some taken shown.plays shown.counts;
   };

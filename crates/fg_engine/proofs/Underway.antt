@@ -14,8 +14,8 @@ use Rattle.fg_desk.specs.Arrivals.{StaysWithin, FlushesWithin}
 use Rattle.fg_playout.specs.Run.{Arrival, TakesAll, count_of}
 use Rattle.fg_playout.specs.Laws.{RunsStayWithin, FlushesStayWithin, PlaysReachTheMark, CountsStayWithin, played_count}
 use Rattle.fg_report.specs.declared.flow_sum.FlowSum.{FlowSum}
-use Rattle.fg_results.specs.Flow.{all_shown, shows_word, is_inconsistent, marks_of, sum_of}
-use Rattle.fg_engine.specs.Steps.{IsUnderway, CountsWithin, MarksHaveRoom, RepliesHaveRoom}
+use Rattle.fg_results.specs.Flow.{all_shown, shows_word, is_inconsistent, marks_of}
+use Rattle.fg_engine.specs.Steps.{IsUnderway, CountsWithin, MarksHaveRoom, RepliesHaveRoom, sum_so_far}
 use Rattle.fg_results.proofs.ArrivalLemmas.{few_arrive, arrivals_are_read}
 use Rattle.fg_engine.proofs.Counting.{gaps_end_within}
 
@@ -66,7 +66,7 @@ mark_is_shown reach playout arrivals plays replies state some takes =
 sum_within :
     (flow runs : ℕ) (arrivals : List Arrival) (plays : List Play) (replies : List (Option Reply))
     → length plays ≤ length (all_shown plays)
-    → CountsWithin (sum_of flow runs arrivals plays replies) (length (all_shown plays))
+    → CountsWithin (sum_so_far flow runs arrivals plays replies) (length (all_shown plays))
 sum_within flow runs arrivals plays replies some = record {
   shown = count_by-le-length shows_word (all_shown plays);
   repaired = count_by-le-length (λ (s : Shown). s.repaired) (all_shown plays);
@@ -84,7 +84,7 @@ counts_within reach playout flow state sum is =
     let same = played_are_shown taken.plays in
     let mark = mark_is_shown reach playout taken.arrivals taken.plays taken.replies state is.fits.window.0 taken.takes in
     subst (λ (s : FlowSum). CountsWithin s state.mark) (sym taken.sum_is)
-    (subst (λ (n : ℕ). CountsWithin (sum_of flow state.runs taken.arrivals taken.plays taken.replies) n) (sym mark)
+    (subst (λ (n : ℕ). CountsWithin (sum_so_far flow state.runs taken.arrivals taken.plays taken.replies) n) (sym mark)
     (sum_within flow state.runs taken.arrivals taken.plays taken.replies (omega (arith, fewer, same))))
 
 -- The replies are fewer than the records.

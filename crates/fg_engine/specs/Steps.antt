@@ -18,7 +18,8 @@ use Rattle.fg_playout.specs.Laws.{AreHeldSteps, HavePlayedFor, HavePlayedThen}
 use Rattle.fg_report.specs.declared.marks.Marks.{Marks}
 use Rattle.fg_report.specs.declared.flow_sum.FlowSum.{FlowSum}
 use Rattle.fg_report.specs.Gaps.{gaps_end}
-use Rattle.fg_results.specs.Flow.{FlowResult, IsFlowResult, IsReadAs, Arrives, records_of, all_shown, shows_word, is_inconsistent, lane_of, gaps_from, sum_of}
+use Rattle.fg_results.specs.Flow.{FlowResult, IsFlowResult, IsReadAs, Arrives, records_of, all_shown, shows_word, is_inconsistent, lane_of, sum_of}
+use Rattle.fg_results.specs.Gaps.{gaps_from, gaps_of}
 use Rattle.fg_results.specs.Stops.{HasShown}
 use Rattle.fg_engine.specs.declared.window.Skipped.{Skipped}
 
@@ -31,6 +32,10 @@ pub record LaneGrows (before : Lanes) (port : ℕ) (piece : List ℕ) (after : L
 abbrev pub Grows : Option Lanes → ℕ → List ℕ → Option Lanes → Type 0
 Grows before port piece after = WhereTold (λ old new. LaneGrows old port piece new) before after
 
+-- The counts of a flow so far, with the gaps of its plays.
+abbrev pub sum_so_far : ℕ → ℕ → List Arrival → List Play → List (Option Reply) → FlowSum
+sum_so_far flow runs arrivals plays replies = sum_of flow runs (gaps_of plays) arrivals plays replies
+
 -- The flow has taken its part of these records: its desk has come to this state, its counts are these, and its plays have
 -- shown these bytes.
 pub record HasTaken
@@ -41,7 +46,7 @@ pub record HasTaken
   pub arrive : AllZip (Arrives flow) (records_of flow records) arrivals
   pub takes : TakesAll (opening playout) arrivals plays replies state
   pub lane_is : lane ≡ lane_of plays
-  pub sum_is : sum ≡ sum_of flow state.runs arrivals plays replies
+  pub sum_is : sum ≡ sum_so_far flow state.runs arrivals plays replies
 
 -- Some records have been taken, fewer than a trace within the limits can have.
 pub record IsUnderway (playout : Playout) (flow : ℕ) (state : State) (sum : FlowSum) : Type 0 where

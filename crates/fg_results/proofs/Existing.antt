@@ -18,6 +18,8 @@ use Rattle.fg_playout.specs.Laws.{IsRead}
 use Rattle.fg_playout.specs.Existence.{RunsExist}
 use Rattle.fg_results.specs.Flow.{FlowResult, IsFlowResult, IsReadAs, Arrives, is_of, lane_of, parity_of, records_of, sum_of}
 use Rattle.fg_results.specs.Existence.{FlowResultExists, ResultsExist}
+use Rattle.fg_results.specs.Gaps.{gaps_of}
+use Rattle.fg_results.proofs.GapsTold.{gaps_are_told}
 
 -- How a record of a flow arrives.
 record IsTaken (flow : ℕ) (r : Record) : Type 0 where
@@ -85,13 +87,15 @@ module _ (media : MediaIsDecided) (parity : ParityIsDecided) (runs : RunsExist) 
   flow_result_exists playout flow records some =
       let all = all_taken media parity flow records in
       let run = runs playout all.arrivals some all.read in (
-        record { lane = lane_of run.0; sum = sum_of flow run.2.filled.runs all.arrivals run.0 run.1 },
+        record { lane = lane_of run.0; sum = sum_of flow run.2.filled.runs (gaps_of run.0) all.arrivals run.0 run.1 },
         record {
           arrivals = all.arrivals;
           plays = run.0;
           replies = run.1;
           arrive = all.arrive;
           run = run.2;
+          gaps = gaps_of run.0;
+          are_gaps = gaps_are_told run.0;
           lane = refl;
           sum = refl;
         },

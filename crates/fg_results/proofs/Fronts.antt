@@ -7,11 +7,13 @@ use Rattle.fg_rtp.specs.Laws.{ReadsOneWay as MediaReadsOneWay}
 use Rattle.fg_trace.specs.Trace.{Record}
 use Rattle.fg_shape.specs.Playout.{Playout}
 use Rattle.fg_playout.specs.Laws.{OneRun, TakenPlaysComeFirst}
+use Rattle.fg_playout.specs.Play.{Play}
 use Rattle.fg_playout.specs.Run.{Arrival, IsRun, TakesAll}
 use Rattle.fg_playout.specs.State.{State, opening}
 use Rattle.fg_report.specs.declared.flow_sum.FlowSum.{FlowSum}
 use Rattle.fg_results.specs.Laws.{OneFlowResult, ShownIsFront}
-use Rattle.fg_results.specs.Flow.{FlowResult, IsFlowResult, Arrives, records_of, is_of, lane_of, sum_of}
+use Rattle.fg_results.specs.Flow.{FlowResult, IsFlowResult, AreGaps, Arrives, records_of, is_of, lane_of, sum_of}
+use Rattle.fg_results.specs.Gaps.{OneListOfGaps}
 use Rattle.fg_results.proofs.ArrivalLemmas.{arrivals_are_read, one_list_arrives, arrivals_begin}
 use Rattle.fg_results.proofs.ShownLemmas.{lane_more}
 
@@ -21,8 +23,8 @@ same_results : (a b : FlowResult) → a.lane ≡ b.lane → a.sum ≡ b.sum → 
 same_results a b lane sum = ap (λ (t : List ℕ). record { lane = t; sum = a.sum }) lane ∙ ap (λ (s : FlowSum). record { lane = b.lane; sum = s }) sum
 
 -- The records give a flow one result.
-pub one_flow_result : MediaReadsOneWay → ParityReadsOneWay → OneRun → OneFlowResult
-one_flow_result media parity run playout flow records a b h k =
+pub one_flow_result : MediaReadsOneWay → ParityReadsOneWay → OneRun → OneListOfGaps → OneFlowResult
+one_flow_result media parity run list playout flow records a b h k =
     let same = one_list_arrives media parity flow (records_of flow records) k.arrivals h.arrivals k.arrive h.arrive in
     let other : IsRun playout h.arrivals k.plays k.replies = record {
       taken = k.run.taken;
@@ -34,12 +36,14 @@ one_flow_result media parity run playout flow records a b h k =
       plays_are = k.run.plays_are;
     } in
     let one = run playout h.arrivals h.plays k.plays h.replies k.replies (arrivals_are_read flow records h.arrivals h.arrive) h.run other in
+    let gaps = list k.plays h.gaps k.gaps (subst (λ (ps : List Play). AreGaps ps h.gaps) one.0 h.are_gaps) k.are_gaps in
     same_results a b
     (h.lane ∙ ap lane_of one.0 ∙ sym k.lane)
-    (h.sum ∙ ap (λ (desk : State). sum_of flow desk.runs h.arrivals h.plays h.replies) one.2
-    ∙ ap (λ ps. sum_of flow k.run.filled.runs h.arrivals ps h.replies) one.0
-    ∙ ap (λ rs. sum_of flow k.run.filled.runs h.arrivals k.plays rs) one.1
-    ∙ ap (λ xs. sum_of flow k.run.filled.runs xs k.plays k.replies) (sym same) ∙ sym k.sum)
+    (h.sum ∙ ap (λ (desk : State). sum_of flow desk.runs h.gaps h.arrivals h.plays h.replies) one.2
+    ∙ ap (λ gs. sum_of flow k.run.filled.runs gs h.arrivals h.plays h.replies) gaps
+    ∙ ap (λ ps. sum_of flow k.run.filled.runs k.gaps h.arrivals ps h.replies) one.0
+    ∙ ap (λ rs. sum_of flow k.run.filled.runs k.gaps h.arrivals k.plays rs) one.1
+    ∙ ap (λ xs. sum_of flow k.run.filled.runs k.gaps xs k.plays k.replies) (sym same) ∙ sym k.sum)
 
 -- The front of a lane
 

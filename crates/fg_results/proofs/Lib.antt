@@ -4,6 +4,7 @@ pub mod CountLemmas
 pub mod Existing
 pub mod Fronts
 pub mod Gaining
+pub mod GapsTold
 pub mod FlowRecords
 pub mod Picked
 pub mod RepairLemmas

@@ -48,6 +48,8 @@ given playout records others flow result same h = record {
   replies = h.replies;
   arrive = subst (λ rs. AllZip (Arrives flow) rs h.arrivals) same h.arrive;
   run = h.run;
+  gaps = h.gaps;
+  are_gaps = h.are_gaps;
   lane = h.lane;
   sum = h.sum;
 }

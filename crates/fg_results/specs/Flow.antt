@@ -1,6 +1,6 @@
 -- What the records of a trace give for one flow. The records are read by SMPTE ST 2022-2 and SMPTE ST 2022-1; what is
 -- counted is this project's own.
-use Rattle.std.specs.Prelude.{◌≡◌, ◌==◌, ◌||◌, ◌+◌, ℕ, Bool, true, false, not, is_some, List, [], ◌∷◌, filter, length, Option, None, Some, if◌then◌else◌}
+use Rattle.std.specs.Prelude.{◌≡◌, ◌==◌, ◌||◌, ℕ, Bool, true, false, not, is_some, List, [], filter, length, slice_get, Option, None, Some}
 use Rattle.std.specs.List.{flat_map, count_by, AllZip}
 use Rattle.fg_words.specs.declared.Word.{Word}
 use Rattle.fg_rtp.specs.MediaDatagram.{IsMediaDatagram, payload_of}
@@ -19,7 +19,7 @@ use Rattle.fg_playout.specs.Play.{Play, Shown}
 use Rattle.fg_playout.specs.Run.{Arrival, carries, protects, refused, time_of, IsRun, count_of}
 use Rattle.fg_report.specs.declared.marks.Marks.{Marks}
 use Rattle.fg_report.specs.declared.flow_sum.FlowSum.{FlowSum}
-use Rattle.fg_report.specs.Gaps.{with_gap}
+use Rattle.fg_runs.specs.Runs.{AreRunsOf}
 
 -- The flow's records
 
@@ -105,17 +105,20 @@ marks_of stream arrivals replies = record {
   foreign = count_of stream (Some Foreign) arrivals replies;
 }
 
--- The runs of positions without a word, of those shown from a position on. Each is a run of one, and runs that touch are
--- one.
-abbrev pub gaps_from : List (ℕ × ℕ) → ℕ → List Shown → List (ℕ × ℕ)
-gaps_from gaps position [] = gaps
-gaps_from gaps position (shown ∷ more) =
-    gaps_from (if shows_word shown then gaps else with_gap gaps position 1) (position + 1) more
+-- The position is played, and shows no word. The first position played is 0, and none is left out.
+pub record ShowsNone (plays : List Play) (position : ℕ) : Type 0 where
+  pub shown : Shown
+  pub played : slice_get (all_shown plays) position ≡ Some shown
+  pub none : shown.word ≡ None
 
--- A flow's counts: of positions played, of plays, of replies and of the runs that were begun. The first position played is 0, and
--- none is left out.
-abbrev pub sum_of : ℕ → ℕ → List Arrival → List Play → List (Option Reply) → FlowSum
-sum_of flow runs arrivals plays replies = record {
+-- What the gap lines tell: the maximal runs of played positions that show none, in rising order. Runs that touch are one, also across
+-- plays.
+abbrev pub AreGaps : List Play → List (ℕ × ℕ) → Type 0
+AreGaps plays gaps = AreRunsOf (ShowsNone plays) gaps
+
+-- A flow's counts: of positions played, of plays, of replies and of the runs that were begun; and these gaps.
+abbrev pub sum_of : ℕ → ℕ → List (ℕ × ℕ) → List Arrival → List Play → List (Option Reply) → FlowSum
+sum_of flow runs gaps arrivals plays replies = record {
   port = flow;
   shown = count_by shows_word (all_shown plays);
   repaired = count_by (λ shown. shown.repaired) (all_shown plays);
@@ -126,7 +129,7 @@ sum_of flow runs arrivals plays replies = record {
   column = marks_of kind.Column arrivals replies;
   row = marks_of kind.Row arrivals replies;
   runs = runs;
-  gaps = gaps_from [] 0 (all_shown plays);
+  gaps = gaps;
 }
 
 -- What a flow comes to: the bytes of its lane, and its counts.
@@ -142,5 +145,7 @@ pub record IsFlowResult (playout : Playout) (records : List Record) (flow : ℕ)
   pub replies : List (Option Reply)
   pub arrive : AllZip (Arrives flow) (records_of flow records) arrivals
   pub run : IsRun playout arrivals plays replies
+  pub gaps : List (ℕ × ℕ)
+  pub are_gaps : AreGaps plays gaps
   pub lane : result.lane ≡ lane_of plays
-  pub sum : result.sum ≡ sum_of flow run.filled.runs arrivals plays replies
+  pub sum : result.sum ≡ sum_of flow run.filled.runs gaps arrivals plays replies

@@ -3,6 +3,7 @@ pub mod Contract
 pub mod Counted
 pub mod Existence
 pub mod Flow
+pub mod Gaps
 pub mod Lanes
 pub mod Laws
 pub mod Picked

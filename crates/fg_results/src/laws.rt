@@ -1,13 +1,23 @@
 //! The laws that show the definition of a repair to be right. Each is the contract of a function that does nothing, or only
 //! calls laws of the crates below.
 ghost use Rattle.fg_results.specs.Existence.{FlowResultExists, ResultsExist};
+ghost use Rattle.fg_results.specs.Gaps.{GapsAreTold, OneListOfGaps};
 ghost use Rattle.fg_results.specs.Laws.{OneFlowResult, OneResult, OneGained, ShownIsFront, StopsLeaveParts, WholeRecordsAreShown};
 ghost use Rattle.fg_results.specs.Picked.{NamedFlowsArePicked, PickedFlowResult, PickedResults};
 
 use fg_fechead::laws::{parity_datagrams_are_decided, parity_datagrams_read_one_way};
 use fg_playout::laws::{one_run, one_taking, runs_exist, taken_plays_come_first};
 use fg_rtp::laws::{media_datagrams_are_decided, media_datagrams_read_one_way};
+use fg_runs::laws::one_list_of_runs;
 use fg_trace::laws::{one_trace, whole_records_are_answered};
+
+/// Plays have one list of gaps, and a plain program gives it.
+pub fn one_list_of_gaps()
+    ensures told { GapsAreTold }
+    ensures one { OneListOfGaps }
+{
+    one_list_of_runs();
+}
 
 /// The records of a trace give a flow at most one result.
 pub fn one_flow_result()
@@ -16,6 +26,7 @@ pub fn one_flow_result()
     media_datagrams_read_one_way();
     parity_datagrams_read_one_way();
     one_run();
+    one_list_of_gaps();
 }
 
 /// The bytes of a trace give each flow at most one result.

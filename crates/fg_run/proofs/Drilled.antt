@@ -15,7 +15,7 @@ use Rattle.fg_encode.specs.declared.stream.StreamFault.TheVariants.{NotTransport
 use Rattle.fg_encode.specs.Reading.{IsStreamReadFor}
 use Rattle.fg_encode.specs.Stream.{LeavesNothing, StreamEnding, IsCut}
 use Rattle.fg_results.specs.Stops.{Growth, ByRecord, ByBatch, growth_of}
-use Rattle.fg_drill.specs.Drill.{Answer, Drills, DrillsPart, IsFault as IsDrillFault, StopsLanes as DrillStops, StreamComesBack, answer_to, ending_of, records_sent}
+use Rattle.fg_drill.specs.Drill.{Answer, Drills, DrillsPart, IsFault as IsDrillFault, LeavesAtRead, StopsLanes as DrillStops, StreamComesBack, answer_to, ending_of, records_sent}
 use Rattle.fg_drill.specs.DrillLaws.{DrillsAreExact, DrillsComeBack}
 use Rattle.fg_drill.proofs.DrillReading.{told_none, told_of}
 use Rattle.fg_drill.proofs.PartLemmas.{no_drill}
@@ -162,10 +162,12 @@ pub drill_answered : {S O K : Type 0} {left : S → Option (List ℕ)} {input_fa
     → (IsDrillFault answer → DrillsPart settings plan losses max (left input) (lanes_of lanes) (lanes_of lanes') written out out')
     → (IsDrillFault answer → IfSome (left input) (λ bytes. (payloads : List (List ℕ)) (end : StreamEnding) → IsCut settings.packets max bytes payloads end
     → DrillStops plan answer (records_sent settings losses payloads) (lanes_of lanes) (lanes_of lanes')))
+    → (answer ≡ Ok finish.ReadFault → IfSome (left input) (λ bytes. (payloads : List (List ℕ)) (end : StreamEnding) → IsCut settings.packets max bytes payloads end
+    → LeavesAtRead plan (records_sent settings losses payloads) (lanes_of lanes) (lanes_of lanes')))
     → DrillCounts (growth_of plan) answer ((input_faults input, input_faults input') ∷ [])
     ((out_faults out, out_faults out') ∷ (lane_faults lanes, lane_faults lanes') ∷ [])
     → RequestAnswered (drilling settings plan losses max) (why_of_drill answer) left input_faults input input' lanes_of lane_faults lanes lanes' written out_faults out out'
-drill_answered exact back settings plan losses max answer can fits table lose most whole ends read part stopped counts =
+drill_answered exact back settings plan losses max answer can fits table lose most whole ends read part stopped leaves counts =
     let due = exactly settings.packets max answer _ (exact settings plan losses max answer _ _ _ _ _ whole) in
     record {
       answers = drills_for settings plan losses max answer _ _ _ _ _ whole;
@@ -174,7 +176,7 @@ drill_answered exact back settings plan losses max answer can fits table lose mo
       complete = complete_told _ _ _ (why_of_drill answer) _ (IsStreamAnswer settings.packets max) due (λ e. counts.read (read_of answer e)) (λ e. counts.write (write_of answer e));
       part = λ fault. part (drill_fault_of answer fault);
       stops = λ fault. stops settings plan losses max answer _ _ _ (stopped (drill_fault_of answer fault));
-      at_read = λ e. tt;
+      at_read = λ e. leaves (read_of answer e);
       no_report = λ last e. absurd last;
       counts = counts_ahead tells answer (failed (growth_of plan) answer) counts;
       nothing_read = λ h. absurd h;

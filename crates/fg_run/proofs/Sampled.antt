@@ -46,7 +46,7 @@ sample_answered seed datagrams loss plan answer whole part stopped back no_read 
       complete = complete_told _ _ _ (why_of_finish answer) _ (λ bytes due. due ≡ why.Done) is (λ e. absurd (no_read (finish_tells.read_of answer e))) (λ e. faults.write (finish_tells.write_of answer e));
       part = λ fault. part (finish_tells.fault_of answer fault);
       stops = λ fault. why_stops plan (Ok answer) _ _ _ (stopped (finish_tells.fault_of answer fault));
-      at_read = λ e. tt;
+      at_read = λ e. no_read (finish_tells.read_of answer e);
       no_report = λ last e. absurd last;
       counts = in_turn (counts finish_tells answer (no_input faults));
       nothing_read = λ h. refl;

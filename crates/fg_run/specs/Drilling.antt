@@ -1,12 +1,12 @@
 -- What `drill` is for: this project's own.
-use Rattle.std.specs.Prelude.{◌≡◌, ◌⊎◌, ℕ, List, Some, Option, IfSome, Ok, Err, ⊤}
+use Rattle.std.specs.Prelude.{◌≡◌, ◌⊎◌, ℕ, List, Some, Option, IfSome, Ok, Err}
 use Rattle.fg_io.specs.Outlet.{Lanes}
 use Rattle.fg_shape.specs.declared.encoding.Losses.{Losses}
 use Rattle.fg_shape.specs.declared.encoding.Settings.{Settings}
 use Rattle.fg_encode.specs.Stream.{StreamEnding, IsCut}
 use Rattle.fg_flows.specs.declared.Plan.{Plan}
 use Rattle.fg_results.specs.Stops.{growth_of}
-use Rattle.fg_drill.specs.Drill.{Answer, Drills, DrillsPart, StreamComesBack, records_sent}
+use Rattle.fg_drill.specs.Drill.{Answer, Drills, DrillsPart, LeavesAtRead, StreamComesBack, records_sent}
 use Rattle.fg_commands.specs.declared.ended.Why.{Why}
 use Rattle.fg_commands.specs.Behaviour.{Behaviour}
 use Rattle.fg_commands.specs.Ended.{IsFault}
@@ -36,7 +36,7 @@ DrillComesBack settings plan losses max answer bytes lanes lanes' =
     × StreamComesBack settings plan losses max drilled bytes lanes lanes'
 
 -- What is sent of the stream is repaired, and the answer is that of the stream's ending. A fault stops it over the records that are
--- sent.
+-- sent, and a failed read behind the first so many of them.
 abbrev pub drilling : Settings → Plan → Losses → ℕ → Behaviour
 drilling settings plan losses max = record {
   is_answer = IsStreamAnswer settings.packets max;
@@ -45,7 +45,9 @@ drilling settings plan losses max = record {
   stops = λ answer input lanes lanes'.
       IfSome input (λ bytes. (payloads : List (List ℕ)) (end : StreamEnding) → IsCut settings.packets max bytes payloads end
       → StopsLanes plan answer (records_sent settings losses payloads) lanes lanes');
-  at_read = λ input now lanes lanes'. ⊤;
+  at_read = λ input now lanes lanes'.
+      IfSome input (λ bytes. (payloads : List (List ℕ)) (end : StreamEnding) → IsCut settings.packets max bytes payloads end
+      → LeavesAtRead plan (records_sent settings losses payloads) lanes lanes');
   comes_back = λ answer input lanes lanes' written written'.
       IfSome input (λ bytes. IsFault answer ⊎ DrillComesBack settings plan losses max answer bytes lanes lanes');
   reads = ReadsStream max;

@@ -9,7 +9,7 @@ ghost use Rattle.fg_flows.specs.Plan.{PlanFits};
 ghost use Rattle.fg_results.specs.Repair.{OutputsPart};
 ghost use Rattle.fg_results.specs.Stops.{growth_of};
 ghost use Rattle.fg_drill.specs.Drill.{IsFault, answer_to, ending_of};
-ghost use Rattle.fg_drill.specs.DrillSteps.{DrillsTrace, IsEndingsAnswer, StopsTrace, TellsAll, TellsEnding};
+ghost use Rattle.fg_drill.specs.DrillSteps.{DrillsTrace, IsEndingsAnswer, LeavesTrace, StopsTrace, TellsAll, TellsEnding};
 ghost use Rattle.fg_thin.specs.ThinnedSource.{fixed_of, trace_left};
 ghost use Rattle.fg_commands.specs.Answered.{RequestAnswered};
 ghost use Rattle.fg_run.specs.Counted.{DrillCounts};
@@ -123,6 +123,8 @@ fn repair_sent<
     ensures part { IsFault result → OutputsPart plan.now (trace_left source.old)
         (O.lanes lanes.old) (O.lanes lanes.new) K.written out.old out.new }
     ensures stops { IsFault result → StopsTrace plan.now (trace_left source.old) result
+        (O.lanes lanes.old) (O.lanes lanes.new) }
+    ensures at_read { result ≡ Ok Finish.ReadFault → LeavesTrace plan.now (trace_left source.old)
         (O.lanes lanes.old) (O.lanes lanes.new) }
     ensures tells { TellsAll plan.now (trace_left source.old) result source.new.told source.new.fault }
     ensures same { fixed_of S.fixed source.new ≡ fixed_of S.fixed source.old }

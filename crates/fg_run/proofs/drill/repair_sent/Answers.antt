@@ -1,7 +1,8 @@
-use Rattle.std.proofs.Common.{drop}
+use Rattle.std.proofs.Common.{drop, refl}
 use Rattle.fg_thin.specs.ThinnedSource.{fixed_of, thinned_trace}
 use Rattle.fg_drill.proofs.Drills.{done_drills, done_outputs, part_of_whole, same_ending}
 use Rattle.fg_drill.proofs.DrillReading.{done_tells, same_stream}
+use Rattle.fg_drill.proofs.FailedReads.{failed_leaves, whole_leaves}
 use Rattle.fg_drill.proofs.Repairs.{done_stops}
 use Rattle.fg_run.proofs.drill.repair_sent.Goals as goal
 
@@ -18,6 +19,14 @@ returns-in-Done-clause-part g c = λ fault.
 pub returns-in-Done-clause-stops : goal.returns-in-Done-clause-stops
 returns-in-Done-clause-stops g c = λ fault.
     done_stops c.one_trace.ensures c.args.plan.now _ _ _ _ _ _ _ _ c.ending.result fault c.ending.ensures.answer (done_outputs c.args.plan.now _ _ _ _ _ c.in-Done.ensures.repairs.whole)
+
+pub returns-in-Done-clause-at_read : goal.returns-in-Done-clause-at_read
+returns-in-Done-clause-at_read g c = λ failed.
+    whole_leaves c.one_trace.ensures c.args.plan.now _ _ _ _ _ (done_outputs c.args.plan.now _ _ _ _ _ c.in-Done.ensures.repairs.whole)
+
+pub returns-in-ReadFault-clause-at_read : goal.returns-in-ReadFault-clause-at_read
+returns-in-ReadFault-clause-at_read g c = λ failed.
+    failed_leaves c.args.plan.now _ _ _ _ (c.in-ReadFault.ensures.repairs.at_read refl) c.in-ReadFault.ensures.repairs.reads
 
 pub returns-in-Done-clause-tells : goal.returns-in-Done-clause-tells
 returns-in-Done-clause-tells g c =

@@ -8,6 +8,7 @@ use Rattle.fg_thin.specs.ThinnedSource.{ThinningState, trace_left}
 use Rattle.fg_drill.specs.DrillLaws.{trace_sent}
 use Rattle.fg_drill.proofs.Drills.{as_told, drills_part, part_as_told}
 use Rattle.fg_drill.proofs.DrillReading.{drill_reads, drill_tells, reads_of, same_max, same_stream}
+use Rattle.fg_drill.proofs.FailedReads.{drill_leaves, leaves_as_told}
 use Rattle.fg_drill.proofs.Repairs.{drill_stops, stops_as_told}
 use Rattle.fg_commands.proofs.Lawful.{not_begun}
 use Rattle.fg_run.specs.Drilling.{drilling}
@@ -58,4 +59,8 @@ returns g c =
     a.sending.settings a.plan.now a.sending.losses a.sending.max answer input _ _
     c.requires.settings c.requires.inner max
     (stops_as_told a.plan.now answer _ _ (trace_left source) (trace_sent a.sending.settings a.sending.losses a.sending.max input) left (sent.stops fault)))
+    (λ failed. drill_leaves c.thinned_traces_are_traces.ensures.stream c.payloads_are_the_cut.ensures.cut
+    a.sending.settings a.plan.now a.sending.losses a.sending.max input _ _
+    c.requires.settings c.requires.inner max
+    (leaves_as_told a.plan.now _ _ (trace_left source) (trace_sent a.sending.settings a.sending.losses a.sending.max input) left (sent.at_read failed)))
     (search rules))
