@@ -1,5 +1,5 @@
 -- The case of a desk has a text.
-use Rattle.std.proofs.Common.{◌≡◌, ◌≢◌, ◌+◌, ◌-◌, ◌^◌, ◌<◌, ◌≤◌, ◌&&◌, ℕ, Bool, true, false, T, eqb, List, [], ◌∷◌, ◌++◌, map, length, get_or, Option, Some, IsSome, Ordering, Equal, Greater, ◌||◌, inl, inr, refl, sym, ap, subst, ◌∙◌, ⊎_elim, arith, ne_eqb, length-append}
+use Rattle.std.proofs.Common.{◌≡◌, ◌≢◌, ◌+◌, ◌-◌, ◌^◌, ◌<◌, ◌≤◌, ◌&&◌, ℕ, Bool, true, false, T, eqb, List, [], ◌∷◌, ◌++◌, map, length, get_or, IsSome, Ordering, Equal, Greater, ◌||◌, inl, inr, refl, sym, ap, subst, ⊎_elim, arith, ne_eqb, length-append}
 use Rattle.std.proofs.lemmas.Bool.{cases_lt}
 use Rattle.std.proofs.lemmas.Bool.Decides.{Decides-eqb}
 use Rattle.std.proofs.lemmas.Cmp.{by_ranked}
@@ -20,12 +20,12 @@ use Rattle.fg_playout.specs.State.{State, Live, known, live_equations, last_slot
 use Rattle.fg_playout.specs.Facts.{Holds}
 use Rattle.fg_playout.specs.Room.{HasRoom}
 use Rattle.fg_playout.proofs.Orderly.{known_ahead, known_below}
-use Rattle.fg_runs.specs.Runs.{AreApart, AreRunsOf, InRuns, run_end}
+use Rattle.fg_runs.specs.Runs.{AreApart, InRuns, run_end}
 use Rattle.fg_closure.specs.Holes.{IsHole, rule_of}
 use Rattle.fg_proof.specs.declared.case.Case.{Case}
 use Rattle.fg_proof.specs.Case.{IsCase}
 use Rattle.fg_proof.specs.Judgement.{AreInOrder, IsRule}
-use Rattle.fg_proof.specs.Text.{Line, Head, Known, Rule, Open, End, IsWritableRun, IsWritableRule, IsWritable}
+use Rattle.fg_proof.specs.Text.{Line, Head, Known, Rule, Open, End, IsWritableRun, IsWritable}
 use Rattle.fg_proof.specs.WritableCases.{CasesAreWritable}
 use Rattle.fg_proof.proofs.CasesTrue.{runs_in_order, known_limit, hole_limit, rule_is, live_of, equation_at}
 
