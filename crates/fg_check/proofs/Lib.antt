@@ -1,4 +1,5 @@
 -- Lemmas on the definitions of this crate.
+mod Accepted
 mod Cuts
 mod Endings
 mod Grammar

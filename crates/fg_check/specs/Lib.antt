@@ -1,4 +1,5 @@
 -- The definitions that the contracts of this crate cite.
+pub mod Accepted
 pub mod Checked
 pub mod Laws
 pub mod Line

@@ -13,6 +13,7 @@ pub mod Flushing
 pub mod Following
 pub mod Held
 pub mod Joining
+pub mod KeptPlayouts
 pub mod MadeMaps
 pub mod NothingLeft
 pub mod OneOutcome
@@ -25,6 +26,7 @@ pub mod Parities
 pub mod Peeled
 pub mod PlayKeeps
 pub mod PlayOutcomes
+pub mod PlayedAfter
 pub mod PlayedOn
 pub mod Plays
 pub mod Reaching
@@ -34,4 +36,5 @@ pub mod RunFacts
 pub mod RunsBegin
 pub mod RunsExist
 pub mod Senders
+pub mod SoundPeelings
 pub mod StaysPeeled

@@ -54,7 +54,7 @@ solutions_are_peelings desk holds words =
     (solution_to_peel desk (orderly_from_holds desk holds) words, solution_from_peel desk (orderly_from_holds desk holds) words)
 
 -- A step keeps the known words.
-after_step_keeps : (known : ℕ → Option Word) (step : Step) → known step.position ≡ None → Keeps known (after_step known step)
+pub after_step_keeps : (known : ℕ → Option Word) (step : Step) → known step.position ≡ None → Keeps known (after_step known step)
 after_step_keeps known step unknown q w is =
     cond-false (q == step.position) (Some (given_word known step)) (known q)
     (ne_eqb q step.position (λ same. none-some w (sym (ap known same ∙ unknown) ∙ is)))

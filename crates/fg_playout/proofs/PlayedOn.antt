@@ -20,14 +20,14 @@ use Rattle.fg_playout.proofs.OneRun.{one_holding, one_taking, one_taking_all}
 
 -- Its plays
 
-abbrev plays_of : List PlayOn → List Play
+abbrev pub plays_of : List PlayOn → List Play
 plays_of = map (λ (made : PlayOn). made.play)
 
 due_plays : (old : State) (seq ssrc : ℕ) (plays : List Play) (new : State) (due : ArePlaysDue old seq ssrc plays new) → plays_of (due_on old seq ssrc plays new due) ≡ plays
 due_plays old seq ssrc [] new due = refl
 due_plays old seq ssrc (play ∷ plays) new due = ap (λ (ps : List Play). play ∷ ps) (due_plays due.1.0 seq ssrc plays new due.1.2)
 
-flushed_plays : (old : State) (plays : List Play) (new : State) (flush : IsFlush old plays new) → plays_of (flushed_on old plays new flush) ≡ plays
+pub flushed_plays : (old : State) (plays : List Play) (new : State) (flush : IsFlush old plays new) → plays_of (flushed_on old plays new flush) ≡ plays
 flushed_plays old [] new flush = refl
 flushed_plays old (play ∷ plays) new flush = ap (λ (ps : List Play). play ∷ ps) (flushed_plays flush.0 plays new flush.2)
 
@@ -53,13 +53,13 @@ steps_held_plays :
 steps_held_plays old time [] new steps = refl
 steps_held_plays old time (play ∷ plays) new steps = ap (λ (ps : List Play). play ∷ ps) (steps_held_plays steps.0 time plays new steps.2)
 
-held_plays :
+pub held_plays :
     (old : State) (time : ℕ) (plays : List Play) (new : State) (holds : ArePlaysHeld old time plays new)
     → plays_of (held_on old time plays new holds) ≡ plays
 held_plays old time plays new (unlimited none no_plays same) = sym no_plays
 held_plays old time plays new (limited some steps) = steps_held_plays old time plays new steps
 
-taken_plays :
+pub taken_plays :
     (old : State) (arrival : Arrival) (plays : List Play) (reply : Option Reply) (new : State) (takes : Takes old arrival plays reply new)
     → plays_of (taken_on old arrival plays reply new takes) ≡ plays
 taken_plays old arrival plays reply new takes =
@@ -69,7 +69,7 @@ taken_plays old arrival plays reply new takes =
     (taken_then_on takes.ready arrival takes.after reply new takes.takes)
     ∙ (λ i. held i ++ rest i) ∙ sym takes.plays_are
 
-all_taken_plays :
+pub all_taken_plays :
     (old : State) (arrivals : List Arrival) (plays : List Play) (replies : List (Option Reply)) (new : State)
     (takes : TakesAll old arrivals plays replies new) → plays_of (all_taken_on old arrivals plays replies new takes) ≡ plays
 all_taken_plays old [] plays replies new takes = sym takes.0

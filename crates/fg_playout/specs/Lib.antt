@@ -6,9 +6,11 @@ pub mod Facts
 pub mod Held
 pub mod Laws
 pub mod Play
+pub mod PlayedAfter
 pub mod PlayedOn
 pub mod Run
 pub mod Shown
 pub mod Solution
+pub mod SoundPeelings
 pub mod State
 pub mod Room

@@ -17,6 +17,8 @@ ghost use Rattle.fg_playout.specs.DesksJoin.{DueDesksJoin, FlushDesksJoin, HeldD
 ghost use Rattle.fg_playout.specs.DesksJoin.{DueDesksEnd, FlushDesksEnd, HeldDesksEnd, NoHeldDesks, FlushDesksEndBefore, DueDesksEndBefore, RunDesksEnd};
 ghost use Rattle.fg_playout.specs.DesksJoin.{TakenDesksComeFirst, DesksBeforeComeNext, DesksBeforeComeNextInRuns, FlushDesksComeNext};
 ghost use Rattle.fg_playout.specs.Empty.{EmptyWindowsKeep, EmptyWindowsAreDue, EmptyWindowsAreFlushed, EmptyWindowsAreHeld};
+ghost use Rattle.fg_playout.specs.SoundPeelings.{DesksAreAdmissible, PeelingsAreOfWords, MaximalAreOfWords, SoundAreOfWords, PlaysShowSoundPeelings};
+ghost use Rattle.fg_playout.specs.PlayedAfter.{RunsShowWhatWasAdmitted};
 ghost use Rattle.fg_playout.specs.Existence.{PlaysDueExist, FlushExists, PlaysBeforeExist, PlaysHeldExist, TakingsExist, RunsExist};
 
 use fg_peel::laws::{
@@ -293,3 +295,28 @@ pub fn counts_add()
 pub fn counts_stay_within()
     ensures { CountsStayWithin }
 {}
+
+/// On a desk of which the facts hold, the laws of `fg_peel` speak of the peelings of the desk, and of the maximal and the sound ones:
+/// the mark makes no difference.
+pub fn peelings_are_of_words()
+    ensures admissible { DesksAreAdmissible }
+    ensures peelings { PeelingsAreOfWords }
+    ensures maximal { MaximalAreOfWords }
+    ensures sound { SoundAreOfWords }
+{}
+
+/// A play is repaired exactly where a maximal peeling of its desk is sound, and so every one, and its window shows what each of
+/// them gives. It is inconsistent exactly where no peeling is sound, and its window then shows the received words alone.
+pub fn plays_show_sound_peelings()
+    ensures { PlaysShowSoundPeelings }
+{
+    peelings_fill_the_closure();
+    confluence();
+}
+
+/// So does each window of a run, of what was admitted before it.
+pub fn runs_show_what_was_admitted()
+    ensures { RunsShowWhatWasAdmitted }
+{
+    plays_show_sound_peelings();
+}

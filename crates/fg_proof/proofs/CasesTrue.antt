@@ -35,7 +35,7 @@ cases_tell_all port count desk case is = record {
 }
 
 -- The runs of a set within the limit are in order.
-runs_in_order : (P : ℕ → Type 0) (runs : List (ℕ × ℕ)) → AreRunsOf P runs → ((position : ℕ) → P position → position ≤ position_limit) → AreInOrder runs
+pub runs_in_order : (P : ℕ → Type 0) (runs : List (ℕ × ℕ)) → AreRunsOf P runs → ((position : ℕ) → P position → position ≤ position_limit) → AreInOrder runs
 runs_in_order P runs are limit = record {
   apart = are.apart;
   within = λ k d below.
@@ -48,10 +48,10 @@ runs_in_order P runs are limit = record {
 }
 
 module _ (desk : State) (holds : Holds desk) (room : HasRoom desk) (deep : desk.playout.depth ≤ 1000) where
-  live_of : (equation : Equation) → Contains (live_equations desk) equation → (serial : ℕ) × (live : Live) × IsLive desk serial live × (live.equation ≡ equation)
+  pub live_of : (equation : Equation) → Contains (live_equations desk) equation → (serial : ℕ) × (live : Live) × IsLive desk serial live × (live.equation ≡ equation)
   live_of equation listed = let r = serial_of desk equation listed in (r.0, r.1, holds.live r.0 r.1 r.2, r.3)
 
-  known_limit : (position : ℕ) → IsSome (known desk position) → position ≤ position_limit
+  pub known_limit : (position : ℕ) → IsSome (known desk position) → position ≤ position_limit
   known_limit position some = ⊎_elim
       (λ below. omega (arith, below, room.mark))
       (λ ahead.
@@ -60,7 +60,7 @@ module _ (desk : State) (holds : Holds desk) (room : HasRoom desk) (deep : desk.
       omega (arith, near, room.mark, deep))
       (cases_lt position desk.mark)
 
-  hole_limit : (count position : ℕ) → count ≤ 100 → IsHole desk count position → position ≤ position_limit
+  pub hole_limit : (count position : ℕ) → count ≤ 100 → IsHole desk count position → position ≤ position_limit
   hole_limit count position few hole = ⊎_elim
       (λ near. omega (arith, near, few, room.mark))
       (λ at.
@@ -69,13 +69,13 @@ module _ (desk : State) (holds : Holds desk) (room : HasRoom desk) (deep : desk.
       omega (arith, near, at.2, room.mark, deep))
       hole.looked_at.near
 
-  rule_is : (equation : Equation) → Contains (live_equations desk) equation → IsRule (rule_of equation)
+  pub rule_is : (equation : Equation) → Contains (live_equations desk) equation → IsRule (rule_of equation)
   rule_is equation listed =
       let live = live_of equation listed in
       subst (λ (e : Equation). IsRule (rule_of e)) live.3 (record { shape = live.2.shape; base = live.2.base })
 
   module _ (port count : ℕ) (case : Case) (few : count ≤ 100) (is : IsCase port desk count case) where
-    equation_at : (rule : ℕ × Shape) → Contains case.lines rule → (equation : Equation) × Contains (live_equations desk) equation × (rule_of equation ≡ rule)
+    pub equation_at : (rule : ℕ × Shape) → Contains case.lines rule → (equation : Equation) × Contains (live_equations desk) equation × (rule_of equation ≡ rule)
     equation_at rule at =
         Contains-from_map rule_of (live_equations desk) rule (subst (λ (rules : List (ℕ × Shape)). Contains rules rule) is.lines_are at)
 

@@ -5,3 +5,4 @@ pub mod CasesTrue
 pub mod Cutting
 pub mod JudgingHoles
 pub mod JudgingRuns
+pub mod WritableCases

@@ -3,3 +3,4 @@ pub mod Case
 pub mod Judgement
 pub mod Laws
 pub mod Text
+pub mod WritableCases

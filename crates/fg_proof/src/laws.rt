@@ -1,5 +1,6 @@
 //! Laws of cases and of their judgement, each the contract of a function that only calls laws of the crates below.
 ghost use Rattle.fg_proof.specs.Laws.{YesIsAProof, NoPeelingGivesAHole, CasesTellAll, TrueCasesAreProved, OneCase, OneAnswer};
+ghost use Rattle.fg_proof.specs.WritableCases.{CasesAreWritable};
 
 use fg_peel::laws::{closure_is_least, peelings_fill_the_closure};
 use fg_playout::laws::mark_makes_no_difference;
@@ -30,3 +31,8 @@ pub fn one_case()
 {
     one_list_of_runs();
 }
+
+/// The case of a desk has a text, whatever may be set.
+pub fn cases_are_writable()
+    ensures { CasesAreWritable }
+{}

@@ -9,3 +9,4 @@ mod Taking
 mod Telling
 mod Texts
 mod Walking
+mod WritableProofs

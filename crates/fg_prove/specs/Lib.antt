@@ -2,3 +2,4 @@
 pub mod Laws
 pub mod Proved
 pub mod Steps
+pub mod WritableProofs

@@ -1,10 +1,11 @@
 //! The laws that show the definition of a flow's cases to be right. Each is the contract of a function that does nothing, or only
 //! calls laws of the crates below.
 ghost use Rattle.fg_prove.specs.Laws.{CasesAreOfGaps, CasesJoin, CasesSplit, OneListOfCases, OneProof};
+ghost use Rattle.fg_prove.specs.WritableProofs.{ProvedCasesAreWritable};
 
 use fg_fechead::laws::parity_datagrams_read_one_way;
-use fg_playout::laws::one_list_of_desks;
-use fg_proof::laws::one_case;
+use fg_playout::laws::{one_list_of_desks, runs_show_what_was_admitted};
+use fg_proof::laws::{cases_are_writable, one_case};
 use fg_rtp::laws::media_datagrams_read_one_way;
 
 /// The records of a trace give a flow one list of cases.
@@ -29,4 +30,12 @@ pub fn cases_are_of_gaps()
     ensures { CasesAreOfGaps }
 {
     one_list_of_desks();
+}
+
+/// Each case that the records of a trace give a flow has a text.
+pub fn proved_cases_are_writable()
+    ensures { ProvedCasesAreWritable }
+{
+    cases_are_writable();
+    runs_show_what_was_admitted();
 }

@@ -1,7 +1,10 @@
+pub mod AcceptedProofs
 pub mod Asked
 pub mod Behaviours
 pub mod Counting
 pub mod Drilled
+pub mod Fitting
+pub mod Headline
 pub mod Refused
 pub mod Repaired
 pub mod Requests

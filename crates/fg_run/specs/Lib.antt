@@ -1,7 +1,9 @@
+pub mod AcceptedProofs
 pub mod Answered
 pub mod Behaviours
 pub mod Counted
 pub mod Drilling
+pub mod Headline
 pub mod Laws
 pub mod Repairing
 pub mod Request
