@@ -8,7 +8,7 @@ use Rattle.fg_engine.specs.Engine.{LanesGrow, GrowAll, MakesFirst}
 use Rattle.fg_results.specs.Lanes.{OthersStay}
 use Rattle.fg_results.proofs.StopLemmas.{first_in}
 use Rattle.fg_engine.specs.Steps.{LaneGrows, Grows}
-use Rattle.fg_engine.proofs.Lanes.{AreMade, contains_at, there_at}
+use Rattle.fg_engine.proofs.Lanes.{AreMade, contains_at, grow_none, there_at}
 
 pub first_has : (ports : List ℕ) (i k : ℕ) → k < i → k < length ports → Contains (take i ports) (slice_index ports k)
 first_has ports i k below inside = (
@@ -126,3 +126,8 @@ makes_first ports i (Some before) None after inside g o made h = absurd o
 makes_first ports i None (Some now) after inside g o made h = absurd o
 makes_first ports i None None (Some after) inside g o made h = absurd h
 makes_first ports i None None None inside g o made h = record { count = 0; grow = tt; there = tt }
+
+-- where none is made
+pub makes_none : (ports : List ℕ) (now : Option Lanes) → MakesFirst ports now now
+makes_none ports (Some now) = record { count = 0; grow = grow_none (Some now) (take 0 ports); there = λ port c. absurd (omega (arith, c.1)) }
+makes_none ports None = record { count = 0; grow = tt; there = tt }

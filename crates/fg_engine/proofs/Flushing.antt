@@ -194,6 +194,28 @@ flushing_stops law plan good records i items before now after old short at stops
       exact = λ port c. exact_at law plan good records i items before now h old step.part inside step.begins port c (cases_eq port flow);
     }
 
+-- A fault between two flows breaks no lane.
+whole_at :
+    OneFlowHasAPort → (plan : Plan) → IsTable plan.table → (records : List Record) (i : ℕ) (items : List FlowView) (before now : Option Lanes) (h : IsFlushing plan records i items before now)
+    → (port : ℕ) → Contains plan.table port → HasGained plan records (Flushing i) port (h.gained port)
+whole_at law plan good records i [] before now h port c = absurd (omega (arith, h.long, c.1))
+whole_at law plan good records i (any ∷ items) before now h port c =
+    let same : slice_index plan.table c.0 ≡ port = get_or_default plan.table c.0 0 port c.1 ∙ c.2 in
+    subst (λ p. HasGained plan records (Flushing i) p (h.gained p)) same
+    (gained_at law plan good records i c.0 (slice_index_or (any ∷ items) c.0 any) (h.gained (slice_index plan.table c.0)) c.1 (nat_lt c.0 i) refl (h.ends c.0 any c.1))
+
+pub flushing_whole :
+    OneFlowHasAPort → (plan : Plan) → IsTable plan.table → (records : List Record) (i : ℕ) (items : List FlowView) (before now : Option Lanes)
+    → IsFlushing plan records i items before now → BreaksAtFlush plan records before now
+flushing_whole law plan good records i items before now h = record {
+  count = i;
+  broken = None;
+  gained = h.gained;
+  grow = h.grow;
+  there = h.there;
+  exact = λ port c. inl (whole_at law plan good records i items before now h port c);
+}
+
 -- All are flushed
 
 abbrev pub results_of : (ℕ → List ℕ) → List ℕ → List FlowView → List FlowResult

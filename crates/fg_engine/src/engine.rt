@@ -18,7 +18,7 @@ use crate::player::LaneWriter;
 use crate::window::WindowState;
 use fg_flows::laws::one_flow_has_a_port;
 use fg_flows::{Plan, Table};
-use fg_io::{Fault, Outlet, Source, put};
+use fg_io::{Fault, Outlet, Source, close, prepare, put};
 use fg_report::Tail;
 use fg_trace::laws::{one_trace, walks_the_front, whole_records_are_answered};
 use fg_trace::{Reader, Step, TraceFault};
@@ -196,8 +196,20 @@ impl<D: WindowState> Engine<D> {
     }
 }
 
-/// Makes each flow's lane, by an empty put.
+/// Looks at the lanes of all flows, and makes each then. Where one can't be, none is touched.
 pub fn make_lanes<O: Outlet>(table: &Table, lanes: &mut O) -> Result<(), Fault>
+    ensures made { OnOk result (GrowAll (O.lanes lanes.old) table.now (λ _. []) (O.lanes lanes.new)) }
+    ensures there { OnOk result (AreThere table.now (O.lanes lanes.new)) }
+    ensures part { OnErr result (GrowAll (O.lanes lanes.old) table.now (λ _. []) (O.lanes lanes.new)) }
+    ensures first { OnErr result (MakesFirst table.now (O.lanes lanes.old) (O.lanes lanes.new)) }
+    ensures faults { Counts result [] ((O.faults lanes.old, O.faults lanes.new) ∷ []) }
+{
+    prepare(lanes, table.ports())?;
+    make_each(table, lanes)
+}
+
+/// Makes each flow's lane, by an empty put.
+fn make_each<O: Outlet>(table: &Table, lanes: &mut O) -> Result<(), Fault>
     ensures made { OnOk result (GrowAll (O.lanes lanes.old) table.now (λ _. []) (O.lanes lanes.new)) }
     ensures there { OnOk result (AreThere table.now (O.lanes lanes.new)) }
     ensures part { OnErr result (GrowAll (O.lanes lanes.old) table.now (λ _. []) (O.lanes lanes.new)) }
@@ -210,7 +222,7 @@ pub fn make_lanes<O: Outlet>(table: &Table, lanes: &mut O) -> Result<(), Fault>
     Ok(())
 }
 
-/// Flushes the flows, in their order.
+/// Flushes the flows, in their order, and closes the lanes, which are whole then.
 pub fn flush<D: WindowState, O: Outlet>(
     flows: &mut [Flow<D>],
     writer: &mut LaneWriter,
@@ -231,5 +243,5 @@ pub fn flush<D: WindowState, O: Outlet>(
     for flow in flows.iter_mut() {
         flow.flush(writer, lanes)?;
     }
-    Ok(())
+    close(lanes)
 }

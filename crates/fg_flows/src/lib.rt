@@ -139,6 +139,13 @@ impl Table {
         self.flows.len()
     }
 
+    /// The flows' own ports, in their order.
+    pub fn ports(&self) -> &[u16]
+        ensures { result.now ≡ self.now }
+    {
+        &self.flows
+    }
+
     /// The port of the flow with this number, counted from 0.
     pub fn port(&self, i: usize) -> u16
         requires { i < length self.now }

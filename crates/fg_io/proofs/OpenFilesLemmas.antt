@@ -1,9 +1,11 @@
 -- Lemmas on the files that stay open.
-use Rattle.std.proofs.Common.{◌≡◌, ◌≢◌, ◌⊎◌, ◌+◌, ◌-◌, ◌<◌, ◌≤◌, ℕ, suc, List, ◌∷◌, ◌++◌, All, length, get_or, take, drop, inl, inr, refl, sym, ap, ◌∙◌, ⊎_elim, arith}
+use Rattle.std.proofs.Common.{◌≡◌, ◌≢◌, ◌⊎◌, ◌+◌, ◌-◌, ◌<◌, ◌≤◌, ℕ, suc, Bool, true, false, List, [], ◌∷◌, ◌++◌, All, length, get_or, take, drop, inl, inr, refl, sym, ap, ◌∙◌, ⊎_elim, arith, subst}
 use Rattle.std.specs.List.{SameBelow, ShiftedDown}
+use Rattle.std.specs.Prelude.{if◌then◌else◌}
 use Rattle.std.proofs.lemmas.Bool.{cases_lt}
+use Rattle.std.proofs.lemmas.List.Quantifiers.{all_pairs_push}
 use Rattle.std.proofs.Math.Seq.{split_at}
-use Rattle.fg_io.specs.OpenFiles.{AreApart, TakesOut}
+use Rattle.fg_io.specs.OpenFiles.{AreApart, NoneComes, TakesOut}
 
 -- where an element of what is left was: at its place, or one behind it
 record WasAt {T : Type 0} (before after : List (ℕ × T)) (place k : ℕ) (d : ℕ × T) : Type 0 where
@@ -55,10 +57,15 @@ TakesOut-removed before after place port held inside is its removed =
       is = removed;
     }
 
--- where one of at most 64 is closed, those used last stay
-pub drop-full : {T : Type 0} (files : List (ℕ × T)) → length files ≡ 64 → drop 1 files ≡ drop (length files - 63) files
-drop-full files full = let one : 1 ≡ length files - 63 = omega (arith, full) in ap (λ n. drop n files) one
+-- where the file of a port is added that has none, no port has two
+pub AreApart-pushed : {T : Type 0} (kept : Bool) (before after : List (ℕ × T)) (port : ℕ) (file : T)
+    → after ≡ (if kept then before ++ (port, file) ∷ [] else before) → All (λ held. held.0 ≢ port) before
+    → AreApart before → AreApart after
+AreApart-pushed true before after port file is other apart =
+    subst AreApart (sym is) (all_pairs_push (λ one other. one.0 ≢ other.0) before (port, file) apart other)
+AreApart-pushed false before after port file is other apart = subst AreApart (sym is) apart
 
--- where there are fewer, all stay
-pub drop-few : {T : Type 0} (files : List (ℕ × T)) → length files ≤ 63 → files ≡ drop (length files - 63) files
-drop-few files few = let none : 0 ≡ length files - 63 = omega (arith, few) in ap (λ n. drop n files) none
+-- where the first is taken out, none comes
+pub NoneComes-first : {T : Type 0} (before after : List (ℕ × T)) → ShiftedDown before after 0 → length after + 1 ≡ length before → NoneComes before after
+NoneComes-first before after behind shorter = λ port none k d within same.
+    none (k + 1) d (omega (arith, within, shorter)) (sym (ap (λ file. file.0) (behind k d (omega arith))) ∙ same)

@@ -1,5 +1,5 @@
 -- Files that stay open, each with its port, the one used last at the end: this project's own rule.
-use Rattle.std.specs.Prelude.{◌≡◌, ◌≢◌, ◌⊎◌, ℕ, ◌-◌, List, [], ◌∷◌, ◌++◌, length, drop}
+use Rattle.std.specs.Prelude.{◌≡◌, ◌≢◌, ℕ, List, ◌∷◌, ◌++◌, All}
 use Rattle.std.specs.List.{AllPairs}
 
 -- no port has two
@@ -13,11 +13,10 @@ pub record TakesOut {T : Type 0} (before : List (ℕ × T)) (port : ℕ) (file :
   pub was : before ≡ front ++ (port, file) ∷ back
   pub is : after ≡ front ++ back
 
--- the 63 files that were used last, so that there is room for one more
-abbrev pub last_files : {T : Type 0} → List (ℕ × T) → List (ℕ × T)
-last_files files = drop (length files - 63) files
+-- the port has none
+abbrev pub HasNone : {T : Type 0} → List (ℕ × T) → ℕ → Type 0
+HasNone files port = All (λ held. held.0 ≢ port) files
 
--- they stay, and the port's file is added, unless there is no memory for it
-abbrev pub AddsLast : {T : Type 0} → List (ℕ × T) → ℕ → T → List (ℕ × T) → Type 0
-AddsLast before port file after =
-    (after ≡ last_files before ++ (port, file) ∷ []) ⊎ (after ≡ last_files before)
+-- a port that had none has none
+abbrev pub NoneComes : {T : Type 0} → List (ℕ × T) → List (ℕ × T) → Type 0
+NoneComes before after = (port : ℕ) → HasNone before port → HasNone after port

@@ -25,7 +25,7 @@ impl<T> Model for HeldStreams<T> {
     ghost view = { λ a. filter_map (λ file. file) (a.first ∷ a.second ∷ a.third ∷ []) };
 }
 
-/// Opens each standard stream that is closed: reading it finds the end, and writing to it fails.
+/// Opens each standard stream that is closed: reading it fails, and so does writing to it.
 ///
 /// POSIX gives a file that is opened the lowest free number, so after this call no file gets a standard stream's. That
 /// the number is free is all that is known of a closed stream. No file with another number is held.
@@ -47,17 +47,18 @@ where
     F::File: AsRawFd,
     ensures { IfSome result (λ file. IfSome (F.File.raw_fd file) (λ number. number ≤ℤ pos 2)) }
 {
-    let file = open_empty(files).ok()?;
+    let file = open_useless(files).ok()?;
     if file.as_raw_fd() > LAST {
         return None;
     }
     Some(file)
 }
 
-/// Opens the empty file for reading alone; where there is none, the root folder, which can't be read.
-fn open_empty<F: Files>(files: &F) -> io::Result<F::File> {
-    match fs::open(files, "/dev/null") {
+/// Opens the root folder for reading alone, which can be neither read nor written to. Where that can't be opened, the empty
+/// file, of which reading finds the end.
+fn open_useless<F: Files>(files: &F) -> io::Result<F::File> {
+    match fs::open(files, "/") {
         Ok(file) => Ok(file),
-        Err(_) => fs::open(files, "/"),
+        Err(_) => fs::open(files, "/dev/null"),
     }
 }

@@ -33,7 +33,7 @@ pub use input_buffer::{Ahead, InputBuffer};
 pub use mem_outlet::MemOutlet;
 pub use mem_sink::MemSink;
 pub use mem_source::MemSource;
-pub use outlet::{Outlet, put};
+pub use outlet::{Outlet, close, prepare, put};
 pub use output_buffer::OutputBuffer;
 pub use safe::{SafeOutlet, SafeSink, SafeSource};
 pub use sink::{Sink, write_all, write_pieces};

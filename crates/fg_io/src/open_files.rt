@@ -1,12 +1,9 @@
 //! Files that stay open between two puts.
-ghost use Rattle.std.specs.Prelude.{◌≡◌, ◌≢◌, ◌<◌, [], All, HoldsAt, IfSome, IfNone, length};
-ghost use Rattle.fg_io.specs.OpenFiles.{TakesOut, AddsLast, last_files};
+ghost use Rattle.std.specs.Prelude.{◌≡◌, ◌<◌, ◌++◌, [], ◌∷◌, ℕ, HoldsAt, IfSome, IfNone, length};
+ghost use Rattle.fg_io.specs.OpenFiles.{HasNone, NoneComes, TakesOut};
 
 use std::alloc::Global;
 use std::marker::Model;
-
-/// How many files are kept open at most: one for each flow that there can be.
-const MOST: usize = 64;
 
 /// Open files, one for a port, in the order in which they were last used.
 #[derive(Drop)]
@@ -15,14 +12,14 @@ pub(crate) struct OpenFiles<T> {
 }
 
 impl<T> Model for OpenFiles<T> {
-    ghost use Rattle.std.specs.Prelude.{ℕ, ◌≤◌, List, length};
+    ghost use Rattle.std.specs.Prelude.{ℕ, List};
     ghost use Rattle.fg_io.specs.OpenFiles.{AreApart};
 
     ghost Value = { List (ℕ × T) };
 
     ghost view = { λ a. a.files.items };
 
-    ghost invariant = { λ a. (length a.files.items ≤ 64) × AreApart a.files.items };
+    ghost invariant = { λ a. AreApart a.files.items };
 }
 
 impl<T: Drop> OpenFiles<T> {
@@ -39,27 +36,33 @@ impl<T: Drop> OpenFiles<T> {
     pub(crate) fn take(&mut self, port: u16) -> Option<T>
         ensures taken { IfSome result (λ file. TakesOut self.old port file self.new) }
         ensures unchanged { IfNone result (self.new ≡ self.old) }
-        ensures gone { All (λ held. held.0 ≢ port) self.new }
+        ensures gone { HasNone self.new port }
     {
         let place = place_of(&self.files, port)?;
         Some(self.files.remove(place).1)
     }
 
-    /// Adds the port's file, as the one that was used last. It is closed where there is no memory to keep it.
-    pub(crate) fn add(&mut self, port: u16, file: T)
-        requires other { All (λ held. held.0 ≢ port) self.old }
-        ensures { AddsLast self.old port file self.new }
+    /// Takes the file out that was used before all others, if there is one.
+    pub(crate) fn take_oldest(&mut self) -> Option<T>
+        ensures taken { IfSome result (λ file. (port : ℕ) × (self.old ≡ (port, file) ∷ self.new)) }
+        ensures none { IfNone result ((self.old ≡ []) × (self.new ≡ self.old)) }
+        ensures fewer { NoneComes self.old self.new }
     {
-        self.make_room();
-        let _kept = self.files.push((port, file));
+        if self.files.is_empty() {
+            return None;
+        }
+        Some(self.files.remove(0).1)
     }
 
-    /// Closes the file that was used before all others, where there is no room for one more.
-    fn make_room(&mut self)
-        ensures { self.new ≡ last_files self.old }
+    /// Adds the port's file, as the one that was used last. Where there is no memory to keep it, it is answered.
+    pub(crate) fn add(&mut self, port: u16, file: T) -> Option<T>
+        requires other { HasNone self.old port }
+        ensures kept { IfNone result (self.new ≡ self.old ++ (port, file) ∷ []) }
+        ensures refused { IfSome result (λ back. (back ≡ file) × (self.new ≡ self.old)) }
     {
-        if self.files.len() == MOST {
-            let _oldest = self.files.remove(0);
+        match self.files.push((port, file)) {
+            Ok(()) => None,
+            Err(refused) => Some(refused.value.1),
         }
     }
 }
@@ -68,7 +71,7 @@ impl<T: Drop> OpenFiles<T> {
 fn place_of<T>(files: &[(u16, T)], port: u16) -> Option<usize>
     ensures found { IfSome result (λ place. place < length files.now) }
     ensures port { IfSome result (HoldsAt (λ held. held.0 ≡ port) files.now) }
-    ensures none { IfNone result (All (λ held. held.0 ≢ port) files.now) }
+    ensures none { IfNone result (HasNone files.now port) }
 {
     files.iter().position(|held| held.0 == port)
 }

@@ -1,33 +1,22 @@
-//! Files that a standard stream of the program stands for, so that no lane is made of them.
+//! Which file a name leads to, and whether a standard stream of the program stands for it.
 
-use std::fs;
+use std::fs::Metadata;
 use std::os::unix::fs::MetadataExt;
 use std::rt::Files;
+use std::{fs, io};
 
 /// Where Linux tells of the program's own standard input and standard output.
-pub(crate) const STREAMS: [&str; 2] = ["/proc/self/fd/0", "/proc/self/fd/1"];
+const STREAMS: [&str; 2] = ["/proc/self/fd/0", "/proc/self/fd/1"];
 
 /// A regular file: its device, and its number there. Every name and link of the file leads to both.
 #[derive(Clone, Copy, PartialEq, Eq)]
-struct RegularFile {
+pub(crate) struct RegularFile {
     device: u64,
     number: u64,
 }
 
-/// Whether the file of this name is also that of another of the names. Only regular files are compared, and a name that
-/// leads to nothing is no other's.
-pub(crate) fn is_one_of<F: Files>(files: &F, name: &str, others: &[&str]) -> bool {
-    match regular_file(files, name) {
-        Some(file) => others
-            .iter()
-            .any(|other| regular_file(files, other) == Some(file)),
-        None => false,
-    }
-}
-
-/// The regular file to which the name leads.
-fn regular_file<F: Files>(files: &F, name: &str) -> Option<RegularFile> {
-    let found = fs::metadata(files, name).ok()?;
+/// The regular file of which this is told, if it is one.
+pub(crate) fn regular_file(found: &Metadata) -> Option<RegularFile> {
     if !found.is_file() {
         return None;
     }
@@ -35,4 +24,27 @@ fn regular_file<F: Files>(files: &F, name: &str) -> Option<RegularFile> {
         device: found.dev(),
         number: found.ino(),
     })
+}
+
+/// Whether the name leads to this file. One that leads to nothing leads to no file.
+pub(crate) fn leads_to<F: Files>(files: &F, name: &str, file: RegularFile) -> bool {
+    match fs::metadata(files, name) {
+        Ok(found) => regular_file(&found) == Some(file),
+        Err(_) => false,
+    }
+}
+
+/// Whether the file is standard input or standard output.
+///
+/// # Errors
+///
+/// The system doesn't tell what one of the two is, as without `/proc`.
+pub(crate) fn is_stream<F: Files>(files: &F, file: RegularFile) -> io::Result<bool> {
+    for stream in &STREAMS {
+        let found = fs::metadata(files, *stream)?;
+        if regular_file(&found) == Some(file) {
+            return Ok(true);
+        }
+    }
+    Ok(false)
 }

@@ -1,13 +1,13 @@
-use Rattle.std.proofs.Common.{◌≡◌, ℕ, ◌<◌, ◌∙◌, Option, List, length, map, set, get_or, arith, slice_index_or}
+use Rattle.std.proofs.Common.{◌≡◌, ℕ, ◌<◌, ◌∙◌, Option, List, length, map, set, get_or, arith, slice_index_or, sym, subst}
 use Rattle.std.proofs.Math.Seq.{map-set_same}
 use Rattle.std.proofs.lemmas.List.{get_or_default}
 use Rattle.fg_flows.specs.declared.Plan.{Plan}
 use Rattle.fg_flows.specs.Plan.{PlanFits}
 use Rattle.fg_io.specs.Outlet.{Lanes}
 use Rattle.fg_trace.specs.Trace.{Record}
-use Rattle.fg_engine.specs.Engine.{IsFlushing, BreaksAtFlush}
-use Rattle.fg_engine.proofs.Flushing.{flushing_more, flushing_stops, flushing_all, next_stands, underway}
-use Rattle.fg_io.proofs.FaultLemmas.{on_err}
+use Rattle.fg_engine.specs.Engine.{IsFlushing, BreaksAtFlush, HasEnded}
+use Rattle.fg_engine.proofs.Flushing.{flushing_more, flushing_stops, flushing_all, flushing_whole, next_stands, underway}
+use Rattle.fg_io.proofs.FaultLemmas.{on_ok, on_err}
 use Rattle.fg_engine.specs.View.{FlowView}
 use Rattle.fg_engine.proofs.engine.flush.Goals as goal
 
@@ -52,8 +52,21 @@ loop-flow-preserved g c =
     }
 
 pub returns-clause-ends : goal.returns-clause-ends
-returns-clause-ends g c = λ plan records before fits h.
-    flushing_all plan records c.loop-flow.flow-index c.loop-flow.flows before _ (omega arith) (c.loop-flow.invariant.flushing plan records before fits h)
+returns-clause-ends g c =
+    let flows = c.loop-flow.flows in
+    let ends : (plan : Plan) (records : List Record) (before : Option Lanes) → PlanFits plan → IsFlushing plan records 0 c.args.flows.now before (g.O.Outlet.lanes c.args.lanes.now) → HasEnded plan records flows before (g.O.Outlet.lanes c.close.new.lanes) = λ plan records before fits h.
+    subst (HasEnded plan records flows before) (sym c.close.ensures.unchanged)
+    (flushing_all plan records c.loop-flow.flow-index flows before _ (omega arith) (c.loop-flow.invariant.flushing plan records before fits h)) in
+    on_ok _ _ ends
+
+-- where the lanes can't be closed, all of them are whole
+pub returns-clause-breaks : goal.returns-clause-breaks
+returns-clause-breaks g c =
+    let flows = c.loop-flow.flows in
+    let stops : (plan : Plan) (records : List Record) (before : Option Lanes) → PlanFits plan → IsFlushing plan records 0 c.args.flows.now before (g.O.Outlet.lanes c.args.lanes.now) → BreaksAtFlush plan records before (g.O.Outlet.lanes c.close.new.lanes) = λ plan records before fits h.
+    subst (BreaksAtFlush plan records before) (sym c.close.ensures.unchanged)
+    (flushing_whole c.one_flow_has_a_port.ensures plan fits.table records c.loop-flow.flow-index flows before _ (c.loop-flow.invariant.flushing plan records before fits h)) in
+    on_err _ _ stops
 
 pub returns-in_err-flush-clause-ports : goal.returns-in_err-flush-clause-ports
 returns-in_err-flush-clause-ports g c =

@@ -13,11 +13,9 @@ its g c =
     subst (λ files. HoldsAt (λ held. held.0 ≡ c.args.port) files c.in_ok-place.place) c.deref.ensures.value c.in_ok-place.ensures.port
 
 pub invariant_of-self : goal.invariant_of-self
-invariant_of-self g c = (
-  omega (arith, c.remove.ensures.len, c.self.invariant.0),
-  AreApart-removed c.self.inside.files.items c.remove.new.self.items c.in_ok-place.place (inside g c)
-      c.remove.ensures.by_index.0 c.remove.ensures.by_index.1 (omega (arith, c.remove.ensures.len)) c.self.invariant.1,
-)
+invariant_of-self g c =
+    AreApart-removed c.self.inside.files.items c.remove.new.self.items c.in_ok-place.place (inside g c)
+    c.remove.ensures.by_index.0 c.remove.ensures.by_index.1 (omega (arith, c.remove.ensures.len)) c.self.invariant
 
 pub returns-clause-taken : goal.returns-clause-taken
 returns-clause-taken g c =
@@ -28,4 +26,4 @@ returns-clause-taken g c =
 pub returns-clause-gone : goal.returns-clause-gone
 returns-clause-gone g c =
     gone-removed c.self.inside.files.items c.remove.new.self.items c.in_ok-place.place c.args.port (inside g c) (its g c)
-    c.remove.ensures.by_index.0 c.remove.ensures.by_index.1 (omega (arith, c.remove.ensures.len)) c.self.invariant.1
+    c.remove.ensures.by_index.0 c.remove.ensures.by_index.1 (omega (arith, c.remove.ensures.len)) c.self.invariant

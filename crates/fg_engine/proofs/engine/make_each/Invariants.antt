@@ -2,7 +2,7 @@ use Rattle.std.proofs.Common.{◌≡◌, []}
 use Rattle.fg_engine.specs.Engine.{GrowAll}
 use Rattle.fg_engine.proofs.Firsts.{OthersAre}
 use Rattle.fg_engine.proofs.Lanes.{AreMade}
-use Rattle.fg_engine.proofs.engine.make_lanes.Given as goal
+use Rattle.fg_engine.proofs.engine.make_each.Given as goal
 
 abbrev pub invariant-loop-i : goal.invariant-loop-i
 invariant-loop-i g l = record {
