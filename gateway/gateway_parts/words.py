@@ -1,4 +1,4 @@
-"""The words of tools/gateway, and what they come to for each flow."""
+"""The words of gateway/gateway, and what they come to for each flow."""
 import argparse
 import os
 import shlex

@@ -1,5 +1,5 @@
-"""Receives the datagrams of some ports in the order in which the system says that they arrived, for tools/record_link and
-for a flow of tools/gateway."""
+"""Receives the datagrams of some ports in the order in which the system says that they arrived, for gateway/record_link and
+for a flow of gateway/gateway."""
 import operator
 import select
 import socket

@@ -1,4 +1,4 @@
-"""One flow of a gateway, from its sockets to its output: flow.py SETTINGS FOLDER, which tools/gateway starts.
+"""One flow of a gateway, from its sockets to its output: flow.py SETTINGS FOLDER, which gateway/gateway starts.
 
 It receives, repairs and hands on until standard input ends. Then the recorder ends first, the repair shows all that it has, and
 what reads the lane ends last. On standard output it tells, a JSON object a line: `ready`, `counts`, `event`, `report`, and `fault`
