@@ -301,7 +301,7 @@ def main(arguments: Sequence[str] | None = None) -> int:
             "python3-distributed, or call it by the Python that has it",
             file=sys.stderr,
         )
-        return 1
+        return UNAVAILABLE
 
 
 if __name__ == "__main__":
