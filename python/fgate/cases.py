@@ -7,14 +7,12 @@ gives the word at one unknown position where it knows all others. So the holes a
 proved where none of them is known, and each parity datagram that speaks of a hole
 speaks of two at least: then none ever is the only unknown one.
 
-A position is a datagram's number in its stream. A text has, line by line, for each
-case:
+A position is a datagram's number in its stream. For each case a text has these lines:
 
-  case PORT MARK COUNT     the flow, and the window: COUNT positions from MARK on known
-  FIRST LENGTH       positions with a word, as runs that rise with gaps between them
+  case PORT MARK COUNT     the flow, and the window: COUNT positions from MARK on
+  known FIRST LENGTH       positions with a word, as runs that rise with gaps between
   line BASE OFFSET NA      a parity datagram speaks of NA positions, each OFFSET from
-  the
-                           one before, from BASE on
+                           the one before, from BASE on
   open FIRST LENGTH        the holes, as such runs
   end
 

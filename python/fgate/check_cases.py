@@ -18,10 +18,10 @@ program proves and repairs it again by these words, and after the judgement come
 
 The PROOFs of a gap tell, in the order of its positions, what each of its windows has:
 
-  case I                  case I proves what the window shows of the gap missing M
-  prove gives a case of the window from M on, and it isn't here inconsistent F N
-  prove gives none of the N positions from F on: no words made all
-                          equations come out there, so only received words were shown
+  case I                  case I proves what the window shows of the gap
+  missing M               prove gives a case of the window from M on, and it isn't here
+  inconsistent F N        prove gives none of the N positions from F on: no words made
+                          all equations come out, so only received words were shown
 
 A gap is proved where each of its windows has a case. The lane of the repair goes to a
 folder of the system's for temporary files, and is gone at the end.
@@ -33,10 +33,9 @@ these:
    2  the words can't be read, or there is no case at all
   11  the text isn't one of cases, and 5: it is longer than max (without --trace)
   10  a case isn't `yes`
-   1  a case is missing, is strange, or report and cases of the program don't agree
-  69  the program or the trace can't be read, or the program failed
-   4  the trace is none or is cut, and 5: it is longer than max; all else was as it
-   should
+   1  a case is missing or strange, or the program's report and cases don't agree
+  69  the program or a file can't be read, or the program failed
+   4  the trace is none or is cut, and 5: it is longer than max; all else is well
 """
 
 import argparse
@@ -52,7 +51,7 @@ from typing import NamedTuple
 from fgate import cases, command, reports
 
 NAME = "fgate-check-cases"
-NOTHING, UNPROVED, MISSING, UNAVAILABLE = 2, 10, 1, 69
+NOTHING, MISSING, UNAVAILABLE = 2, 1, 69
 #: What a trace may be told as, for all of which the whole records count.
 ENDED, CUT, TOO_LONG, FAULTY = 0, 4, 5, 1
 MOST_BYTES = 2**40
