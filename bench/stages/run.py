@@ -32,7 +32,7 @@ def records(trace):
 def in_turns(room, flows, datagrams):
     """A trace in which copies of one flow stand record by record in turns."""
     subprocess.run(
-        [f"{TOP}/tools/make_trace", "--datagrams", str(datagrams // flows), "--loss", "3", "one.trace", "one.ts"],
+        [f"{TOP}/bench/make_trace", "--datagrams", str(datagrams // flows), "--loss", "3", "one.trace", "one.ts"],
         cwd=room, check=True, stdout=subprocess.DEVNULL,
     )
     one = open(f"{room}/one.trace", "rb").read()

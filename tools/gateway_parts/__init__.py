@@ -1,1 +1,0 @@
-"""The parts of tools/gateway, each with one job. None is run on its own but `flow.py` and `lanes.py`, which it starts."""
