@@ -1,9 +1,10 @@
 """Runs the command lines of documents as a reader would, in one shell.
 
 The shell stands in a folder that is like the top of the repository after README's
-first command: what an earlier block wrote or set is there. In it crates/fgate/out/fgate is the
-built program, and `tools/prove` has nothing left to prove. The commands of the package
-of python/ and of gateway/, and `fgate` itself, are found by their installed names.
+first command: what an earlier block wrote or set is there. In it
+crates/fgate/out/fgate is the built program, and `tools/prove` has nothing left to
+prove. The commands of the package of python/ and of gateway/, and `fgate` itself, are
+found by their installed names.
 """
 
 from __future__ import annotations
