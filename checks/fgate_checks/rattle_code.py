@@ -104,6 +104,16 @@ def comment_above(text: str) -> str | None:
     return plain(lines, "//") if lines else None
 
 
+def comment_right_above(text: str, at: int) -> str | None:
+    """The comment of the lines that end right above a place, if there is one."""
+    lines: list[str] = []
+    for line in reversed(text[:at].split("\n")[:-1]):
+        if not line.strip().startswith("//"):
+            break
+        lines.insert(0, line)
+    return plain(lines, "//") if lines else None
+
+
 def first_clause_sign(text: str, at: int) -> int:
     """The place of the next sign that is neither blank nor in a line comment."""
     while text[at].isspace() or text.startswith("//", at):
@@ -114,7 +124,7 @@ def first_clause_sign(text: str, at: int) -> int:
 def read_clauses(text: str, at: int) -> tuple[list[Clause], int]:
     """The clauses between a signature and its body, and where the body begins."""
     clauses: list[Clause] = []
-    comment: str | None = None
+    comment = comment_right_above(text, at)
     while True:
         last, at = at, first_clause_sign(text, at)
         above = comment_above(text[last:at])
