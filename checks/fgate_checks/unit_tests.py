@@ -1,11 +1,11 @@
-"""Runs the unit tests of all crates, unproved, from one build.
+"""Runs the unit tests of all crates, unproved, from one build or two.
 
 `rt try --test` compiles a crate and the sources of all below it, so one call for each
 crate would compile the lowest crates again and again. Here the tests of all crates are
-gathered in one crate of a temporary folder, with modules named for the crates that they
-come from, and that one is compiled and run with the checks of `rt try`: it stops at
-an index out of bounds, an overflow, a failed unwrap or a bad access. Nothing is proved:
-`rt ci` proves the tests and runs each as it is.
+gathered in one crate (in two, side by side, where there is room), with modules named
+for the crates that they come from, which is compiled and run with the checks of `rt
+try`: it stops at an index out of bounds, an overflow, a failed unwrap or a bad access.
+Nothing is proved: `rt ci` proves the tests and runs each as it is.
 
 A few tests take minutes in a build with checks. They are left to `rt ci`, and told.
 """
@@ -13,18 +13,22 @@ A few tests take minutes in a build with checks. They are left to `rt ci`, and t
 from __future__ import annotations
 
 import argparse
+import os
 import re
 import shutil
 import subprocess
 import sys
 import tempfile
 from collections.abc import Iterator, Sequence
+from concurrent.futures import ThreadPoolExecutor
 from pathlib import Path
 
+from fgate_checks.rattle_code import END, LITERAL, after_any, after_braces
 from fgate_checks.repository import CRATES, TOP, crate_lines
 
 GATHERED = "gathered_tests"
-SECONDS = 280  # for all tests of the one build
+SECONDS = 280  # for all tests of a build
+A_BUILD = 3 * 1024**2  # in the kilobytes of /proc/meminfo
 # What takes minutes in a build with checks, each by its crate, its file and its name.
 LEFT_OUT = (
     ("fg_trace_tests", "tests.rt", "each_cut_in_bytes"),
@@ -39,13 +43,13 @@ class Unfit(Exception):
 
 
 def without_test(text: str, name: str) -> str:
-    """A file's text in which one function is no test."""
-    found = re.search(
-        rf"^ *#\[test\]\n(?=(?: *(?:#|//).*\n)* *fn {name}\()", text, re.M
-    )
+    """A file's text without one test."""
+    head = rf"^ *#\[test\]\n(?: *(?:#|//).*\n)* *fn {name}\("
+    found = re.search(head, text, re.M)
     if found is None:
         raise Unfit(f"there is no test {name} to be left out")
-    return text[: found.start()] + text[found.end() :]
+    body = after_any(text, found.end() - 1, END)
+    return text[: found.start()] + text[after_braces(text, body, LITERAL) :]
 
 
 def as_module(text: str) -> str:
@@ -59,7 +63,7 @@ def of_library(text: str, crate: str) -> str:
     return re.sub(r"\bcrate::", f"{crate}::", text)
 
 
-def copy_tests(crate: str, to: Path) -> bool:
+def copy_tests(crate: str, to: Path) -> None:
     """Copies the tests of a crate of tests as a module."""
     source = CRATES / crate / "src"
     (to / crate).mkdir()
@@ -73,19 +77,15 @@ def copy_tests(crate: str, to: Path) -> bool:
                 text = without_test(text, name)
         at.parent.mkdir(exist_ok=True, parents=True)
         at.write_text(text, encoding="utf-8")
-    return True
 
 
-def copy_own_tests(crate: str, to: Path) -> bool:
-    """Copies the tests that stand in a library, where it has some."""
+def copy_own_tests(crate: str, to: Path) -> None:
+    """Copies the tests that stand in a library."""
     file = CRATES / crate / "src/tests.rt"
-    if not file.is_file():
-        return False
     text = file.read_text(encoding="utf-8")
     if "super::super" in text or file.with_suffix("").is_dir():
         raise Unfit(f"{crate} has tests of another form than one file")
     (to / f"of_{crate}.rt").write_text(of_library(text, crate), encoding="utf-8")
-    return True
 
 
 def stray_tests(crate: str) -> Iterator[str]:
@@ -103,8 +103,23 @@ def copy_library(crate: str, to: Path) -> None:
             shutil.copytree(CRATES / crate / part, to / crate / part)
 
 
-def gather(folder: Path) -> Path:
-    """Makes a repository of the libraries and the one crate, and answers its folder."""
+def crates_with_tests() -> list[str]:
+    """The crates that have tests, each of a form that can be gathered."""
+    found = []
+    for name, _ in crate_lines():
+        source = CRATES / name / "src"
+        if name.endswith("_tests"):
+            found.append(name)
+            continue
+        for file in stray_tests(name):
+            raise Unfit(f"{file} has tests: they stand in src/tests.rt")
+        if (source / "tests.rt").is_file():
+            found.append(name)
+    return found
+
+
+def gather(folder: Path, wanted: Sequence[str]) -> Path:
+    """Makes a repository of the libraries and one crate of the tests of some crates."""
     crates = folder / "crates"
     root = crates / GATHERED / "src"
     root.mkdir(parents=True)
@@ -116,12 +131,14 @@ def gather(folder: Path) -> Path:
         if not is_of_tests:
             copy_library(name, crates)
             lines.append(f"{name}: {' '.join(below)}")
-            for file in stray_tests(name):
-                raise Unfit(f"{file} has tests: they stand in src/tests.rt")
-        if is_of_tests and copy_tests(name, root):
+        if name not in wanted:
+            continue
+        if is_of_tests:
+            copy_tests(name, root)
             modules.append(name)
             uses |= dict.fromkeys(below)
-        elif not is_of_tests and copy_own_tests(name, root):
+        else:
+            copy_own_tests(name, root)
             modules.append(f"of_{name}")
             uses |= dict.fromkeys([name, *below])
     lines.append(f"{GATHERED} tests_may=Threads+Wait: {' '.join(uses)}")
@@ -130,6 +147,14 @@ def gather(folder: Path) -> Path:
     declared = "".join(f"#[cfg(test)]\nmod {name};\n" for name in modules)
     (root / "lib.rt").write_text(f"#![tactic(auto)]\n\n{declared}", encoding="utf-8")
     return crates / GATHERED
+
+
+def shares() -> int:
+    """How many builds run side by side: two, where processors and memory allow."""
+    with open("/proc/meminfo", encoding="ascii") as lines:
+        free = next(line for line in lines if line.startswith("MemAvailable"))
+    has_room = int(free.split()[1]) > 2 * A_BUILD
+    return 2 if has_room and len(os.sched_getaffinity(0)) > 2 else 1
 
 
 def count(crate: Path) -> int:
@@ -153,6 +178,14 @@ def run(crate: Path) -> tuple[int, int]:
     return told.returncode, passed
 
 
+def run_share(wanted: Sequence[str]) -> tuple[int, int, int]:
+    """Gathers and runs the tests of some crates: status, passed, and how many."""
+    with tempfile.TemporaryDirectory() as folder:
+        crate = gather(Path(folder), wanted)
+        status, passed = run(crate)
+        return status, passed, count(crate)
+
+
 def main(arguments: Sequence[str]) -> int:
     """Runs the tests; the status is 0 where each that was gathered passed."""
     words = argparse.ArgumentParser(
@@ -161,15 +194,17 @@ def main(arguments: Sequence[str]) -> int:
         formatter_class=argparse.RawDescriptionHelpFormatter,
     )
     words.parse_args(arguments)
-    with tempfile.TemporaryDirectory() as folder:
-        try:
-            crate = gather(Path(folder))
-        except Unfit as fault:
-            print(f"unit_tests: {fault}", file=sys.stderr)
-            return 1
-        wanted = count(crate)
-        status, passed = run(crate)
+    try:
+        every, number = crates_with_tests(), shares()
+        parts = [every[first::number] for first in range(number)]
+        with ThreadPoolExecutor(number) as pool:
+            ended = list(pool.map(run_share, parts))
+    except Unfit as fault:
+        print(f"unit_tests: {fault}", file=sys.stderr)
+        return 1
     for place, _, name in LEFT_OUT:
         print(f"left to rt ci: {place}, {name}")
+    passed, wanted = sum(it[1] for it in ended), sum(it[2] for it in ended)
     print(f"unit tests: {passed} of {wanted} passed, {len(LEFT_OUT)} left to rt ci")
-    return 0 if status == 0 and passed == wanted else 1
+    is_right = passed == wanted and all(status == 0 for status, _, _ in ended)
+    return 0 if is_right else 1
