@@ -1,9 +1,16 @@
-"""The completions of bash, zsh and fish. Each knows a command's names, how often each may stand, and the values of a choice."""
+"""The completions of bash, zsh and fish.
 
-HEAD = "# Completion of fgate for {shell}. Made by tools/pages from fgate --help, and not edited by hand.\n"
+Each knows a command's names, how often each may stand, and the values of a choice.
+"""
 
-BASH = r'''
-# The names of a command: each with how often it may stand, and with its values where these are a choice.
+from __future__ import annotations
+
+from fgate_checks.program_help import Command, Help
+
+HEAD = "# Completion of fgate for {shell}. Made by tools/install from fgate --help.\n"
+
+BASH = r"""
+# The names of a command: how often each may stand, and its values, if a choice.
 _fgate_names() {
     case $1 in
 @names@
@@ -39,7 +46,8 @@ _fgate() {
     begun=
     case $line in *[![:blank:]]) begun=${words[-1]}; unset 'words[-1]' ;; esac
     COMPREPLY=()
-    if [[ $begun == [0-9\<\>]* && $begun == *[\<\>]* ]] || [[ ${words[-1]} =~ ^[0-9]*[\<\>]+$ ]]; then
+    if [[ $begun == [0-9\<\>]* && $begun == *[\<\>]* ]] ||
+        [[ ${words[-1]} =~ ^[0-9]*[\<\>]+$ ]]; then
         compopt -o filenames
         mapfile -t COMPREPLY < <(compgen -f -- "${begun##*[<>]}")
         return
@@ -56,9 +64,9 @@ _fgate() {
 }
 
 complete -F _fgate fgate
-'''
+"""
 
-ZSH = r'''
+ZSH = r"""
 _fgate_names() {
     case $1 in
 @names@
@@ -103,9 +111,9 @@ _fgate() {
 }
 
 _fgate "$@"
-'''
+"""
 
-FISH = r'''
+FISH = r"""
 # Whether the command is this one.
 function __fgate_is
     set -l words (commandline -opc)
@@ -114,7 +122,8 @@ end
 
 # Whether the name may stand behind the command once more, of so many times.
 function __fgate_may
-    __fgate_is $argv[1]; and test (commandline -opc | string match -e -r -- "^$argv[2]=" | count) -lt $argv[3]
+    set -l given (commandline -opc | string match -e -r -- "^$argv[2]=")
+    __fgate_is $argv[1]; and test (count $given) -lt $argv[3]
 end
 
 # Whether the word that is being written is of this name.
@@ -129,46 +138,68 @@ end
 complete -c fgate -f
 complete -c fgate -n '__fgate_stands_alone 1' -a --help -d 'how it is called'
 complete -c fgate -n '__fgate_stands_alone 1' -a --version -d 'which version it is'
-'''
+"""
 
 
-def quoted(text):
+def quoted(text: str) -> str:
     """The text as one word of a shell."""
     return "'" + text.replace("'", "'\\''") + "'"
 
 
-def bash(asked):
+def bash(program: Help) -> str:
+    """The completion of bash."""
     told = ""
-    for command in asked.commands:
-        rows = " ".join(quoted(" ".join([name.name, str(name.most), *name.choices])) for name in command.names)
-        told += f"        {command.word}) printf '%s\\n' {rows} ;;\n"
-    commands = " ".join(command.word for command in asked.commands)
-    return HEAD.format(shell="bash") + BASH.replace("@names@\n", told).replace("@commands@", commands)
+    for command in program.commands:
+        rows = [[it.name, str(it.most), *it.choices] for it in command.names]
+        words = " ".join(quoted(" ".join(row)) for row in rows)
+        told += f"        {command.word}) printf '%s\\n' {words} ;;\n"
+    commands = " ".join(command.word for command in program.commands)
+    text = BASH.replace("@names@\n", told).replace("@commands@", commands)
+    return HEAD.format(shell="bash") + text
 
 
-def zsh(asked):
-    told = ""
-    for command in asked.commands:
-        rows = "".join(" " * 12 + quoted(f"{name.name}:{name.most}:{name.about}:{name.values}") + "\n" for name in command.names)
-        told += f"        {command.word}) rows=(\n{rows}        ) ;;\n"
-    commands = "".join(" " * 12 + quoted(f"{command.word}:{command.about}".replace(": ", "\\: ")) + "\n" for command in asked.commands)
-    return "#compdef fgate\n" + HEAD.format(shell="zsh") + ZSH.replace("@names@\n", told).replace("@commands@\n", commands)
+def zsh(program: Help) -> str:
+    """The completion of zsh."""
+    told, commands, margin = "", "", " " * 12
+    for command in program.commands:
+        rows = [f"{it.name}:{it.most}:{it.about}:{it.values}" for it in command.names]
+        lines = "".join(f"{margin}{quoted(row)}\n" for row in rows)
+        told += f"        {command.word}) rows=(\n{lines}        ) ;;\n"
+        shown = f"{command.word}:{command.about}".replace(": ", "\\: ")
+        commands += f"{margin}{quoted(shown)}\n"
+    text = ZSH.replace("@names@\n", told).replace("@commands@\n", commands)
+    return "#compdef fgate\n" + HEAD.format(shell="zsh") + text
 
 
-def fish(asked):
-    told = HEAD.format(shell="fish") + FISH
-    for command in asked.commands:
-        told += f"\ncomplete -c fgate -k -n '__fgate_stands_alone 1' -a {command.word} -d {quoted(command.about)}\n"
-        told += f"complete -c fgate -n '__fgate_stands_alone 2; and __fgate_is {command.word}' -a --help -d 'how the command is called'\n"
-        for name in command.names:
-            may = f"__fgate_may {command.word} {name.name} {name.most}"
-            begun = f"__fgate_begins {name.name}"
-            told += f"complete -c fgate -n '{may}; and not {begun}' -a {name.name}= -d {quoted(f'{name.about}, {name.values}')}\n"
-            for choice in name.choices:
-                told += f"complete -c fgate -n '{may}; and {begun}' -a {name.name}={choice}\n"
+def fish_command(command: Command) -> str:
+    """The lines that complete a command for fish."""
+    word = command.word
+    stands = f"-n '__fgate_stands_alone 1' -a {word} -d {quoted(command.about)}"
+    told = f"\ncomplete -c fgate -k {stands}\n"
+    alone = f"-n '__fgate_stands_alone 2; and __fgate_is {word}'"
+    told += f"complete -c fgate {alone} -a --help -d 'how the command is called'\n"
+    for name in command.names:
+        may = f"__fgate_may {word} {name.name} {name.most}"
+        begun = f"__fgate_begins {name.name}"
+        about = quoted(f"{name.about}, {name.values}")
+        first = f"-n '{may}; and not {begun}' -a {name.name}= -d {about}"
+        told += f"complete -c fgate {first}\n"
+        for choice in name.choices:
+            later = f"-n '{may}; and {begun}' -a {name.name}={choice}"
+            told += f"complete -c fgate {later}\n"
     return told
 
 
-def scripts(asked):
+def fish(program: Help) -> str:
+    """The completion of fish."""
+    told = [fish_command(command) for command in program.commands]
+    return HEAD.format(shell="fish") + FISH + "".join(told)
+
+
+def scripts(program: Help) -> dict[str, str]:
     """Each completion under the name that its shell looks for."""
-    return {"fgate": bash(asked), "_fgate": zsh(asked), "fgate.fish": fish(asked)}
+    return {
+        "fgate": bash(program),
+        "_fgate": zsh(program),
+        "fgate.fish": fish(program),
+    }

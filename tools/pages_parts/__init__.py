@@ -1,1 +1,0 @@
-"""The parts of tools/pages, each with one job. None is run on its own."""
