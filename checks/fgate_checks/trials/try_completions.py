@@ -1,11 +1,12 @@
-#!/usr/bin/env python3
-"""Tries the completions of docs/made/completions in bash, zsh and fish themselves, outside the gate.
+"""Tries the completions of docs/made/completions in bash, zsh and fish themselves.
 
-try_completions [SHELL ..]    of these shells alone; a shell that isn't there is told, and fails
-
-Bash and zsh run in a terminal of their own, in which each case's line is typed and all that may follow is inserted; fish tells
-by `complete -C`. Each case prints a line that ends with `ok` or `WRONG`, and the status is 0 where all are ok.
+Bash and zsh run in a terminal of their own, in which each case's line is typed and all
+that may follow is inserted; fish tells by `complete -C`. Each case prints a line that
+ends with `ok` or `WRONG`, and the status is 0 where all are ok. A shell that isn't
+there is told, and fails.
 """
+
+import argparse
 import os
 import pty
 import select
@@ -14,11 +15,19 @@ import subprocess
 import sys
 import tempfile
 import time
+from collections.abc import Iterator, Sequence
 from pathlib import Path
 
-MADE = Path(__file__).resolve().parent.parent / "docs" / "made" / "completions"
+from .program_runner import TOP
+
+
+MADE = TOP / "docs/made/completions"
+SHELLS = ("bash", "zsh", "fish")
 SECONDS = 20
-COMMANDS = "repair encode drill inspect sample fromcap tocap monitor prove check plan survey pick --help --version"
+COMMANDS = (
+    "repair encode drill inspect sample fromcap tocap monitor prove check plan survey "
+    "pick --help --version"
+)
 # What is typed, and the words that may then stand where it ends.
 CASES = (
     ("fgate ", COMMANDS),
@@ -56,27 +65,35 @@ ZSH = r"""
 PS1=; fpath=({made} $fpath); autoload -Uz compinit; compinit -u -D; setopt no_beep
 every() {{ _main_complete; compstate[insert]=all; compstate[list]= }}
 tell() {{ print -rn -- "$BUFFER" > {told}.new; mv {told}.new {told} }}
-zle -C every complete-word every; bindkey '^G' every; zle -N tell; bindkey '^T' tell; bindkey '^U' kill-whole-line
+zle -C every complete-word every; bindkey '^G' every; zle -N tell
+bindkey '^T' tell; bindkey '^U' kill-whole-line
 """
-TERMINALS = {"bash": (["bash", "--norc", "--noprofile", "-i"], BASH), "zsh": (["zsh", "-f", "-i"], ZSH)}
+TERMINALS = {
+    "bash": (["bash", "--norc", "--noprofile", "-i"], BASH),
+    "zsh": (["zsh", "-f", "-i"], ZSH),
+}
 
 
 class Terminal:
     """A shell in a terminal of its own, which tells its line into a file."""
 
-    def __init__(self, command, settings, folder):
+    def __init__(
+        self, command: list[str], settings: str, folder: Path, made: Path
+    ) -> None:
         self.told = folder.parent / "told"
         self.process, self.ends = pty.fork()
         if self.process == 0:
             os.chdir(folder)
-            os.environ.update(TERM="vt100", LC_ALL="C.UTF-8", HOME=str(folder), INPUTRC="/dev/null")
+            os.environ.update(
+                TERM="vt100", LC_ALL="C.UTF-8", HOME=str(folder), INPUTRC="/dev/null"
+            )
             os.execvp(command[0], command)
         script = folder.parent / "settings"
-        script.write_text(settings.format(made=MADE, told=self.told))
+        script.write_text(settings.format(made=made, told=self.told))
         os.write(self.ends, f". {script}; cd {folder}; echo > {self.told}\n".encode())
         self.answer()
 
-    def answer(self):
+    def answer(self) -> str:
         """What the shell wrote into the file. What it prints is dropped."""
         end = time.monotonic() + SECONDS
         while not self.told.exists():
@@ -88,45 +105,60 @@ class Terminal:
         self.told.unlink()
         return said
 
-    def line(self, typed):
+    def line(self, typed: str) -> str:
         """The line, once all that may follow what is typed is inserted."""
         os.write(self.ends, typed.encode() + b"\x07\x14")
         said = self.answer()
         os.write(self.ends, b"\x05\x15")
         return said
 
-    def close(self):
+    def close(self) -> None:
         os.write(self.ends, b"exit\n")
         os.close(self.ends)
         os.waitpid(self.process, 0)
 
 
-def words_of(typed, line):
-    """The words that were inserted in place of the one that was begun: bash leaves out what stands up to an `=`."""
+def words_of(typed: str, line: str) -> list[str]:
+    """The words that were inserted in place of the one that was begun: bash leaves out
+    what stands up to an `=`.
+    """
     begun = typed.rsplit(" ", 1)[1]
     if line.strip() == typed.strip():
         return []
     kept = begun.split("=")[0] + "=" if "=" in begun else ""
-    words = line[len(typed) - len(begun):].lstrip("<").split()
+    words = line[len(typed) - len(begun) :].lstrip("<").split()
     return [word if word.startswith(kept) else kept + word for word in words]
 
 
-def asked_in_terminal(shell, folder):
+def asked_in_terminal(shell: str, folder: Path, made: Path) -> Iterator[list[str]]:
     """For each case what the shell inserts."""
-    terminal = Terminal(*TERMINALS[shell], folder)
+    terminal = Terminal(*TERMINALS[shell], folder, made)
     for typed, _ in CASES:
         yield words_of(typed, terminal.line(typed))
     terminal.close()
 
 
-def asked_of_fish(folder):
+def asked_of_fish(folder: Path, made: Path) -> Iterator[list[str]]:
     for typed, _ in CASES:
-        told = subprocess.run(["fish", "--no-config", "-c", f"source {MADE}/fgate.fish; complete -C $argv[1]", typed], cwd=folder,
-                              capture_output=True, text=True, env={**os.environ, "HOME": str(folder)})
-        yield [line.split("\t")[0] for line in told.stdout.splitlines()] + [told.stderr] * bool(told.stderr)
+        told = subprocess.run(
+            [
+                "fish",
+                "--no-config",
+                "-c",
+                f"source {made}/fgate.fish; complete -C $argv[1]",
+                typed,
+            ],
+            cwd=folder,
+            capture_output=True,
+            text=True,
+            env={**os.environ, "HOME": str(folder)},
+        )
+        yield [line.split("\t")[0] for line in told.stdout.splitlines()] + [
+            told.stderr
+        ] * bool(told.stderr)
 
 
-def tried(shell, work):
+def tried(shell: str, work: str, made: Path) -> bool:
     """Whether all cases are right in the shell."""
     if shutil.which(shell) is None:
         print(f"{shell}: isn't there: WRONG")
@@ -134,7 +166,12 @@ def tried(shell, work):
     folder = Path(work, shell, "folder")
     folder.mkdir(parents=True)
     (folder / "link.trace").touch()
-    answers, right = asked_of_fish(folder) if shell == "fish" else asked_in_terminal(shell, folder), True
+    answers, right = (
+        asked_of_fish(folder, made)
+        if shell == "fish"
+        else asked_in_terminal(shell, folder, made),
+        True,
+    )
     for (typed, wanted), words in zip(CASES, answers):
         is_right = sorted(words) == sorted(wanted.split())
         print(f"{shell} {typed!r}: {'ok' if is_right else f'WRONG: {words}'}")
@@ -142,14 +179,28 @@ def tried(shell, work):
     return right
 
 
-def main():
-    shells = sys.argv[1:] or ["bash", "zsh", "fish"]
-    if not set(shells) <= {"bash", "zsh", "fish"}:
-        print(__doc__, end="")
-        sys.exit(0 if shells == ["--help"] else 2)
+def main(arguments: Sequence[str]) -> int:
+    words = argparse.ArgumentParser(
+        prog="try_completions",
+        description=__doc__,
+        formatter_class=argparse.RawDescriptionHelpFormatter,
+    )
+    words.add_argument(
+        "shells",
+        nargs="*",
+        metavar="SHELL",
+        help=f"of these shells alone: {', '.join(SHELLS)}",
+    )
+    words.add_argument(
+        "--completions", type=Path, default=MADE, help="the folder with the completions"
+    )
+    asked = words.parse_args(arguments)
+    for shell in asked.shells:
+        if shell not in SHELLS:
+            words.error(f"{shell} is no shell that is tried")
     with tempfile.TemporaryDirectory() as work:
-        results = [tried(shell, work) for shell in shells]
-    sys.exit(0 if all(results) else 1)
-
-
-main()
+        results = [
+            tried(shell, work, asked.completions.resolve())
+            for shell in asked.shells or SHELLS
+        ]
+    return 0 if all(results) else 1
