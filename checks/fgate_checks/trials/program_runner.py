@@ -14,7 +14,7 @@ import termios
 import time
 from collections.abc import Iterator
 from pathlib import Path
-from typing import IO, NamedTuple
+from typing import IO, NamedTuple, TypeVar
 
 
 TOP = Path(__file__).resolve().parents[3]
@@ -30,6 +30,10 @@ def add_program(words: argparse.ArgumentParser) -> None:
         default=PROGRAM,
         help="the program that is tried, crates/fgate/out/fgate where none is told",
     )
+
+
+# What a pipe of a child has.
+Text = TypeVar("Text", bytes, str)
 
 
 class Ended(NamedTuple):
@@ -155,6 +159,12 @@ def output_of(child: subprocess.Popen[bytes]) -> IO[bytes]:
     """The pipe that is a child's standard output."""
     assert child.stdout is not None
     return child.stdout
+
+
+def error_of(child: subprocess.Popen[Text]) -> IO[Text]:
+    """The pipe that is a child's standard error."""
+    assert child.stderr is not None
+    return child.stderr
 
 
 def await_reading(child: subprocess.Popen[bytes]) -> None:
