@@ -1,4 +1,5 @@
-"""Tries the completions of docs/made/completions in bash, zsh and fish themselves.
+"""Tries the completions that are made of the program's help, in bash, zsh and fish
+themselves.
 
 Bash and zsh run in a terminal of their own, in which each case's line is typed and all
 that may follow is inserted; fish tells by `complete -C`. Each case prints a line that
@@ -18,10 +19,11 @@ import time
 from collections.abc import Iterator, Sequence
 from pathlib import Path
 
-from .program_runner import TOP
+from ..completions import scripts
+from ..program_help import help_of
+from .program_runner import add_program
 
 
-MADE = TOP / "docs/made/completions"
 SHELLS = ("bash", "zsh", "fish")
 SECONDS = 20
 COMMANDS = (
@@ -191,16 +193,16 @@ def main(arguments: Sequence[str]) -> int:
         metavar="SHELL",
         help=f"of these shells alone: {', '.join(SHELLS)}",
     )
-    words.add_argument(
-        "--completions", type=Path, default=MADE, help="the folder with the completions"
-    )
+    add_program(words)
     asked = words.parse_args(arguments)
     for shell in asked.shells:
         if shell not in SHELLS:
             words.error(f"{shell} is no shell that is tried")
+    told = help_of(Path(asked.program).resolve())
     with tempfile.TemporaryDirectory() as work:
-        results = [
-            tried(shell, work, asked.completions.resolve())
-            for shell in asked.shells or SHELLS
-        ]
+        made = Path(work, "completions")
+        made.mkdir()
+        for name, text in scripts(told).items():
+            (made / name).write_text(text)
+        results = [tried(shell, work, made) for shell in asked.shells or SHELLS]
     return 0 if all(results) else 1
