@@ -155,7 +155,7 @@ def input_of(child: subprocess.Popen[bytes]) -> IO[bytes]:
     return child.stdin
 
 
-def output_of(child: subprocess.Popen[bytes]) -> IO[bytes]:
+def output_of(child: subprocess.Popen[Text]) -> IO[Text]:
     """The pipe that is a child's standard output."""
     assert child.stdout is not None
     return child.stdout

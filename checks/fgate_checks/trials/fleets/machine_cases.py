@@ -231,7 +231,7 @@ def scheduler_that_is_gone() -> None:
                 pass
         same(
             (ended.status, ended.errors),
-            (69, "fleet: the scheduler is gone\n"),
+            (69, "fgate-fleet: the scheduler is gone\n"),
             "status and line",
         )
         again = night.run()
