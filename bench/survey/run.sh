@@ -22,17 +22,17 @@ count() {
 # datagrams, and tells how many records it has.
 in_turns() {
     "$make_trace" --datagrams "$3" --loss 3 one.trace > made
-    PYTHONPATH=$top/tools python3 -B - "$1" "$2" one.trace > many.trace <<'END'
+    PYTHONPATH=$top/checks python3 -B - "$1" "$2" one.trace > many.trace <<'END'
 import struct, sys
-import plain_model as model
+from fgate_checks.trials.plain_model import traces
 count, is_flows = int(sys.argv[1]), sys.argv[2] == "flows"
 with open(sys.argv[3], "rb") as file:
     one = file.read()
-sys.stdout.buffer.write(model.MAGIC)
-for time, port, datagram in model.read_trace(one, len(one))[0]:
+sys.stdout.buffer.write(traces.MAGIC)
+for time, port, datagram in traces.read_trace(one, len(one))[0]:
     for number in range(count):
         own = datagram if is_flows else datagram[:8] + struct.pack(">I", number) + datagram[12:]
-        sys.stdout.buffer.write(model.spelled([(time, port + 10 * number * is_flows, own)]))
+        sys.stdout.buffer.write(traces.spelled([(time, port + 10 * number * is_flows, own)]))
 END
     echo $(($1 * $(sed 's/ .*//' made)))
 }

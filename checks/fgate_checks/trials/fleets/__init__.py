@@ -1,0 +1,1 @@
+"""Nights of recordings that a fleet repairs."""

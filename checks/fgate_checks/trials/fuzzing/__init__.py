@@ -1,0 +1,1 @@
+"""Generated command lines and inputs for the program, and what is compared."""

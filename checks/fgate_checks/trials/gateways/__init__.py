@@ -1,0 +1,1 @@
+"""Cases of the gateway on links of this machine."""

@@ -1,1 +1,0 @@
-"""The cases of tools/try_gateway, and what they have in common."""
