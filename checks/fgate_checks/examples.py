@@ -21,7 +21,7 @@ from fgate_checks.blocks import Block
 from fgate_checks.launchers import entry_points, launcher
 
 SECONDS = 300  # for all of them, on a machine that may be busy
-FOLDERS = ("bench", "checks", "gateway", "python", "tools")
+FOLDERS = ("bench", "checks", "docs", "gateway", "python", "tools")
 
 
 def make_folder(repository: Path, folder: Path) -> None:
