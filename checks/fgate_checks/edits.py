@@ -10,7 +10,9 @@ edit, in a line of one of these forms:
     CRATE/EDIT: open WHY            no input is named yet
 
 An edit is applied to a copy of the crates, which `rt try` builds unproved.
-With no flag each edit that has an input is tried, and with --sample some.
+With no flag each edit that has an input is tried, and with --sample some. No
+gate runs it: a build is made for each edit, which takes a minute or more. It
+is called by hand, after edits or the code they change were written anew.
 """
 
 import argparse
@@ -24,14 +26,14 @@ from collections.abc import Callable, Iterator
 from concurrent.futures import ThreadPoolExecutor
 from dataclasses import dataclass
 from functools import partial
-from importlib.machinery import SourceFileLoader
-from importlib.util import module_from_spec, spec_from_loader
 from pathlib import Path
 from queue import Queue
 
-TOP = Path(__file__).resolve().parents[2]
+from fgate_checks.repository import TOP
+from fgate_checks.trials.built.examples import begun
+from fgate_checks.trials.built.worked_reports import Example
+
 TABLE = TOP / "checks" / "edits.txt"
-EXAMPLES = TOP / "tools" / "program" / "examples"
 SECONDS = 1200
 
 
@@ -50,16 +52,6 @@ class Edit:
 
     def __str__(self) -> str:
         return f"{self.crate}/{self.name}"
-
-
-@dataclass(frozen=True)
-class Example:
-    """A worked example: the program's words and input, and what it answers."""
-
-    words: str
-    given: bytes
-    out: bytes
-    status: int
 
 
 def table() -> list[Edit]:
@@ -137,29 +129,12 @@ def rt_try(copy: Path, crate: str, words: list[str]) -> str:
 
 
 def results_of_tests(copy: Path, crate: str) -> dict[str, bool]:
-    """Whether each test of the crate passes, but for those that gave no answer."""
+    """Whether each test of the crate passes."""
     said = rt_try(copy, crate, ["--test"])
-    found = {}
-    for told in re.split(r"^test ", said, flags=re.M):
-        result = re.match(r"(\S+) \.\.\. (\w+)$", told, re.M)
-        if result and "time limit" not in told and "no-answer" not in told:
-            found[result[1]] = result[2] == "ok"
+    found = re.findall(r"^test (\S+) \.\.\. (\w+)$", said, re.M)
     if not found:
         raise Unusable(f"no test of {crate} ran: {said.strip()[-300:]}")
-    return found
-
-
-def examples() -> dict[str, Example]:
-    """The worked examples by name."""
-    loader = SourceFileLoader("worked_examples", str(EXAMPLES))
-    spec = spec_from_loader(loader.name, loader)
-    assert spec is not None
-    module = module_from_spec(spec)
-    loader.exec_module(module)
-    return {
-        name: Example(words, given, out, status)
-        for name, (words, given, out, _, status, _) in module.every_example().items()
-    }
+    return {name: result == "ok" for name, result in found}
 
 
 def results_of_examples(copy: Path, cases: dict[str, Example]) -> dict[str, bool]:
@@ -186,7 +161,7 @@ def results(copy: Path, edit: Edit) -> dict[str, bool]:
     if edit.kind == "test":
         return results_of_tests(copy, edit.words[0])
     name = edit.words[0]
-    return results_of_examples(copy, {name: examples()[name]})
+    return results_of_examples(copy, {name: begun()[name]})
 
 
 def with_edit(copy: Path, edit: Edit, run: Callable[[], dict[str, bool]]) -> list[str]:
@@ -222,7 +197,7 @@ def find(copy: Path, edit: Edit, crates: list[str]) -> list[str]:
         run = partial(results_of_tests, copy, crate)
         form = f"test {crate}"
         if crate == "fgate":
-            run = partial(results_of_examples, copy, examples())
+            run = partial(results_of_examples, copy, begun())
             form = "example"
         try:
             failed = with_edit(copy, edit, run)
