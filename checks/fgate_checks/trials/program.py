@@ -22,7 +22,7 @@ from .built.examples import try_examples
 from .program_runner import PROGRAM, work_folder
 
 # How many cases there are: a run that loses one is wrong.
-CASES = 156
+CASES = 163
 
 
 def paused(cases: Cases) -> None:

@@ -1,7 +1,7 @@
 """Each command with each set of standard streams closed.
 
-An input that is closed has no byte, and an output that is closed fails where something
-is written. Without standard error the line is lost, and nothing else changes.
+An input that is closed can't be read, and an output that is closed fails where
+something is written. Without standard error the line is lost, and nothing else changes.
 """
 
 from typing import NamedTuple
@@ -9,7 +9,7 @@ from typing import NamedTuple
 from ..failing_output import closing
 from . import inputs
 from .cases import Cases, Files
-from .inputs import CAPTURE, CUT, CUT_REPORT, MAGIC, ONE, ONE_REPORT, PACKET
+from .inputs import CAPTURE, CUT, CUT_REPORT, ONE, ONE_REPORT, PACKET
 
 
 class Closed(NamedTuple):
@@ -23,8 +23,7 @@ class Closed(NamedTuple):
     without: tuple[int, str, bytes]
 
 
-NO_TRACE = (4, "not a trace at byte 0\n", b"")
-NO_CAPTURE = (8, "not a capture at byte 0\n", b"")
+UNREAD = (2, "read fault\n", b"")
 REPAIR = ["repair", "flow=5000"]
 DRILL = ["drill", "columns=4", "rows=4"]
 SAMPLE = ["sample", "seed=7", "datagrams=1", "loss=0"]
@@ -35,26 +34,27 @@ def commands(help_text: bytes) -> dict[str, Closed]:
     encode, cases = ["encode", "columns=4", "rows=4"], inputs.SQUARE_CASES
     inspect, prove = ["inspect", "flow=5000"], ["prove", "flow=5000"]
     inspected, chosen, sampled = inputs.INSPECTED, inputs.CHOSEN, inputs.SAMPLE_REPORT
-    plan, none = ["plan", "burst=5", "most=20"], (0, "", inputs.NO_PACKET)
+    plan = ["plan", "burst=5", "most=20"]
     return {
-        "repair": Closed(REPAIR, ONE, ONE_REPORT, NO_TRACE),
-        "encode": Closed(encode, PACKET, ONE, (0, "", MAGIC)),
-        "inspect": Closed(inspect, ONE, inspected, NO_TRACE),
-        "drill": Closed(DRILL, PACKET, ONE_REPORT, (0, "", inputs.NO_REPORT)),
+        "repair": Closed(REPAIR, ONE, ONE_REPORT, UNREAD),
+        "encode": Closed(encode, PACKET, ONE, UNREAD),
+        "inspect": Closed(inspect, ONE, inspected, UNREAD),
+        "drill": Closed(DRILL, PACKET, ONE_REPORT, UNREAD),
         "sample": Closed(SAMPLE, ONE, sampled, (0, "", sampled)),
         "help": Closed(["--help"], ONE, help_text, (0, "", help_text)),
-        "fromcap": Closed(["fromcap"], CAPTURE, ONE, NO_CAPTURE),
-        "tocap": Closed(["tocap"], ONE, CAPTURE, NO_TRACE),
-        "monitor": Closed(["monitor"], PACKET, inputs.WHOLE, none),
-        "prove": Closed(prove, inputs.square(), cases, NO_TRACE),
-        "check": Closed(["check"], cases, inputs.YES, (0, "", b"")),
+        "fromcap": Closed(["fromcap"], CAPTURE, ONE, UNREAD),
+        "tocap": Closed(["tocap"], ONE, CAPTURE, UNREAD),
+        "monitor": Closed(["monitor"], PACKET, inputs.WHOLE, UNREAD),
+        "prove": Closed(prove, inputs.square(), cases, UNREAD),
+        "check": Closed(["check"], cases, inputs.YES, UNREAD),
         "plan": Closed(plan, ONE, chosen, (0, "", chosen)),
     }
 
 
 def left_by(command: str, status: int, has_input: bool) -> Files:
     """The lanes that a command leaves where it ends so."""
-    if command in ("repair", "drill") and status != 4:
+    # A repair makes no lane before the magic was read, and a drill needs none.
+    if command == "drill" or command == "repair" and has_input:
         return {"5000.ts": PACKET if has_input else b""}
     return {"5000.ts": None} if command == "sample" and status != 3 else {}
 

@@ -115,6 +115,50 @@ def lanes_of_their_own(cases: Cases) -> None:
     cases.count("lane_and_input_that_are_a_device", status == 0 and is_left)
 
 
+def lanes_that_are_one(cases: Cases) -> None:
+    """A lane that is another lane is refused, before an old one is made empty."""
+    words = ["repair", "flow=5000", "flow=6000"]
+    one, other = cases.folder / "5000.ts", cases.folder / "6000.ts"
+    both = {"5000.ts": PACKET, "6000.ts": PACKET}
+    for option in ("-P", "-s"):
+        cases.begin({"5000.ts": PACKET})
+        if option == "-s":
+            other.symlink_to(one.name)
+        else:
+            other.hardlink_to(one)
+        status = cases.run(inputs.TWO, words)
+        name = f"lane_that_leads_to_another_by_ln_{option}"
+        cases.count(name, status == 3 and cases.is_left(FAULT, b"", both))
+    # Only where the first is made is it known that the second is the same file.
+    empty = {"5000.ts": b"", "6000.ts": b""}
+    for first, second in ((5000, 6000), (6000, 5000)):
+        cases.begin()
+        other.symlink_to(one.name)
+        status = cases.run(inputs.TWO, ["repair", f"flow={first}", f"flow={second}"])
+        name = f"lane_that_leads_to_another_that_is_not_there_from_{first}"
+        cases.count(name, status == 3 and cases.is_left(FAULT, b"", empty))
+
+
+def old_lanes(cases: Cases) -> None:
+    """All lanes are looked at before one is made empty, and there may be more than open
+    files.
+    """
+    words, lane = ["repair", "flow=6000", "flow=5000"], cases.folder / "5000.ts"
+    old = {"5000.ts": ONE, "6000.ts": PACKET}
+    name = "old_lane_before_one_that_is_the_input"
+    cases.told(name, lane, words, 3, FAULT, files=old, before=old)
+    cases.begin({"6000.ts": PACKET})
+    lane.mkdir()
+    status = cases.run(inputs.TWO, words)
+    is_left = cases.is_left(FAULT, b"", {"5000.ts": None, "6000.ts": PACKET})
+    cases.count("old_lane_before_one_that_cannot_be_made", status == 3 and is_left)
+    few = under(resource.RLIMIT_NOFILE, 20)
+    many = ["repair", *(f"flow={port}" for port in inputs.MANY_PORTS)]
+    lanes = {f"{port}.ts": PACKET for port in inputs.MANY_PORTS}
+    report, name = inputs.MANY_REPORT, "more_lanes_than_files"
+    cases.told(name, inputs.MANY, many, out=report, files=lanes, before_it=few)
+
+
 def words(cases: Cases) -> None:
     """Command lines that are faulty, some of them no text."""
     cases.told("bad_word", ONE, ["repair", "flow=0"], 1, "words: bad word 1\n")
@@ -237,8 +281,8 @@ def helps(cases: Cases) -> bytes:
 def command_cases(cases: Cases) -> bytes:
     """All of them, and the text of the program's help."""
     for group in (
-        *(repairs, ends, limits, lanes_of_their_own, words),
-        *(other_commands, drills, gaps),
+        *(repairs, ends, limits, lanes_of_their_own, lanes_that_are_one, old_lanes),
+        *(words, other_commands, drills, gaps),
     ):
         group(cases)
     return helps(cases)

@@ -58,6 +58,12 @@ def parity_report(column: int, row: int) -> str:
 OTHER = b"other 0\n"
 INSPECTED = b"0 0 5000 200 media seq 0 len 188\n"
 ONE_REPORT = flow_report(5000, 1, 1) + OTHER
+# One packet on each of 64 flows.
+MANY_PORTS = range(5000, 5379, 6)
+MANY = MAGIC + b"".join(
+    struct.pack(">QHH", 0, port, 200) + ONE[-200:] for port in MANY_PORTS
+)
+MANY_REPORT = b"".join(flow_report(port, 1, 1) for port in MANY_PORTS) + OTHER
 BOTH_REPORT = flow_report(6000, 1, 1) + flow_report(5000, 1, 1) + OTHER
 CUT_REPORT = flow_report(5000, 1, 1) + OTHER + b"cut at byte 220\n"
 # What comes of a stream of no packet, and of a sample of one datagram.
