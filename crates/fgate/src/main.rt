@@ -1,7 +1,7 @@
 //! The program: makes the real source, sinks and folder, and calls [`fg_run::run`].
 #![tactic(auto)]
 
-ghost use Rattle.std.specs.Prelude.{◌≡◌, ◌≤◌, ◌∷◌, [], drop, map, string_bytes, IfOk, IfErr, IsErr, OnErr};
+ghost use Rattle.std.specs.Prelude.{◌≡◌, ◌≤◌, ◌∷◌, [], ℕ, List, Option, None, drop, length, map, string_bytes, IfOk, IfErr, IfSome, IsErr, OnErr};
 ghost use Rattle.std.specs.IoError.{error_kind};
 ghost use Rattle.std.specs.Process.{exit_status};
 ghost use Rattle.std.specs.Str.{IsUtf8};
@@ -9,6 +9,7 @@ ghost use Rattle.std.specs.Vec.Iter.{into_iter_items};
 ghost use Rattle.fg_results.specs.Counted.{CountsAhead};
 ghost use Rattle.fg_run.specs.Answered.{WordsAnswered};
 ghost use Rattle.fg_commands.specs.Ended.{IsFault, TellsFault, status_of};
+ghost use Rattle.fgate.specs.Words.{AreTaken, IsTakenAt, Tells};
 
 use fg_crew::NoGate;
 use fg_io::{
@@ -78,29 +79,56 @@ fn run_words<W: Threads + Wait + Sync, S: Source + Send, K: Sink + Send, E: Sink
     }
 }
 
+/// What the program is called with.
+trait Called {
+    // The words, the program's own name first, where they are told.
+    ghost told: { Self → Option (List (List ℕ)) };
+
+    /// Copies the word at the place to the front of the buffer, and answers how long it is.
+    fn word(&self, place: usize, into: &mut [u8]) -> Result<usize, FillError>
+        ensures bound { IfOk result (λ size. size ≤ length into.new) }
+        ensures room { length into.new ≡ length into.old }
+        ensures tells { IfSome (told self.now) (λ all. Tells all place result into.new) };
+}
+
+/// The system tells its words to no contract: that it gives them is trusted.
+impl<V: Env> Called for V {
+    ghost told = { λ _. None };
+
+    fn word(&self, place: usize, into: &mut [u8]) -> Result<usize, FillError> {
+        self.arg(place, into)
+    }
+}
+
 /// The words that the program is called with. Where the kit has no words because one isn't UTF-8, they are read one by one.
-fn words<V: Env>(
+fn words<C: Called>(
     alloc: Global,
-    env: &V,
+    called: &C,
     args: io::Result<env::Args>,
 ) -> Result<Vec<String>, AllocError>
     ensures text { IfOk args (λ args. IfOk result (λ words.
         words.items ≡ drop 1 (into_iter_items args))) }
     ensures no_memory { IfErr args (λ fault. error_kind fault ≡ ErrorKind.OutOfMemory
         → IsErr result) }
+
+    // Each word is taken, in its place, also one that isn't UTF-8.
+    ensures no_text { IfErr args (λ fault. IfSome (C.told called.now) (λ all. IfOk result (λ words.
+        AreTaken string_bytes all words.items))) }
 {
     match args {
         Ok(args) => after_the_name(alloc, args),
         Err(fault) if fault.kind() == ErrorKind::OutOfMemory => Err(AllocError),
-        Err(_) => words_one_by_one(alloc, env),
+        Err(_) => words_one_by_one(alloc, called),
     }
 }
 
 /// The words of the environment, each at its place. The program's own name is at 0.
-fn words_one_by_one<V: Env>(alloc: Global, env: &V) -> Result<Vec<String>, AllocError> {
+fn words_one_by_one<C: Called>(alloc: Global, called: &C) -> Result<Vec<String>, AllocError>
+    ensures { IfSome (C.told called.now) (λ all. IfOk result (λ words. AreTaken string_bytes all words.items)) }
+{
     let mut words = Vec::new(alloc);
     for place in 1..usize::MAX {
-        match word_at(alloc, env, place)? {
+        match word_at(alloc, called, place)? {
             Some(word) => words.push(word)?,
             None => break,
         }
@@ -109,9 +137,11 @@ fn words_one_by_one<V: Env>(alloc: Global, env: &V) -> Result<Vec<String>, Alloc
 }
 
 /// The word at the place, if there is one. One that is too long to have a meaning is an empty word, which has none either.
-fn word_at<V: Env>(alloc: Global, env: &V, place: usize) -> Result<Option<String>, AllocError> {
+fn word_at<C: Called>(alloc: Global, called: &C, place: usize) -> Result<Option<String>, AllocError>
+    ensures { IfSome (C.told called.now) (λ all. IfOk result (IsTakenAt string_bytes all place)) }
+{
     let mut bytes = [0; WORD];
-    match env.arg(place, &mut bytes) {
+    match called.word(place, &mut bytes) {
         Ok(length) => Ok(Some(word_of(alloc, &bytes[..length])?)),
         Err(FillError::TooLong) => Ok(Some(String::new(alloc))),
         Err(FillError::NotPresent) => Ok(None),
