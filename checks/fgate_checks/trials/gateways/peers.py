@@ -366,7 +366,7 @@ def multicast_between_namespaces() -> None:
                     sys.executable,
                     "-c",
                     LISTENS,
-                    str(TOP / "checks"),
+                    f"{TOP}/checks:{TOP}/python",
                     "239.2.2.2",
                     "192.0.2.1",
                     str(OUT),
@@ -412,7 +412,7 @@ def multicast_between_namespaces() -> None:
 
 LISTENS = """
 import sys
-sys.path.insert(0, sys.argv[1])
+sys.path[:0] = sys.argv[1].split(":")
 from fgate_checks.trials.gateways.link_lab import Receiver
 receiver = Receiver(int(sys.argv[4]), group=sys.argv[2], interface=sys.argv[3])
 print("ready", flush=True)
