@@ -20,7 +20,10 @@ def packages(repository: Path) -> list[str]:
 
 
 def launcher(target: str, folder: Path, python: str = "/usr/bin/env python3") -> str:
-    """A script that calls the function of a package that stands in the folder."""
+    """A script that calls the function of a package that stands in the folder.
+
+    It is guarded, since the workers of a fleet read it too.
+    """
     module, _, function = target.partition(":")
     return (
         f"#!{python}\n"
@@ -30,5 +33,6 @@ def launcher(target: str, folder: Path, python: str = "/usr/bin/env python3") ->
         "sys.dont_write_bytecode = True\n"
         f"from {module} import {function}\n"
         "\n"
-        f"sys.exit({function}())\n"
+        'if __name__ == "__main__":\n'
+        f"    sys.exit({function}())\n"
     )
