@@ -6,6 +6,7 @@ import os
 import shutil
 import subprocess
 from collections.abc import Callable
+from pathlib import Path
 
 from .failing_input import READ_FAULT, READ_NOTHING, WRITE_FAULT
 from .plain_model.traces import Answer
@@ -118,17 +119,21 @@ def closed(calls: Calls) -> None:
         ("bad words", (["repair", "flow=0"], b"")),
     ]:
         for streams_closed in [[0], [1], [2], [0, 1], [0, 2], [1, 2], [0, 1, 2]]:
-            whole = whole_of(words, b"" if 0 in streams_closed else data)
-            # A closed output is a write fault where something is written to it.
-            fault = 1 in streams_closed and bool(whole.out)
+            whole = whole_of(words, data)
+            # A closed input can't be read, and a closed output is a write fault where
+            # something is written to it.
+            reads = command not in (*READ_NOTHING, "bad words")
+            unread = 0 in streams_closed and reads
+            unwritten = 1 in streams_closed and bool(whole.out)
+            fault = READ_FAULT if unread else WRITE_FAULT if unwritten else None
             calls.begin()
             ended = calls.call(words, data, preexec_fn=closing(streams_closed))
             calls.judge(
                 f"{command} with {streams_closed} closed",
                 ended,
                 whole,
-                [WRITE_FAULT if fault else None],
-                lanes_whole=command != "sample",
+                [fault],
+                lanes_whole=command != "sample" and not unread,
                 out=1 not in streams_closed,
                 err=2 not in streams_closed,
             )
@@ -138,7 +143,8 @@ def closed(calls: Calls) -> None:
 
 def without_null(calls: Calls) -> None:
     """In a bare folder that a child takes for the whole file system there is no
-    /dev/null, and a closed input is a read fault.
+    /dev/null and no /proc. There a closed input is a read fault too, and a lane that is
+    there already a write fault, since it may be the input.
     """
     calls.begin()
     libraries = subprocess.run(
@@ -172,3 +178,18 @@ def without_null(calls: Calls) -> None:
                 whole,
                 [READ_FAULT if closes and command not in READ_NOTHING else None],
             )
+    own_lane(calls, enter(False))
+
+
+def own_lane(calls: Calls, enter: Callable[[], None]) -> None:
+    """Where no stream can be told a lane that is the input is left as it is."""
+    words, data = runs(large=False)["repair"]
+    whole = whole_of(words, data)
+    own = Path(calls.folder) / f"{min(whole.lanes)}.ts"
+    own.write_bytes(data)
+    with open(own, "rb") as source:
+        child = calls.start(words, executable="/fgate", stdin=source, preexec_fn=enter)
+        ended = calls.end(child)
+    allowed: list[Allowed] = [WRITE_FAULT] if own.read_bytes() == data else []
+    name = "repair of its own lane without /proc"
+    calls.judge(name, ended, whole, allowed, lanes=False)
