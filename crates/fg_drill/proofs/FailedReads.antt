@@ -1,5 +1,5 @@
 -- What a failed read leaves of the lanes of a drill.
-use Rattle.std.proofs.Common.{◌≡◌, ◌⊎◌, inl, inr, ℕ, ◌≤◌, ◌^◌, Option, None, Some, IfSome, Ok, List, [], ◌∷◌, ◌++◌, length, take, refl, sym, ap, ◌∙◌, subst, arith, append_assoc, append-nil, length-append}
+use Rattle.std.proofs.Common.{◌≡◌, inl, inr, ℕ, ◌≤◌, ◌^◌, Option, None, Some, IfSome, List, [], ◌∷◌, ◌++◌, length, take, refl, sym, ap, ◌∙◌, subst, arith, append_assoc, append-nil, length-append}
 use Rattle.std.proofs.lemmas.List.{take_at}
 use Rattle.fg_io.specs.Outlet.{Lanes}
 use Rattle.fg_shape.specs.declared.encoding.Losses.{Losses}
@@ -17,7 +17,7 @@ use Rattle.fg_results.specs.Stops.{LanesShow, StandsAtRead}
 use Rattle.fg_thin.specs.PayloadLaws.{CutPayloads}
 use Rattle.fg_thin.specs.ThinnedSource.{thinned_trace}
 use Rattle.fg_thin.specs.TraceLaws.{StreamIsTrace}
-use Rattle.fg_drill.specs.Drill.{Answer, LeavesAtRead, none_made, first_shown, all_whole, records_sent}
+use Rattle.fg_drill.specs.Drill.{LeavesAtRead, none_made, first_shown, all_whole, records_sent}
 use Rattle.fg_drill.specs.DrillLaws.{trace_sent}
 use Rattle.fg_drill.specs.DrillSteps.{LeavesTrace}
 use Rattle.fg_drill.proofs.Drills.{sent_trace}
@@ -51,7 +51,7 @@ stood : (plan : Plan) (bytes : List ℕ) (now : Option (List ℕ)) (lanes lanes'
 stood plan bytes now lanes lanes' h read all is = elim (h read.read read.rest read.now_is read.all) [
   | inl short ↦ none_made short.1
   | inr w ↦ first_shown (length w.0) (subst (λ (rs : List Record). LanesShow plan rs lanes lanes')
-        (first_records bytes plan.max w.0 all (begins_longer bytes read.read read.rest plan.max w.0 read.all w.1.begins) is.1) w.2)
+      (first_records bytes plan.max w.0 all (begins_longer bytes read.read read.rest plan.max w.0 read.all w.1.begins) is.1) w.2)
 ]
 
 pub failed_leaves : (plan : Plan) (trace now : Option (List ℕ)) (lanes lanes' : Option Lanes) → IfSome trace (λ bytes. StandsAtRead plan bytes now lanes lanes')

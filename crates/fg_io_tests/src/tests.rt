@@ -7,7 +7,7 @@ mod safe;
 mod standard;
 
 use fg_io::*;
-use noted_files::NotedFiles;
+use noted_files::{NotedFiles, Opened};
 use std::alloc::{AllocError, Global};
 use std::ops::Range;
 use std::os::unix::fs::symlink;
@@ -273,26 +273,29 @@ fn folder_keeps_more_lanes_than_files(rt: HostRuntime) -> Result<(), Fail> {
     Ok(())
 }
 
-/// Puts to each of the lanes. Whether each put opened the lane's file and no other, emptied where it is new and else at its end.
+/// Puts to each of the lanes. Whether each put opened the lane's file so, and no other.
 fn open_one_each<O: Outlet>(
     outlet: &mut O,
     files: &NotedFiles,
     ports: Range<u16>,
-    is_new: bool,
+    how: Opened,
 ) -> bool {
-    let mut one_each = true;
+    let mut as_wanted = true;
     for port in ports {
-        files.expect(port, is_new);
-        one_each = outlet.put(port, b"a").is_ok() && files.is_met() && one_each;
+        files.expect(port, how);
+        as_wanted = outlet.put(port, b"a").is_ok() && files.is_met() && as_wanted;
     }
-    one_each
+    as_wanted
 }
 
-/// Puts twice to each of the lanes. Of 65 files 64 stay open, so each is opened at both puts.
+/// Puts to each of the lanes, closes them, and puts twice again. Each file is made at the first put, opened at its end at the
+/// one after, and open at the last.
 fn open_twice(files: &NotedFiles, ports: Range<u16>) -> bool {
     let mut outlet = FolderOutlet::new(files);
-    open_one_each(&mut outlet, files, ports.start..ports.end, true)
-        && open_one_each(&mut outlet, files, ports, false)
+    open_one_each(&mut outlet, files, ports.start..ports.end, Opened::New)
+        && outlet.close().is_ok()
+        && open_one_each(&mut outlet, files, ports.start..ports.end, Opened::AtItsEnd)
+        && open_one_each(&mut outlet, files, ports, Opened::Not)
 }
 
 // All ports are gone through, 65 at a time. So whichever lane's file is opened, and whichever other is opened or made empty
@@ -307,27 +310,24 @@ fn folder_opens_the_file_of_its_lane_alone(rt: HostRuntime) -> Result<(), Fail> 
     Ok(())
 }
 
-/// Puts to a lane, removes its file, and puts to the lanes from 65,000 up to `end`. Whether the first one takes more,
-/// which it does only where its file is still open: a lane that was made is not made again.
-fn takes_more(rt: &HostRuntime, end: u16) -> bool {
+/// Looks at lanes of which the last can't be made, and puts to the first. Whether the look failed, and the put didn't.
+fn looks_first(rt: &HostRuntime) -> bool {
     let mut outlet = FolderOutlet::new(rt);
-    outlet.put(64999, b"a").is_ok()
-        && fs::remove_file(rt, "64999.ts").is_ok()
-        && put_to_each(&mut outlet, 65000..end, b"b")
-        && outlet.put(64999, b"c").is_ok()
+    outlet.prepare(&[64998, 64999]).is_err() && outlet.put(64998, b"").is_ok()
 }
 
-/// Whether it does, and the other lanes have what was put.
-fn stays_open(rt: &HostRuntime, end: u16) -> io::Result<bool> {
-    let more = takes_more(rt, end);
-    Ok(take_each(rt, 65000..end, b"b")? && more)
+/// Whether it is so where a folder has the last lane's name, and an old file of the first lane is made empty by the put.
+fn looks_at_all(rt: &HostRuntime) -> io::Result<bool> {
+    fs::create_dir(rt, "64999.ts")?;
+    fs::write(rt, "64998.ts", "old")?;
+    let looked = looks_first(rt);
+    fs::remove_dir(rt, "64999.ts")?;
+    Ok(take(rt, 64998, b"")? && looked)
 }
 
 #[test]
-fn folder_keeps_64_files_open(rt: HostRuntime) -> Result<(), Fail> {
-    assert!(rt; stays_open(&rt, 65000)?);
-    assert!(rt; stays_open(&rt, 65063)?);
-    assert!(rt; !stays_open(&rt, 65064)?);
+fn folder_looks_at_all_lanes(rt: HostRuntime) -> Result<(), Fail> {
+    assert!(rt; looks_at_all(&rt)?);
     Ok(())
 }
 

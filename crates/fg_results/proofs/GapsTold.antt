@@ -1,8 +1,8 @@
 -- The plain program for gaps gives them, and there is one list of them.
-use Rattle.std.proofs.Common.{◌≡◌, ◌⊎◌, ◌↔◌, ◌+◌, ◌<◌, ◌≤◌, ℕ, zero, suc, Bool, true, false, cond, Option, Some, None, is_some, List, [], ◌∷◌, refl, sym, ap, ◌∙◌, subst, inl, inr, ⊎_elim, arith}
+use Rattle.std.proofs.Common.{◌≡◌, ◌⊎◌, ◌↔◌, ◌+◌, ◌≤◌, ℕ, zero, suc, Bool, true, false, cond, Option, Some, None, is_some, List, [], ◌∷◌, refl, sym, ap, ◌∙◌, subst, inl, inr, ⊎_elim, arith}
 use Rattle.std.specs.List.{slice_get}
 use Rattle.fg_words.specs.declared.Word.{Word}
-use Rattle.fg_playout.specs.Play.{Play, Shown}
+use Rattle.fg_playout.specs.Play.{Shown}
 use Rattle.fg_report.specs.Gaps.{gaps_end, with_gap, AreApart, IsInGap}
 use Rattle.fg_report.proofs.GapLemmas.{apart_with, gaps_end-with, holding}
 use Rattle.fg_runs.specs.Laws.{OneListOfRuns}

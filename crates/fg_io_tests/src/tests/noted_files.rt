@@ -15,13 +15,24 @@ fn is_lane(alloc: Global, path: &str, port: u16) -> bool {
     }
 }
 
+/// How a lane's file is opened at a put.
+#[derive(Clone, Copy, PartialEq)]
+pub(crate) enum Opened {
+    /// It is made, and left as it is where it is there.
+    New,
+    /// It is opened at its end.
+    AtItsEnd,
+    /// It is not opened.
+    Not,
+}
+
 /// Each file is the empty device, and there is nothing else.
 #[derive(Drop)]
 pub(crate) struct NotedFiles {
     rt: HostRuntime,
-    /// Whose lane's file may be opened now, and whether it is to be made empty.
+    /// Whose lane's file may be opened now, and how.
     port: Cell<u16>,
-    is_new: Cell<bool>,
+    how: Cell<Opened>,
     /// How often that was done since `expect`, and how often anything else.
     right: Cell<u64>,
     wrong: Cell<u64>,
@@ -32,29 +43,31 @@ impl NotedFiles {
         NotedFiles {
             rt,
             port: Cell::new(0),
-            is_new: Cell::new(false),
+            how: Cell::new(Opened::Not),
             right: Cell::new(0),
             wrong: Cell::new(0),
         }
     }
 
-    /// From now on the port's file may be opened, once, made empty where it is new and else at its end.
-    pub(crate) fn expect(&self, port: u16, is_new: bool) {
+    /// From now on the port's file may be opened so, once.
+    pub(crate) fn expect(&self, port: u16, how: Opened) {
         self.port.set(port);
-        self.is_new.set(is_new);
+        self.how.set(how);
         self.right.set(0);
         self.wrong.set(0);
     }
 
     /// Whether that was done, and nothing else.
     pub(crate) fn is_met(&self) -> bool {
-        self.right.get() == 1 && self.wrong.get() == 0
+        let wanted = u64::from(self.how.get() != Opened::Not);
+        self.right.get() == wanted && self.wrong.get() == 0
     }
 
     fn is_right(&self, how: &OpenOptions, path: &str) -> bool {
         is_lane(self.rt.alloc(), path, self.port.get())
-            && how.asks_truncate() == self.is_new.get()
-            && how.asks_append() != self.is_new.get()
+            && !how.asks_truncate()
+            && how.asks_create() == (self.how.get() == Opened::New)
+            && how.asks_append() == (self.how.get() == Opened::AtItsEnd)
     }
 
     /// Notes anything else than an opened file, and answers that there is none.

@@ -1,4 +1,4 @@
-//! The order in which lanes are made and flushed.
+//! The order in which lanes are looked at, made, flushed and closed.
 ghost use Rattle.std.specs.Prelude.{None};
 
 use super::*;
@@ -7,6 +7,10 @@ use fg_io::Failed;
 /// A change to a lane.
 #[derive(Clone, Copy, PartialEq)]
 enum Change {
+    /// The lanes are looked at, this many.
+    LookedAt(usize),
+    /// The lanes are closed.
+    Closed,
     /// The lane of this port is made.
     Made(u16),
     /// The lane of this port gains bytes, in one put or several in succession.
@@ -35,32 +39,46 @@ impl Outlet for Changes {
         }
         Ok(())
     }
+
+    fn prepare(&mut self, ports: &[u16]) -> Result<(), Failed> {
+        let _ = self.changes.push(Change::LookedAt(ports.len()));
+        Ok(())
+    }
+
+    fn close(&mut self) -> Result<(), Failed> {
+        let _ = self.changes.push(Change::Closed);
+        Ok(())
+    }
 }
 
 /// The words of a repair, and what changes in it.
-type Ordered = (&'static str, [Change; 6]);
+type Ordered = (&'static str, [Change; 8]);
 
 static ORDERS: [Ordered; 2] = [
     (
         "repair flow=5020 flow=5000 flow=5010",
         [
+            Change::LookedAt(3),
             Change::Made(5020),
             Change::Made(5000),
             Change::Made(5010),
             Change::Gained(5020),
             Change::Gained(5000),
             Change::Gained(5010),
+            Change::Closed,
         ],
     ),
     (
         "repair flow=5010 flow=5020 flow=5000",
         [
+            Change::LookedAt(3),
             Change::Made(5010),
             Change::Made(5020),
             Change::Made(5000),
             Change::Gained(5010),
             Change::Gained(5020),
             Change::Gained(5000),
+            Change::Closed,
         ],
     ),
 ];
