@@ -13,11 +13,13 @@ taken_at :
     → (IsUtf8 (take size buffer) → word ≡ take size buffer) → ((¬ IsUtf8 (take size buffer)) → word ≡ [])
     → (place < length all) × IsTaken (word_at all place) word
 taken_at all place size buffer word room fits tells text no_text =
-    let short : length (word_at all place) ≤ 64 = omega (arith, ap length tells.1, length-take-le size buffer fits, room, fits) in
-    (tells.0, record {
-      text = λ _ is. text (subst IsUtf8 tells.1 is) ∙ sym tells.1;
-      no_text = ⊎_elim (λ long. absurd (omega (arith, long, short))) (λ not. no_text (λ is. not (subst IsUtf8 (sym tells.1) is)));
-    })
+    let short : length (word_at all place) ≤ 64 = omega (arith, ap length tells.1, length-take-le size buffer fits, room, fits) in (
+      tells.0,
+      record {
+        text = λ _ is. text (subst IsUtf8 tells.1 is) ∙ sym tells.1;
+        no_text = ⊎_elim (λ long. absurd (omega (arith, long, short))) (λ not. no_text (λ is. not (subst IsUtf8 (sym tells.1) is)));
+      },
+    )
 
 pub told_taken :
     (told : Option (List (List ℕ))) (place size : ℕ) (buffer word : List ℕ) → length buffer ≡ 64 → size ≤ length buffer
@@ -39,12 +41,12 @@ taken_more :
 taken_more text all taken after word below last longer next so_far = λ k d within.
     ⊎_elim
     (λ lt.
-        let was = so_far k d lt in
-        (was.0, subst (λ w. IsTaken (word_at all (k + 1)) (text w)) (sym (below k d lt)) was.1))
+    let was = so_far k d lt in
+    (was.0, subst (λ w. IsTaken (word_at all (k + 1)) (text w)) (sym (below k d lt)) was.1))
     (λ le.
-        let here : k ≡ length taken = omega (arith, le, within, longer) in
-        subst (λ n. (n + 1 < length all) × IsTaken (word_at all (n + 1)) (text (slice_index_or after n d))) (sym here)
-        (next.0, subst (λ w. IsTaken (word_at all (length taken + 1)) (text w)) (sym (last d)) next.1))
+    let here : k ≡ length taken = omega (arith, le, within, longer) in
+    subst (λ n. (n + 1 < length all) × IsTaken (word_at all (n + 1)) (text (slice_index_or after n d))) (sym here)
+    (next.0, subst (λ w. IsTaken (word_at all (length taken + 1)) (text w)) (sym (last d)) next.1))
     (cases_lt k (length taken))
 
 pub told_more :

@@ -22,9 +22,9 @@ returns g c =
     let told = g.C.Called.told c.args.called.now in
     let words = c.loop-place.words.items in
     elim c.loop-place-test.branch [
-      else-loop-place-test w ↦ absurd (omega (arith, c.loop-place.invariant.count, c.loop-place.words.ok.0, c.loop-place.words.small, w.loop-place-test.false))
-    | then-loop-place-test+in_ok-word+in-None w ↦
-        told_all string_bytes told c.loop-place.place words c.loop-place.invariant.count
-        (subst (λ word. IfSome told (λ all. IsTakenAt string_bytes all c.loop-place.place word)) w.in-None.is w.in_ok-word.ensures)
-        c.loop-place.invariant.taken
+      | else-loop-place-test w ↦ absurd (omega (arith, c.loop-place.invariant.count, c.loop-place.words.ok.0, c.loop-place.words.small, w.loop-place-test.false))
+      | then-loop-place-test+in_ok-word+in-None w ↦
+          told_all string_bytes told c.loop-place.place words c.loop-place.invariant.count
+          (subst (λ word. IfSome told (λ all. IsTakenAt string_bytes all c.loop-place.place word)) w.in-None.is w.in_ok-word.ensures)
+          c.loop-place.invariant.taken
     ]
